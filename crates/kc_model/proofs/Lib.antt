@@ -1,0 +1,6 @@
+pub mod Bytes
+pub mod Writes
+pub mod Pens
+pub mod Stores
+pub mod Footprints
+pub mod Lists

@@ -1,0 +1,139 @@
+-- Pieces that are asked of a pen one after the other are one piece.
+use Rattle.std.proofs.Common.{◌≡◌, ℕ, ◌+◌, ◌≤◌, ◌<◌, Bool, true, false, List, [], ◌++◌, length, take, drop, get_or, Option, refl, sym, ap, subst, ◌∙◌, append_assoc, arith, length-append}
+use Rattle.std.proofs.lemmas.List.{take-append-le, append-nil, drop_more, drop_all}
+use Rattle.std.proofs.Math.Seq.{take-append-add}
+use Rattle.std.specs.List.{flat_map}
+use Rattle.std.specs.Prelude.{Result, Ok, Err, OnOk, OnErr}
+use Rattle.kc_model.specs.declared.outside.Failed.{Failed}
+use Rattle.kc_model.specs.declared.pen.Pen.{Pen}
+use Rattle.kc_model.specs.Outside.{behind, WritesFront, none}
+use Rattle.kc_model.specs.Pen.{Sheet, sheet, Hands, Fails, Asks, Owes, Puts, Prints}
+use Rattle.kc_model.proofs.Bytes.{behind-append, behind-nil}
+use Rattle.kc_model.proofs.Writes.{takes_then, fails_then}
+
+-- a front of the bytes is a front of more bytes
+front_longer : (old new : Option (List ℕ)) (xs ys : List ℕ) → WritesFront old new xs → WritesFront old new (xs ++ ys)
+front_longer old new xs ys w = record {
+  count = w.count;
+  within = omega (arith, w.within, length-append xs ys);
+  front = w.front ∙ ap (behind old) (sym (take-append-le w.count xs ys w.within));
+}
+
+-- bytes, and then a front of more bytes
+front_after : (old mid new : Option (List ℕ)) (xs ys : List ℕ) → mid ≡ behind old xs → WritesFront mid new ys → WritesFront old new (xs ++ ys)
+front_after old mid new xs ys e w = record {
+  count = length xs + w.count;
+  within = omega (arith, w.within, length-append xs ys);
+  front = w.front ∙ ap (λ (o : Option (List ℕ)). behind o (take w.count ys)) e ∙ behind-append old xs (take w.count ys) ∙ ap (behind old) (sym (take-append-add xs ys w.count));
+}
+
+-- where a pen has not failed, it had not failed before
+not_before : (p q : Bool) (A : Type 0) → (p ≡ true → (q ≡ true) × A) → q ≡ false → p ≡ false
+not_before true q A h e = absurd (cc (h refl).0)
+not_before false q A h e = refl
+
+-- what was handed over, and what is held and asked after it
+parted : (handed mid old xs ys : List ℕ) → handed ++ mid ≡ old ++ xs → handed ++ (mid ++ ys) ≡ old ++ (xs ++ ys)
+parted handed mid old xs ys e = sym (append_assoc handed mid ys) ∙ ap (λ (zs : List ℕ). zs ++ ys) e ∙ append_assoc old xs ys
+
+module _ {K : Type 0} {written : K → Option (List ℕ)} {faults : K → ℕ} {gives : K → List ℕ → Result ℕ Failed → K → Type 0} where
+  -- handed over, and handed over again
+  hands_then : {a b c : Sheet K} {xs ys : List ℕ} → Hands written faults gives a b xs → Hands written faults gives b c ys → Hands written faults gives a c (xs ++ ys)
+  hands_then {a} {b} {c} {xs} {ys} p q = record {
+    handed = p.handed ++ q.handed;
+    reached = q.reached ∙ ap (λ (o : Option (List ℕ)). behind o q.handed) p.reached ∙ behind-append (written a.sink) p.handed q.handed;
+    whole = append_assoc p.handed q.handed c.held ∙ ap (λ (zs : List ℕ). p.handed ++ zs) q.whole ∙ parted p.handed b.held a.held xs ys p.whole;
+    takes = takes_then p.takes q.takes;
+  }
+
+  -- asked for some bytes and then for others, a pen was asked for both
+  pub asks_then : {a b c : Sheet K} {xs ys : List ℕ} → Asks written faults gives a b xs → Asks written faults gives b c ys → Asks written faults gives a c (xs ++ ys)
+  asks_then {a} {b} {c} {xs} {ys} p q = record {
+    later = omega (arith, p.later, q.later);
+    hands = λ ok. hands_then (p.hands (not_before b.failed c.failed (c.sink ≡ b.sink) q.stays ok)) (q.hands ok);
+    stays = λ had. let mid = p.stays had in let end = q.stays mid.0 in (end.0, end.1 ∙ mid.1);
+    fails = λ ok gave. within a b c xs ys p q ok gave b.failed refl;
+  } where
+    within : (a b c : Sheet K) (xs ys : List ℕ) → Asks written faults gives a b xs → Asks written faults gives b c ys → a.failed ≡ false → c.failed ≡ true → (m : Bool) → b.failed ≡ m → Fails written faults gives a c (xs ++ ys)
+    within a b c xs ys p q ok gave true e =
+        let first = p.fails ok e in
+        let same = (q.stays e).1 in
+        record {
+          front = rw (same, ← append_assoc a.held xs ys) (front_longer (written a.sink) (written b.sink) (a.held ++ xs) ys first.front);
+          last = rw same first.last;
+          cause = omega (arith, first.cause, q.later);
+        }
+    within a b c xs ys p q ok gave false e =
+        let first = p.hands e in
+        let second = q.fails e gave in
+        record {
+          front = rw (← parted first.handed b.held a.held xs ys first.whole) (front_after (written a.sink) (written b.sink) (written c.sink) first.handed (b.held ++ ys) first.reached second.front);
+          last = fails_then first.takes second.last;
+          cause = omega (arith, second.cause, p.later);
+        }
+
+  -- the bytes were put behind what was held
+  pub asks_held : (a : Sheet K) (held xs : List ℕ) → held ≡ a.held ++ xs → Asks written faults gives a (record { sink = a.sink; held = held; failed = a.failed }) xs
+  asks_held a held xs e = record {
+    later = omega arith;
+    hands = λ ok. record { handed = []; reached = sym (behind-nil (written a.sink)); whole = e; takes = none };
+    stays = λ had. (had, refl);
+    fails = λ ok gave. absurd (cc (ok, gave));
+  }
+
+  -- nothing was asked
+  pub asks_none : (a : Sheet K) → Asks written faults gives a a []
+  asks_none a = asks_held a a.held [] (sym (append-nil a.held))
+
+  -- ---- what is still to be asked, for a loop
+
+  -- nothing was asked yet
+  pub owes_all : (a : Sheet K) (all : List ℕ) → Owes written faults gives a a all all
+  owes_all a all = record { done = []; asked = asks_none a; parts = refl }
+
+  -- a first piece of the rest was asked
+  pub owes_then : {a b c : Sheet K} {xs rest all : List ℕ} → Asks written faults gives b c xs → Owes written faults gives a b (xs ++ rest) all → Owes written faults gives a c rest all
+  owes_then {a} {b} {c} {xs} {rest} {all} q p = record {
+    done = p.done ++ xs;
+    asked = asks_then p.asked q;
+    parts = append_assoc p.done xs rest ∙ p.parts;
+  }
+
+  -- nothing is left
+  pub owes_none : {a b : Sheet K} {all : List ℕ} → Owes written faults gives a b [] all → Asks written faults gives a b all
+  owes_none {a} {b} {all} p = subst (Asks written faults gives a b) (sym (append-nil p.done) ∙ p.parts) p.asked
+
+  -- the piece of one more element was asked
+  pub owes_next : {X : Type 0} {a b c : Sheet K} {all : List ℕ} (f : X → List ℕ) (xs : List X) (i : ℕ) (d : X) → i < length xs → Asks written faults gives b c (f (get_or xs i d)) → Owes written faults gives a b (flat_map f (drop i xs)) all → Owes written faults gives a c (flat_map f (drop (i + 1) xs)) all
+  owes_next {X} {a} {b} {c} {all} f xs i d lt q p = owes_then {rest = flat_map f (drop (i + 1) xs)} q (rw (drop_more xs i d lt) at p)
+
+  -- the pieces of all elements were asked
+  pub owes_last : {X : Type 0} {a b : Sheet K} {all : List ℕ} (f : X → List ℕ) (xs : List X) (i : ℕ) → length xs ≤ i → Owes written faults gives a b (flat_map f (drop i xs)) all → Asks written faults gives a b all
+  owes_last f xs i le p = owes_none (rw (drop_all i xs le) at p)
+
+  -- ---- the same of pens
+
+  -- some bytes were put and then others
+  pub puts_then : {p q r : Pen K} {xs ys : List ℕ} → Puts written faults gives p q xs → Puts written faults gives q r ys → Puts written faults gives p r (xs ++ ys)
+  puts_then p q = record { same_sink = q.same_sink ∙ p.same_sink; asks = asks_then p.asks q.asks }
+
+  -- nothing was put
+  pub puts_none : (p : Pen K) → Puts written faults gives p p []
+  puts_none p = record { same_sink = refl; asks = asks_none (sheet p) }
+
+  -- ---- a call with a pen of its own
+
+  -- a fresh pen was asked for the text, and ended
+  prints : {T : Type 0} (result : Result T Failed) (start : K) (new : Sheet K) (text : List ℕ) → Asks written faults gives (record { sink = start; held = []; failed = false }) new text → OnOk result ((new.failed ≡ false) × (new.held ≡ [])) → OnErr result (new.failed ≡ true) → Prints written faults gives start new.sink result text
+  prints (Ok x) start new text q ok err =
+      let h = q.hands ok.0 in
+      let e : h.handed ≡ text = sym (append-nil h.handed) ∙ ap (λ (zs : List ℕ). h.handed ++ zs) (sym ok.1) ∙ h.whole in
+      record { whole = h.reached ∙ ap (behind (written start)) e; takes = h.takes; front = tt; last = tt; cause = tt; later = q.later }
+  prints (Err e) start new text q ok err =
+      let f = q.fails refl err in
+      record { whole = tt; takes = tt; front = f.front; last = f.last; cause = f.cause; later = q.later }
+
+  -- a pen was made for a sink, put the text, and ended
+  pub prints_sink : {T : Type 0} {start end : K} {first mid last : Pen K} {result : Result T Failed} {text : List ℕ} → sheet first ≡ record { sink = start; held = []; failed = false } → Puts written faults gives first mid text → Puts written faults gives mid last [] → OnOk result ((last.failed ≡ false) × (last.page.items ≡ [])) → OnErr result (last.failed ≡ true) → end ≡ last.sink.now → Prints written faults gives start end result text
+  prints_sink {T} {start} {end} {first} {mid} {last} {result} {text} fresh puts ends ok err same =
+      rw same (prints result start (sheet last) text (subst (λ (a : Sheet K). Asks written faults gives a (sheet last) text) fresh (subst (Asks written faults gives (sheet first) (sheet last)) (append-nil text) (asks_then puts.asks ends.asks))) ok err)

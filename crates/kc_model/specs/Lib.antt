@@ -1,0 +1,9 @@
+pub mod Refilled
+pub mod Rising
+pub mod Footprint
+pub mod Cells
+pub mod Store
+pub mod Legal
+pub mod Outside
+pub mod Forms
+pub mod Pen

@@ -1,0 +1,54 @@
+//! Where bytes come from, and where they go.
+
+ghost use Rattle.std.specs.Prelude.{◌≡◌, ◌≤◌, ◌<◌, ℕ, List, Option, Result, length, take, IfOk, OnErr};
+ghost use Rattle.kc_model.specs.declared.outside.Failed.{Failed as Fault};
+ghost use Rattle.kc_model.specs.Outside.{ahead, behind, IsSpent, Rises};
+
+/// The outside failed.
+#[derive(Clone, Copy, Debug, PartialEq, Eq)]
+pub struct Failed;
+
+/// Where bytes come from.
+pub trait Source {
+    /// The bytes left, where the source tells them.
+    ghost left: { Self → Option (List ℕ) };
+
+    /// How often it has failed, at most 2^64 − 1.
+    ghost faults: { Self → ℕ };
+
+    /// What a call of `read` may do: the source before, the buffer before, the answer, the buffer after, the source after.
+    ghost read_gives: { Self → List ℕ → Result ℕ Fault → List ℕ → Self → Type 0 };
+
+    /// Reads the next bytes into the front of the buffer, and answers their number.
+    /// No byte into a buffer that has room is the end of the input.
+    fn read(&mut self, buf: &mut [u8]) -> Result<usize, Failed>
+        ensures gives { read_gives self.old buf.old result buf.new self.new }
+        ensures within { IfOk result (λ n. n ≤ length buf.old) }
+        ensures next { IfOk result (λ n. left self.old ≡ ahead (take n buf.new) (left self.new)) }
+        ensures end { IfOk result (λ n. n ≡ 0 → 0 < length buf.old → IsSpent (left self.old)) }
+        ensures err { OnErr result (left self.new ≡ left self.old) }
+        ensures cause { OnErr result (Rises (faults self.old) (faults self.new)) }
+        ensures later { faults self.old ≤ faults self.new };
+}
+
+/// Where bytes go.
+pub trait Sink {
+    /// The bytes written, where the sink tells them.
+    ghost written: { Self → Option (List ℕ) };
+
+    /// How often it has failed, at most 2^64 − 1.
+    ghost faults: { Self → ℕ };
+
+    /// What a call of `write` may do: the sink before, the buffer, the answer, the sink after.
+    ghost write_gives: { Self → List ℕ → Result ℕ Fault → Self → Type 0 };
+
+    /// Writes a front of the buffer, of one byte at least where there is one, and answers its length.
+    fn write(&mut self, buf: &[u8]) -> Result<usize, Failed>
+        ensures gives { write_gives self.old buf.now result self.new }
+        ensures within { IfOk result (λ n. n ≤ length buf.now) }
+        ensures some { IfOk result (λ n. 0 < length buf.now → 0 < n) }
+        ensures taken { IfOk result (λ n. written self.new ≡ behind (written self.old) (take n buf.now)) }
+        ensures err { OnErr result (written self.new ≡ written self.old) }
+        ensures cause { OnErr result (Rises (faults self.old) (faults self.new)) }
+        ensures later { faults self.old ≤ faults self.new };
+}
