@@ -1,0 +1,4 @@
+pub mod Choice
+pub mod Ready
+pub mod Places
+pub mod Lines
