@@ -1,0 +1,8 @@
+pub mod Words
+pub mod Script
+pub mod Grammar
+pub mod Spells
+pub mod Refused
+pub mod Meaning
+pub mod State
+pub mod Reading

@@ -1,0 +1,16 @@
+-- Why bytes are refused.
+use Rattle.std.specs.Prelude.{◌≡◌, ℕ, List}
+use Rattle.kc_script.specs.declared.fault.ScriptError.{ScriptError}
+use Rattle.kc_script.specs.declared.fault.ScriptError.TheVariants as error
+use Rattle.kc_script.specs.declared.fault.Why.TheVariants.{NotBuilt}
+use Rattle.kc_script.specs.Script.{Script}
+use Rattle.kc_script.specs.Spells.{Spells, IsBuilt}
+
+-- they spell no script of the built form
+abbrev pub SpellNone : List ℕ → Type 0
+SpellNone bytes = (s : Script) → Spells bytes s → IsBuilt s → ⊥
+
+-- a fault says so; want of memory says nothing
+abbrev pub Refused : List ℕ → ScriptError → Type 0
+Refused bytes (error.Fault line why) = (line ≡ 0) × (why ≡ NotBuilt) × SpellNone bytes
+Refused bytes error.NoMemory = Unit {0}
