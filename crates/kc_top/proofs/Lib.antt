@@ -1,0 +1,4 @@
+pub mod OneLocation
+pub mod Threads
+pub mod Runs
+pub mod Bundles

@@ -1,0 +1,5 @@
+use Rattle.kc_top.proofs.OneLocation.{not_stale}
+use Rattle.kc_top.proofs.commit.apply_standing.Goals as goal
+
+pub unreachable-requires : goal.unreachable-requires
+unreachable-requires c = let e = not_stale _ _ c.requires.stands in absurd (cc (e, c.in-Err.ensures.stale))

@@ -1,0 +1,88 @@
+-- What a run of a script is, and its text.
+use Rattle.std.specs.Prelude.{◌≡◌, ℕ, ◌+◌, List, [], ◌∷◌, ◌++◌, Option, Some, None, map, codes, slice_get, slice_index_or}
+use Rattle.kc_model.specs.Store.{Store, store_of, opened, after}
+use Rattle.kc_model.specs.declared.reply.Answer.{Answer}
+use Rattle.kc_model.specs.declared.reply.Answer.TheVariants as answer
+use Rattle.kc_script.specs.declared.operation.Command.{Command}
+use Rattle.kc_script.specs.Script.{Script}
+use Rattle.kc_script.specs.Meaning.{Touch, Meaning, Makes, command_meaning, end_meaning, values}
+use Rattle.kc_script.specs.State.{opening_values, state_lines}
+use Rattle.kc_history.specs.declared.record.Mark.{Mark}
+use Rattle.kc_history.specs.declared.record.Mark.TheVariants as mark
+use Rattle.kc_history.specs.declared.record.Record.{Record}
+use Rattle.kc_history.specs.declared.record.Place.{Place}
+use Rattle.kc_history.specs.Records.{record_at, footprint_at}
+use Rattle.kc_history.specs.Order.{IsCanonical}
+use Rattle.kc_history.specs.Text.{records_text}
+
+-- ---- each thread's records
+
+pub record Label : Type 0 where
+  pub thread : ℕ
+  pub mark : Mark
+
+abbrev pub label : Record → Label
+label r = record { thread = r.thread; mark = r.mark }
+
+-- one for each command, numbered from here on, and then the end
+abbrev pub labels : ℕ → ℕ → List Command → List Label
+labels thread number [] = record { thread = thread; mark = mark.End } ∷ []
+labels thread number (c ∷ cs) = record { thread = thread; mark = mark.Command number } ∷ labels thread (number + 1) cs
+
+-- the threads, numbered from here on, have one record for each command, in order, and then their end
+abbrev pub AreThreads : ℕ → List (List Command) → List (List Record) → Type 0
+AreThreads thread [] [] = Unit {0}
+AreThreads thread (cs ∷ threads) (rs ∷ records) = (map label rs ≡ labels thread 1 cs) × AreThreads (thread + 1) threads records
+AreThreads thread [] (rs ∷ records) = ⊥
+AreThreads thread (cs ∷ threads) [] = ⊥
+
+-- ---- what each record is
+
+-- what a thread commits: its commands, and then its end
+abbrev pub meanings : List Command → List Meaning
+meanings cs = map command_meaning cs ++ end_meaning ∷ []
+
+abbrev pub meaning_at : List (List Command) → ℕ → ℕ → Option Meaning
+meaning_at threads thread index = slice_get (meanings (slice_index_or threads thread [])) index
+
+abbrev pub only_read : Touch → Touch
+only_read t = record { cell = t.cell; wrote = None }
+
+-- what is committed of the touches: where the answer is too large, nothing is put
+abbrev pub kept : Answer → List Touch → List Touch
+kept (answer.Reply r) touches = touches
+kept answer.TooLarge touches = map only_read touches
+
+-- the record is the meaning's commit on the store
+pub record IsCommit (m : Meaning) (s : Store) (r : Record) : Type 0 where
+  pub answer : r.answer ≡ (m (values s)).answer
+  pub makes : Makes s (kept (m (values s)).answer (m (values s)).touches) r.footprint
+
+-- replayed in this order from a store, each record is its command's commit there
+abbrev pub Replays : List (List Command) → List (List Record) → Store → List Place → Store → Type 0
+Replays threads records s [] e = e ≡ s
+Replays threads records s (p ∷ ps) e = (m : Meaning) × (r : Record) × (meaning_at threads p.thread p.index ≡ Some m) × (record_at records p.thread p.index ≡ Some r)
+    × IsCommit m s r × Replays threads records (after r.footprint s) ps e
+
+-- the store with which a script opens
+abbrev pub opening_store : Script → Store
+opening_store script = store_of (opened (opening_values script))
+
+-- The records, in canonical order, are one legal history of the plain store, from the script's opening store to the last one: each thread's commands
+-- stand in it once, in its order, and each is answered its value at its place.
+pub record IsRun (script : Script) (records : List (List Record)) (order : List Place) (last : Store) : Type 0 where
+  pub threads : AreThreads 1 script.threads records
+  pub canonical : IsCanonical (footprint_at records) order
+  pub replays : Replays script.threads records (opening_store script) order last
+
+-- the replies by thread, the records in canonical order, and what the objects hold at last
+abbrev pub run_text : Script → List (List Record) → List Place → Store → List ℕ
+run_text script records order last = records_text records order ++ codes "state\n" ++ state_lines script last
+
+-- the text of a run of the script
+pub record IsText (script : Script) (text : List ℕ) : Type 0 where
+  pub records : List (List Record)
+  pub order : List Place
+  pub last : Store
+  pub run : IsRun script records order last
+  pub spelled : text ≡ run_text script records order last

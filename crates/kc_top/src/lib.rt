@@ -1,0 +1,14 @@
+//! The top call: runs a script from the bytes of a source, and writes its text to a sink.
+#![tactic(auto)]
+
+mod command_line;
+mod commit;
+mod run;
+mod status;
+#[cfg(test)]
+mod tests;
+mod thread;
+mod top;
+
+pub use status::Status;
+pub use top::kcas_main;

@@ -1,0 +1,140 @@
+ghost use Rattle.std.specs.Prelude.{◌≡◌, ◌∷◌, [], codes};
+ghost use Rattle.kc_script.specs.State.{opening_values};
+ghost use Rattle.kc_top.specs.Run.{AreThreads, run_text};
+ghost use Rattle.kc_top.specs.Worked.{first_script, first_records, first_order, first_last};
+
+use crate::{Status, kcas_main};
+use kc_model::{FrailSink, FrailSource};
+use kc_script::Why;
+use std::alloc::Global;
+use std::test::Fail;
+
+const FIRST: &str = "kcas 1\nloc x 5\nthread\nget x\nset x 7\nadd x 1\n";
+
+const FIRST_TEXT: &str = "1.1 5\n1.2 ok\n1.3 7\norder\n1.1\n1.2\n1.3\n1.end\nstate\nx 8\n";
+
+const NOT_BUILT: Status = Status::Script {
+    part: 0,
+    line: 0,
+    why: Why::NotBuilt,
+};
+
+// The definitions, computed on the first script and its records by hand.
+fn first_script_by_hand()
+    ensures text { run_text first_script first_records first_order first_last ≡ codes "1.1 5\n1.2 ok\n1.3 7\norder\n1.1\n1.2\n1.3\n1.end\nstate\nx 8\n" }
+    ensures threads { AreThreads 1 first_script.threads first_records }
+    ensures opening { opening_values first_script ≡ 1 ∷ 5 ∷ [] }
+{}
+
+fn words(alloc: Global, second: &str) -> Result<Vec<String>, Fail> {
+    let mut words = Vec::new(alloc);
+    words.push(String::from_str(alloc, "kcas")?)?;
+    words.push(String::from_str(alloc, second)?)?;
+    Ok(words)
+}
+
+// The status of `kcas run` on these bytes, and what it wrote.
+fn run(rt: &HostRuntime, script: &[u8]) -> Result<(Status, Vec<u8>), Fail> {
+    let alloc = rt.alloc();
+    let words = words(alloc, "run")?;
+    let mut source = FrailSource::new(script.to_vec(alloc)?, Vec::new(alloc));
+    let mut sink = FrailSink::new(alloc, 4096, Vec::new(alloc))?;
+    let status = kcas_main(rt, alloc, &words, &mut source, &mut sink);
+    Ok((status, sink.bytes().to_vec(alloc)?))
+}
+
+#[test]
+fn worked_scripts_give_their_texts(rt: HostRuntime) -> Result<(), Fail> {
+    let rows = [
+        (FIRST, FIRST_TEXT),
+        ("kcas 1\n", "order\nstate\n"),
+        (
+            "kcas 1\nloc x 4294967295\nthread\nadd x 1\n",
+            "1.1 4294967295\norder\n1.1\n1.end\nstate\nx 0\n",
+        ),
+        (
+            "# demo\r\nkcas\t1\r\nloc\tx\t5\r\nthread\r\nget\tx\r\nset\tx\t7\r\nadd\tx\t1\r\n",
+            FIRST_TEXT,
+        ),
+        (
+            "kcas 1\nloc x 1\nloc y 2\nthread\nset y 0000000003\nget x\nget y",
+            "1.1 ok\n1.2 1\n1.3 3\norder\n1.1\n1.2\n1.3\n1.end\nstate\nx 1\ny 3\n",
+        ),
+    ];
+    for (script, text) in rows {
+        let (status, written) = run(&rt, script.as_bytes())?;
+        assert_eq!(rt; status, Status::Done, "{script}");
+        assert_eq!(rt; written.as_slice(), text.as_bytes(), "{script}");
+    }
+    Ok(())
+}
+
+#[test]
+fn what_is_no_script_is_not_built_and_writes_nothing(rt: HostRuntime) -> Result<(), Fail> {
+    for script in [
+        "",
+        "# nothing\n",
+        "kcas 2\n",
+        "kcas 1\nloc x\n",
+        "kcas 1\nthread\nget x\n",
+    ] {
+        let (status, written) = run(&rt, script.as_bytes())?;
+        assert_eq!(rt; status, NOT_BUILT, "{script}");
+        assert!(rt; written.is_empty());
+    }
+    Ok(())
+}
+
+#[test]
+fn other_words_are_usage(rt: HostRuntime) -> Result<(), Fail> {
+    let alloc = rt.alloc();
+    for second in ["", "runs", "--help", "storm"] {
+        let words = words(alloc, second)?;
+        let mut source = FrailSource::new(FIRST.as_bytes().to_vec(alloc)?, Vec::new(alloc));
+        let mut sink = FrailSink::new(alloc, 100, Vec::new(alloc))?;
+        let status = kcas_main(&rt, alloc, &words, &mut source, &mut sink);
+        assert_eq!(rt; status, Status::Usage, "{second}");
+        assert!(rt; sink.bytes().is_empty());
+    }
+    Ok(())
+}
+
+#[test]
+fn a_sink_that_fails_at_its_second_write_has_a_front_of_the_text(
+    rt: HostRuntime,
+) -> Result<(), Fail> {
+    let alloc = rt.alloc();
+    let words = words(alloc, "run")?;
+    let mut source = FrailSource::new(FIRST.as_bytes().to_vec(alloc)?, Vec::new(alloc));
+    let mut sink = FrailSink::new(alloc, 4096, vec![in alloc; 2]?)?;
+    let status = kcas_main(&rt, alloc, &words, &mut source, &mut sink);
+    assert_eq!(rt; status, Status::WriteFault);
+    assert!(rt; !sink.bytes().is_empty());
+    assert!(rt; FIRST_TEXT.as_bytes().starts_with(sink.bytes()));
+    Ok(())
+}
+
+#[test]
+fn a_source_that_fails_at_its_first_read_is_a_read_fault(rt: HostRuntime) -> Result<(), Fail> {
+    let alloc = rt.alloc();
+    let words = words(alloc, "run")?;
+    let mut source = FrailSource::new(FIRST.as_bytes().to_vec(alloc)?, vec![in alloc; 1]?);
+    let mut sink = FrailSink::new(alloc, 4096, Vec::new(alloc))?;
+    let status = kcas_main(&rt, alloc, &words, &mut source, &mut sink);
+    assert_eq!(rt; status, Status::ReadFault);
+    assert!(rt; sink.bytes().is_empty());
+    Ok(())
+}
+
+#[test]
+fn one_byte_past_the_limit_is_too_long(rt: HostRuntime) -> Result<(), Fail> {
+    let alloc = rt.alloc();
+    let words = words(alloc, "run")?;
+    let long = vec![in alloc; b'#'; 1_048_577]?;
+    let mut source = FrailSource::new(long, Vec::new(alloc));
+    let mut sink = FrailSink::new(alloc, 4096, Vec::new(alloc))?;
+    let status = kcas_main(&rt, alloc, &words, &mut source, &mut sink);
+    assert_eq!(rt; status, Status::TooLong);
+    assert!(rt; sink.bytes().is_empty());
+    Ok(())
+}

@@ -1,0 +1,77 @@
+//! One thread's commands on a plain store.
+
+ghost use Rattle.std.specs.Prelude.{◌≡◌, ◌+◌, ◌≤◌, ◌<◌, length, map, take, drop, IfOk, All};
+ghost use Rattle.kc_model.specs.Store.{store_of};
+ghost use Rattle.kc_script.specs.Meaning.{command_meaning};
+ghost use Rattle.kc_script.specs.Script.{AreFit};
+ghost use Rattle.kc_top.specs.Run.{label, labels, meanings};
+ghost use Rattle.kc_top.specs.Thread.{Commits, IsEmpty, VersionsTo, own_places};
+
+use crate::commit::{commit_command, commit_end};
+use kc_history::{Mark, Place, Record};
+use kc_model::{NoMemory, PlainStore};
+use kc_script::Command;
+use std::alloc::Global;
+
+/// Room for a record of each command of thread 1, and one of its end.
+pub fn room_for(alloc: Global, commands: &[Command]) -> Result<Vec<Record>, NoMemory>
+    requires { length commands.now ≤ 4096 }
+    ensures labelled { IfOk result (λ records. map label records.items ≡ labels 1 1 commands.now) }
+    ensures fresh { IfOk result (λ records. All (λ r. IsEmpty r.footprint) records.items) }
+{
+    let mut records = Vec::with_capacity(alloc, commands.len() + 1)?;
+    for i in 0..commands.len() {
+        records.push(Record::new(1, Mark::Command(i as u32 + 1)))?;
+    }
+    records.push(Record::new(1, Mark::End))?;
+    Ok(records)
+}
+
+/// The order of one thread's records, which is its own.
+pub fn own_order(alloc: Global, records: &[Record]) -> Result<Vec<Place>, NoMemory>
+    requires { length records.now ≤ 4097 }
+    ensures { IfOk result (λ order. order.items ≡ own_places 0 records.now) }
+{
+    let mut order = Vec::with_capacity(alloc, records.len())?;
+    for i in 0..records.len() {
+        order.push(Place {
+            thread: 0,
+            index: i as u32,
+        })?;
+    }
+    Ok(order)
+}
+
+/// Commits the commands of a thread and then its end, and fills their records.
+pub fn run_thread(store: &mut PlainStore, commands: &[Command], records: &mut [Record])
+    requires few { length commands.now ≤ 4096 }
+    requires room { length records.old ≡ length commands.now + 1 }
+    requires fit { AreFit (length store.old) commands.now }
+    requires live { 0 < length store.old }
+    requires fresh { All (λ r. IsEmpty r.footprint) records.old }
+    requires versions { VersionsTo 0 (store_of store.old) }
+    ensures commits { Commits (meanings commands.now) (store_of store.old) records.new (store_of store.new) }
+    ensures labels { map label records.new ≡ map label records.old }
+    ensures cells { length store.new ≡ length store.old }
+{
+    run_commands(store, commands, records);
+    let last = commands.len();
+    commit_end(store, &mut records[last]);
+}
+
+fn run_commands(store: &mut PlainStore, commands: &[Command], records: &mut [Record])
+    requires few { length commands.now ≤ 4096 }
+    requires room { length commands.now ≤ length records.old }
+    requires fit { AreFit (length store.old) commands.now }
+    requires fresh { All (λ r. IsEmpty r.footprint) records.old }
+    requires versions { VersionsTo 0 (store_of store.old) }
+    ensures commits { Commits (map command_meaning commands.now) (store_of store.old) (take (length commands.now) records.new) (store_of store.new) }
+    ensures rest { drop (length commands.now) records.new ≡ drop (length commands.now) records.old }
+    ensures labels { map label records.new ≡ map label records.old }
+    ensures versions { VersionsTo (length commands.now) (store_of store.new) }
+    ensures cells { length store.new ≡ length store.old }
+{
+    for i in 0..commands.len() {
+        commit_command(store, commands[i], &mut records[i]);
+    }
+}
