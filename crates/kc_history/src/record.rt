@@ -12,7 +12,7 @@ pub enum Mark {
 }
 
 /// What one commit of a run did.
-#[derive(Drop)]
+#[derive(Debug, Drop)]
 pub struct Record {
     /// The thread's number, from 1.
     pub thread: u32,

@@ -6,7 +6,7 @@ use crate::reply::Item;
 use std::marker::Model;
 
 /// At most 16 items.
-#[derive(Clone, Copy)]
+#[derive(Clone, Copy, Debug, PartialEq, Eq)]
 pub struct Items {
     item: [Item; 16],
     len: u32,

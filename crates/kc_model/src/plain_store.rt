@@ -7,7 +7,7 @@ ghost use Rattle.kc_model.specs.Store.{store_of, opened, Finds, after, stale};
 ghost use Rattle.kc_model.specs.Cells.{all_put, PutsFit};
 
 use crate::errors::ModelError;
-use crate::footprint::{Footprint, Loc, Put, Seen};
+use crate::footprint::{Footprint, LAST_VERSION, Loc, Put, Seen};
 use std::alloc::{AllocError, Global};
 use std::marker::Model;
 
@@ -78,7 +78,8 @@ impl PlainStore {
 
     /// What stands at a location; None past the last one.
     pub fn seen(&self, loc: Loc) -> Option<Seen>
-        ensures { result ≡ option_map (λ cell. record { loc = loc; version = cell.version; value = cell.value }) (slice_get self.now loc.0) }
+        ensures value { result ≡ option_map (λ cell. record { loc = loc; version = cell.version; value = cell.value }) (slice_get self.now loc.0) }
+        ensures version { IfSome result (λ seen. seen.version ≤ LAST_VERSION) }
     {
         let cell = cell_at(&self.cells, loc)?;
         Some(Seen {

@@ -12,7 +12,7 @@ pub enum Item {
 }
 
 /// What a transaction replies.
-#[derive(Clone, Copy)]
+#[derive(Clone, Copy, Debug, PartialEq, Eq)]
 pub enum Reply {
     Unit,
     Value(u32),
@@ -25,7 +25,7 @@ pub enum Reply {
 }
 
 /// What a command is answered.
-#[derive(Clone, Copy)]
+#[derive(Clone, Copy, Debug, PartialEq, Eq)]
 pub enum Answer {
     Reply(Reply),
     /// It would touch more locations than a transaction may.
