@@ -1,0 +1,14 @@
+pub mod Options
+pub mod Outcomes
+pub mod Lines
+pub mod Places
+pub mod LogSteps
+pub mod Chain
+pub mod Calls
+pub mod Laws
+pub mod PlainRuns
+pub mod Touching
+pub mod Composed
+pub mod Footprints
+pub mod Commits
+pub mod Spared

@@ -1,0 +1,9 @@
+pub mod Meaning
+pub mod Lines
+pub mod Program
+pub mod Peeks
+pub mod Log
+pub mod Calls
+pub mod Steps
+pub mod Law
+pub mod Worked

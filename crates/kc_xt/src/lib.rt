@@ -1,0 +1,18 @@
+//! The log of a transaction, and the law that a transaction keeps.
+#![tactic(auto)]
+
+mod line;
+mod peek;
+mod place;
+mod plain_peek;
+mod stop;
+#[cfg(test)]
+mod tests;
+mod transact;
+mod xt;
+
+pub use peek::{Peek, PeekBusy};
+pub use plain_peek::PlainPeek;
+pub use stop::Stop;
+pub use transact::Transact;
+pub use xt::{Snapshot, Xt};

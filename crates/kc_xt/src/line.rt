@@ -1,0 +1,91 @@
+//! The lines of a log.
+
+ghost use Rattle.std.specs.Prelude.{◌≡◌, ◌≤◌, ◌<◌, length, slice_set, slice_index_or};
+ghost use Rattle.kc_xt.specs.Calls.{zero_line, with_value};
+ghost use Rattle.kc_xt.specs.Lines.{after_at, rolled_back, seens, puts};
+
+use arrayvec::ArrayVec;
+use kc_model::{Loc, MOST, Put, Seen};
+
+// What was seen at a location, and its new value where one was set.
+#[derive(Clone, Copy, Debug, Default)]
+pub struct Line {
+    pub seen: Seen,
+    pub after: Option<u32>,
+}
+
+// Gives the line at `at` a new value.
+pub(crate) fn put_after(lines: &mut [Line], at: usize, value: u32)
+    requires { at < length lines.old }
+    ensures { lines.new ≡ slice_set lines.old at (with_value (slice_index_or lines.old at zero_line) value) }
+{
+    let line = lines[at];
+    lines[at] = Line {
+        seen: line.seen,
+        after: Some(value),
+    };
+}
+
+// The new value of a location.
+fn after_of(lines: &[Line], loc: Loc) -> Option<u32>
+    ensures { result ≡ after_at lines.now loc.0 }
+{
+    for line in lines {
+        if line.seen.loc.0 == loc.0 {
+            return line.after;
+        }
+    }
+    None
+}
+
+// Takes the new values back to those that `to` has at the locations.
+pub(crate) fn take_back(lines: &mut [Line], to: &[Line])
+    ensures { lines.new ≡ rolled_back to.now lines.old }
+{
+    for i in 0..lines.len() {
+        let line = lines[i];
+        lines[i] = Line {
+            seen: line.seen,
+            after: after_of(to, line.seen.loc),
+        };
+    }
+}
+
+pub(crate) fn copy_of(from: &[Line]) -> ArrayVec<Line, MOST>
+    requires { length from.now ≤ MOST }
+    ensures { result.items ≡ from.now }
+{
+    let mut lines = ArrayVec::new();
+    for line in from {
+        lines.push(*line);
+    }
+    lines
+}
+
+// Reads what all lines saw.
+pub(crate) fn fill_reads(reads: &mut ArrayVec<Seen, MOST>, lines: &[Line])
+    requires { length lines.now ≤ MOST }
+    ensures { reads.new.items ≡ seens lines.now }
+{
+    reads.clear();
+    for line in lines {
+        reads.push(line.seen);
+    }
+}
+
+// Puts the new values of the lines that have one.
+pub(crate) fn fill_puts(made: &mut ArrayVec<Put, MOST>, lines: &[Line])
+    requires { length lines.now ≤ MOST }
+    ensures { made.new.items ≡ puts lines.now }
+{
+    made.clear();
+    for line in lines {
+        if let Some(after) = line.after {
+            made.push(Put {
+                loc: line.seen.loc,
+                version: line.seen.version,
+                after,
+            });
+        }
+    }
+}

@@ -1,0 +1,101 @@
+ghost use Rattle.std.specs.Prelude.{◌≡◌, ◌-◌, ◌≤◌, length, IfOk};
+ghost use Rattle.kc_xt.specs.Steps.{Does};
+ghost use Rattle.kc_xt.specs.Worked.{clears};
+
+use crate::*;
+use kc_model::{Loc, MOST, PlainStore, Reply};
+use std::alloc::Global;
+use std::test::Fail;
+
+fn store_of(alloc: Global, values: &[u32]) -> Result<PlainStore, Fail>
+    ensures { IfOk result (λ store. length store ≡ length values.now) }
+{
+    match PlainStore::open(alloc, values) {
+        Ok(store) => Ok(store),
+        Err(_) => Err(Fail::from("no memory")),
+    }
+}
+
+#[test]
+fn the_sixty_fifth_line_is_too_large(rt: HostRuntime) -> Result<(), Fail> {
+    let store = store_of(rt.alloc(), &[7; MOST + 1])?;
+    let mut xt = Xt::new(PlainPeek::new(&store));
+    for l in 0..MOST as u32 {
+        assert_eq!(rt; xt.get(Loc(l)), Ok(7));
+    }
+    assert_eq!(rt; xt.get(Loc(MOST as u32)), Err(Stop::TooLarge));
+    assert_eq!(rt; xt.set(Loc(0), 8), Ok(()));
+    assert_eq!(rt; xt.get(Loc(0)), Ok(8));
+    Ok(())
+}
+
+#[test]
+fn a_rollback_keeps_lines_and_takes_back_values(rt: HostRuntime) -> Result<(), Fail> {
+    let store = store_of(rt.alloc(), &[5, 6])?;
+    let mut xt = Xt::new(PlainPeek::new(&store));
+    assert_eq!(rt; xt.set(Loc(0), 7), Ok(()));
+    let before = xt.snapshot();
+    assert_eq!(rt; xt.set(Loc(0), 8), Ok(()));
+    assert_eq!(rt; xt.set(Loc(1), 9), Ok(()));
+    xt.rollback(&before);
+    assert_eq!(rt; xt.get(Loc(0)), Ok(7));
+    assert_eq!(rt; xt.get(Loc(1)), Ok(6));
+    let (_, footprint) = xt.into_parts();
+    assert_eq!(rt; footprint.reads.len(), 2);
+    assert_eq!(rt; footprint.puts.len(), 1);
+    Ok(())
+}
+
+#[test]
+fn a_swap_gives_each_location_the_other_value(rt: HostRuntime) -> Result<(), Fail> {
+    let store = store_of(rt.alloc(), &[5, 6])?;
+    let mut xt = Xt::new(PlainPeek::new(&store));
+    assert_eq!(rt; xt.swap(Loc(0), Loc(1)), Ok(()));
+    assert_eq!(rt; xt.get(Loc(0)), Ok(6));
+    assert_eq!(rt; xt.get(Loc(1)), Ok(5));
+    Ok(())
+}
+
+#[test]
+fn a_compare_and_set_that_answers_false_sets_nothing(rt: HostRuntime) -> Result<(), Fail> {
+    let store = store_of(rt.alloc(), &[5])?;
+    let mut xt = Xt::new(PlainPeek::new(&store));
+    assert_eq!(rt; xt.compare_and_set(Loc(0), 6, 7), Ok(false));
+    let (_, footprint) = xt.into_parts();
+    assert!(rt; footprint.puts.is_empty());
+    Ok(())
+}
+
+#[test]
+fn a_sum_wraps_and_an_exchange_answers_the_value_before(rt: HostRuntime) -> Result<(), Fail> {
+    let store = store_of(rt.alloc(), &[u32::MAX])?;
+    let mut xt = Xt::new(PlainPeek::new(&store));
+    assert_eq!(rt; xt.fetch_add(Loc(0), 3), Ok(u32::MAX));
+    assert_eq!(rt; xt.exchange(Loc(0), 9), Ok(2));
+    assert_eq!(rt; xt.compare_and_set(Loc(0), 9, 1), Ok(true));
+    Ok(())
+}
+
+// The worked example of a loop on a log: gives zero to each location from `first` to before `end`.
+fn clear_range<P: Peek>(first: u32, end: u32, xt: &mut Xt<P>) -> Result<Reply, Stop>
+    requires { end ≤ P.locations xt.old.peek }
+    ensures goes { Does P.peek_gives (clears first (end - first)) xt.old result xt.new }
+    ensures size { P.locations xt.new.peek ≡ P.locations xt.old.peek }
+{
+    for l in first..end {
+        xt.set(Loc(l), 0)?;
+    }
+    Ok(Reply::Unit)
+}
+
+#[test]
+fn a_loop_clears_the_locations_that_it_names_alone(rt: HostRuntime) -> Result<(), Fail> {
+    let store = store_of(rt.alloc(), &[5, 6, 7, 8])?;
+    let mut xt = Xt::new(PlainPeek::new(&store));
+    assert_eq!(rt; clear_range(1, 3, &mut xt), Ok(Reply::Unit));
+    assert_eq!(rt; xt.get(Loc(0)), Ok(5));
+    assert_eq!(rt; xt.get(Loc(1)), Ok(0));
+    assert_eq!(rt; xt.get(Loc(2)), Ok(0));
+    assert_eq!(rt; xt.get(Loc(3)), Ok(8));
+    Ok(())
+}

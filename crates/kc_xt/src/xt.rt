@@ -1,0 +1,256 @@
+//! The log of a transaction.
+
+ghost use Rattle.std.specs.Prelude.{◌≡◌, ◌==◌, ◌+◌, ◌<◌, ◌≤◌, Some, None, if◌then◌else◌, length, IfOk, OnErr};
+ghost use Rattle.kc_model.specs.Rising.{IsRising};
+ghost use Rattle.kc_model.specs.Footprint.{IsWellMade};
+ghost use Rattle.kc_xt.specs.Calls.{Touches, Updates, Swaps, IsPlace, HasLine, having_set, stop_of};
+ghost use Rattle.kc_xt.specs.Lines.{locations, Keeps, SetsNothing, ReadsAs, rolled_back, seens, puts, CanPut};
+ghost use Rattle.kc_xt.specs.Log.{empty_log};
+ghost use Rattle.kc_xt.specs.Steps.{Does};
+ghost use Rattle.kc_xt.specs.Program.{read, writes, exchanges, swaps, compares_and_sets, fetches_and_adds, wrapped};
+
+use crate::line::{Line, copy_of, fill_puts, fill_reads, put_after, take_back};
+use crate::peek::Peek;
+use crate::place::find;
+use crate::stop::Stop;
+use arrayvec::ArrayVec;
+use kc_model::{Footprint, Loc, MOST};
+use std::marker::Model;
+
+/// The log of a transaction: what it saw at each location that it touched, and the new values. Contracts see its peek,
+/// how many lines it may have, and the lines, in rising order of location.
+#[derive(Drop)]
+pub struct Xt<P> {
+    peek: P,
+    limit: u32,
+    lines: ArrayVec<Line, MOST>,
+}
+
+impl<P> Model for Xt<P> {
+    ghost use Rattle.std.specs.Prelude.{◌≤◌, length};
+    ghost use Rattle.kc_model.specs.declared.footprint.TheConstants.{MOST};
+    ghost use Rattle.kc_model.specs.Rising.{IsRising};
+    ghost use Rattle.kc_xt.specs.Lines.{locations, VersionsFit};
+    ghost use Rattle.kc_xt.specs.Log.{Log, log_code};
+
+    ghost Value = { Log P };
+
+    ghost coded = { log_code P.code };
+
+    ghost view = { λ a. record { peek = a.peek; limit = a.limit; lines = a.lines.items } };
+
+    ghost invariant = { λ a. (a.limit ≤ MOST) × (length a.lines.items ≤ a.limit) × IsRising (locations a.lines.items) × VersionsFit a.lines.items };
+}
+
+/// The lines that a log had. Contracts see a list of lines.
+#[derive(Drop)]
+pub struct Snapshot {
+    lines: ArrayVec<Line, MOST>,
+}
+
+impl Model for Snapshot {
+    ghost use Rattle.std.specs.Prelude.{List};
+    ghost use Rattle.kc_xt.specs.declared.line.Line.{Line};
+
+    ghost Value = { List Line };
+
+    ghost view = { λ s. s.lines.items };
+}
+
+impl<P: Peek> Xt<P> {
+    /// The empty log, with room for `MOST` lines.
+    pub fn new(peek: P) -> Xt<P>
+        ensures { result ≡ empty_log peek }
+    {
+        Xt {
+            peek,
+            limit: MOST as u32,
+            lines: ArrayVec::new(),
+        }
+    }
+
+    // The place of the location's line, which is made where there is none.
+    fn touch(&mut self, loc: Loc) -> Result<usize, Stop>
+        requires { loc.0 < P.locations self.old.peek }
+        ensures step { Touches P.peek_gives loc.0 self.old (stop_of result) self.new }
+        ensures place { IfOk result (λ i. IsPlace self.new.lines loc.0 i) }
+        ensures size { P.locations self.new.peek ≡ P.locations self.old.peek }
+    {
+        let at = match find(self.lines.as_slice(), loc.0) {
+            Ok(at) => return Ok(at),
+            Err(at) => at,
+        };
+        if self.lines.len() >= self.limit as usize {
+            return Err(Stop::TooLarge);
+        }
+        match self.peek.peek(loc) {
+            Ok(seen) => {
+                self.lines.insert(at, Line { seen, after: None });
+                Ok(at)
+            }
+            Err(_) => Err(Stop::Busy),
+        }
+    }
+
+    // Gives a location that has a line a new value.
+    fn put(&mut self, loc: Loc, value: u32)
+        requires { HasLine self.old.lines loc.0 }
+        ensures { self.new ≡ having_set self.old loc.0 value }
+    {
+        if let Ok(at) = find(self.lines.as_slice(), loc.0) {
+            put_after(self.lines.as_mut_slice(), at, value);
+        }
+    }
+
+    /// The value of a location: the new one where one was set, else the one seen.
+    ///
+    /// # Errors
+    ///
+    /// - TooLarge: exactly where the location has no line and there are as many lines as the log may have
+    /// - Busy: exactly where a look was made and given up
+    ///
+    /// The lines are then as before.
+    pub fn get(&mut self, loc: Loc) -> Result<u32, Stop>
+        requires { loc.0 < P.locations self.old.peek }
+        ensures step { Touches P.peek_gives loc.0 self.old (stop_of result) self.new }
+        ensures value { IfOk result (λ v. ReadsAs self.new.lines loc.0 v) }
+        ensures goes { Does P.peek_gives (read loc.0) self.old result self.new }
+        ensures size { P.locations self.new.peek ≡ P.locations self.old.peek }
+    {
+        let at = self.touch(loc)?;
+        let line = self.lines.as_slice()[at];
+        Ok(line.after.unwrap_or(line.seen.value))
+    }
+
+    /// Gives a location a new value.
+    ///
+    /// # Errors
+    ///
+    /// As `get`.
+    pub fn set(&mut self, loc: Loc, value: u32) -> Result<(), Stop>
+        requires { loc.0 < P.locations self.old.peek }
+        ensures step { Updates P.peek_gives loc.0 (λ _. tt) (λ _. Some value) self.old result self.new }
+        ensures goes { Does P.peek_gives (writes loc.0 value) self.old result self.new }
+        ensures size { P.locations self.new.peek ≡ P.locations self.old.peek }
+    {
+        self.get(loc)?;
+        self.put(loc, value);
+        Ok(())
+    }
+
+    /// Gives a location a new value, and answers the one before.
+    ///
+    /// # Errors
+    ///
+    /// As `get`.
+    pub fn exchange(&mut self, loc: Loc, value: u32) -> Result<u32, Stop>
+        requires { loc.0 < P.locations self.old.peek }
+        ensures step { Updates P.peek_gives loc.0 (λ v. v) (λ _. Some value) self.old result self.new }
+        ensures goes { Does P.peek_gives (exchanges loc.0 value) self.old result self.new }
+        ensures size { P.locations self.new.peek ≡ P.locations self.old.peek }
+    {
+        let before = self.get(loc)?;
+        self.put(loc, value);
+        Ok(before)
+    }
+
+    /// Gives each of two locations the value of the other.
+    ///
+    /// # Errors
+    ///
+    /// As `get`, at `a` or at `b`. At `b` the line of `a` stays.
+    pub fn swap(&mut self, a: Loc, b: Loc) -> Result<(), Stop>
+        requires a { a.0 < P.locations self.old.peek }
+        requires b { b.0 < P.locations self.old.peek }
+        ensures step { Swaps P.peek_gives a.0 b.0 self.old result self.new }
+        ensures nothing_set { OnErr result (SetsNothing self.old.lines self.new.lines) }
+        ensures goes { Does P.peek_gives (swaps a.0 b.0) self.old result self.new }
+        ensures size { P.locations self.new.peek ≡ P.locations self.old.peek }
+    {
+        let at_a = self.get(a)?;
+        let at_b = self.get(b)?;
+        self.put(a, at_b);
+        self.put(b, at_a);
+        Ok(())
+    }
+
+    /// Gives a location the value `after` where its value is `before`, and answers whether it was.
+    ///
+    /// # Errors
+    ///
+    /// As `get`.
+    pub fn compare_and_set(&mut self, loc: Loc, before: u32, after: u32) -> Result<bool, Stop>
+        requires { loc.0 < P.locations self.old.peek }
+        ensures step { Updates P.peek_gives loc.0 (λ v. v == before) (λ v. if v == before then Some after else None) self.old result self.new }
+        ensures goes { Does P.peek_gives (compares_and_sets loc.0 before after) self.old result self.new }
+        ensures size { P.locations self.new.peek ≡ P.locations self.old.peek }
+    {
+        let value = self.get(loc)?;
+        if value != before {
+            return Ok(false);
+        }
+        self.put(loc, after);
+        Ok(true)
+    }
+
+    /// Adds to the value of a location, and answers the one before. The sum wraps.
+    ///
+    /// # Errors
+    ///
+    /// As `get`.
+    pub fn fetch_add(&mut self, loc: Loc, n: u32) -> Result<u32, Stop>
+        requires { loc.0 < P.locations self.old.peek }
+        ensures step { Updates P.peek_gives loc.0 (λ v. v) (λ v. Some (wrapped (v + n))) self.old result self.new }
+        ensures goes { Does P.peek_gives (fetches_and_adds loc.0 n) self.old result self.new }
+        ensures size { P.locations self.new.peek ≡ P.locations self.old.peek }
+    {
+        let value = self.get(loc)?;
+        self.put(loc, value.wrapping_add(n));
+        Ok(value)
+    }
+
+    /// The lines as they are now.
+    pub fn snapshot(&self) -> Snapshot
+        ensures lines { result ≡ self.now.lines }
+        ensures rising { IsRising (locations self.now.lines) }
+    {
+        Snapshot {
+            lines: copy_of(self.lines.as_slice()),
+        }
+    }
+
+    /// Takes the new values back to those of a snapshot. All lines stay.
+    pub fn rollback(&mut self, to: &Snapshot)
+        requires { Keeps to.now self.old.lines }
+        ensures { self.new ≡ record self.old { lines = rolled_back to.now self.old.lines } }
+    {
+        take_back(self.lines.as_mut_slice(), to.lines.as_slice());
+    }
+
+    /// Makes the footprint one of what all lines saw, and of the new values.
+    pub fn fill(&self, footprint: &mut Footprint)
+        ensures reads { footprint.new.reads.items ≡ seens self.now.lines }
+        ensures puts { footprint.new.puts.items ≡ puts self.now.lines }
+        ensures made { CanPut self.now.lines → IsWellMade footprint.new }
+    {
+        fill_reads(&mut footprint.reads, self.lines.as_slice());
+        fill_puts(&mut footprint.puts, self.lines.as_slice());
+    }
+
+    /// Its peek, and the footprint of what all lines saw and of the new values.
+    pub fn into_parts(self) -> (P, Footprint)
+        ensures peek { result.0 ≡ self.peek }
+        ensures reads { result.1.reads.items ≡ seens self.lines }
+        ensures puts { result.1.puts.items ≡ puts self.lines }
+        ensures made { CanPut self.lines → IsWellMade result.1 }
+    {
+        let mut footprint = Footprint::new();
+        self.fill(&mut footprint);
+        let Xt {
+            peek,
+            limit: _,
+            lines: _,
+        } = self;
+        (peek, footprint)
+    }
+}
