@@ -1,0 +1,2 @@
+pub mod LocLaw
+pub mod Values

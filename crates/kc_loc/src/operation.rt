@@ -1,0 +1,72 @@
+//! The operations.
+
+ghost use Rattle.kc_loc.specs.Meaning.{loc_meaning, LocIsFit, loc_end};
+
+use crate::acts;
+use crate::kinds::{Fun, Rel};
+use kc_model::{Loc, Reply};
+use kc_xt::{Peek, Stop, Transact, Xt};
+
+/// An operation on one location, or two. It is fit where its locations are below 65,536.
+#[derive(Clone, Copy, Debug, PartialEq, Eq)]
+pub enum LocOp {
+    /// Replies the value.
+    Get(Loc),
+    Set(Loc, u32),
+    /// Sets a value, and replies the one before.
+    Exchange(Loc, u32),
+    /// Gives each location the value of the other.
+    Swap(Loc, Loc),
+    /// Where the value is the first number, sets the second; replies whether it was.
+    Cas(Loc, u32, u32),
+    /// Adds, and replies the value before. The sum wraps.
+    FetchAdd(Loc, u32),
+    Incr(Loc),
+    Decr(Loc),
+    /// Sets what the function makes of the value, and replies the one before.
+    Update(Loc, Fun),
+    /// Sets what the function makes of the value.
+    Modify(Loc, Fun),
+    /// Waits until the relation holds.
+    Check(Loc, Rel, u32),
+}
+
+impl Transact for LocOp {
+    ghost meaning = { loc_meaning };
+
+    ghost is_fit = { LocIsFit };
+
+    ghost end = { loc_end };
+
+    fn bound(&self) -> u32 {
+        match self {
+            LocOp::Get(loc) => loc.0 + 1,
+            LocOp::Set(loc, _) => loc.0 + 1,
+            LocOp::Exchange(loc, _) => loc.0 + 1,
+            LocOp::Swap(a, b) => a.0.max(b.0) + 1,
+            LocOp::Cas(loc, _, _) => loc.0 + 1,
+            LocOp::FetchAdd(loc, _) => loc.0 + 1,
+            LocOp::Incr(loc) => loc.0 + 1,
+            LocOp::Decr(loc) => loc.0 + 1,
+            LocOp::Update(loc, _) => loc.0 + 1,
+            LocOp::Modify(loc, _) => loc.0 + 1,
+            LocOp::Check(loc, _, _) => loc.0 + 1,
+        }
+    }
+
+    fn run<P: Peek>(&self, xt: &mut Xt<P>) -> Result<Reply, Stop> {
+        match *self {
+            LocOp::Get(loc) => acts::get(loc, xt),
+            LocOp::Set(loc, value) => acts::set(loc, value, xt),
+            LocOp::Exchange(loc, value) => acts::exchange(loc, value, xt),
+            LocOp::Swap(a, b) => acts::swap(a, b, xt),
+            LocOp::Cas(loc, before, after) => acts::compare_and_set(loc, before, after, xt),
+            LocOp::FetchAdd(loc, number) => acts::fetch_add(loc, number, xt),
+            LocOp::Incr(loc) => acts::increment(loc, xt),
+            LocOp::Decr(loc) => acts::decrement(loc, xt),
+            LocOp::Update(loc, fun) => acts::update(loc, fun, xt),
+            LocOp::Modify(loc, fun) => acts::modify(loc, fun, xt),
+            LocOp::Check(loc, rel, number) => acts::check(loc, rel, number, xt),
+        }
+    }
+}
