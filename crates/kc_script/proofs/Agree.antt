@@ -1,6 +1,7 @@
 -- The reader, line by line, reads a script exactly where the grammar has the bytes spell it.
 use Rattle.std.proofs.Common.{◌≡◌, ℕ, ◌≤◌, ◌<◌, Bool, true, false, cond, not, ltb, leb, eqb, List, [], ◌∷◌, ◌++◌, length, Option, Some, None, Result, Ok, Err, refl, sym, ap, subst, ◌∙◌, append_assoc, arith, length-append, inl, inr}
 use Rattle.std.specs.Prelude.{◌⊎◌, filter, map, codes}
+use Rattle.std.specs.Option.{option_or, option_map}
 use Rattle.std.specs.Str.{bytes_eq}
 use Rattle.std.proofs.lemmas.List.{append-nil}
 use Rattle.std.proofs.lemmas.Bool.{ltb-true, lt-ltb, leb-true, le-leb, eqb-true}
@@ -10,11 +11,12 @@ use Rattle.kc_script.specs.declared.fault.Why.TheVariants.{Header, TooMany, NotB
 use Rattle.kc_script.specs.declared.fault.Limit.TheVariants.{Threads as ThreadsLimit, Commands as CommandsLimit}
 use Rattle.kc_script.specs.declared.object.Object.{Object}
 use Rattle.kc_script.specs.declared.operation.Command.{Command}
+use Rattle.kc_script.specs.declared.loc_word.LocWord.{LocWord}
 use Rattle.kc_script.specs.declared.word.Word.{Word}
 use Rattle.kc_script.specs.declared.word.Word.TheVariants as word
 use Rattle.kc_script.specs.Script.{Names, Script}
 use Rattle.kc_script.specs.Words.{words, lines, is_skipped}
-use Rattle.kc_script.specs.Grammar.{◌>>=◌, wants, counted, word_at, word_of, declare, declared, say, said}
+use Rattle.kc_script.specs.Grammar.{◌>>=◌, wants, counted, word_at, structure_word, loc_word, word_of, declare, declared, say, said}
 use Rattle.kc_script.specs.Spells.{Line, contents, header, thread_line, Declare, Say, Threads, Spells, IsBuilt}
 use Rattle.kc_script.specs.Refused.{SpellNone}
 use Rattle.kc_script.specs.Reading.{State, opening, closed, with_object, with_command, begins_thread, declared_line, said_line, worded_line, header_line, content_line, any_line, all_lines, ended, spelled, built}
@@ -57,28 +59,31 @@ skipping (text ∷ texts) s = step (is_skipped (words text)) (skipping texts s) 
 
 -- ---- the lines of a script, as the reader takes them
 
--- the first word of a line that begins a thread
-thread_word : (a b c d e : Bool) → cond a (Some word.Thread) (cond b (Some word.Loc) (cond c (Some word.Get) (cond d (Some word.Set) (cond e (Some word.Add) None)))) ≡ Some word.Thread → a ≡ true
-thread_word true b c d e h = refl
-thread_word false true c d e h = absurd cc
-thread_word false false true d e h = absurd cc
-thread_word false false false true e h = absurd cc
-thread_word false false false false true h = absurd cc
-thread_word false false false false false h = absurd cc
+-- the word `thread` is found among the words of threads and declarations
+thread_first : (first : Option Word) (on : Option LocWord) → option_or first (option_map (λ on. word.OnLoc on) on) ≡ Some word.Thread → first ≡ Some word.Thread
+thread_first (Some w) on e = e
+thread_first None (Some on) e = absurd cc
+thread_first None None e = absurd cc
+
+-- the test that gives the word `thread`
+thread_word : (a b : Bool) → cond a (Some word.Thread) (cond b (Some word.Loc) None) ≡ Some word.Thread → a ≡ true
+thread_word true b h = refl
+thread_word false true h = absurd cc
+thread_word false false h = absurd cc
 
 -- the word `thread`
 word_of-thread : (w : List ℕ) → word_of w ≡ Some word.Thread → w ≡ codes "thread"
-unfolding word_of
-word_of-thread w e = (bytes_eq-Decides w (codes "thread")).0 (thread_word (bytes_eq w (codes "thread")) (bytes_eq w (codes "loc")) (bytes_eq w (codes "get")) (bytes_eq w (codes "set")) (bytes_eq w (codes "add")) e)
+unfolding word_of structure_word
+word_of-thread w e =
+    let first : structure_word w ≡ Some word.Thread = thread_first (structure_word w) (loc_word w) e in
+    (bytes_eq-Decides w (codes "thread")).0 (thread_word (bytes_eq w (codes "thread")) (bytes_eq w (codes "loc")) first)
 
 -- the word that begins a thread
 begins_thread-is : (w : Option Word) → begins_thread w ≡ true → w ≡ Some word.Thread
 begins_thread-is None e = absurd cc
 begins_thread-is (Some word.Thread) e = refl
 begins_thread-is (Some word.Loc) e = absurd cc
-begins_thread-is (Some word.Get) e = absurd cc
-begins_thread-is (Some word.Set) e = absurd cc
-begins_thread-is (Some word.Add) e = absurd cc
+begins_thread-is (Some (word.OnLoc on)) e = absurd cc
 
 -- a line that begins a thread was read
 opened : (s t : State) (args : List (List ℕ)) → opened_thread s args ≡ Ok t → (args ≡ []) × (length (closed s).threads < 16) × (record (closed s) { in_thread = true } ≡ t)
@@ -337,9 +342,7 @@ unfolding say
 not_thread_said names None args c e = refl
 not_thread_said names (Some word.Thread) args c e = absurd cc
 not_thread_said names (Some word.Loc) args c e = refl
-not_thread_said names (Some word.Get) args c e = refl
-not_thread_said names (Some word.Set) args c e = refl
-not_thread_said names (Some word.Add) args c e = refl
+not_thread_said names (Some (word.OnLoc on)) args c e = refl
 
 -- nor does one that declares an object
 not_thread_declared : (names : Names) (w : Option Word) (args : List (List ℕ)) (entry : List ℕ × Object) → declare names w args ≡ Ok entry → begins_thread w ≡ false
@@ -347,9 +350,7 @@ unfolding declare
 not_thread_declared names None args entry e = refl
 not_thread_declared names (Some word.Thread) args entry e = absurd cc
 not_thread_declared names (Some word.Loc) args entry e = refl
-not_thread_declared names (Some word.Get) args entry e = refl
-not_thread_declared names (Some word.Set) args entry e = refl
-not_thread_declared names (Some word.Add) args entry e = refl
+not_thread_declared names (Some (word.OnLoc on)) args entry e = refl
 
 -- a command is read in a thread
 said_inside : (names : Names) (threads : List (List Command)) (here : List Command) (line : Line) (c : Command) → said names line ≡ Ok c → length here < 4096 → content_line (inside names threads here) line ≡ Ok (inside names threads (here ++ c ∷ []))
@@ -370,14 +371,14 @@ declared_outside names (first ∷ args) entry e =
 
 -- a further thread begins
 thread_inside : (names : Names) (threads : List (List Command)) (here : List Command) → length (threads ++ here ∷ []) < 16 → content_line (inside names threads here) thread_line ≡ Ok (inside names (threads ++ here ∷ []) [])
-unfolding content_line worded_line opened_thread word_of
+unfolding content_line worded_line opened_thread word_of structure_word
 thread_inside names threads here lt =
     let room : ltb (length (threads ++ here ∷ [])) 16 ≡ true = lt-ltb (length (threads ++ here ∷ [])) 16 lt in
     rw room refl
 
 -- the first thread begins
 thread_outside : (names : Names) → content_line (outside names) thread_line ≡ Ok (inside names [] [])
-unfolding content_line worded_line opened_thread word_of
+unfolding content_line worded_line opened_thread word_of structure_word
 thread_outside names = refl
 
 -- a line was read, and then the others

@@ -6,7 +6,7 @@ use Rattle.std.specs.Prelude.{map, slice_get, codes, decimal}
 use Rattle.kc_model.specs.Store.{Store}
 use Rattle.kc_script.specs.declared.object.Object.{Object}
 use Rattle.kc_script.specs.declared.object.Object.TheVariants as object
-use Rattle.kc_script.specs.Script.{Names, base, cells, CellsBelow}
+use Rattle.kc_script.specs.Script.{Names, base, cells, CellsWithin}
 use Rattle.kc_script.specs.State.{content_text}
 
 -- the entry at an index
@@ -16,10 +16,10 @@ entry_at f (x ∷ es) zero e h = let same : x ≡ e = cc in ap f same
 entry_at f (x ∷ es) (suc i) e h = entry_at f es i e h
 
 -- where all cells are below a number, those of an entry are
-pub entry_below : (n : ℕ) (names : Names) (i : ℕ) (d : List ℕ × Object) → i < length names → CellsBelow n names → base (get_or names i d).1 + cells (get_or names i d).1 ≤ n
-entry_below n [] i d lt h = absurd (omega arith)
-entry_below n (entry ∷ names) zero d lt h = h.0
-entry_below n (entry ∷ names) (suc i) d lt h = entry_below n names i d (omega arith) h.1
+pub entry_within : (n : ℕ) (names : Names) (i : ℕ) (d : List ℕ × Object) → i < length names → CellsWithin n names → base (get_or names i d).1 + cells (get_or names i d).1 ≤ n
+entry_within n [] i d lt h = absurd (omega arith)
+entry_within n (entry ∷ names) zero d lt h = h.0.1
+entry_within n (entry ∷ names) (suc i) d lt h = entry_within n names i d (omega arith) h.1
 
 module _ {X : Type 0} (f : X → List ℕ) (xs : List X) (i : ℕ) (front total : List ℕ) (so_far : front ++ flat_map f (drop i xs) ≡ total) where
   -- the numbers of one more element were added

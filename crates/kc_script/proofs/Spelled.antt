@@ -4,7 +4,7 @@ use Rattle.std.proofs.lemmas.List.{length-map}
 use Rattle.kc_model.specs.Store.{opened}
 use Rattle.kc_script.specs.declared.object.Object.{Object}
 use Rattle.kc_script.specs.declared.operation.Command.{Command}
-use Rattle.kc_script.specs.Script.{Names, Script, next_from, LieFrom, LiesInOrder, CellsBelow, IsFit, AreFit}
+use Rattle.kc_script.specs.Script.{Names, Script, next_from, LieFrom, LiesInOrder, CellsWithin, IsFit, AreFit}
 use Rattle.kc_script.specs.State.{opening_values}
 use Rattle.kc_script.specs.Grammar.{declared, said, word_of}
 use Rattle.kc_script.specs.Spells.{Line, Declare, Say, Threads, Spells}
@@ -12,8 +12,8 @@ use Rattle.kc_script.proofs.Placed as placed
 use Rattle.kc_script.proofs.Placed.{IsPlaced, next_from-more, lies_more, length-cells, declare_placed, say_fit}
 
 -- the cells of objects in order are below the first location behind them
-pub cells_below : (at : ℕ) (names : Names) → LieFrom at names → CellsBelow (next_from at names) names
-cells_below = placed.cells_below
+pub cells_within : (names : Names) → LieFrom 1 names → CellsWithin (next_from 1 names) names
+cells_within = placed.cells_within
 
 -- a script has as many opening values as locations
 pub length-opening_values : (s : Script) → length (opening_values s) ≡ next_from 1 s.objects
@@ -29,7 +29,7 @@ line_placed names [] entry e = absurd cc
 line_placed names (first ∷ args) entry e = declare_placed names (word_of first) args entry e
 
 -- a command that a line says is on a location
-line_fit : (n : ℕ) (names : Names) (line : Line) (c : Command) → said names line ≡ Ok c → CellsBelow n names → IsFit n c
+line_fit : (n : ℕ) (names : Names) (line : Line) (c : Command) → said names line ≡ Ok c → CellsWithin n names → IsFit n c
 line_fit n names [] c e h = absurd cc
 line_fit n names (first ∷ args) c e h = say_fit n names (word_of first) args c e h
 
@@ -52,19 +52,19 @@ spelled_lies {bytes} {s} p =
     record { lie = h.0; within = h.1 }
 
 -- commands that lines say are on locations
-commands_fit : (n : ℕ) (names : Names) (lines : List Line) (cs : List Command) → Say names lines cs → CellsBelow n names → AreFit n cs
+commands_fit : (n : ℕ) (names : Names) (lines : List Line) (cs : List Command) → Say names lines cs → CellsWithin n names → AreFit n cs
 commands_fit n names lines cs Say.none h = tt
 commands_fit n names _ _ (Say.one {lines = lines} {commands = cs} line c e rest) h = (line_fit n names line c e h, commands_fit n names lines cs rest h)
 
 -- and so are those of each thread
-threads_fit : (n : ℕ) (names : Names) (lines : List Line) (threads : List (List Command)) → Threads names lines threads → CellsBelow n names → (k : ℕ) → AreFit n (get_or threads k [])
+threads_fit : (n : ℕ) (names : Names) (lines : List Line) (threads : List (List Command)) → Threads names lines threads → CellsWithin n names → (k : ℕ) → AreFit n (get_or threads k [])
 threads_fit n names lines threads Threads.none h k = tt
 threads_fit n names _ _ (Threads.one {lines = lines} {commands = cs} said few rest) h zero = commands_fit n names lines cs said h
 threads_fit n names _ _ (Threads.one {more = more} {threads = threads} said few rest) h (suc k) = threads_fit n names more threads rest h k
 
 -- the commands of a thread of a script that is spelled are on its locations
 pub spelled_fit : {bytes : List ℕ} {s : Script} → Spells bytes s → (k : ℕ) → AreFit (next_from 1 s.objects) (get_or s.threads k [])
-spelled_fit {bytes} {s} p k = threads_fit (next_from 1 s.objects) s.objects p.threading s.threads p.threads (cells_below 1 s.objects (spelled_lies p).lie) k
+spelled_fit {bytes} {s} p k = threads_fit (next_from 1 s.objects) s.objects p.threading s.threads p.threads (cells_within s.objects (spelled_lies p).lie) k
 
 -- no thread has too many commands
 threads_few : (names : Names) (lines : List Line) (threads : List (List Command)) → Threads names lines threads → (k : ℕ) → length (get_or threads k []) ≤ 4096

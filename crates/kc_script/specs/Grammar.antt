@@ -1,5 +1,6 @@
 -- The lines of a bundle. On each line the tests stand in their order; what is wrong is the first that fails.
 use Rattle.std.specs.Prelude.{ℕ, ◌+◌, Bool, not, List, [], ◌∷◌, length, codes, Option, Some, None, Result, Ok, Err, is_some, get_or, nat_le, nat_lt, if◌then◌else◌}
+use Rattle.std.specs.Option.{option_or, option_map}
 use Rattle.std.specs.Str.{bytes_eq}
 use Rattle.kc_script.specs.Words.{is_name, number}
 use Rattle.kc_script.specs.declared.fault.Why.{Why}
@@ -10,10 +11,19 @@ use Rattle.kc_script.specs.declared.object.Object.TheVariants as object
 use Rattle.kc_script.specs.declared.operation.Command.{Command}
 use Rattle.kc_script.specs.declared.operation.Command.TheVariants as command
 use Rattle.kc_script.specs.declared.operation.Op.TheVariants as op
-use Rattle.kc_script.specs.declared.operation.LocOp.TheVariants as loc
+use Rattle.kc_script.specs.declared.loc_word.LocWord.{LocWord}
+use Rattle.kc_script.specs.declared.loc_word.LocWord.TheVariants as on
+use Rattle.kc_script.specs.declared.loc_word.FunWord.{FunWord}
+use Rattle.kc_script.specs.declared.loc_word.FunWord.TheVariants as named
 use Rattle.kc_script.specs.declared.word.Word.{Word}
 use Rattle.kc_script.specs.declared.word.Word.TheVariants as word
 use Rattle.kc_script.specs.Script.{Names, cells, next_from}
+use Rattle.kc_loc.specs.declared.operation.LocOp.{LocOp}
+use Rattle.kc_loc.specs.declared.operation.LocOp.TheVariants as loc
+use Rattle.kc_loc.specs.declared.kinds.Fun.{Fun}
+use Rattle.kc_loc.specs.declared.kinds.Fun.TheVariants as fun
+use Rattle.kc_loc.specs.declared.kinds.Rel.{Rel}
+use Rattle.kc_loc.specs.declared.kinds.Rel.TheVariants as rel
 use Rattle.kc_model.specs.declared.footprint.Loc.{Loc}
 
 infixl 10 ◌>>=◌
@@ -92,54 +102,151 @@ unfoldable pub declare : Names → Option Word → List (List ℕ) → Result (L
 declare names None args = Err UnknownWord
 declare names (Some word.Loc) args = declare_loc names args
 declare names (Some word.Thread) args = Err StrayWord
-declare names (Some word.Get) args = Err StrayWord
-declare names (Some word.Set) args = Err StrayWord
-declare names (Some word.Add) args = Err StrayWord
+declare names (Some (word.OnLoc on)) args = Err StrayWord
+
+-- ---- functions and relations
+
+-- the function that a word names
+unfoldable pub fun_named : List ℕ → Result FunWord Why
+fun_named w =
+    if bytes_eq w (codes "add") then Ok named.Add
+    else (if bytes_eq w (codes "max") then Ok named.Max
+    else (if bytes_eq w (codes "min") then Ok named.Min
+    else (if bytes_eq w (codes "and") then Ok named.And
+    else (if bytes_eq w (codes "or") then Ok named.Or
+    else (if bytes_eq w (codes "xor") then Ok named.Xor
+    else Err UnknownWord)))))
+
+-- the function with its number
+abbrev pub fun_of : FunWord → ℕ → Fun
+fun_of named.Add n = fun.Add n
+fun_of named.Max n = fun.Max n
+fun_of named.Min n = fun.Min n
+fun_of named.And n = fun.And n
+fun_of named.Or n = fun.Or n
+fun_of named.Xor n = fun.Xor n
+
+-- the relation that a word names
+unfoldable pub rel_named : List ℕ → Result Rel Why
+rel_named w =
+    if bytes_eq w (codes "eq") then Ok rel.Eq
+    else (if bytes_eq w (codes "ne") then Ok rel.Ne
+    else (if bytes_eq w (codes "lt") then Ok rel.Lt
+    else (if bytes_eq w (codes "le") then Ok rel.Le
+    else (if bytes_eq w (codes "gt") then Ok rel.Gt
+    else (if bytes_eq w (codes "ge") then Ok rel.Ge
+    else Err UnknownWord)))))
+
+-- ---- what stands behind the word of a command
+
+-- N
+unfoldable pub loc_alone : Names → List (List ℕ) → Result Loc Why
+loc_alone names args = do
+  all ← counted 1 args
+  loc_named names (word_at args 0)
+
+-- N V
+unfoldable pub loc_number : Names → List (List ℕ) → Result (Loc × ℕ) Why
+loc_number names args = do
+  all ← counted 2 args
+  at ← loc_named names (word_at args 0)
+  n ← number_to 4294967295 (word_at args 1)
+  Ok (at, n)
+
+-- N V W
+unfoldable pub loc_numbers : Names → List (List ℕ) → Result (Loc × ℕ × ℕ) Why
+loc_numbers names args = do
+  all ← counted 3 args
+  at ← loc_named names (word_at args 0)
+  n ← number_to 4294967295 (word_at args 1)
+  m ← number_to 4294967295 (word_at args 2)
+  Ok (at, n, m)
+
+-- N M
+unfoldable pub loc_loc : Names → List (List ℕ) → Result (Loc × Loc) Why
+loc_loc names args = do
+  all ← counted 2 args
+  a ← loc_named names (word_at args 0)
+  b ← loc_named names (word_at args 1)
+  Ok (a, b)
+
+-- N F V
+unfoldable pub loc_fun : Names → List (List ℕ) → Result (Loc × Fun) Why
+loc_fun names args = do
+  all ← counted 3 args
+  at ← loc_named names (word_at args 0)
+  name ← fun_named (word_at args 1)
+  n ← number_to 4294967295 (word_at args 2)
+  Ok (at, fun_of name n)
+
+-- N R V
+unfoldable pub loc_rel : Names → List (List ℕ) → Result (Loc × Rel × ℕ) Why
+loc_rel names args = do
+  all ← counted 3 args
+  at ← loc_named names (word_at args 0)
+  rel ← rel_named (word_at args 1)
+  n ← number_to 4294967295 (word_at args 2)
+  Ok (at, rel, n)
 
 -- ---- commands
 
--- get N
-unfoldable pub say_get : Names → List (List ℕ) → Result Command Why
-say_get names args = do
-  all ← counted 1 args
-  at ← loc_named names (word_at args 0)
-  Ok (command.One (op.Loc (loc.Get at)))
-
--- set N V
-unfoldable pub say_set : Names → List (List ℕ) → Result Command Why
-say_set names args = do
-  all ← counted 2 args
-  at ← loc_named names (word_at args 0)
-  value ← number_to 4294967295 (word_at args 1)
-  Ok (command.One (op.Loc (loc.Set at value)))
-
--- add N V
-unfoldable pub say_add : Names → List (List ℕ) → Result Command Why
-say_add names args = do
-  all ← counted 2 args
-  at ← loc_named names (word_at args 0)
-  value ← number_to 4294967295 (word_at args 1)
-  Ok (command.One (op.Loc (loc.FetchAdd at value)))
+-- the operation on a location that a line says
+unfoldable pub say_loc : Names → LocWord → List (List ℕ) → Result LocOp Why
+say_loc names on.Get args = loc_alone names args >>= λ at. Ok (loc.Get at)
+say_loc names on.Set args = loc_number names args >>= λ p. Ok (loc.Set p.0 p.1)
+say_loc names on.Exchange args = loc_number names args >>= λ p. Ok (loc.Exchange p.0 p.1)
+say_loc names on.Swap args = loc_loc names args >>= λ p. Ok (loc.Swap p.0 p.1)
+say_loc names on.Cas args = loc_numbers names args >>= λ p. Ok (loc.Cas p.0 p.1 p.2)
+say_loc names on.FetchAdd args = loc_number names args >>= λ p. Ok (loc.FetchAdd p.0 p.1)
+say_loc names on.Incr args = loc_alone names args >>= λ at. Ok (loc.Incr at)
+say_loc names on.Decr args = loc_alone names args >>= λ at. Ok (loc.Decr at)
+say_loc names on.Update args = loc_fun names args >>= λ p. Ok (loc.Update p.0 p.1)
+say_loc names on.Modify args = loc_fun names args >>= λ p. Ok (loc.Modify p.0 p.1)
+say_loc names on.Check args = loc_rel names args >>= λ p. Ok (loc.Check p.0 p.1 p.2)
 
 -- the command that a line says
 unfoldable pub say : Names → Option Word → List (List ℕ) → Result Command Why
 say names None args = Err UnknownWord
-say names (Some word.Loc) args = Err StrayWord
 say names (Some word.Thread) args = Err StrayWord
-say names (Some word.Get) args = say_get names args
-say names (Some word.Set) args = say_set names args
-say names (Some word.Add) args = say_add names args
+say names (Some word.Loc) args = Err StrayWord
+say names (Some (word.OnLoc on)) args = say_loc names on args >>= λ o. Ok (command.One (op.Loc o))
 
 -- ---- the word that begins a line
 
-unfoldable pub word_of : List ℕ → Option Word
-word_of w =
+-- the word of a thread or a declaration
+unfoldable pub structure_word : List ℕ → Option Word
+structure_word w =
     if bytes_eq w (codes "thread") then Some word.Thread
     else (if bytes_eq w (codes "loc") then Some word.Loc
-    else (if bytes_eq w (codes "get") then Some word.Get
-    else (if bytes_eq w (codes "set") then Some word.Set
-    else (if bytes_eq w (codes "add") then Some word.Add
-    else None))))
+    else None)
+
+-- the word of a command that takes names of locations and numbers
+unfoldable pub plain_word : List ℕ → Option LocWord
+plain_word w =
+    if bytes_eq w (codes "get") then Some on.Get
+    else (if bytes_eq w (codes "set") then Some on.Set
+    else (if bytes_eq w (codes "xchg") then Some on.Exchange
+    else (if bytes_eq w (codes "swap") then Some on.Swap
+    else (if bytes_eq w (codes "cas") then Some on.Cas
+    else (if bytes_eq w (codes "add") then Some on.FetchAdd
+    else (if bytes_eq w (codes "incr") then Some on.Incr
+    else (if bytes_eq w (codes "decr") then Some on.Decr
+    else None)))))))
+
+-- the word of a command that names a function or a relation
+unfoldable pub naming_word : List ℕ → Option LocWord
+naming_word w =
+    if bytes_eq w (codes "update") then Some on.Update
+    else (if bytes_eq w (codes "modify") then Some on.Modify
+    else (if bytes_eq w (codes "check") then Some on.Check
+    else None))
+
+-- the word of a command on a location
+unfoldable pub loc_word : List ℕ → Option LocWord
+loc_word w = option_or (plain_word w) (naming_word w)
+
+unfoldable pub word_of : List ℕ → Option Word
+word_of w = option_or (structure_word w) (option_map (λ on. word.OnLoc on) (loc_word w))
 
 abbrev pub declared : Names → List (List ℕ) → Result (List ℕ × Object) Why
 declared names [] = Err UnknownWord

@@ -3,6 +3,6 @@ pub mod Script
 pub mod Grammar
 pub mod Spells
 pub mod Refused
-pub mod Meaning
 pub mod State
 pub mod Reading
+pub mod Meaning

@@ -88,9 +88,7 @@ abbrev pub begins_thread : Option Word → Bool
 begins_thread None = false
 begins_thread (Some word.Thread) = true
 begins_thread (Some word.Loc) = false
-begins_thread (Some word.Get) = false
-begins_thread (Some word.Set) = false
-begins_thread (Some word.Add) = false
+begins_thread (Some (word.OnLoc on)) = false
 
 unfoldable pub worded_line : State → Option Word → List (List ℕ) → Result State Why
 worded_line s word args = if begins_thread word then thread_line s args else (if s.in_thread then said_line s word args else declared_line s word args)

@@ -1,5 +1,5 @@
 -- Scripts, as contracts see a bundle.
-use Rattle.std.specs.Prelude.{◌≡◌, ℕ, ◌+◌, ◌≤◌, ◌<◌, List, [], ◌∷◌, map, String}
+use Rattle.std.specs.Prelude.{◌≡◌, ℕ, ◌+◌, ◌≤◌, List, [], ◌∷◌, map, String}
 use Rattle.std.specs.String.{string_bytes}
 use Rattle.std.specs.Global.{Global}
 use Rattle.indexmap.specs.IndexMap.{IndexMap}
@@ -10,9 +10,8 @@ use Rattle.kc_script.specs.declared.object.Object.TheVariants as object
 use Rattle.kc_script.specs.declared.operation.Command.{Command}
 use Rattle.kc_script.specs.declared.operation.Command.TheVariants as command
 use Rattle.kc_script.specs.declared.operation.Op.TheVariants as op
-use Rattle.kc_script.specs.declared.operation.LocOp.{LocOp}
-use Rattle.kc_script.specs.declared.operation.LocOp.TheVariants as loc
 use Rattle.kc_script.specs.declared.bundle.Bundle.{Bundle}
+use Rattle.kc_loc.specs.Meaning.{loc_begin, loc_end}
 
 -- names with their objects, in order of declaration
 abbrev pub Names : Type 0
@@ -61,19 +60,17 @@ pub record LiesInOrder (s : Script) : Type 0 where
   pub lie : LieFrom 1 s.objects
   pub within : next_from 1 s.objects ≤ 65536
 
--- each object's cells are below this number
-abbrev pub CellsBelow : ℕ → Names → Type 0
-CellsBelow n [] = Unit {0}
-CellsBelow n (entry ∷ names) = (base entry.1 + cells entry.1 ≤ n) × CellsBelow n names
+-- its cells lie behind location 0, which counts the live threads, and below this number
+abbrev pub IsWithin : ℕ → Object → Type 0
+IsWithin n o = (1 ≤ base o) × (base o + cells o ≤ n)
 
--- the location of an operation is below this number
-abbrev pub LocOpBelow : ℕ → LocOp → Type 0
-LocOpBelow n (loc.Get l) = l.0 < n
-LocOpBelow n (loc.Set l v) = l.0 < n
-LocOpBelow n (loc.FetchAdd l v) = l.0 < n
+abbrev pub CellsWithin : ℕ → Names → Type 0
+CellsWithin n [] = Unit {0}
+CellsWithin n (entry ∷ names) = IsWithin n entry.1 × CellsWithin n names
 
+-- so do the locations of a command
 abbrev pub IsFit : ℕ → Command → Type 0
-IsFit n (command.One (op.Loc o)) = LocOpBelow n o
+IsFit n (command.One (op.Loc o)) = (1 ≤ loc_begin o) × (loc_end o ≤ n)
 
 abbrev pub AreFit : ℕ → List Command → Type 0
 AreFit n [] = Unit {0}

@@ -77,6 +77,6 @@ pub fn declare<'a>(
     match word {
         None => complain(Why::UnknownWord),
         Some(Word::Loc) => declare_loc(reader, args),
-        Some(Word::Thread | Word::Get | Word::Set | Word::Add) => complain(Why::StrayWord),
+        Some(Word::Thread | Word::OnLoc(_)) => complain(Why::StrayWord),
     }
 }

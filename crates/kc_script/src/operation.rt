@@ -1,12 +1,4 @@
-use kc_model::Loc;
-
-/// An operation on a location.
-#[derive(Clone, Copy, Debug, PartialEq, Eq)]
-pub enum LocOp {
-    Get(Loc),
-    Set(Loc, u32),
-    FetchAdd(Loc, u32),
-}
+use kc_loc::LocOp;
 
 /// An operation.
 #[derive(Clone, Copy, Debug, PartialEq, Eq)]

@@ -3,7 +3,7 @@
 ghost use Rattle.std.specs.Prelude.{◌≡◌, ◌≤◌, ◌<◌, ◌+◌, length};
 ghost use Rattle.kc_model.specs.Store.{store_of};
 ghost use Rattle.kc_model.specs.Pen.{Puts, Prints};
-ghost use Rattle.kc_script.specs.Script.{script_of, names_of, base, cells, CellsBelow};
+ghost use Rattle.kc_script.specs.Script.{script_of, names_of, base, cells, CellsWithin};
 ghost use Rattle.kc_script.specs.State.{content_text, state_line, state_lines};
 
 use crate::bundle::Bundle;
@@ -45,7 +45,7 @@ fn put_line<K: Sink>(pen: &mut Pen<K>, store: &PlainStore, name: &str, object: O
 
 /// Puts a line for each object, with what it holds in the store.
 pub fn put_state<K: Sink>(pen: &mut Pen<K>, bundle: &Bundle, store: &PlainStore)
-    requires { CellsBelow (length store.now) (names_of bundle.now.objects) }
+    requires { CellsWithin (length store.now) (names_of bundle.now.objects) }
     ensures { Puts K.written K.faults K.write_gives pen.old pen.new (state_lines (script_of bundle.now) (store_of store.now)) }
 {
     for i in 0..bundle.objects.len() {
@@ -58,7 +58,7 @@ pub fn put_state<K: Sink>(pen: &mut Pen<K>, bundle: &Bundle, store: &PlainStore)
 
 /// Writes a line for each object, with what it holds in the store. After a failed write no further one is made.
 pub fn write_state<K: Sink>(bundle: &Bundle, store: &PlainStore, sink: &mut K) -> Result<(), Failed>
-    requires { CellsBelow (length store.now) (names_of bundle.now.objects) }
+    requires { CellsWithin (length store.now) (names_of bundle.now.objects) }
     ensures { Prints K.written K.faults K.write_gives sink.old sink.new result (state_lines (script_of bundle.now) (store_of store.now)) }
 {
     let mut pen = Pen::new(sink);

@@ -6,6 +6,10 @@ use crate::*;
 use kc_model::{FrailSink, Loc, PlainStore};
 use std::test::Fail;
 
+/// A script with each command.
+const ALL: &str =
+    "kcas 1\nloc x 5\nloc y 6\nthread\nget x\nset x 7\nxchg y 8\nswap x y\ncas x 1 2\nadd x 3\nincr x\ndecr y\nupdate x max 9\nmodify y xor 4294967295\ncheck x le 10\n";
+
 const DEMO: &str = "kcas 1\nloc x 5\nthread\nget x\nset x 7\nadd x 1\n";
 
 fn read(rt: &HostRuntime, text: &str) -> Result<Bundle, ScriptError>
@@ -49,6 +53,37 @@ fn demo_is_read(rt: HostRuntime) {
     );
 }
 
+// Whether a script's one thread has each command.
+fn has_all(rt: &HostRuntime, text: &str) -> bool {
+    let Ok(bundle) = read(rt, text) else {
+        return false;
+    };
+    let (x, y) = (Loc(1), Loc(2));
+    let ops = [
+        LocOp::Get(x),
+        LocOp::Set(x, 7),
+        LocOp::Exchange(y, 8),
+        LocOp::Swap(x, y),
+        LocOp::Cas(x, 1, 2),
+        LocOp::FetchAdd(x, 3),
+        LocOp::Incr(x),
+        LocOp::Decr(y),
+        LocOp::Update(x, Fun::Max(9)),
+        LocOp::Modify(y, Fun::Xor(u32::MAX)),
+        LocOp::Check(x, Rel::Le, 10),
+    ];
+    let commands = ops.map(|o| Command::One(Op::Loc(o)));
+    let Some(thread) = bundle.threads.first() else {
+        return false;
+    };
+    bundle.threads.len() == 1 && thread.as_slice() == commands.as_slice()
+}
+
+#[test]
+fn each_command_is_read(rt: HostRuntime) {
+    assert!(rt; has_all(&rt, ALL));
+}
+
 #[test]
 fn others_are_refused(rt: HostRuntime) {
     let texts = [
@@ -61,6 +96,10 @@ fn others_are_refused(rt: HostRuntime) {
         "kcas 1\nloc abcdefghijabcdefghijabcdefghijabc 1",
         "kcas 1\nloc x 00000000001",
         "kcas 1\nthread\nthread",
+        "kcas 1\nloc x 1\nthread\nupdate x nand 1",
+        "kcas 1\nloc x 1\nthread\ncheck x is 1",
+        "kcas 1\nloc x 1\nthread\nswap x",
+        "kcas 1\nloc x 1\nthread\ncas x 1 2 3",
     ];
     let why = Why::NotBuilt;
     for text in texts {

@@ -1,4 +1,6 @@
-pub mod OneLocation
+pub mod OnStore
+pub mod Asks
+pub mod Alone
 pub mod Threads
 pub mod Runs
 pub mod Bundles

@@ -1,16 +1,14 @@
 -- The records of one thread are a run of the script.
-use Rattle.std.proofs.Common.{◌≡◌, ◌≢◌, ℕ, zero, suc, ◌+◌, ◌-◌, ◌≤◌, ◌<◌, ◌⊎◌, inl, inr, Bool, true, false, cond, List, [], ◌∷◌, Option, Some, None, refl, sym, ap, subst, ◌∙◌, arith}
+use Rattle.std.proofs.Common.{◌≡◌, ◌≢◌, ℕ, zero, suc, ◌+◌, ◌-◌, ◌≤◌, ◌<◌, ◌⊎◌, inl, inr, List, [], ◌∷◌, Option, Some, None, refl, sym, ap, subst, ◌∙◌, arith}
 use Rattle.std.proofs.lemmas.Bool.{cases_lt}
 use Rattle.std.specs.Prelude.{slice_get, IsSome}
 use Rattle.std.specs.Option.{option_map}
-use Rattle.kc_model.specs.declared.footprint.Seen.{Seen}
 use Rattle.kc_model.specs.declared.footprint.Footprint.{Footprint}
 use Rattle.kc_model.specs.Footprint.{PutsWhatItReads}
 use Rattle.kc_model.specs.Store.{Store, store_of, opened, Finds, after}
-use Rattle.kc_model.proofs.Footprints.{read_at-contained}
 use Rattle.kc_script.specs.declared.operation.Command.{Command}
 use Rattle.kc_script.specs.Script.{Script}
-use Rattle.kc_script.specs.Meaning.{Meaning, is_touched, values}
+use Rattle.kc_xt.specs.Meaning.{Meaning}
 use Rattle.kc_script.specs.State.{opening_values}
 use Rattle.kc_history.specs.declared.record.Record.{Record}
 use Rattle.kc_history.specs.declared.record.Place.{Place}
@@ -18,16 +16,14 @@ use Rattle.kc_history.specs.Records.{record_at, footprint_at, NamesRecords}
 use Rattle.kc_history.specs.Order.{NoneLeft, Legal, more}
 use Rattle.kc_history.proofs.Choice.{some_is}
 use Rattle.kc_history.proofs.Ready.{same_or, alone_canonical}
-use Rattle.kc_top.specs.Run.{IsCommit, Replays, IsRun, meanings, meaning_at, opening_store, kept}
+use Rattle.kc_top.specs.Commit.{IsCommit}
+use Rattle.kc_top.specs.Run.{Replays, IsRun, meanings, meaning_at, opening_store}
+use Rattle.kc_top.proofs.OnStore.{makes_finds}
 use Rattle.kc_top.specs.Thread.{Commits, RunsOne, own_places}
 
 -- a commit's reads are what stands
 commit_finds : (m : Meaning) (s : Store) (r : Record) → IsCommit m s r → Finds r.footprint s
-commit_finds m s r commit q h =
-    of_touched (is_touched (kept (m (values s)).answer (m (values s)).touches) q.loc.0) (sym (read_at-contained r.footprint.reads.items q commit.makes.well_made.reads_rise h) ∙ commit.makes.reads q.loc.0) where
-      of_touched : (b : Bool) → Some q ≡ cond b (Some (record { loc = record { 0 = q.loc.0 }; version = (s q.loc.0).version; value = (s q.loc.0).value })) None → s q.loc.0 ≡ record { version = q.version; value = q.value }
-      of_touched true e = let same = some_is _ _ e in sym (ap (λ (t : Seen). record { version = t.version; value = t.value }) same)
-      of_touched false e = absurd (cc)
+commit_finds m s r commit = makes_finds s _ r.footprint commit.makes
 
 -- each commit puts what it reads
 commits_put : (ms : List Meaning) (s e : Store) (rs : List Record) → Commits ms s rs e → (k : ℕ) (r : Record) → slice_get rs k ≡ Some r → PutsWhatItReads r.footprint

@@ -11,13 +11,16 @@ use Rattle.kc_script.specs.declared.operation.Command.{Command}
 use Rattle.kc_model.specs.declared.reply.Answer.TheVariants as answer
 use Rattle.kc_script.specs.declared.operation.Command.TheVariants as command
 use Rattle.kc_script.specs.declared.operation.Op.TheVariants as op
-use Rattle.kc_script.specs.declared.operation.LocOp.TheVariants as loc
-use Rattle.kc_script.specs.Meaning.{Meaning, command_meaning, end_meaning}
+use Rattle.kc_loc.specs.declared.operation.LocOp.TheVariants as loc
+use Rattle.kc_xt.specs.Meaning.{Meaning, last_written}
+use Rattle.kc_script.specs.Meaning.{thread_meaning, end_meaning}
 use Rattle.kc_history.specs.declared.record.Record.{Record}
 use Rattle.kc_history.specs.declared.record.Mark.TheVariants as mark
 use Rattle.kc_history.specs.declared.record.Place.{Place}
-use Rattle.kc_top.specs.Run.{IsCommit, Label, label, labels, meanings}
-use Rattle.kc_top.specs.Thread.{Commits, VersionsTo, own_places}
+use Rattle.kc_top.specs.Commit.{IsCommit, Label, label, run_on, VersionsTo, OneLives}
+use Rattle.kc_top.specs.Run.{labels, meanings}
+use Rattle.kc_top.specs.Thread.{Commits, own_places}
+use Rattle.kc_top.proofs.Alone.{still_lives}
 
 -- one commit more
 pub commits_more : (ms : List Meaning) (s mid e : Store) (rs : List Record) (m : Meaning) (r : Record) → Commits ms s rs mid → IsCommit m mid r → e ≡ after r.footprint mid → Commits (ms ++ m ∷ []) s (rs ++ r ∷ []) e
@@ -36,10 +39,11 @@ versions_more n s e f to end = rw end (λ l. version_after_one (put_at f.puts.it
 
 -- the first i commands are committed, and the other records are untouched
 pub record RanTo (commands : List Command) (cells cells' : List Cell) (old new : List Record) (i : ℕ) : Type 0 where
-  pub commits : Commits (map command_meaning (take i commands)) (store_of cells) (take i new) (store_of cells')
+  pub commits : Commits (map (thread_meaning 0) (take i commands)) (store_of cells) (take i new) (store_of cells')
   pub rest : drop i new ≡ drop i old
   pub labels : map label new ≡ map label old
   pub versions : VersionsTo i (store_of cells')
+  pub live : OneLives (store_of cells')
   pub kept : length cells' ≡ length cells
 
 pub same_at : {X : Type 0} (i : ℕ) (xs ys : List X) (d : X) → drop i xs ≡ drop i ys → get_or xs i d ≡ get_or ys i d
@@ -48,24 +52,25 @@ same_at i xs ys d e =
     ap (λ (k : ℕ). get_or xs k d) here ∙ sym (get_or-drop i xs 0 d) ∙ ap (λ (l : List _). get_or l 0 d) e ∙ get_or-drop i ys 0 d ∙ ap (λ (k : ℕ). get_or ys k d) (sym here)
 
 pub ran_more : (commands : List Command) (cells mid cells' : List Cell) (old new : List Record) (i : ℕ) (d : Command) (q r : Record) → RanTo commands cells mid old new i → i < length commands → i < length new
-    → IsCommit (command_meaning (get_or commands i d)) (store_of mid) r → store_of cells' ≡ after r.footprint (store_of mid) → length cells' ≡ length mid → label r ≡ label (get_or new i q)
-    → RanTo commands cells cells' old (set new i r) (i + 1)
-ran_more commands cells mid cells' old new i d q r so_far lt room next end kept same = record {
-  commits = rw (take_more commands i d lt, map-append command_meaning (take i commands) (get_or commands i d ∷ []), take_more_set new i r room) (commits_more _ _ _ _ _ _ _ so_far.commits next end);
+    → IsCommit (thread_meaning 0 (get_or commands i d)) (store_of mid) r → store_of cells' ≡ after r.footprint (store_of mid) → length cells' ≡ length mid → label r ≡ label (get_or new i q)
+    → last_written (run_on (thread_meaning 0 (get_or commands i d)) (store_of mid)).touches 0 ≡ None → RanTo commands cells cells' old (set new i r) (i + 1)
+ran_more commands cells mid cells' old new i d q r so_far lt room next end kept same spares = record {
+  commits = rw (take_more commands i d lt, map-append (thread_meaning 0) (take i commands) (get_or commands i d ∷ []), take_more_set new i r room) (commits_more _ _ _ _ _ _ _ so_far.commits next end);
   rest = drop-set-lt (i + 1) new i r (omega arith) ∙ sym (drop-drop 1 i new) ∙ ap (drop 1) so_far.rest ∙ drop-drop 1 i old;
   labels = map-set_same label new i r q same ∙ so_far.labels;
   versions = versions_more i (store_of mid) (store_of cells') r.footprint so_far.versions end;
+  live = still_lives _ (store_of mid) (store_of cells') r next spares end so_far.live;
   kept = kept ∙ so_far.kept;
 }
 
 pub ran_all : (commands : List Command) (cells cells' : List Cell) (old new : List Record) (i : ℕ) → RanTo commands cells cells' old new i → length commands ≤ i → i ≤ length commands
-    → Commits (map command_meaning commands) (store_of cells) (take (length commands) new) (store_of cells')
+    → Commits (map (thread_meaning 0) commands) (store_of cells) (take (length commands) new) (store_of cells')
 ran_all commands cells cells' old new i ran le ge =
     let same : i ≡ length commands = omega arith in
     rw (← same) (rw (take_all i commands le) at ran.commits)
 
 -- the end of a thread is committed last
-pub thread_ends : (commands : List Command) (s mid e : Store) (records : List Record) (r : Record) → Commits (map command_meaning commands) s (take (length commands) records) mid → IsCommit end_meaning mid r
+pub thread_ends : (commands : List Command) (s mid e : Store) (records : List Record) (r : Record) → Commits (map (thread_meaning 0) commands) s (take (length commands) records) mid → IsCommit (end_meaning 0) mid r
     → e ≡ after r.footprint mid → length records ≡ length commands + 1 → Commits (meanings commands) s (set records (length commands) r) e
 thread_ends commands s mid e records r done next end room =
     let n = length commands in

@@ -1,6 +1,7 @@
-pub mod Numbers
 pub mod Run
-pub mod Thread
 pub mod Commit
+pub mod Ask
+pub mod Thread
 pub mod Statuses
+pub mod Numbers
 pub mod Worked

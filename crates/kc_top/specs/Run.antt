@@ -1,28 +1,20 @@
 -- What a run of a script is, and its text.
-use Rattle.std.specs.Prelude.{◌≡◌, ℕ, ◌+◌, List, [], ◌∷◌, ◌++◌, Option, Some, None, map, codes, slice_get, slice_index_or}
+use Rattle.std.specs.Prelude.{◌≡◌, ℕ, ◌+◌, List, [], ◌∷◌, ◌++◌, Option, Some, map, codes, slice_get, slice_index_or}
 use Rattle.kc_model.specs.Store.{Store, store_of, opened, after}
-use Rattle.kc_model.specs.declared.reply.Answer.{Answer}
-use Rattle.kc_model.specs.declared.reply.Answer.TheVariants as answer
 use Rattle.kc_script.specs.declared.operation.Command.{Command}
 use Rattle.kc_script.specs.Script.{Script}
-use Rattle.kc_script.specs.Meaning.{Touch, Meaning, Makes, command_meaning, end_meaning, values}
+use Rattle.kc_xt.specs.Meaning.{Meaning}
+use Rattle.kc_script.specs.Meaning.{thread_meaning, end_meaning}
 use Rattle.kc_script.specs.State.{opening_values, state_lines}
-use Rattle.kc_history.specs.declared.record.Mark.{Mark}
 use Rattle.kc_history.specs.declared.record.Mark.TheVariants as mark
 use Rattle.kc_history.specs.declared.record.Record.{Record}
 use Rattle.kc_history.specs.declared.record.Place.{Place}
 use Rattle.kc_history.specs.Records.{record_at, footprint_at}
 use Rattle.kc_history.specs.Order.{IsCanonical}
 use Rattle.kc_history.specs.Text.{records_text}
+use Rattle.kc_top.specs.Commit.{Label, label, IsCommit}
 
 -- ---- each thread's records
-
-pub record Label : Type 0 where
-  pub thread : ℕ
-  pub mark : Mark
-
-abbrev pub label : Record → Label
-label r = record { thread = r.thread; mark = r.mark }
 
 -- one for each command, numbered from here on, and then the end
 abbrev pub labels : ℕ → ℕ → List Command → List Label
@@ -38,25 +30,12 @@ AreThreads thread (cs ∷ threads) [] = ⊥
 
 -- ---- what each record is
 
--- what a thread commits: its commands, and then its end
+-- what a thread commits: its commands, and then its end; location 0 counts the live threads
 abbrev pub meanings : List Command → List Meaning
-meanings cs = map command_meaning cs ++ end_meaning ∷ []
+meanings cs = map (thread_meaning 0) cs ++ end_meaning 0 ∷ []
 
 abbrev pub meaning_at : List (List Command) → ℕ → ℕ → Option Meaning
 meaning_at threads thread index = slice_get (meanings (slice_index_or threads thread [])) index
-
-abbrev pub only_read : Touch → Touch
-only_read t = record { cell = t.cell; wrote = None }
-
--- what is committed of the touches: where the answer is too large, nothing is put
-abbrev pub kept : Answer → List Touch → List Touch
-kept (answer.Reply r) touches = touches
-kept answer.TooLarge touches = map only_read touches
-
--- the record is the meaning's commit on the store
-pub record IsCommit (m : Meaning) (s : Store) (r : Record) : Type 0 where
-  pub answer : r.answer ≡ (m (values s)).answer
-  pub makes : Makes s (kept (m (values s)).answer (m (values s)).touches) r.footprint
 
 -- replayed in this order from a store, each record is its command's commit there
 abbrev pub Replays : List (List Command) → List (List Record) → Store → List Place → Store → Type 0

@@ -1,14 +1,15 @@
 -- One thread's records.
-use Rattle.std.specs.Prelude.{◌≡◌, ℕ, ◌+◌, ◌≤◌, List, [], ◌∷◌, length, map, slice_index_or}
-use Rattle.kc_model.specs.Store.{Store, after}
-use Rattle.kc_model.specs.declared.footprint.Footprint.{Footprint}
-use Rattle.kc_script.specs.Meaning.{Meaning}
+use Rattle.std.specs.Prelude.{◌≡◌, ℕ, ◌+◌, ◌<◌, ◌≤◌, List, [], ◌∷◌, length, map, slice_index_or}
+use Rattle.kc_model.specs.Store.{Store, store_of, after}
+use Rattle.kc_xt.specs.Meaning.{Meaning}
 use Rattle.kc_history.specs.declared.record.Record.{Record}
 use Rattle.kc_history.specs.declared.record.Place.{Place}
 use Rattle.kc_script.specs.declared.operation.Command.{Command}
 use Rattle.kc_script.specs.Script.{Script, LiesInOrder, AreFit, next_from}
 use Rattle.kc_script.specs.Spells.{IsBuilt}
-use Rattle.kc_top.specs.Run.{IsCommit, label, labels, meanings}
+use Rattle.kc_model.specs.declared.plain_store.Cell.{Cell}
+use Rattle.kc_top.specs.Commit.{IsCommit, label, VersionsTo, OneLives}
+use Rattle.kc_top.specs.Run.{labels, meanings}
 
 -- one after another, the records are commits of these meanings, from the first store to the last
 abbrev pub Commits : List Meaning → Store → List Record → Store → Type 0
@@ -22,20 +23,21 @@ abbrev pub own_places : {X : Type 0} → ℕ → List X → List Place
 own_places index [] = []
 own_places index (x ∷ xs) = record { thread = 0; index = index } ∷ own_places (index + 1) xs
 
--- nothing was read or put yet
-abbrev pub IsEmpty : Footprint → Type 0
-IsEmpty f = (f.reads.items ≡ []) × (f.puts.items ≡ [])
-
--- no version is above this one
-abbrev pub VersionsTo : ℕ → Store → Type 0
-VersionsTo n s = (l : ℕ) → (s l).version ≤ n
-
 -- a script that one thread can run
 pub record CanRun (s : Script) : Type 0 where
   pub built : IsBuilt s
   pub lies : LiesInOrder s
   pub fit : AreFit (next_from 1 s.objects) (slice_index_or s.threads 0 [])
   pub few : length (slice_index_or s.threads 0 []) ≤ 4096
+
+-- a store on which one thread can run these commands
+pub record CanRunOn (cells : List Cell) (commands : List Command) : Type 0 where
+  pub few : length commands ≤ 4096
+  pub fit : AreFit (length cells) commands
+  pub some : 0 < length cells
+  pub size : length cells ≤ 65536
+  pub live : OneLives (store_of cells)
+  pub versions : VersionsTo 0 (store_of cells)
 
 -- one thread ran these commands from a store: its list alone has records, and they stand in its order
 pub record RunsOne (commands : List Command) (s : Store) (records : List (List Record)) (order : List Place) (e : Store) : Type 0 where

@@ -9,7 +9,7 @@ use Rattle.kc_model.specs.Store.{Store}
 use Rattle.kc_script.specs.declared.object.Object.TheVariants as object
 use Rattle.kc_script.specs.declared.operation.Command.TheVariants as command
 use Rattle.kc_script.specs.declared.operation.Op.TheVariants as op
-use Rattle.kc_script.specs.declared.operation.LocOp.TheVariants as loc
+use Rattle.kc_loc.specs.declared.operation.LocOp.TheVariants as loc
 use Rattle.kc_script.specs.Script.{Script}
 use Rattle.kc_history.specs.declared.record.Mark.TheVariants as mark
 use Rattle.kc_history.specs.declared.record.Record.{Record}

@@ -1,13 +1,13 @@
 //! A script from its opening to its text.
 
-ghost use Rattle.std.specs.Prelude.{◌≡◌, ◌≤◌, ◌<◌, ◌++◌, length, map, codes, slice_index_or, [], IfOk};
+ghost use Rattle.std.specs.Prelude.{◌≡◌, ◌≤◌, ◌++◌, length, map, codes, slice_index_or, [], IfOk};
 ghost use Rattle.kc_model.specs.Pen.{Puts, Prints};
 ghost use Rattle.kc_model.specs.Store.{store_of, opened};
-ghost use Rattle.kc_script.specs.Script.{script_of, names_of, CellsBelow, AreFit};
+ghost use Rattle.kc_script.specs.Script.{script_of, names_of, CellsWithin};
 ghost use Rattle.kc_script.specs.State.{opening_values};
 ghost use Rattle.kc_history.specs.Records.{lists_of, NamesRecords};
 ghost use Rattle.kc_top.specs.Run.{IsRun, run_text};
-ghost use Rattle.kc_top.specs.Thread.{CanRun, RunsOne, VersionsTo};
+ghost use Rattle.kc_top.specs.Thread.{CanRun, CanRunOn, RunsOne};
 ghost use Rattle.kc_top.specs.Statuses.{Performs};
 
 use crate::status::Status;
@@ -38,7 +38,7 @@ pub fn perform<K: Sink>(alloc: Global, bundle: &Bundle, sink: &mut K) -> Result<
 fn run_bundle(alloc: Global, bundle: &Bundle) -> Result<Ran, NoMemory>
     requires { CanRun (script_of bundle.now) }
     ensures run { IfOk result (λ ran. IsRun (script_of bundle.now) (lists_of ran.records.items) ran.order.items (store_of ran.store)) }
-    ensures cells { IfOk result (λ ran. CellsBelow (length ran.store) (names_of bundle.now.objects)) }
+    ensures cells { IfOk result (λ ran. CellsWithin (length ran.store) (names_of bundle.now.objects)) }
     ensures named { IfOk result (λ ran. NamesRecords (lists_of ran.records.items) ran.order.items) }
 {
     let values = opening(alloc, bundle)?;
@@ -65,10 +65,7 @@ fn open_store(alloc: Global, values: &[u32]) -> Result<PlainStore, NoMemory>
 }
 
 fn run_one(alloc: Global, commands: &[Command], store: PlainStore) -> Result<Ran, NoMemory>
-    requires few { length commands.now ≤ 4096 }
-    requires fit { AreFit (length store) commands.now }
-    requires live { 0 < length store }
-    requires versions { VersionsTo 0 (store_of store) }
+    requires { CanRunOn store commands.now }
     ensures run { IfOk result (λ ran. RunsOne commands.now (store_of store) (lists_of ran.records.items) ran.order.items (store_of ran.store)) }
     ensures cells { IfOk result (λ ran. length ran.store ≡ length store) }
 {
@@ -86,7 +83,7 @@ fn run_one(alloc: Global, commands: &[Command], store: PlainStore) -> Result<Ran
 }
 
 fn write_run<K: Sink>(bundle: &Bundle, ran: &Ran, sink: &mut K) -> Result<(), Failed>
-    requires cells { CellsBelow (length ran.now.store) (names_of bundle.now.objects) }
+    requires cells { CellsWithin (length ran.now.store) (names_of bundle.now.objects) }
     requires named { NamesRecords (lists_of ran.now.records.items) ran.now.order.items }
     ensures { Prints K.written K.faults K.write_gives sink.old sink.new result (run_text (script_of bundle.now) (lists_of ran.now.records.items) ran.now.order.items (store_of ran.now.store)) }
 {
@@ -96,7 +93,7 @@ fn write_run<K: Sink>(bundle: &Bundle, ran: &Ran, sink: &mut K) -> Result<(), Fa
 }
 
 fn put_run<K: Sink>(pen: &mut Pen<K>, bundle: &Bundle, ran: &Ran)
-    requires cells { CellsBelow (length ran.now.store) (names_of bundle.now.objects) }
+    requires cells { CellsWithin (length ran.now.store) (names_of bundle.now.objects) }
     requires named { NamesRecords (lists_of ran.now.records.items) ran.now.order.items }
     ensures { Puts K.written K.faults K.write_gives pen.old pen.new (run_text (script_of bundle.now) (lists_of ran.now.records.items) ran.now.order.items (store_of ran.now.store)) }
 {

@@ -60,11 +60,54 @@ fn worked_scripts_give_their_texts(rt: HostRuntime) -> Result<(), Fail> {
             "kcas 1\nloc x 1\nloc y 2\nthread\nset y 0000000003\nget x\nget y",
             "1.1 ok\n1.2 1\n1.3 3\norder\n1.1\n1.2\n1.3\n1.end\nstate\nx 1\ny 3\n",
         ),
+        (
+            "kcas 1\nloc x 5\nloc y 6\nthread\nswap x y\ncas x 6 9\ncas x 6 1\nupdate x max 4\nmodify y xor 1\ndecr y\ncheck y eq 9\n",
+            "1.1 ok\n1.2 true\n1.3 false\n1.4 9\n1.5 ok\n1.6 ok\n1.7 stranded\norder\n1.1\n1.2\n1.3\n1.4\n1.5\n1.6\n1.7\n1.end\nstate\nx 9\ny 3\n",
+        ),
     ];
     for (script, text) in rows {
         let (status, written) = run(&rt, script.as_bytes())?;
         assert_eq!(rt; status, Status::Done, "{script}");
         assert_eq!(rt; written.as_slice(), text.as_bytes(), "{script}");
+    }
+    Ok(())
+}
+
+#[test]
+fn each_function_and_relation_is_the_one_it_is_called(rt: HostRuntime) -> Result<(), Fail> {
+    let rows = [
+        ("update x add 4294967295", "12", "11"),
+        ("update x max 13", "12", "13"),
+        ("update x max 11", "12", "12"),
+        ("update x min 11", "12", "11"),
+        ("update x min 13", "12", "12"),
+        ("update x and 10", "12", "8"),
+        ("update x or 3", "12", "15"),
+        ("update x xor 5", "12", "9"),
+        ("modify x add 3", "ok", "15"),
+        ("xchg x 4", "12", "4"),
+        ("add x 4294967290", "12", "6"),
+        ("incr x", "ok", "13"),
+        ("decr x", "ok", "11"),
+        ("check x eq 12", "ok", "12"),
+        ("check x eq 11", "stranded", "12"),
+        ("check x ne 11", "ok", "12"),
+        ("check x ne 12", "stranded", "12"),
+        ("check x lt 13", "ok", "12"),
+        ("check x lt 12", "stranded", "12"),
+        ("check x le 12", "ok", "12"),
+        ("check x le 11", "stranded", "12"),
+        ("check x gt 11", "ok", "12"),
+        ("check x gt 12", "stranded", "12"),
+        ("check x ge 12", "ok", "12"),
+        ("check x ge 13", "stranded", "12"),
+    ];
+    for (command, reply, value) in rows {
+        let script = format!(in rt.alloc(); "kcas 1\nloc x 12\nthread\n{command}\n")?;
+        let text = format!(in rt.alloc(); "1.1 {reply}\norder\n1.1\n1.end\nstate\nx {value}\n")?;
+        let (status, written) = run(&rt, script.as_bytes())?;
+        assert_eq!(rt; status, Status::Done, "{command}");
+        assert_eq!(rt; written.as_slice(), text.as_bytes(), "{command}");
     }
     Ok(())
 }

@@ -1,23 +1,27 @@
 //! One thread's commands on a plain store.
 
-ghost use Rattle.std.specs.Prelude.{◌≡◌, ◌+◌, ◌≤◌, ◌<◌, length, map, take, drop, IfOk, All};
+ghost use Rattle.std.specs.Prelude.{◌≡◌, ◌+◌, ◌≤◌, length, map, take, drop, IfOk};
 ghost use Rattle.kc_model.specs.Store.{store_of};
-ghost use Rattle.kc_script.specs.Meaning.{command_meaning};
-ghost use Rattle.kc_script.specs.Script.{AreFit};
-ghost use Rattle.kc_top.specs.Run.{label, labels, meanings};
-ghost use Rattle.kc_top.specs.Thread.{Commits, IsEmpty, VersionsTo, own_places};
+ghost use Rattle.kc_script.specs.Meaning.{thread_meaning};
+ghost use Rattle.kc_top.specs.Commit.{label, VersionsTo};
+ghost use Rattle.kc_top.specs.Run.{labels, meanings};
+ghost use Rattle.kc_top.specs.Thread.{CanRunOn, Commits, own_places};
 
-use crate::commit::{commit_command, commit_end};
+use crate::ask::Ask;
+use crate::commit::commit;
 use kc_history::{Mark, Place, Record};
-use kc_model::{NoMemory, PlainStore};
+use kc_loc::LocOp;
+use kc_model::{Loc, NoMemory, PlainStore};
 use kc_script::Command;
 use std::alloc::Global;
+
+// The location that counts the live threads.
+const LIVE: Loc = Loc(0);
 
 /// Room for a record of each command of thread 1, and one of its end.
 pub fn room_for(alloc: Global, commands: &[Command]) -> Result<Vec<Record>, NoMemory>
     requires { length commands.now ≤ 4096 }
-    ensures labelled { IfOk result (λ records. map label records.items ≡ labels 1 1 commands.now) }
-    ensures fresh { IfOk result (λ records. All (λ r. IsEmpty r.footprint) records.items) }
+    ensures { IfOk result (λ records. map label records.items ≡ labels 1 1 commands.now) }
 {
     let mut records = Vec::with_capacity(alloc, commands.len() + 1)?;
     for i in 0..commands.len() {
@@ -42,36 +46,33 @@ pub fn own_order(alloc: Global, records: &[Record]) -> Result<Vec<Place>, NoMemo
     Ok(order)
 }
 
-/// Commits the commands of a thread and then its end, and fills their records.
+/// Commits the commands of the one live thread and then its end, and fills their records.
 pub fn run_thread(store: &mut PlainStore, commands: &[Command], records: &mut [Record])
-    requires few { length commands.now ≤ 4096 }
+    requires can { CanRunOn store.old commands.now }
     requires room { length records.old ≡ length commands.now + 1 }
-    requires fit { AreFit (length store.old) commands.now }
-    requires live { 0 < length store.old }
-    requires fresh { All (λ r. IsEmpty r.footprint) records.old }
-    requires versions { VersionsTo 0 (store_of store.old) }
     ensures commits { Commits (meanings commands.now) (store_of store.old) records.new (store_of store.new) }
     ensures labels { map label records.new ≡ map label records.old }
     ensures cells { length store.new ≡ length store.old }
 {
     run_commands(store, commands, records);
     let last = commands.len();
-    commit_end(store, &mut records[last]);
+    commit(store, &LocOp::Decr(LIVE), &mut records[last]);
 }
 
 fn run_commands(store: &mut PlainStore, commands: &[Command], records: &mut [Record])
-    requires few { length commands.now ≤ 4096 }
+    requires can { CanRunOn store.old commands.now }
     requires room { length commands.now ≤ length records.old }
-    requires fit { AreFit (length store.old) commands.now }
-    requires fresh { All (λ r. IsEmpty r.footprint) records.old }
-    requires versions { VersionsTo 0 (store_of store.old) }
-    ensures commits { Commits (map command_meaning commands.now) (store_of store.old) (take (length commands.now) records.new) (store_of store.new) }
+    ensures commits { Commits (map (thread_meaning 0) commands.now) (store_of store.old) (take (length commands.now) records.new) (store_of store.new) }
     ensures rest { drop (length commands.now) records.new ≡ drop (length commands.now) records.old }
     ensures labels { map label records.new ≡ map label records.old }
     ensures versions { VersionsTo (length commands.now) (store_of store.new) }
     ensures cells { length store.new ≡ length store.old }
 {
     for i in 0..commands.len() {
-        commit_command(store, commands[i], &mut records[i]);
+        let ask = Ask {
+            command: commands[i],
+            live: LIVE,
+        };
+        commit(store, &ask, &mut records[i]);
     }
 }

@@ -5,7 +5,7 @@ use Rattle.kc_model.proofs.Pens.{owes_all, owes_next, owes_last}
 use Rattle.kc_model.specs.Store.{store_of}
 use Rattle.kc_script.specs.Script.{named, names_of}
 use Rattle.kc_script.specs.State.{state_line}
-use Rattle.kc_script.proofs.Entries.{entry_at, entry_below}
+use Rattle.kc_script.proofs.Entries.{entry_at, entry_within}
 use Rattle.kc_script.proofs.state.put_state.Goals as goal
 
 pub loop-i-init : goal.loop-i-init
@@ -16,7 +16,7 @@ put_line-requires g c =
     let m = c.args.bundle.now.objects in
     let at = entry_at named m.entries c.loop-i.i (c.in-Some.name.now, c.in-Some.object.now) c.in-Some.ensures.entry in
     let lt : c.loop-i.i < length (names_of m) = omega (arith, length-map m.entries named, c.len-i-end.ensures.len) in
-    rw at at (entry_below _ (names_of m) c.loop-i.i (named (c.in-Some.name.now, c.in-Some.object.now)) lt c.requires)
+    rw at at (entry_within _ (names_of m) c.loop-i.i (named (c.in-Some.name.now, c.in-Some.object.now)) lt c.requires)
 
 pub loop-i-preserved : goal.loop-i-preserved
 loop-i-preserved g c =

@@ -1,4 +1,4 @@
-use Rattle.kc_top.proofs.OneLocation.{not_stale}
+use Rattle.kc_top.proofs.OnStore.{not_stale}
 use Rattle.kc_top.proofs.commit.apply_standing.Goals as goal
 
 pub unreachable-requires : goal.unreachable-requires

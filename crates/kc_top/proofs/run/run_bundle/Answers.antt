@@ -1,10 +1,10 @@
-use Rattle.std.proofs.Common.{◌≡◌, ◌∷◌, [], length, ap, ◌∙◌, arith}
+use Rattle.std.proofs.Common.{◌≡◌, ◌∷◌, [], length, ap, ◌∙◌}
 use Rattle.kc_model.specs.Store.{opened}
 use Rattle.kc_script.specs.Script.{script_of, next_from}
 use Rattle.kc_script.specs.State.{opening_values}
-use Rattle.kc_script.proofs.Spelled.{length-opening_values, cells_below}
-use Rattle.kc_top.proofs.Bundles.{if_ok, store_length, no_thread, one_thread}
-use Rattle.kc_top.proofs.Runs.{run_of_one, run_of_none, names_one, opened_zero}
+use Rattle.kc_script.proofs.Spelled.{length-opening_values, cells_within}
+use Rattle.kc_top.proofs.Bundles.{if_ok, store_length, no_thread, one_thread, can_run_on}
+use Rattle.kc_top.proofs.Runs.{run_of_one, run_of_none, names_one}
 use Rattle.kc_top.proofs.run.run_bundle.Goals as goal
 
 pub open_store-requires : goal.open_store-requires
@@ -20,20 +20,14 @@ pub returns-in-None-clause-cells : goal.returns-in-None-clause-cells
 returns-in-None-clause-cells c =
     let script = script_of c.args.bundle.now in
     let stored : c.in_ok-store.store ≡ opened (opening_values script) = c.in_ok-store.ensures ∙ ap opened (c.deref.ensures.value ∙ c.in_ok-values.ensures) in
-    rw (store_length script c.in_ok-store.store stored) (cells_below 1 script.objects c.requires.lies.lie)
+    rw (store_length script c.in_ok-store.store stored) (cells_within script.objects c.requires.lies.lie)
 
-pub run_one-requires-clause-fit : goal.run_one-requires-clause-fit
-run_one-requires-clause-fit c =
+pub run_one-requires : goal.run_one-requires
+run_one-requires c =
     let script = script_of c.args.bundle.now in
     let stored : c.in_ok-store.store ≡ opened (opening_values script) = c.in_ok-store.ensures ∙ ap opened (c.deref.ensures.value ∙ c.in_ok-values.ensures) in
     let threads : script.threads ≡ c.in-Some.commands.now.items ∷ [] = one_thread c.args.bundle.now.threads.items c.in-Some.commands.now (rw c.deref-2.ensures.value at c.in-Some.ensures.value) c.requires.built in
-    rw (store_length script c.in_ok-store.store stored, c.deref-in-Some.ensures.value) (rw threads at c.requires.fit)
-
-pub run_one-requires-clause-versions : goal.run_one-requires-clause-versions
-run_one-requires-clause-versions c =
-    let script = script_of c.args.bundle.now in
-    let stored : c.in_ok-store.store ≡ opened (opening_values script) = c.in_ok-store.ensures ∙ ap opened (c.deref.ensures.value ∙ c.in_ok-values.ensures) in
-    rw stored (λ l. omega (arith, opened_zero (opening_values script) l))
+    rw c.deref-in-Some.ensures.value (can_run_on script _ c.in-Some.commands.now.items c.requires stored threads)
 
 pub returns-clause-run : goal.returns-clause-run
 returns-clause-run c =
@@ -46,7 +40,7 @@ pub returns-clause-cells : goal.returns-clause-cells
 returns-clause-cells c =
     let script = script_of c.args.bundle.now in
     let stored : c.in_ok-store.store ≡ opened (opening_values script) = c.in_ok-store.ensures ∙ ap opened (c.deref.ensures.value ∙ c.in_ok-values.ensures) in
-    if_ok c.run_one.result (λ ran kept. let e : length ran.store ≡ next_from 1 script.objects = kept ∙ store_length script c.in_ok-store.store stored in rw e (cells_below 1 script.objects c.requires.lies.lie)) c.run_one.ensures.cells
+    if_ok c.run_one.result (λ ran kept. let e : length ran.store ≡ next_from 1 script.objects = kept ∙ store_length script c.in_ok-store.store stored in rw e (cells_within script.objects c.requires.lies.lie)) c.run_one.ensures.cells
 
 pub returns-clause-named : goal.returns-clause-named
 returns-clause-named c = if_ok c.run_one.result (λ ran one. names_one _ _ _ _ _ one) c.run_one.ensures.run

@@ -1,7 +1,7 @@
-use Rattle.std.proofs.Common.{◌≡◌, ◌+◌, ◌++◌, map, drop, All}
-use Rattle.kc_top.specs.Run.{label, labels}
-use Rattle.kc_top.specs.Thread.{IsEmpty}
+use Rattle.std.proofs.Common.{◌≡◌, ◌+◌, ◌++◌, map, drop}
+use Rattle.kc_top.specs.Commit.{label}
+use Rattle.kc_top.specs.Run.{labels}
 use Rattle.kc_top.proofs.thread.room_for.Given as goal
 
 abbrev pub invariant-loop-i : goal.invariant-loop-i
-invariant-loop-i l = (map label l.records.items ++ labels 1 (l.i + 1) (drop l.i l.commands) ≡ labels 1 1 l.commands) × All (λ r. IsEmpty r.footprint) l.records.items
+invariant-loop-i l = map label l.records.items ++ labels 1 (l.i + 1) (drop l.i l.commands) ≡ labels 1 1 l.commands
