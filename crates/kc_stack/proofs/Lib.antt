@@ -1,0 +1,2 @@
+pub mod StackLaw
+pub mod Values
