@@ -1,0 +1,2 @@
+pub mod QueueLaw
+pub mod Values

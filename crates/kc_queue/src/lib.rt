@@ -1,0 +1,13 @@
+//! A bounded queue: a ring of cells with its head and its number of items.
+#![tactic(auto)]
+
+mod acts;
+mod laws;
+mod operation;
+mod queue;
+#[cfg(test)]
+mod tests;
+
+pub use laws::{keeps_well_formed, means_its_value, opens_empty};
+pub use operation::{QueueAct, QueueOp};
+pub use queue::Queue;
