@@ -1,5 +1,5 @@
--- The first worked script by hand, for tests that compute the definitions.
-use Rattle.std.specs.Prelude.{ℕ, List, [], ◌∷◌, codes, cond, ◌==◌}
+-- The first worked script by hand, and a command that waits, for tests that compute the definitions.
+use Rattle.std.specs.Prelude.{ℕ, List, [], ◌∷◌, codes, cond, ◌==◌, None}
 use Rattle.kc_model.specs.declared.footprint.Loc.{Loc}
 use Rattle.kc_model.specs.declared.footprint.Seen.{Seen}
 use Rattle.kc_model.specs.declared.footprint.Put.{Put}
@@ -7,7 +7,10 @@ use Rattle.kc_model.specs.declared.reply.Reply.TheVariants as reply
 use Rattle.kc_model.specs.declared.reply.Answer.TheVariants as answer
 use Rattle.kc_model.specs.Store.{Store}
 use Rattle.kc_script.specs.declared.object.Object.TheVariants as object
+use Rattle.kc_script.specs.declared.operation.Command.{Command}
 use Rattle.kc_script.specs.declared.operation.Command.TheVariants as command
+use Rattle.kc_loc.specs.declared.kinds.Rel.TheVariants as rel
+use Rattle.kc_xt.specs.Meaning.{Touch}
 use Rattle.kc_script.specs.declared.operation.Op.TheVariants as op
 use Rattle.kc_loc.specs.declared.operation.LocOp.TheVariants as loc
 use Rattle.kc_script.specs.Script.{Script}
@@ -47,3 +50,14 @@ first_order = at 0 ∷ at 1 ∷ at 2 ∷ at 3 ∷ []
 
 abbrev pub first_last : Store
 first_last l = cond (l == 1) (record { version = 2; value = 8 }) (record { version = 1; value = 0 })
+
+-- check x eq 9
+abbrev pub waits_for_nine : Command
+waits_for_nine = command.One (op.Loc (loc.Check x rel.Eq 9))
+
+-- one thread lives, and x has 8
+abbrev pub one_lives : Store
+one_lives l = cond (l == 1) (record { version = 2; value = 8 }) (record { version = 0; value = 1 })
+
+abbrev pub looks_at_x_and_live : List Touch
+looks_at_x_and_live = record { cell = 1; wrote = None } ∷ record { cell = 0; wrote = None } ∷ []

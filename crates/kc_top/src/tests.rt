@@ -1,7 +1,11 @@
-ghost use Rattle.std.specs.Prelude.{◌≡◌, ◌∷◌, [], codes};
+ghost use Rattle.std.specs.Prelude.{◌≡◌, ◌∷◌, [], codes, Some, None};
+ghost use Rattle.kc_model.specs.declared.reply.Reply.TheVariants as reply;
+ghost use Rattle.kc_xt.specs.Meaning.{replied, retried};
+ghost use Rattle.kc_script.specs.Meaning.{thread_meaning, end_meaning};
+ghost use Rattle.kc_top.specs.Commit.{run_on};
 ghost use Rattle.kc_script.specs.State.{opening_values};
 ghost use Rattle.kc_top.specs.Run.{AreThreads, run_text};
-ghost use Rattle.kc_top.specs.Worked.{first_script, first_records, first_order, first_last};
+ghost use Rattle.kc_top.specs.Worked.{first_script, first_records, first_order, first_last, waits_for_nine, one_lives, looks_at_x_and_live};
 
 use crate::{Status, kcas_main};
 use kc_model::{FrailSink, FrailSource};
@@ -24,6 +28,14 @@ fn first_script_by_hand()
     ensures text { run_text first_script first_records first_order first_last ≡ codes "1.1 5\n1.2 ok\n1.3 7\norder\n1.1\n1.2\n1.3\n1.end\nstate\nx 8\n" }
     ensures threads { AreThreads 1 first_script.threads first_records }
     ensures opening { opening_values first_script ≡ 1 ∷ 5 ∷ [] }
+{}
+
+// What a thread's command comes to, computed on the store behind the first script, where x has 8 and no thread lives,
+// and on one where one thread lives.
+fn waiting_by_hand()
+    ensures stranded { run_on (thread_meaning 0 waits_for_nine) one_lives ≡ record { outcome = replied reply.Stranded; touches = looks_at_x_and_live } }
+    ensures waits { run_on (thread_meaning 0 waits_for_nine) first_last ≡ record { outcome = retried; touches = looks_at_x_and_live } }
+    ensures end { run_on (end_meaning 0) one_lives ≡ record { outcome = replied reply.Unit; touches = record { cell = 0; wrote = None } ∷ record { cell = 0; wrote = Some 0 } ∷ [] } }
 {}
 
 fn words(alloc: Global, second: &str) -> Result<Vec<String>, Fail> {

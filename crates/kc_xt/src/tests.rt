@@ -1,4 +1,7 @@
-ghost use Rattle.std.specs.Prelude.{◌≡◌, ◌-◌, ◌≤◌, length, IfOk};
+ghost use Rattle.std.specs.Prelude.{◌≡◌, ◌-◌, ◌≤◌, length, IfOk, ℕ, List, [], ◌∷◌, Some, None};
+ghost use Rattle.kc_model.specs.declared.reply.Reply.TheVariants as reply;
+ghost use Rattle.kc_xt.specs.Meaning.{Run, Touch, replied, too_large, first_meaning, then_meaning, map_after, last_written};
+ghost use Rattle.kc_xt.specs.Program.{meaning, read, write, replies, retries};
 ghost use Rattle.kc_xt.specs.Steps.{Does};
 ghost use Rattle.kc_xt.specs.Worked.{clears};
 
@@ -6,6 +9,14 @@ use crate::*;
 use kc_model::{Loc, MOST, PlainStore, Reply};
 use std::alloc::Global;
 use std::test::Fail;
+
+// The definitions, computed by hand on the map with 5 everywhere: an alternative that is given up touches, and leaves
+// no change; one part behind another sees its writes; a third location under a limit of two is too large.
+fn meanings_by_hand()
+    ensures given_up { first_meaning (meaning (write 1 7 retries)) (meaning (read 1 (λ v. replies (reply.Value v)))) 64 (λ (l : ℕ). 5) [] ≡ record { outcome = replied (reply.Value 5); touches = record { cell = 1; wrote = None } ∷ record { cell = 1; wrote = None } ∷ [] } }
+    ensures behind { then_meaning (meaning (write 1 7 (replies reply.Unit))) (λ a. meaning (read 1 (λ v. replies (reply.Value v)))) 64 (λ (l : ℕ). 5) [] ≡ record { outcome = replied (reply.Value 7); touches = record { cell = 1; wrote = Some 7 } ∷ record { cell = 1; wrote = None } ∷ [] } }
+    ensures limited { meaning (read 1 (λ v. read 2 (λ w. read 1 (λ u. write 3 u (replies reply.Unit))))) 2 (λ (l : ℕ). 5) [] ≡ record { outcome = too_large; touches = record { cell = 1; wrote = None } ∷ record { cell = 2; wrote = None } ∷ record { cell = 1; wrote = None } ∷ [] } }
+{}
 
 fn store_of(alloc: Global, values: &[u32]) -> Result<PlainStore, Fail>
     ensures { IfOk result (λ store. length store ≡ length values.now) }
