@@ -7,3 +7,4 @@ pub mod Legal
 pub mod Outside
 pub mod Forms
 pub mod Pen
+pub mod Word

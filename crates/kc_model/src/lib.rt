@@ -13,6 +13,7 @@ mod reply;
 mod sure;
 #[cfg(test)]
 mod tests;
+mod word;
 mod writing;
 
 pub use errors::{ModelError, NoMemory, OpenError};
@@ -25,4 +26,5 @@ pub use plain_store::{MOST_LOCATIONS, PlainStore, Stale};
 pub use reading::{ReadError, read_to_end};
 pub use reply::{Answer, Item, Reply};
 pub use sure::{SureSink, SureSource};
+pub use word::Word;
 pub use writing::write_all;

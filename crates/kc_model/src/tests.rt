@@ -63,3 +63,21 @@ fn a_put_raises_the_version_where_the_value_stays(rt: HostRuntime) -> Result<(),
     assert_eq!(rt; store.get(Loc(1)), None);
     Ok(())
 }
+
+#[test]
+fn a_word_has_its_bits(rt: HostRuntime) -> Result<(), Fail> {
+    let plain = Word::Plain {
+        version: 3,
+        value: 7,
+    };
+    assert_eq!(rt; plain.pack(), 0x0000_0003_0000_0007);
+    assert_eq!(rt; Word::unpack(0x0000_0003_0000_0007), plain);
+    let reference = Word::Ref {
+        generation: 1,
+        descriptor: 3,
+        entry: 0,
+    };
+    assert_eq!(rt; reference.pack(), 0x8000_0000_0080_0300);
+    assert_eq!(rt; Word::unpack(0x8000_0000_0080_0300), reference);
+    Ok(())
+}
