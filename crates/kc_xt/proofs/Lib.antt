@@ -12,3 +12,5 @@ pub mod Composed
 pub mod Footprints
 pub mod Commits
 pub mod Spared
+pub mod Singles
+pub mod Written

@@ -6,4 +6,5 @@ pub mod Log
 pub mod Calls
 pub mod Steps
 pub mod Law
+pub mod Single
 pub mod Worked
