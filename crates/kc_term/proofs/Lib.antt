@@ -1,0 +1,5 @@
+pub mod Parts
+pub mod TermLaw
+pub mod Closed
+pub mod Ones
+pub mod Worked

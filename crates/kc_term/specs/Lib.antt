@@ -1,0 +1,10 @@
+pub mod Tree
+pub mod Code
+pub mod Shape
+pub mod Falls
+pub mod Counted
+pub mod Made
+pub mod Meaning
+pub mod Fit
+pub mod Laws
+pub mod Worked
