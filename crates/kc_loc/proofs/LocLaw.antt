@@ -8,6 +8,8 @@ use Rattle.kc_xt.specs.Steps.{Does}
 use Rattle.kc_xt.specs.Peeks.{Gives}
 use Rattle.kc_xt.specs.Law.{Obeys}
 use Rattle.kc_xt.specs.Program.{replies}
+use Rattle.kc_xt.specs.Single.{EndsInOne}
+use Rattle.kc_xt.proofs.Singles.{one_if}
 use Rattle.kc_xt.proofs.Spared.{Spares, spares_if}
 use Rattle.kc_xt.proofs.Laws.{Below, TouchesFirst, below_if, law_of}
 use Rattle.kc_loc.specs.Kinds.{holds}
@@ -59,6 +61,21 @@ loc_first (op.Decr l) = tt
 loc_first (op.Update l f) = tt
 loc_first (op.Modify l f) = tt
 loc_first (op.Check l r n) = tt
+
+-- each of its ends is one reply or retry
+pub loc_single : (o : LocOp) → EndsInOne (loc_program o replies)
+unfolding loc_program
+loc_single (op.Get l) = λ v. tt
+loc_single (op.Set l v) = tt
+loc_single (op.Exchange l v) = λ u. tt
+loc_single (op.Swap a b) = λ v w. tt
+loc_single (op.Cas l before after) = λ v. one_if (v == before) _ _ tt tt
+loc_single (op.FetchAdd l n) = λ v. tt
+loc_single (op.Incr l) = λ v. tt
+loc_single (op.Decr l) = λ v. tt
+loc_single (op.Update l f) = λ v. tt
+loc_single (op.Modify l f) = λ v. tt
+loc_single (op.Check l r n) = λ v. one_if (holds r v n) _ _ tt tt
 
 -- what does its program obeys the law
 pub loc_law : {P : Type 0} (gives : Gives P) (o : LocOp) {x y : Log P} (r : Result Reply Stop) → Does gives (loc_program o) x r y → Obeys gives (loc_meaning o) (loc_end o) x r y

@@ -10,6 +10,8 @@ use Rattle.kc_xt.specs.Steps.{Does}
 use Rattle.kc_xt.specs.Peeks.{Gives}
 use Rattle.kc_xt.specs.Law.{Obeys}
 use Rattle.kc_xt.specs.Program.{replies}
+use Rattle.kc_xt.specs.Single.{EndsInOne}
+use Rattle.kc_xt.proofs.Singles.{one_if}
 use Rattle.kc_xt.proofs.Spared.{Spares, spares_if}
 use Rattle.kc_xt.proofs.Laws.{Below, TouchesFirst, below_if, law_of}
 use Rattle.kc_queue.specs.Meaning.{queue_program, queue_meaning, queue_begin, queue_end, QueueIsFit, deq_program, counted, head_in, cells_end}
@@ -31,7 +33,7 @@ head_within q h some = head_by q h _ some refl
 deq_below : (q : Queue) (waits : Bool) → 0 < q.cap → Below (cells_end q) (deq_program q waits replies)
 deq_below q waits some = (omega (arith, some), λ n. below_if _ (counted q n == 0) _ _ (below_if _ waits _ _ tt tt) (omega (arith, some), λ h. let w = head_within q h some in (omega (arith, w), λ v. (omega (arith, some), (omega (arith, some), tt)))))
 
-act_below : (q : Queue) (a : QueueAct) → 0 < q.cap → Below (cells_end q) (queue_program q a replies)
+pub act_below : (q : Queue) (a : QueueAct) → 0 < q.cap → Below (cells_end q) (queue_program q a replies)
 unfolding queue_program
 act_below q (act.Enq v) some = (omega (arith, some), λ n. below_if _ (counted q n == q.cap) _ _ tt (omega (arith, some), λ h. let w = mod_below (head_in q h + counted q n) q.cap some in (omega (arith, w), (omega (arith, some), tt))))
 act_below q act.Deq some = deq_below q false some
@@ -70,6 +72,22 @@ act_first q act.Len = tt
 
 pub queue_first : (o : QueueOp) → TouchesFirst (queue_program o.queue o.act replies)
 queue_first o = act_first o.queue o.act
+
+-- ---- each of its ends is one reply or retry
+
+deq_single : (q : Queue) (waits : Bool) → EndsInOne (deq_program q waits replies)
+deq_single q waits = λ n. one_if (counted q n == 0) _ _ (one_if waits _ _ tt tt) (λ h v. tt)
+
+act_single : (q : Queue) (a : QueueAct) → EndsInOne (queue_program q a replies)
+unfolding queue_program
+act_single q (act.Enq v) = λ n. one_if (counted q n == q.cap) _ _ tt (λ h. tt)
+act_single q act.Deq = deq_single q false
+act_single q act.DeqWait = deq_single q true
+act_single q act.Front = λ n. one_if (counted q n == 0) _ _ tt (λ h v. tt)
+act_single q act.Len = λ n. tt
+
+pub queue_single : (o : QueueOp) → EndsInOne (queue_program o.queue o.act replies)
+queue_single o = act_single o.queue o.act
 
 -- what does its program obeys the law
 pub queue_law : {P : Type 0} (gives : Gives P) (o : QueueOp) {x y : Log P} (r : Result Reply Stop) → QueueIsFit o → Does gives (queue_program o.queue o.act) x r y → Obeys gives (queue_meaning o) (queue_end o) x r y

@@ -22,3 +22,8 @@ pub fn opens_empty()
 pub fn keeps_well_formed()
     ensures { (o : QueueOp) (n : ℕ) (m : ℕ → ℕ) (ks : List ℕ) → IsWellFormed o.queue m → (queue_meaning o n m ks).outcome ≢ too_large → IsWellFormed o.queue (map_after m (queue_meaning o n m ks).touches) }
 {}
+
+/// Cells stand for one list of items at most.
+pub fn content_is_one()
+    ensures { (q : Queue) (m : ℕ → ℕ) (items others : List ℕ) → StandsFor q m items → StandsFor q m others → items ≡ others }
+{}

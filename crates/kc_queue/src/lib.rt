@@ -8,6 +8,6 @@ mod queue;
 #[cfg(test)]
 mod tests;
 
-pub use laws::{keeps_well_formed, means_its_value, opens_empty};
+pub use laws::{content_is_one, keeps_well_formed, means_its_value, opens_empty};
 pub use operation::{QueueAct, QueueOp};
 pub use queue::Queue;

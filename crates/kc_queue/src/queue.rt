@@ -1,9 +1,11 @@
 //! Where a queue lies.
 
-ghost use Rattle.std.specs.Prelude.{◌≡◌, ◌+◌, ◌<◌, ◌≤◌};
-ghost use Rattle.kc_queue.specs.Meaning.{queue_cells, queue_opening, head_in};
+ghost use Rattle.std.specs.Prelude.{◌≡◌, ◌+◌, ◌<◌, ◌≤◌, ℕ, List, length, slice_index};
+ghost use Rattle.kc_model.specs.Store.{store_of};
+ghost use Rattle.kc_xt.specs.Meaning.{values};
+ghost use Rattle.kc_queue.specs.Meaning.{queue_cells, queue_opening, cells_end, head_cell, count_cell, ring_cell, counted, head_in, back_of, StandsFor};
 
-use kc_model::Loc;
+use kc_model::{Loc, PlainStore};
 
 /// A queue's first cell, and how many items it has room for. The head lies in the first cell, the number of items in
 /// the second, and the ring behind them.
@@ -39,6 +41,30 @@ impl Queue {
         ensures { result ≡ queue_opening self.now index }
     {
         0
+    }
+
+    /// How many items it has in a store. A number of items above the capacity counts as the capacity.
+    pub fn count(&self, store: &PlainStore) -> u32
+        requires within { cells_end self.now ≤ length store.now }
+        requires fits { cells_end self.now ≤ 65536 }
+        ensures is { result ≡ counted self.now (values (store_of store.now) (count_cell self.now)) }
+        ensures content { (items : List ℕ) → StandsFor self.now (values (store_of store.now)) items → result ≡ length items }
+    {
+        store.get(Loc(self.base.0 + 1)).unwrap().min(self.cap)
+    }
+
+    /// An item in a store; that of index 0 is the front.
+    pub fn item(&self, store: &PlainStore, index: u32) -> u32
+        requires within { cells_end self.now ≤ length store.now }
+        requires fits { cells_end self.now ≤ 65536 }
+        requires index { index < counted self.now (values (store_of store.now) (count_cell self.now)) }
+        ensures is { result ≡ values (store_of store.now) (ring_cell self.now (back_of self.now (head_in self.now (values (store_of store.now) (head_cell self.now))) index)) }
+        ensures content { (items : List ℕ) → StandsFor self.now (values (store_of store.now)) items → result ≡ slice_index items index }
+    {
+        let head = head_of(*self, store.get(self.base).unwrap());
+        store
+            .get(Loc(self.base.0 + 2 + (head + index) % self.cap))
+            .unwrap()
     }
 }
 

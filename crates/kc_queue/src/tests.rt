@@ -66,6 +66,12 @@ fn a_head_past_the_ring_counts_as_its_first_place(rt: HostRuntime) -> Result<(),
     }
     let mut xt = Xt::new(PlainPeek::new(&store));
     let q = Queue::layout(Loc(0), 2);
+    let count = q.count(&store);
+    assert_eq!(rt; count, 2);
+    if 1 < count {
+        assert_eq!(rt; q.item(&store, 0), 5);
+        assert_eq!(rt; q.item(&store, 1), 6);
+    }
     assert_eq!(rt; on(q, QueueAct::Len).run(&mut xt), Ok(Reply::Value(2)));
     assert_eq!(rt; on(q, QueueAct::Enq(1)).run(&mut xt), Ok(Reply::Full));
     assert_eq!(rt; on(q, QueueAct::Front).run(&mut xt), Ok(Reply::Value(5)));

@@ -1,2 +1,3 @@
 pub mod StackLaw
 pub mod Values
+pub mod Standing

@@ -9,6 +9,8 @@ use Rattle.kc_xt.specs.Steps.{Does}
 use Rattle.kc_xt.specs.Peeks.{Gives}
 use Rattle.kc_xt.specs.Law.{Obeys}
 use Rattle.kc_xt.specs.Program.{replies}
+use Rattle.kc_xt.specs.Single.{EndsInOne}
+use Rattle.kc_xt.proofs.Singles.{one_if}
 use Rattle.kc_xt.proofs.Spared.{Spares, spares_if}
 use Rattle.kc_xt.proofs.Laws.{Below, TouchesFirst, below_if, below_test, law_of}
 use Rattle.kc_stack.specs.Meaning.{pop_program, stack_program, stack_meaning, stack_begin, stack_end, cells_end, counted}
@@ -55,6 +57,20 @@ act_first s act.Len = tt
 -- it begins with a touch
 pub stack_first : (o : StackOp) → TouchesFirst (stack_program o.stack o.act replies)
 stack_first o = act_first o.stack o.act
+
+pop_single : (s : Stack) (w : Bool) → EndsInOne (pop_program s w replies)
+pop_single s w = λ n. one_if (counted s n == 0) _ _ (one_if w _ _ tt tt) (λ v. tt)
+
+act_single : (s : Stack) (a : StackAct) → EndsInOne (stack_program s a replies)
+act_single s (act.Push v) = λ n. one_if (counted s n == s.cap) _ _ tt tt
+act_single s act.Pop = pop_single s false
+act_single s act.PopWait = pop_single s true
+act_single s act.Top = λ n. one_if (counted s n == 0) _ _ tt (λ v. tt)
+act_single s act.Len = λ n. tt
+
+-- each of its ends is one reply or retry
+pub stack_single : (o : StackOp) → EndsInOne (stack_program o.stack o.act replies)
+stack_single o = act_single o.stack o.act
 
 -- what does its program obeys the law
 pub stack_law : {P : Type 0} (gives : Gives P) (o : StackOp) {x y : Log P} (r : Result Reply Stop) → Does gives (stack_program o.stack o.act) x r y → Obeys gives (stack_meaning o) (stack_end o) x r y

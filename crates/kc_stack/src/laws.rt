@@ -22,3 +22,8 @@ pub fn keeps_well_formed()
 pub fn opens_empty()
     ensures { (s : Stack) (m : ℕ → ℕ) → ((i : ℕ) → i < stack_cells s → m (s.base.0 + i) ≡ stack_opening s i) → StandsFor s m [] }
 {}
+
+/// Cells stand for one list of items at most.
+pub fn content_is_one()
+    ensures { (s : Stack) (m : ℕ → ℕ) (items others : List ℕ) → StandsFor s m items → StandsFor s m others → items ≡ others }
+{}

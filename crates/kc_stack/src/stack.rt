@@ -1,10 +1,12 @@
 //! Where a stack lies.
 
-ghost use Rattle.std.specs.Prelude.{◌≡◌, ◌≤◌, ◌<◌, ◌+◌};
-ghost use Rattle.kc_stack.specs.Meaning.{stack_cells, cells_end};
-ghost use Rattle.kc_stack.specs.Content.{stack_opening};
+ghost use Rattle.std.specs.Prelude.{◌≡◌, ◌≤◌, ◌<◌, ◌+◌, ◌-◌, ℕ, List, length, reverse, slice_index};
+ghost use Rattle.kc_model.specs.Store.{store_of};
+ghost use Rattle.kc_xt.specs.Meaning.{values};
+ghost use Rattle.kc_stack.specs.Meaning.{stack_cells, cells_end, counted};
+ghost use Rattle.kc_stack.specs.Content.{stack_opening, StandsFor};
 
-use kc_model::Loc;
+use kc_model::{Loc, PlainStore};
 
 /// The cells of a stack: how many items it has, and behind it the items, the bottom first.
 #[derive(Clone, Copy, Debug, PartialEq, Eq)]
@@ -41,5 +43,26 @@ impl Stack {
         ensures { result ≡ stack_opening self.now index }
     {
         0
+    }
+
+    /// How many items it has in a store. A number of items above the capacity counts as the capacity.
+    pub fn count(&self, store: &PlainStore) -> u32
+        requires { cells_end self.now ≤ length store.now }
+        ensures is { result ≡ counted self.now (values (store_of store.now) self.now.base.0) }
+        ensures content { (items : List ℕ) → StandsFor self.now (values (store_of store.now)) items → result ≡ length items }
+    {
+        store.get(self.base).unwrap().min(self.cap)
+    }
+
+    /// An item in a store; that of index 0 is on top.
+    pub fn item(&self, store: &PlainStore, index: u32) -> u32
+        requires within { cells_end self.now ≤ length store.now }
+        requires fits { cells_end self.now ≤ 65536 }
+        requires index { index < counted self.now (values (store_of store.now) self.now.base.0) }
+        ensures is { result ≡ values (store_of store.now) (self.now.base.0 + counted self.now (values (store_of store.now) self.now.base.0) - index) }
+        ensures content { (items : List ℕ) → StandsFor self.now (values (store_of store.now)) items → result ≡ slice_index (reverse items) index }
+    {
+        let count = self.count(store);
+        store.get(Loc(self.base.0 + count - index)).unwrap()
     }
 }

@@ -40,6 +40,12 @@ fn a_count_above_the_capacity_counts_as_the_capacity(rt: HostRuntime) -> Result<
     let mut xt = Xt::new(PlainPeek::new(&store));
     let stack = Stack::layout(Loc(0), 2);
     let op = |act: StackAct| StackOp { stack, act };
+    let count = stack.count(&store);
+    assert_eq!(rt; count, 2);
+    if 1 < count {
+        assert_eq!(rt; stack.item(&store, 0), 8);
+        assert_eq!(rt; stack.item(&store, 1), 7);
+    }
     assert_eq!(rt; op(StackAct::Len).run(&mut xt), Ok(Reply::Value(2)));
     assert_eq!(rt; op(StackAct::Push(1)).run(&mut xt), Ok(Reply::Full));
     assert_eq!(rt; op(StackAct::Pop).run(&mut xt), Ok(Reply::Value(8)));
