@@ -1,0 +1,15 @@
+//! A one-place variable, a promise and an accumulator on locations.
+#![tactic(auto)]
+
+mod accumulator;
+mod laws;
+mod mvar;
+mod one_place;
+mod promise;
+#[cfg(test)]
+mod tests;
+
+pub use accumulator::{AccAct, AccOp, Accumulator};
+pub use laws::{content_is_one, keeps_well_formed, means_its_value, opens_empty};
+pub use mvar::{Mvar, MvarAct, MvarOp};
+pub use promise::{Promise, PromiseAct, PromiseOp};

@@ -1,0 +1,92 @@
+//! Two cells with room for one value: a flag, and the value behind it. What a one-place variable and a promise share.
+
+ghost use Rattle.std.specs.Prelude.{◌≡◌, ◌+◌, ◌≤◌, length};
+ghost use Rattle.kc_model.specs.Store.{store_of};
+ghost use Rattle.kc_xt.specs.Meaning.{values};
+ghost use Rattle.kc_xt.specs.Steps.{Does};
+ghost use Rattle.kc_cells.specs.OnePlace.{place_cells, fill_program, look_program, take_program, is_full_program, held};
+
+use kc_model::{Loc, PlainStore, Reply};
+use kc_xt::{Peek, Stop, Xt};
+
+/// How many cells there are.
+pub(crate) const CELLS: u32 = 2;
+
+// Both forms: where there is a value, one waits, the other replies false.
+pub(crate) fn fill<P: Peek>(
+    base: Loc,
+    waits: bool,
+    value: u32,
+    xt: &mut Xt<P>,
+) -> Result<Reply, Stop>
+    requires within { base.0 + place_cells ≤ P.locations xt.old.peek }
+    requires fits { base.0 + place_cells ≤ 65536 }
+    ensures goes { Does P.peek_gives (fill_program base.0 waits value) xt.old result xt.new }
+    ensures size { P.locations xt.new.peek ≡ P.locations xt.old.peek }
+{
+    let flag = xt.get(base)?;
+    if flag == 0 {
+        xt.set(Loc(base.0 + 1), value)?;
+        xt.set(base, 1)?;
+        return Ok(Reply::Unit);
+    }
+    if waits {
+        return Err(Stop::Retry);
+    }
+    Ok(Reply::Bool(false))
+}
+
+// Both forms: where there is no value, one waits, the other replies Empty.
+pub(crate) fn look<P: Peek>(base: Loc, waits: bool, xt: &mut Xt<P>) -> Result<Reply, Stop>
+    requires within { base.0 + place_cells ≤ P.locations xt.old.peek }
+    requires fits { base.0 + place_cells ≤ 65536 }
+    ensures goes { Does P.peek_gives (look_program base.0 waits) xt.old result xt.new }
+    ensures size { P.locations xt.new.peek ≡ P.locations xt.old.peek }
+{
+    let flag = xt.get(base)?;
+    if flag == 0 {
+        if waits {
+            return Err(Stop::Retry);
+        }
+        return Ok(Reply::Empty);
+    }
+    let value = xt.get(Loc(base.0 + 1))?;
+    Ok(Reply::Value(value))
+}
+
+pub(crate) fn take<P: Peek>(base: Loc, xt: &mut Xt<P>) -> Result<Reply, Stop>
+    requires within { base.0 + place_cells ≤ P.locations xt.old.peek }
+    requires fits { base.0 + place_cells ≤ 65536 }
+    ensures goes { Does P.peek_gives (take_program base.0) xt.old result xt.new }
+    ensures size { P.locations xt.new.peek ≡ P.locations xt.old.peek }
+{
+    let flag = xt.get(base)?;
+    if flag == 0 {
+        return Err(Stop::Retry);
+    }
+    let value = xt.get(Loc(base.0 + 1))?;
+    xt.set(base, 0)?;
+    Ok(Reply::Value(value))
+}
+
+pub(crate) fn is_full<P: Peek>(base: Loc, xt: &mut Xt<P>) -> Result<Reply, Stop>
+    requires within { base.0 + place_cells ≤ P.locations xt.old.peek }
+    ensures goes { Does P.peek_gives (is_full_program base.0) xt.old result xt.new }
+    ensures size { P.locations xt.new.peek ≡ P.locations xt.old.peek }
+{
+    let flag = xt.get(base)?;
+    Ok(Reply::Bool(flag != 0))
+}
+
+// The value that the cells of a store hold.
+pub(crate) fn value(base: Loc, store: &PlainStore) -> Option<u32>
+    requires within { base.0 + place_cells ≤ length store.now }
+    requires fits { base.0 + place_cells ≤ 65536 }
+    ensures { result ≡ held base.0 (values (store_of store.now)) }
+{
+    let flag = store.get(base)?;
+    if flag == 0 {
+        return None;
+    }
+    store.get(Loc(base.0 + 1))
+}
