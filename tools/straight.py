@@ -20,11 +20,17 @@ and then has a line for each step of the program, in order:
     call NAME             `let NAME = f(.., xt)?;` or `f(.., xt)?;` at any f that ensures a `goes`
     call NAME then TERM   the same, where TERM says what stands behind it, as λ a k. k (reply.Bool a):
                           wanted where a is used twice, or is no number
+    arm TERM              a branch of a match on what the call above answered, with the equation that says
+                          which variant it is; its steps are indented, and the other branch follows
     is TERM               a later number is named by a call: the rest is rewritten by ← TERM
     when true: TERM       the branch of a `cond`, with the proof that the test is true (or false);
                           its steps are indented, and the other branch follows
+    in TERM               the arm of a `match` or an `if let`, with the equation of what was matched; its
+                          steps are indented, and the next arm follows
+    tail NAME [GOAL]      the call of f in the end, without a `?`, at any f that ensures a `goes`
     reply [GOAL]          `Ok(..)`; the goal is returns-GOAL-clause-goes, or returns-clause-goes
     retry [GOAL]          `Err(Stop::Retry)`, likewise
+    tail GOAL: TERM       `f(.., xt)` without a `?` at the end, where TERM is what it ensures
 
 NAME is the step's name in the proof: c.in_ok-NAME, and c.in_err-NAME at its exit by `?`. Each `?`
 gets an answer too, in the order of the list. Lines that begin with # are comments.
@@ -123,22 +129,32 @@ class Writer:
     def walk(self, lines, before):
         """The steps of one block, behind the steps `before`, which are functions from terms to terms."""
         block = lines[0][0] if lines else 0
+        called = ""
         while lines and lines[0][0] == block:
             _, head, rest = lines.pop(0)
             if head in ASKS:
                 self.exit(head, rest, before)
                 before = [*before, f"then_{head} {goes(rest, 'in_ok')}"]
+                called = rest
             elif head == "is":
                 before = [*before, f"rw (← {rest})"]
             elif head == "when":
                 test, _, proof = (part.strip() for part in rest.partition(":"))
-                inner = []
-                while lines and lines[0][0] > block:
-                    inner.append(lines.pop(0))
-                self.walk(inner, [*before, f"does_{test} _ _ _ {in_brackets(proof)}"])
+                self.walk(inner_of(lines, block), [*before, f"does_{test} _ _ _ {in_brackets(proof)}"])
+            elif head == "in":
+                self.walk(inner_of(lines, block), [*before, f"rw {in_brackets(rest)}"])
+            elif head == "arm":
+                name, _, behind_it = parts_of(called)
+                step = f"{name} by {rest} then {behind_it}"
+                self.walk(inner_of(lines, block), [*before[:-1], f"then_call {goes(step, 'in_ok')}"])
+            elif head == "tail" and ":" in rest:
+                goal, _, term = (part.strip() for part in rest.partition(":"))
+                self.answer(returns(goal), behind(before, term))
+            elif head == "tail":
+                name, _, goal = rest.partition(" ")
+                self.answer(returns(goal), behind(before, f"c.{name}.ensures.goes"))
             elif head in ("reply", "retry"):
-                goal = f"returns-{rest}-clause-goes" if rest else "returns-clause-goes"
-                self.answer(goal, behind(before, f"does_{head}"))
+                self.answer(returns(rest), behind(before, f"does_{head}"))
             else:
                 raise Refused(f"no such step: {head}")
         if lines:
@@ -150,6 +166,19 @@ class Writer:
         self.questions += 1
         stop = behind(before, f"stop_{head} {goes(rest, 'in_err')}")
         self.answer(f"returns-in_err-{name}-clause-goes", f"exits {residual}.ensures.1 {in_brackets(stop)}")
+
+
+def inner_of(lines, block):
+    """Takes the steps that are indented below a block's line."""
+    inner = []
+    while lines and lines[0][0] > block:
+        inner.append(lines.pop(0))
+    return inner
+
+
+def returns(branch):
+    """The goal at a return, by the name of its branch."""
+    return f"returns-{branch}-clause-goes" if branch else "returns-clause-goes"
 
 
 def behind(before, last):

@@ -1,0 +1,282 @@
+-- A new pair in a free node.
+use Rattle.std.proofs.Common.{◌≡◌, ◌≢◌, ◌⊎◌, ℕ, ◌+◌, ◌<◌, ◌≤◌, min, List, [], ◌∷◌, ◌++◌, length, refl, sym, ap, ◌∙◌, subst, inl, inr, arith, length-append}
+use Rattle.std.proofs.lemmas.Bool.{cases_eq}
+use Rattle.kc_xt.specs.Meaning.{put}
+use Rattle.kc_hash.specs.declared.hash.Hash.{Hash}
+use Rattle.kc_hash.specs.Meaning.{count_cell, free_cell, head_cell, key_cell, value_cell, next_cell, bucket_of, link_of, counted}
+use Rattle.kc_hash.specs.Content.{times, keys_of, nodes_of, map_of, with_pair, IsChain, StandsFor}
+use Rattle.kc_hash.proofs.HashLaw.{bucket_within}
+use Rattle.kc_hash.proofs.Lists.{times-here, times-there, times-append}
+use Rattle.kc_hash.proofs.Maps.{has_here, times_keys, keys_same, map_same, map_split}
+use Rattle.kc_hash.proofs.Chains.{link_is, chain_first, chain_moved, chain_nodes, in_bucket, bucket_from}
+use Rattle.kc_hash.proofs.Buckets.{with_chain, with_chain-here, with_chain-there}
+use Rattle.kc_hash.proofs.Cells.{put-here, put-other, key≢value, key≢next, value≢next, key≢key, value≢value, next≢next, head≢head, free≢head, count≢head, count≢free, IsLow, low-count, low-free, low-head, key≢low, value≢low, next≢low}
+use Rattle.kc_hash.proofs.Formed.{listed, room, listed_nodes, free_nodes, not_free, not_listed, in_listed, round, key_missing}
+
+-- ---- the writes, in order
+
+abbrev pub filled : Hash → (ℕ → ℕ) → ℕ → ℕ → ℕ → ℕ → ℕ
+filled h m key value i = put (put (put m (free_cell h) (link_of h (m (next_cell h i)))) (key_cell h i) key) (value_cell h i) value
+
+abbrev pub linked_in : Hash → (ℕ → ℕ) → ℕ → ℕ → ℕ → ℕ → ℕ
+linked_in h m key value i = put (put (filled h m key value i) (next_cell h i) (link_of h (filled h m key value i (head_cell h (bucket_of h key))))) (head_cell h (bucket_of h key)) i
+
+abbrev pub inserted : Hash → (ℕ → ℕ) → ℕ → ℕ → ℕ → ℕ → ℕ
+inserted h m key value i = put (linked_in h m key value i) (count_cell h) (counted h (linked_in h m key value i (count_cell h)) + 1)
+
+-- what stands in the cells then
+pub record IsInserted (h : Hash) (m w : ℕ → ℕ) (key value i : ℕ) : Type 0 where
+  pub count : w (count_cell h) ≡ m (count_cell h) + 1
+  pub free : w (free_cell h) ≡ m (next_cell h i)
+  pub head : w (head_cell h (bucket_of h key)) ≡ i
+  pub key_in : w (key_cell h i) ≡ key
+  pub value_in : w (value_cell h i) ≡ value
+  pub next : w (next_cell h i) ≡ m (head_cell h (bucket_of h key))
+  pub heads : (b : ℕ) → b < h.buckets → b ≢ bucket_of h key → w (head_cell h b) ≡ m (head_cell h b)
+  pub keys : (j : ℕ) → 1 ≤ j → j ≢ i → w (key_cell h j) ≡ m (key_cell h j)
+  pub values : (j : ℕ) → 1 ≤ j → j ≢ i → w (value_cell h j) ≡ m (value_cell h j)
+  pub nexts : (j : ℕ) → 1 ≤ j → j ≢ i → w (next_cell h j) ≡ m (next_cell h j)
+
+module _ (h : Hash) (m : ℕ → ℕ) (key value i : ℕ) (some : 1 ≤ i) (home : bucket_of h key < h.buckets) (next : m (next_cell h i) ≤ h.cap) (head : m (head_cell h (bucket_of h key)) ≤ h.cap) (count : m (count_cell h) ≤ h.cap) where
+  -- none of the first three
+  past_filled : (l : ℕ) → free_cell h ≢ l → key_cell h i ≢ l → value_cell h i ≢ l → filled h m key value i l ≡ m l
+  past_filled l f k v =
+      put-other (put (put m (free_cell h) (link_of h (m (next_cell h i)))) (key_cell h i) key) (value_cell h i) value l v
+      ∙ put-other (put m (free_cell h) (link_of h (m (next_cell h i)))) (key_cell h i) key l k
+      ∙ put-other m (free_cell h) (link_of h (m (next_cell h i))) l f
+
+  -- none of the two links
+  past_linked : (l : ℕ) → next_cell h i ≢ l → head_cell h (bucket_of h key) ≢ l → linked_in h m key value i l ≡ filled h m key value i l
+  past_linked l n b =
+      put-other (put (filled h m key value i) (next_cell h i) (link_of h (filled h m key value i (head_cell h (bucket_of h key))))) (head_cell h (bucket_of h key)) i l b
+      ∙ put-other (filled h m key value i) (next_cell h i) (link_of h (filled h m key value i (head_cell h (bucket_of h key)))) l n
+
+  past_count : (l : ℕ) → count_cell h ≢ l → inserted h m key value i l ≡ linked_in h m key value i l
+  past_count l c = put-other (linked_in h m key value i) (count_cell h) (counted h (linked_in h m key value i (count_cell h)) + 1) l c
+
+  -- none of all
+  past : (l : ℕ) → count_cell h ≢ l → free_cell h ≢ l → head_cell h (bucket_of h key) ≢ l → key_cell h i ≢ l → value_cell h i ≢ l → next_cell h i ≢ l → inserted h m key value i l ≡ m l
+  past l c f b k v n = past_count l c ∙ past_linked l n b ∙ past_filled l f k v
+
+  low : IsLow h (head_cell h (bucket_of h key))
+  low = low-head h (bucket_of h key) home
+
+  head_read : filled h m key value i (head_cell h (bucket_of h key)) ≡ m (head_cell h (bucket_of h key))
+  head_read = past_filled _ (free≢head h _) (key≢low h i _ low) (value≢low h i _ low)
+
+  count_read : linked_in h m key value i (count_cell h) ≡ m (count_cell h)
+  count_read =
+      past_linked _ (next≢low h i _ (low-count h)) (λ e. count≢head h _ (sym e))
+      ∙ past_filled _ (λ e. count≢free h (sym e)) (key≢low h i _ (low-count h)) (value≢low h i _ (low-count h))
+
+  pub is_inserted : IsInserted h m (inserted h m key value i) key value i
+  is_inserted = record {
+    count =
+        put-here (linked_in h m key value i) (count_cell h) (counted h (linked_in h m key value i (count_cell h)) + 1) _ refl
+        ∙ ap (λ n. counted h n + 1) count_read
+        ∙ (let e : min (m (count_cell h)) h.cap ≡ m (count_cell h) = omega (arith, count) in ap (λ n. n + 1) e);
+    free =
+        past_count _ (count≢free h)
+        ∙ past_linked _ (next≢low h i _ (low-free h)) (λ e. free≢head h _ (sym e))
+        ∙ put-other (put (put m (free_cell h) (link_of h (m (next_cell h i)))) (key_cell h i) key) (value_cell h i) value _ (value≢low h i _ (low-free h))
+        ∙ put-other (put m (free_cell h) (link_of h (m (next_cell h i)))) (key_cell h i) key _ (key≢low h i _ (low-free h))
+        ∙ put-here m (free_cell h) (link_of h (m (next_cell h i))) _ refl
+        ∙ link_is h _ next;
+    head =
+        past_count _ (count≢head h _)
+        ∙ put-here (put (filled h m key value i) (next_cell h i) (link_of h (filled h m key value i (head_cell h (bucket_of h key))))) (head_cell h (bucket_of h key)) i _ refl;
+    key_in =
+        past_count _ (λ e. key≢low h i _ (low-count h) (sym e))
+        ∙ past_linked _ (λ e. key≢next h i i (sym e)) (λ e. key≢low h i _ low (sym e))
+        ∙ put-other (put (put m (free_cell h) (link_of h (m (next_cell h i)))) (key_cell h i) key) (value_cell h i) value _ (λ e. key≢value h i i (sym e))
+        ∙ put-here (put m (free_cell h) (link_of h (m (next_cell h i)))) (key_cell h i) key _ refl;
+    value_in =
+        past_count _ (λ e. value≢low h i _ (low-count h) (sym e))
+        ∙ past_linked _ (λ e. value≢next h i i (sym e)) (λ e. value≢low h i _ low (sym e))
+        ∙ put-here (put (put m (free_cell h) (link_of h (m (next_cell h i)))) (key_cell h i) key) (value_cell h i) value _ refl;
+    next =
+        past_count _ (λ e. next≢low h i _ (low-count h) (sym e))
+        ∙ put-other (put (filled h m key value i) (next_cell h i) (link_of h (filled h m key value i (head_cell h (bucket_of h key))))) (head_cell h (bucket_of h key)) i _ (λ e. next≢low h i _ low (sym e))
+        ∙ put-here (filled h m key value i) (next_cell h i) (link_of h (filled h m key value i (head_cell h (bucket_of h key)))) _ refl
+        ∙ ap (link_of h) head_read
+        ∙ link_is h _ head;
+    heads = λ b lt ne. past _ (count≢head h b) (free≢head h b) (head≢head h _ _ (λ e. ne (sym e))) (key≢low h i _ (low-head h b lt)) (value≢low h i _ (low-head h b lt)) (next≢low h i _ (low-head h b lt));
+    keys = λ j lo ne. past _ (λ e. key≢low h j _ (low-count h) (sym e)) (λ e. key≢low h j _ (low-free h) (sym e)) (λ e. key≢low h j _ low (sym e)) (key≢key h i j some lo (λ e. ne (sym e))) (λ e. key≢value h j i (sym e)) (λ e. key≢next h j i (sym e));
+    values = λ j lo ne. past _ (λ e. value≢low h j _ (low-count h) (sym e)) (λ e. value≢low h j _ (low-free h) (sym e)) (λ e. value≢low h j _ low (sym e)) (key≢value h i j) (value≢value h i j some lo (λ e. ne (sym e))) (λ e. value≢next h j i (sym e));
+    nexts = λ j lo ne. past _ (λ e. next≢low h j _ (low-count h) (sym e)) (λ e. next≢low h j _ (low-free h) (sym e)) (λ e. next≢low h j _ low (sym e)) (key≢next h i j) (value≢next h i j) (next≢next h i j some lo (λ e. ne (sym e)));
+  }
+
+-- ---- what the cells stand for then
+
+module _ (h : Hash) (m : ℕ → ℕ) (pairs : List (ℕ × ℕ)) (S : StandsFor h m pairs) (key value i : ℕ) (rest : List ℕ) (free : S.free ≡ i ∷ rest) (missing : times key (keys_of h m (S.chains (bucket_of h key))) ≡ 0) where
+  -- the nodes are those, and the new one
+  abbrev more : List ℕ
+  more = nodes_of (with_chain S.chains (bucket_of h key) (i ∷ S.chains (bucket_of h key))) 0 h.buckets
+
+  home : bucket_of h key < h.buckets
+  home = bucket_within h key S.some
+
+  spare : IsChain h m (free_cell h) (i ∷ rest)
+  spare = subst (λ ns. IsChain h m (free_cell h) ns) free S.spare
+
+  -- how often a number is free
+  times_free : (j : ℕ) → times j S.free ≡ times j (i ∷ rest)
+  times_free j = ap (times j) free
+
+  i_free : 1 ≤ times i S.free
+  i_free = let e = times_free i in let s = has_here i rest in omega (arith, e, s)
+
+  -- a listed node is another one
+  listed_other : (j : ℕ) → 1 ≤ times j (listed h m pairs S) → j ≢ i
+  listed_other j some e =
+      let n = not_free h m pairs S j some in
+      let f : times i S.free ≡ 0 = subst (λ x. times x S.free ≡ 0) e n.1 in
+      let g = i_free in
+      omega (arith, f, g)
+
+  -- and so is one that stays free
+  rest_other : (j : ℕ) → 1 ≤ times j rest → j ≢ i
+  rest_other j some e =
+      let f : 1 ≤ times i rest = subst (λ x. 1 ≤ times x rest) e some in
+      let n = not_listed h m pairs S i i_free in
+      let t = times_free i in
+      let u = times-here i i rest refl in
+      omega (arith, f, n.0, t, u)
+
+  times_more : (j : ℕ) → times j more ≡ times j (i ∷ []) + times j (listed h m pairs S)
+  times_more j =
+      let r = round h m pairs S (bucket_of h key) home in
+      let e : times j more ≡ times j (r.before ++ ((i ∷ S.chains (bucket_of h key)) ++ r.behind)) = ap (times j) (r.with (i ∷ S.chains (bucket_of h key))) in
+      let f : times j (listed h m pairs S) ≡ times j (r.before ++ (S.chains (bucket_of h key) ++ r.behind)) = ap (times j) r.is in
+      let s = times-append j r.before ((i ∷ S.chains (bucket_of h key)) ++ r.behind) in
+      let t = times-append j r.before (S.chains (bucket_of h key) ++ r.behind) in
+      let u = times-append j (i ∷ []) (S.chains (bucket_of h key) ++ r.behind) in
+      omega (arith, e, f, s, t, u)
+
+  length_more : length more ≡ length (listed h m pairs S) + 1
+  length_more =
+      let r = round h m pairs S (bucket_of h key) home in
+      let e : length more ≡ length (r.before ++ ((i ∷ S.chains (bucket_of h key)) ++ r.behind)) = ap length (r.with (i ∷ S.chains (bucket_of h key))) in
+      let f : length (listed h m pairs S) ≡ length (r.before ++ (S.chains (bucket_of h key) ++ r.behind)) = ap length r.is in
+      let s = length-append r.before ((i ∷ S.chains (bucket_of h key)) ++ r.behind) in
+      let t = length-append r.before (S.chains (bucket_of h key) ++ r.behind) in
+      let u = length-append (i ∷ []) (S.chains (bucket_of h key) ++ r.behind) in
+      omega (arith, e, f, s, t, u)
+
+  module _ (w : ℕ → ℕ) (I : IsInserted h m w key value i) where
+    keys_kept : keys_of h w (listed h m pairs S) ≡ keys_of h m (listed h m pairs S)
+    keys_kept = keys_same h m w (listed h m pairs S) (λ j some. I.keys j (listed_nodes h m pairs S j some).0 (listed_other j some))
+
+    times_keys_more : (k : ℕ) → times k (keys_of h w more) ≡ times k (key ∷ []) + times k (keys_of h m (listed h m pairs S))
+    times_keys_more k =
+        let r = round h m pairs S (bucket_of h key) home in
+        let e : times k (keys_of h w more) ≡ times k (keys_of h w (r.before ++ ((i ∷ S.chains (bucket_of h key)) ++ r.behind))) = ap (λ ns. times k (keys_of h w ns)) (r.with (i ∷ S.chains (bucket_of h key))) in
+        let f : times k (keys_of h w (listed h m pairs S)) ≡ times k (keys_of h w (r.before ++ (S.chains (bucket_of h key) ++ r.behind))) = ap (λ ns. times k (keys_of h w ns)) r.is in
+        let s = times_keys h w k r.before ((i ∷ S.chains (bucket_of h key)) ++ r.behind) in
+        let t = times_keys h w k r.before (S.chains (bucket_of h key) ++ r.behind) in
+        let u = times_keys h w k (i ∷ []) (S.chains (bucket_of h key) ++ r.behind) in
+        let g : times k (keys_of h w (listed h m pairs S)) ≡ times k (keys_of h m (listed h m pairs S)) = ap (times k) keys_kept in
+        let v : times k (w (key_cell h i) ∷ []) ≡ times k (key ∷ []) = ap (λ x. times k (x ∷ [])) I.key_in in
+        omega (arith, e, f, s, t, u, g, v)
+
+    differ : (k : ℕ) → times k (keys_of h w more) ≤ 1
+    differ k = by (cases_eq key k)
+      where
+        by : (key ≡ k) ⊎ (key ≡ k → ⊥) → times k (keys_of h w more) ≤ 1
+        by (inl e) =
+            let t = times_keys_more k in
+            let u = times-here key k [] e in
+            let none : times k (keys_of h m (listed h m pairs S)) ≡ 0 = subst (λ x. times x (keys_of h m (listed h m pairs S)) ≡ 0) e (key_missing h m pairs S key missing) in
+            omega (arith, t, u, none)
+        by (inr ne) =
+            let t = times_keys_more k in
+            let u = times-there key k [] ne in
+            let le = S.differ k in
+            omega (arith, t, u, le)
+
+    -- the chain of a bucket
+    linked : (b : ℕ) → b < h.buckets → IsChain h w (head_cell h b) (with_chain S.chains (bucket_of h key) (i ∷ S.chains (bucket_of h key)) b)
+    linked b lt = by (cases_eq b (bucket_of h key))
+      where
+        moved : (c d : ℕ) → c < h.buckets → w d ≡ m (head_cell h c) → IsChain h w d (S.chains c)
+        moved c d lt' same = chain_moved h m w (head_cell h c) d (S.chains c) (S.linked c lt') same (λ j some.
+            let n = chain_nodes h m (head_cell h c) (S.chains c) (S.linked c lt') j some in
+            let le = in_listed h m pairs S c lt' j in
+            I.nexts j n.0 (listed_other j (omega (arith, le, some))))
+
+        by : (b ≡ bucket_of h key) ⊎ (b ≡ bucket_of h key → ⊥) → IsChain h w (head_cell h b) (with_chain S.chains (bucket_of h key) (i ∷ S.chains (bucket_of h key)) b)
+        by (inl e) = subst (λ ns. IsChain h w (head_cell h b) ns) (sym (with_chain-here S.chains (bucket_of h key) (i ∷ S.chains (bucket_of h key)) b e))
+            (ap (λ x. w (head_cell h x)) e ∙ I.head, spare.1, spare.2, moved (bucket_of h key) (next_cell h i) home I.next)
+        by (inr ne) = subst (λ ns. IsChain h w (head_cell h b) ns) (sym (with_chain-there S.chains (bucket_of h key) (i ∷ S.chains (bucket_of h key)) b ne))
+            (moved b (head_cell h b) lt (I.heads b lt ne))
+
+    -- its keys
+    in_place : (b j : ℕ) → b < h.buckets → 1 ≤ times j (with_chain S.chains (bucket_of h key) (i ∷ S.chains (bucket_of h key)) b) → bucket_of h (w (key_cell h j)) ≡ b
+    in_place b j lt some = by (cases_eq j i) (cases_eq b (bucket_of h key))
+      where
+        old : 1 ≤ times j (S.chains b) → bucket_of h (w (key_cell h j)) ≡ b
+        old there =
+            let n = chain_nodes h m (head_cell h b) (S.chains b) (S.linked b lt) j there in
+            let le = in_listed h m pairs S b lt j in
+            ap (bucket_of h) (I.keys j n.0 (listed_other j (omega (arith, le, there)))) ∙ in_bucket h m b (S.chains b) (S.placed b lt) j there
+
+        by : (j ≡ i) ⊎ (j ≡ i → ⊥) → (b ≡ bucket_of h key) ⊎ (b ≡ bucket_of h key → ⊥) → bucket_of h (w (key_cell h j)) ≡ b
+        by (inl e) (inl f) = ap (λ x. bucket_of h (w (key_cell h x))) e ∙ ap (bucket_of h) I.key_in ∙ sym f
+        by (inr ne) (inl f) =
+            let s : 1 ≤ times j (i ∷ S.chains (bucket_of h key)) = subst (λ ns. 1 ≤ times j ns) (with_chain-here S.chains (bucket_of h key) (i ∷ S.chains (bucket_of h key)) b f) some in
+            let t = times-there i j (S.chains (bucket_of h key)) (λ e. ne (sym e)) in
+            old (subst (λ c. 1 ≤ times j (S.chains c)) (sym f) (omega (arith, s, t)))
+        by e (inr ne) = old (subst (λ ns. 1 ≤ times j ns) (with_chain-there S.chains (bucket_of h key) (i ∷ S.chains (bucket_of h key)) b ne) some)
+
+    -- the pairs
+    holds : with_pair pairs key value ≡ map_of h w more
+    holds =
+        let r = round h m pairs S (bucket_of h key) home in
+        let old = S.chains (bucket_of h key) in
+        let nodes : r.before ++ (old ++ r.behind) ≡ listed h m pairs S = sym r.is in
+        let none : times key (keys_of h w r.before) ≡ 0 = (
+        let g : times key (keys_of h w (listed h m pairs S)) ≡ 0 = ap (times key) keys_kept ∙ key_missing h m pairs S key missing in
+        let f : times key (keys_of h w (listed h m pairs S)) ≡ times key (keys_of h w (r.before ++ (old ++ r.behind))) = ap (λ ns. times key (keys_of h w ns)) r.is in
+        let s = times_keys h w key r.before (old ++ r.behind) in
+        omega (arith, g, f, s)) in
+        ap (λ ps. with_pair ps key value) (S.holds ∙ sym (map_same h m w (listed h m pairs S)
+        (λ j some. I.keys j (listed_nodes h m pairs S j some).0 (listed_other j some))
+        (λ j some. I.values j (listed_nodes h m pairs S j some).0 (listed_other j some))) ∙ ap (map_of h w) (sym nodes))
+        ∙ ap (λ k. with_pair (map_of h w (r.before ++ (old ++ r.behind))) k value) (sym I.key_in)
+        ∙ ap (λ v. with_pair (map_of h w (r.before ++ (old ++ r.behind))) (w (key_cell h i)) v) (sym I.value_in)
+        ∙ sym (map_split h w r.before (old ++ r.behind) i (subst (λ k. times k (keys_of h w r.before) ≡ 0) (sym I.key_in) none))
+        ∙ ap (map_of h w) (sym (r.with (i ∷ old)))
+
+    pub stands_inserted : StandsFor h w (with_pair pairs key value)
+    stands_inserted = record {
+      some = S.some;
+      chains = with_chain S.chains (bucket_of h key) (i ∷ S.chains (bucket_of h key));
+      free = rest;
+      linked = linked;
+      spare = chain_moved h m w (next_cell h i) (free_cell h) rest spare.3 I.free (λ j some.
+          let t = times_free j in
+          let u = times-append j (i ∷ []) rest in
+          let n = free_nodes h m pairs S j (omega (arith, t, u, some)) in
+          I.nexts j n.0 (rest_other j some));
+      placed = λ b lt. bucket_from h w b _ (λ j some. in_place b j lt some);
+      once = λ j lo hi.
+          let o = S.once j lo hi in
+          let e = times_more j in
+          let s = times-append j more rest in
+          let t = times-append j (listed h m pairs S) S.free in
+          let u = times_free j in
+          let v = times-append j (i ∷ []) rest in
+          omega (arith, o, e, s, t, u, v);
+      differ = differ;
+      count = I.count ∙ ap (λ n. n + 1) S.count ∙ sym length_more;
+      holds = holds;
+    }
+
+  -- the writes make that
+  pub inserts : StandsFor h (inserted h m key value i) (with_pair pairs key value)
+  inserts =
+      let r = room h m pairs S in
+      stands_inserted (inserted h m key value i) (is_inserted h m key value i spare.1 home
+      (chain_first h m (next_cell h i) rest spare.3)
+      (chain_first h m (head_cell h (bucket_of h key)) (S.chains (bucket_of h key)) (S.linked (bucket_of h key) home))
+      (let e = S.count in omega (arith, e, r)))

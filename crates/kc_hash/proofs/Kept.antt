@@ -1,0 +1,87 @@
+-- What the operations that link no node leave.
+use Rattle.std.proofs.Common.{◌≡◌, ◌≢◌, ℕ, zero, suc, ◌+◌, ◌<◌, ◌≤◌, List, ◌++◌, refl, sym, ap, ◌∙◌, subst, arith}
+use Rattle.kc_xt.specs.Meaning.{put}
+use Rattle.kc_hash.specs.declared.hash.Hash.{Hash}
+use Rattle.kc_hash.specs.Meaning.{count_cell, free_cell, head_cell, key_cell, value_cell, next_cell, bucket_of}
+use Rattle.kc_hash.specs.Content.{times, keys_of, nodes_of, map_of, with_pair, StandsFor, SameCells}
+use Rattle.kc_hash.proofs.Pairs.{with_pair-twice}
+use Rattle.kc_hash.proofs.Maps.{keys_same, map_same, map_split}
+use Rattle.kc_hash.proofs.Chains.{chain_moved, chain_one, chain_nodes, in_bucket, bucket_from, Found}
+use Rattle.kc_hash.proofs.Cells.{put-here, put-other, key≢value, value≢next, value≢value, value≢low, low-count, low-free, low-head}
+use Rattle.kc_hash.proofs.Formed.{listed, listed_nodes, free_nodes, found_node, alone, key_left, pairs_parts, parts, left, right, times_parts}
+
+module _ (h : Hash) (m : ℕ → ℕ) (pairs : List (ℕ × ℕ)) (S : StandsFor h m pairs) where
+  -- The same links, keys and count make the same chains, and other values other pairs.
+  pub keeps_chains : (w : ℕ → ℕ) (others : List (ℕ × ℕ)) → w (count_cell h) ≡ m (count_cell h) → w (free_cell h) ≡ m (free_cell h) → ((b : ℕ) → b < h.buckets → w (head_cell h b) ≡ m (head_cell h b)) → ((j : ℕ) → 1 ≤ j → j ≤ h.cap → w (key_cell h j) ≡ m (key_cell h j)) → ((j : ℕ) → 1 ≤ j → j ≤ h.cap → w (next_cell h j) ≡ m (next_cell h j)) → others ≡ map_of h w (listed h m pairs S) → StandsFor h w others
+  keeps_chains w others count free head key next holds = record {
+    some = S.some;
+    chains = S.chains;
+    free = S.free;
+    linked = λ b lt. chain_moved h m w (head_cell h b) (head_cell h b) (S.chains b) (S.linked b lt) (head b lt) (λ j some.
+        let n = chain_nodes h m (head_cell h b) (S.chains b) (S.linked b lt) j some in next j n.0 n.1);
+    spare = chain_moved h m w (free_cell h) (free_cell h) S.free S.spare free (λ j some. let n = free_nodes h m pairs S j some in next j n.0 n.1);
+    placed = λ b lt. bucket_from h w b (S.chains b) (λ j some.
+        let n = chain_nodes h m (head_cell h b) (S.chains b) (S.linked b lt) j some in
+        ap (bucket_of h) (key j n.0 n.1) ∙ in_bucket h m b (S.chains b) (S.placed b lt) j some);
+    once = S.once;
+    differ = λ k. subst (λ ks. times k ks ≤ 1) (sym (keys_same h m w (listed h m pairs S) (λ j some. let n = listed_nodes h m pairs S j some in key j n.0 n.1))) (S.differ k);
+    count = count ∙ S.count;
+    holds = holds;
+  }
+
+  -- what the cells stand for depends on the table's cells alone
+  pub same_cells : (w : ℕ → ℕ) → SameCells h m w → StandsFor h w pairs
+  same_cells w same = keeps_chains w pairs
+      (sym (same (count_cell h) (omega arith) (omega arith)))
+      (sym (same (free_cell h) (omega arith) (omega arith)))
+      (λ b lt. sym (same (head_cell h b) (omega arith) (omega (arith, lt))))
+      (λ j lo hi. sym (same (key_cell h j) (omega arith) (omega (arith, lo, hi))))
+      (λ j lo hi. sym (same (next_cell h j) (omega arith) (omega (arith, lo, hi))))
+      (S.holds ∙ sym (map_same h m w (listed h m pairs S)
+      (λ j some. let n = listed_nodes h m pairs S j some in sym (same (key_cell h j) (omega arith) (omega (arith, n.0, n.1))))
+      (λ j some. let n = listed_nodes h m pairs S j some in sym (same (value_cell h j) (omega arith) (omega (arith, n.0, n.1))))))
+
+  -- a new value for a key that is there
+  module _ (key value : ℕ) (F : Found h m key (S.chains (bucket_of h key))) where
+    pub stands_valued : StandsFor h (put m (value_cell h F.node) value) (with_pair pairs key value)
+    stands_valued =
+        let w : ℕ → ℕ = put m (value_cell h F.node) value in
+        let other : (l : ℕ) → value_cell h F.node ≢ l → w l ≡ m l = λ l ne. put-other m (value_cell h F.node) value l ne in
+        let i = F.node in
+        let keys : (j : ℕ) → w (key_cell h j) ≡ m (key_cell h j) = λ j. other (key_cell h j) (λ e. key≢value h j i (sym e)) in
+        let nodes : (j : ℕ) → 1 ≤ times j (left h m pairs S key F ++ right h m pairs S key F) → (1 ≤ j) × (i ≢ j) = λ j some. (
+          let t = times_parts h m pairs S key F j in (listed_nodes h m pairs S j (omega (arith, t, some))).0,
+          λ e. let a = alone h m pairs S key F in
+              let f : times j (left h m pairs S key F ++ right h m pairs S key F) ≡ 0 = subst (λ x. times x (left h m pairs S key F ++ right h m pairs S key F) ≡ 0) e a in
+              omega (arith, f, some),
+        ) in
+        let values : (j : ℕ) → 1 ≤ times j (left h m pairs S key F ++ right h m pairs S key F) → w (value_cell h j) ≡ m (value_cell h j) = λ j some.
+        let n = nodes j some in other (value_cell h j) (value≢value h i j (found_node h m pairs S key F).0 n.0 n.1) in
+        keeps_chains w (with_pair pairs key value)
+        (other (count_cell h) (value≢low h i _ (low-count h)))
+        (other (free_cell h) (value≢low h i _ (low-free h)))
+        (λ b lt. other (head_cell h b) (value≢low h i _ (low-head h b lt)))
+        (λ j lo hi. keys j)
+        (λ j lo hi. other (next_cell h j) (value≢next h i j))
+        (ap (λ ps. with_pair ps key value) (pairs_parts h m pairs S key F)
+        ∙ with_pair-twice (map_of h m (left h m pairs S key F ++ right h m pairs S key F)) key (m (value_cell h i)) value
+        ∙ ap (λ ps. with_pair ps key value) (sym (map_same h m w (left h m pairs S key F ++ right h m pairs S key F) (λ j some. keys j) values))
+        ∙ ap (λ k. with_pair (map_of h w (left h m pairs S key F ++ right h m pairs S key F)) k value) (sym (keys i ∙ F.here))
+        ∙ ap (λ v. with_pair (map_of h w (left h m pairs S key F ++ right h m pairs S key F)) (w (key_cell h i)) v) (sym (put-here m (value_cell h i) value (value_cell h i) refl))
+        ∙ sym (map_split h w (left h m pairs S key F) (right h m pairs S key F) i
+        (subst (λ ks. times (w (key_cell h i)) ks ≡ 0) (sym (keys_same h m w (left h m pairs S key F) (λ j some. keys j)))
+        (subst (λ k. times k (keys_of h m (left h m pairs S key F)) ≡ 0) (sym (keys i)) (key_left h m pairs S key F))))
+        ∙ ap (map_of h w) (sym (parts h m pairs S key F)))
+
+-- the same chains have the same nodes
+nodes_same : (f g : ℕ → List ℕ) (b n : ℕ) → ((c : ℕ) → b ≤ c → c < b + n → f c ≡ g c) → nodes_of f b n ≡ nodes_of g b n
+nodes_same f g b zero same = refl
+nodes_same f g b (suc n) same =
+    ap (λ xs. xs ++ nodes_of f (b + 1) n) (same b (omega arith) (omega arith))
+    ∙ ap (λ xs. g b ++ xs) (nodes_same f g (b + 1) n (λ c lo hi. same c (omega (arith, lo)) (omega (arith, hi))))
+
+-- cells stand for one content
+pub one_content : (h : Hash) (m : ℕ → ℕ) (pairs others : List (ℕ × ℕ)) → StandsFor h m pairs → StandsFor h m others → pairs ≡ others
+one_content h m pairs others S T =
+    let same : nodes_of S.chains 0 h.buckets ≡ nodes_of T.chains 0 h.buckets = nodes_same S.chains T.chains 0 h.buckets (λ c lo hi. chain_one h m (head_cell h c) (S.chains c) (T.chains c) (S.linked c (omega (arith, hi))) (T.linked c (omega (arith, hi)))) in
+    S.holds ∙ ap (map_of h m) same ∙ sym T.holds

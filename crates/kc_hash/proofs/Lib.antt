@@ -1,0 +1,15 @@
+pub mod WalkSteps
+pub mod HashLaw
+pub mod Pairs
+pub mod Lists
+pub mod Maps
+pub mod Chains
+pub mod Buckets
+pub mod Cells
+pub mod Formed
+pub mod Kept
+pub mod Inserted
+pub mod Removed
+pub mod Values
+pub mod Opened
+pub mod Sweeps

@@ -1,0 +1,340 @@
+-- A pair that is taken out, and its node is free.
+use Rattle.std.proofs.Common.{◌≡◌, ◌≢◌, ◌⊎◌, ℕ, ◌+◌, ◌-◌, ◌<◌, ◌≤◌, min, List, [], ◌∷◌, ◌++◌, length, refl, sym, ap, ◌∙◌, subst, inl, inr, arith, length-append}
+use Rattle.std.proofs.lemmas.Bool.{cases_eq}
+use Rattle.kc_xt.specs.Meaning.{put}
+use Rattle.kc_hash.specs.declared.hash.Hash.{Hash}
+use Rattle.kc_hash.specs.Meaning.{count_cell, free_cell, head_cell, key_cell, value_cell, next_cell, bucket_of, link_of, counted}
+use Rattle.kc_hash.specs.Content.{times, keys_of, nodes_of, map_of, without_key, IsChain, StandsFor}
+use Rattle.kc_hash.proofs.Pairs.{without-with}
+use Rattle.kc_hash.proofs.Lists.{times-here, times-rest, times-append}
+use Rattle.kc_hash.proofs.Maps.{has_here, has_rest, times_keys, keys_same, map_same, map_none}
+use Rattle.kc_hash.proofs.Chains.{link_is, link_behind, chain_first, chain_moved, chain_nodes, in_bucket, bucket_from, Found}
+use Rattle.kc_hash.proofs.Buckets.{with_chain, with_chain-here, with_chain-there}
+use Rattle.kc_hash.proofs.Cells.{put-here, put-other, key≢next, value≢next, next≢next, head≢head, free≢head, count≢head, count≢free, IsLow, low-count, low-free, low-head, key≢low, value≢low, next≢low}
+use Rattle.kc_hash.proofs.Formed.{listed, room, free_nodes, not_free, at_most_once, in_listed, one_bucket, at_home, left, right, parts, parts_without, found_in_chain, found_listed, found_node, times_parts, key_others, pairs_parts}
+
+-- ---- the cell of a link
+
+-- it is the first cell, or the link of one of the nodes
+abbrev IsLinkOf : Hash → ℕ → List ℕ → ℕ → Type 0
+IsLinkOf h c xs l = (l ≡ c) ⊎ ((x : ℕ) × (1 ≤ times x xs) × (l ≡ next_cell h x))
+
+link_of_them : (h : Hash) (c : ℕ) (xs : List ℕ) → IsLinkOf h c xs (link_behind h c xs)
+link_of_them h c [] = inl refl
+link_of_them h c (x ∷ xs) = by (link_of_them h (next_cell h x) xs)
+  where
+    by : IsLinkOf h (next_cell h x) xs (link_behind h (next_cell h x) xs) → IsLinkOf h c (x ∷ xs) (link_behind h (next_cell h x) xs)
+    by (inl e) = inr (x, has_here x xs, e)
+    by (inr (y, some, e)) = inr (y, has_rest x y xs some, e)
+
+-- a cell that is none of these
+link_not : (h : Hash) (c : ℕ) (xs : List ℕ) (l : ℕ) → c ≢ l → ((x : ℕ) → 1 ≤ times x xs → next_cell h x ≢ l) → link_behind h c xs ≢ l
+link_not h c xs l first others e = by (link_of_them h c xs)
+  where
+    by : IsLinkOf h c xs (link_behind h c xs) → ⊥
+    by (inl f) = first (sym f ∙ e)
+    by (inr (x, some, f)) = others x some (sym f ∙ e)
+
+-- the chain without a node, where its link leads past it
+chain_past : (h : Hash) (m w : ℕ → ℕ) (i : ℕ) (ys xs : List ℕ) (c : ℕ) → IsChain h m c (xs ++ i ∷ ys) → ((j : ℕ) → times j xs ≤ 1) → ((x : ℕ) → 1 ≤ times x xs → next_cell h x ≢ c) → w (link_behind h c xs) ≡ m (next_cell h i) → (link_behind h c xs ≢ c → w c ≡ m c) → ((j : ℕ) → 1 ≤ times j (xs ++ ys) → link_behind h c xs ≢ next_cell h j → w (next_cell h j) ≡ m (next_cell h j)) → ((j : ℕ) → 1 ≤ times j ys → link_behind h c xs ≢ next_cell h j) → IsChain h w c (xs ++ ys)
+chain_past h m w i ys [] c (e, lo, hi, rest) once apart link first kept later = chain_moved h m w (next_cell h i) c ys rest link (λ j some. kept j some (later j some))
+chain_past h m w i ys (x ∷ xs) c (e, lo, hi, rest) once apart link first kept later =
+    let others : (y : ℕ) → 1 ≤ times y xs → next_cell h y ≢ next_cell h x = λ y some.
+    let n = chain_nodes h m (next_cell h x) (xs ++ i ∷ ys) rest y (let s = times-append y xs (i ∷ ys) in omega (arith, s, some)) in
+    next≢next h y x n.0 lo (λ f.
+    let here : 1 ≤ times x xs = subst (λ z. 1 ≤ times z xs) f some in
+    let s = times-here x x xs refl in
+    let o = once x in
+    omega (arith, here, s, o)) in (
+      first (link_not h (next_cell h x) xs c (apart x (has_here x xs)) (λ y some. apart y (has_rest x y xs some))) ∙ e,
+      lo,
+      hi,
+      chain_past h m w i ys xs (next_cell h x) rest
+          (λ j. let r = times-rest x j xs in let o = once j in omega (arith, r, o))
+          others link
+          (λ ne. kept x (has_here x (xs ++ ys)) ne)
+          (λ j some ne. kept j (has_rest x j (xs ++ ys) some) ne)
+          later,
+    )
+
+-- ---- the writes, in order
+
+abbrev pub freed : Hash → (ℕ → ℕ) → ℕ → ℕ → ℕ → ℕ
+freed h m i from = put (put (put m from (link_of h (m (next_cell h i)))) (next_cell h i) (link_of h (put m from (link_of h (m (next_cell h i))) (free_cell h)))) (free_cell h) i
+
+abbrev pub removed : Hash → (ℕ → ℕ) → ℕ → ℕ → ℕ → ℕ
+removed h m i from = put (freed h m i from) (count_cell h) (counted h (freed h m i from (count_cell h)) - 1)
+
+-- what stands in the cells then
+pub record IsRemoved (h : Hash) (m w : ℕ → ℕ) (i from : ℕ) : Type 0 where
+  pub count : w (count_cell h) ≡ m (count_cell h) - 1
+  pub free : w (free_cell h) ≡ i
+  pub link : w from ≡ m (next_cell h i)
+  pub next : w (next_cell h i) ≡ m (free_cell h)
+  pub heads : (b : ℕ) → b < h.buckets → from ≢ head_cell h b → w (head_cell h b) ≡ m (head_cell h b)
+  pub keys : (j : ℕ) → w (key_cell h j) ≡ m (key_cell h j)
+  pub values : (j : ℕ) → w (value_cell h j) ≡ m (value_cell h j)
+  pub nexts : (j : ℕ) → 1 ≤ j → j ≢ i → from ≢ next_cell h j → w (next_cell h j) ≡ m (next_cell h j)
+
+module _ (h : Hash) (m : ℕ → ℕ) (i from : ℕ) (some : 1 ≤ i) (next : m (next_cell h i) ≤ h.cap) (free : m (free_cell h) ≤ h.cap) (count : m (count_cell h) ≤ h.cap) (not_count : from ≢ count_cell h) (not_free : from ≢ free_cell h) (not_next : from ≢ next_cell h i) (not_key : (j : ℕ) → from ≢ key_cell h j) (not_value : (j : ℕ) → from ≢ value_cell h j) where
+  -- none of the first three
+  past_freed : (l : ℕ) → from ≢ l → next_cell h i ≢ l → free_cell h ≢ l → freed h m i from l ≡ m l
+  past_freed l a b c =
+      put-other (put (put m from (link_of h (m (next_cell h i)))) (next_cell h i) (link_of h (put m from (link_of h (m (next_cell h i))) (free_cell h)))) (free_cell h) i l c
+      ∙ put-other (put m from (link_of h (m (next_cell h i)))) (next_cell h i) (link_of h (put m from (link_of h (m (next_cell h i))) (free_cell h))) l b
+      ∙ put-other m from (link_of h (m (next_cell h i))) l a
+
+  past_count : (l : ℕ) → count_cell h ≢ l → removed h m i from l ≡ freed h m i from l
+  past_count l c = put-other (freed h m i from) (count_cell h) (counted h (freed h m i from (count_cell h)) - 1) l c
+
+  past : (l : ℕ) → count_cell h ≢ l → from ≢ l → next_cell h i ≢ l → free_cell h ≢ l → removed h m i from l ≡ m l
+  past l d a b c = past_count l d ∙ past_freed l a b c
+
+  pub is_removed : IsRemoved h m (removed h m i from) i from
+  is_removed = record {
+    count =
+        put-here (freed h m i from) (count_cell h) (counted h (freed h m i from (count_cell h)) - 1) _ refl
+        ∙ ap (λ n. counted h n - 1) (past_freed _ not_count (next≢low h i _ (low-count h)) (λ e. count≢free h (sym e)))
+        ∙ (let e : min (m (count_cell h)) h.cap ≡ m (count_cell h) = omega (arith, count) in ap (λ n. n - 1) e);
+    free =
+        past_count _ (count≢free h)
+        ∙ put-here (put (put m from (link_of h (m (next_cell h i)))) (next_cell h i) (link_of h (put m from (link_of h (m (next_cell h i))) (free_cell h)))) (free_cell h) i _ refl;
+    link =
+        past_count _ (λ e. not_count (sym e))
+        ∙ put-other (put (put m from (link_of h (m (next_cell h i)))) (next_cell h i) (link_of h (put m from (link_of h (m (next_cell h i))) (free_cell h)))) (free_cell h) i from (λ e. not_free (sym e))
+        ∙ put-other (put m from (link_of h (m (next_cell h i)))) (next_cell h i) (link_of h (put m from (link_of h (m (next_cell h i))) (free_cell h))) from (λ e. not_next (sym e))
+        ∙ put-here m from (link_of h (m (next_cell h i))) from refl
+        ∙ link_is h _ next;
+    next =
+        past_count _ (λ e. next≢low h i _ (low-count h) (sym e))
+        ∙ put-other (put (put m from (link_of h (m (next_cell h i)))) (next_cell h i) (link_of h (put m from (link_of h (m (next_cell h i))) (free_cell h)))) (free_cell h) i _ (λ e. next≢low h i _ (low-free h) (sym e))
+        ∙ put-here (put m from (link_of h (m (next_cell h i)))) (next_cell h i) (link_of h (put m from (link_of h (m (next_cell h i))) (free_cell h))) _ refl
+        ∙ ap (link_of h) (put-other m from (link_of h (m (next_cell h i))) (free_cell h) not_free)
+        ∙ link_is h _ free;
+    heads = λ b lt ne. past _ (count≢head h b) ne (next≢low h i _ (low-head h b lt)) (free≢head h b);
+    keys = λ j. past _ (λ e. key≢low h j _ (low-count h) (sym e)) (not_key j) (λ e. key≢next h j i (sym e)) (λ e. key≢low h j _ (low-free h) (sym e));
+    values = λ j. past _ (λ e. value≢low h j _ (low-count h) (sym e)) (not_value j) (λ e. value≢next h j i (sym e)) (λ e. value≢low h j _ (low-free h) (sym e));
+    nexts = λ j lo ne other. past _ (λ e. next≢low h j _ (low-count h) (sym e)) other (next≢next h i j some lo (λ e. ne (sym e))) (λ e. next≢low h j _ (low-free h) (sym e));
+  }
+
+-- ---- what the cells stand for then
+
+module _ (h : Hash) (m : ℕ → ℕ) (pairs : List (ℕ × ℕ)) (S : StandsFor h m pairs) (key : ℕ) (F : Found h m key (S.chains (bucket_of h key))) where
+  -- the cell of the link to the node
+  abbrev pub from : ℕ
+  from = link_behind h (head_cell h (bucket_of h key)) F.front
+
+  -- the nodes that stay listed
+  abbrev fewer : List ℕ
+  fewer = nodes_of (with_chain S.chains (bucket_of h key) (F.front ++ F.rest)) 0 h.buckets
+
+  home : bucket_of h key < h.buckets
+  home = at_home h m pairs S key F
+
+  own : IsChain h m (head_cell h (bucket_of h key)) (F.front ++ F.node ∷ F.rest)
+  own = subst (λ ns. IsChain h m (head_cell h (bucket_of h key)) ns) F.is (S.linked (bucket_of h key) home)
+
+  times_own : (j : ℕ) → times j (S.chains (bucket_of h key)) ≡ times j F.front + times j (F.node ∷ F.rest)
+  times_own j = ap (times j) F.is ∙ times-append j F.front (F.node ∷ F.rest)
+
+  -- what stands in front of it is a listed node of this bucket
+  in_front : (x : ℕ) → 1 ≤ times x F.front → 1 ≤ times x (S.chains (bucket_of h key))
+  in_front x some = let t = times_own x in omega (arith, t, some)
+
+  front_node : (x : ℕ) → 1 ≤ times x F.front → (1 ≤ x) × (x ≤ h.cap)
+  front_node x some = chain_nodes h m (head_cell h (bucket_of h key)) (S.chains (bucket_of h key)) (S.linked (bucket_of h key) home) x (in_front x some)
+
+  -- a node of the bucket stands in it once
+  own_once : (j : ℕ) → times j F.front + times j (F.node ∷ F.rest) ≤ 1
+  own_once j =
+      let t = times_own j in
+      let le = in_listed h m pairs S (bucket_of h key) home j in
+      let o = at_most_once h m pairs S j in
+      omega (arith, t, le, o)
+
+  -- what stands in front of it is no node behind it
+  front_other : (x j : ℕ) → 1 ≤ times x F.front → 1 ≤ times j (F.node ∷ F.rest) → x ≢ j
+  front_other x j some there e =
+      let o = own_once x in
+      let f : 1 ≤ times x (F.node ∷ F.rest) = subst (λ z. 1 ≤ times z (F.node ∷ F.rest)) (sym e) there in
+      omega (arith, o, f, some)
+
+  -- nor one of another bucket
+  other_bucket : (x j b : ℕ) → b < h.buckets → b ≢ bucket_of h key → 1 ≤ times x F.front → 1 ≤ times j (S.chains b) → x ≢ j
+  other_bucket x j b lt ne some there e =
+      ne (sym (one_bucket h m pairs S (bucket_of h key) home j b lt (subst (λ z. 1 ≤ times z (S.chains (bucket_of h key))) e (in_front x some)) there))
+
+  -- nor a free one
+  front_listed : (x : ℕ) → 1 ≤ times x F.front → 1 ≤ times x (listed h m pairs S)
+  front_listed x some = let s = in_front x some in let le = in_listed h m pairs S (bucket_of h key) home x in omega (arith, s, le)
+
+  free_other : (x j : ℕ) → 1 ≤ times x (listed h m pairs S) → 1 ≤ times j S.free → x ≢ j
+  free_other x j some there e =
+      let n = not_free h m pairs S x some in
+      let f : 1 ≤ times x S.free = subst (λ z. 1 ≤ times z S.free) (sym e) there in
+      omega (arith, n.1, f)
+
+  -- the link's cell is none of these
+  from_low : (l : ℕ) → IsLow h l → head_cell h (bucket_of h key) ≢ l → from ≢ l
+  from_low l low ne = link_not h (head_cell h (bucket_of h key)) F.front l ne (λ x some. next≢low h x l low)
+
+  from_next : (j : ℕ) → 1 ≤ j → ((x : ℕ) → 1 ≤ times x F.front → x ≢ j) → from ≢ next_cell h j
+  from_next j lo ne = link_not h (head_cell h (bucket_of h key)) F.front (next_cell h j)
+      (λ e. next≢low h j _ (low-head h (bucket_of h key) home) (sym e))
+      (λ x some. next≢next h x j (front_node x some).0 lo (ne x some))
+
+  from_key : (j : ℕ) → from ≢ key_cell h j
+  from_key j = link_not h (head_cell h (bucket_of h key)) F.front (key_cell h j)
+      (λ e. key≢low h j _ (low-head h (bucket_of h key) home) (sym e))
+      (λ x some e. key≢next h j x (sym e))
+
+  from_value : (j : ℕ) → from ≢ value_cell h j
+  from_value j = link_not h (head_cell h (bucket_of h key)) F.front (value_cell h j)
+      (λ e. value≢low h j _ (low-head h (bucket_of h key) home) (sym e))
+      (λ x some e. value≢next h j x (sym e))
+
+  module _ (w : ℕ → ℕ) (I : IsRemoved h m w F.node from) where
+    -- the chain of its bucket
+    own_past : IsChain h w (head_cell h (bucket_of h key)) (F.front ++ F.rest)
+    own_past = chain_past h m w F.node F.rest F.front (head_cell h (bucket_of h key)) own
+        (λ j. let o = own_once j in omega (arith, o))
+        (λ x some. next≢low h x _ (low-head h (bucket_of h key) home))
+        I.link
+        (I.heads (bucket_of h key) home)
+        (λ j some ne.
+        let s = times-append j F.front F.rest in
+        let t = times-rest F.node j F.rest in
+        let u = times_own j in
+        let n = chain_nodes h m (head_cell h (bucket_of h key)) (S.chains (bucket_of h key)) (S.linked (bucket_of h key) home) j (omega (arith, s, t, u, some)) in
+        I.nexts j n.0
+        (λ e.
+        let o = own_once F.node in
+        let v = times-here F.node F.node F.rest refl in
+        let x = times-append F.node F.front F.rest in
+        let f : 1 ≤ times F.node (F.front ++ F.rest) = subst (λ z. 1 ≤ times z (F.front ++ F.rest)) e some in
+        omega (arith, o, v, x, f))
+        ne)
+        (λ j some.
+        let t = has_rest F.node j F.rest some in
+        let u = times_own j in
+        let n = chain_nodes h m (head_cell h (bucket_of h key)) (S.chains (bucket_of h key)) (S.linked (bucket_of h key) home) j (omega (arith, t, u)) in
+        from_next j n.0 (λ x there. front_other x j there t))
+
+    -- that of another one
+    other_same : (b : ℕ) → b < h.buckets → b ≢ bucket_of h key → IsChain h w (head_cell h b) (S.chains b)
+    other_same b lt ne = chain_moved h m w (head_cell h b) (head_cell h b) (S.chains b) (S.linked b lt)
+        (I.heads b lt (from_low (head_cell h b) (low-head h b lt) (head≢head h _ _ (λ e. ne (sym e)))))
+        (λ j some.
+        let n = chain_nodes h m (head_cell h b) (S.chains b) (S.linked b lt) j some in
+        I.nexts j n.0
+        (λ e. ne (sym (one_bucket h m pairs S (bucket_of h key) home j b lt (subst (λ z. 1 ≤ times z (S.chains (bucket_of h key))) (sym e) (found_in_chain h m pairs S key F)) some)))
+        (from_next j n.0 (λ x there. other_bucket x j b lt ne there some)))
+
+    linked : (b : ℕ) → b < h.buckets → IsChain h w (head_cell h b) (with_chain S.chains (bucket_of h key) (F.front ++ F.rest) b)
+    linked b lt = by (cases_eq b (bucket_of h key))
+      where
+        by : (b ≡ bucket_of h key) ⊎ (b ≡ bucket_of h key → ⊥) → IsChain h w (head_cell h b) (with_chain S.chains (bucket_of h key) (F.front ++ F.rest) b)
+        by (inl e) = subst (λ ns. IsChain h w (head_cell h b) ns) (sym (with_chain-here S.chains (bucket_of h key) (F.front ++ F.rest) b e))
+            (subst (λ c. IsChain h w (head_cell h c) (F.front ++ F.rest)) (sym e) own_past)
+        by (inr ne) = subst (λ ns. IsChain h w (head_cell h b) ns) (sym (with_chain-there S.chains (bucket_of h key) (F.front ++ F.rest) b ne)) (other_same b lt ne)
+
+    -- the free chain, which it begins
+    spare : IsChain h w (free_cell h) (F.node ∷ S.free)
+    spare =
+        let n = found_node h m pairs S key F in (
+          I.free,
+          n.0,
+          n.1,
+          chain_moved h m w (free_cell h) (next_cell h F.node) S.free S.spare I.next (λ j some.
+              let k = free_nodes h m pairs S j some in
+              I.nexts j k.0
+              (λ e. free_other F.node j (found_listed h m pairs S key F) some (sym e))
+              (from_next j k.0 (λ x there. free_other x j (front_listed x there) some))),
+        )
+
+    in_place : (b j : ℕ) → b < h.buckets → 1 ≤ times j (with_chain S.chains (bucket_of h key) (F.front ++ F.rest) b) → bucket_of h (w (key_cell h j)) ≡ b
+    in_place b j lt some = ap (bucket_of h) (I.keys j) ∙ by (cases_eq b (bucket_of h key))
+      where
+        by : (b ≡ bucket_of h key) ⊎ (b ≡ bucket_of h key → ⊥) → bucket_of h (m (key_cell h j)) ≡ b
+        by (inl e) =
+            let s : 1 ≤ times j (F.front ++ F.rest) = subst (λ ns. 1 ≤ times j ns) (with_chain-here S.chains (bucket_of h key) (F.front ++ F.rest) b e) some in
+            let t = times-append j F.front F.rest in
+            let r = times-rest F.node j F.rest in
+            let u = times_own j in
+            in_bucket h m (bucket_of h key) (S.chains (bucket_of h key)) (S.placed (bucket_of h key) home) j (omega (arith, s, t, r, u)) ∙ sym e
+        by (inr ne) = in_bucket h m b (S.chains b) (S.placed b lt) j (subst (λ ns. 1 ≤ times j ns) (with_chain-there S.chains (bucket_of h key) (F.front ++ F.rest) b ne) some)
+
+    times_fewer : (j : ℕ) → times j (listed h m pairs S) ≡ times j fewer + times j (F.node ∷ [])
+    times_fewer j =
+        let e : times j fewer ≡ times j (left h m pairs S key F ++ right h m pairs S key F) = ap (times j) (parts_without h m pairs S key F) in
+        let t = times_parts h m pairs S key F j in
+        omega (arith, e, t)
+
+    differ : (k : ℕ) → times k (keys_of h w fewer) ≤ 1
+    differ k =
+        let le = S.differ k in
+        let e : times k (keys_of h w fewer) ≡ times k (keys_of h m (left h m pairs S key F ++ right h m pairs S key F)) =
+        ap (times k) (keys_same h m w fewer (λ j some. I.keys j)) ∙ ap (λ ns. times k (keys_of h m ns)) (parts_without h m pairs S key F) in
+        let f : times k (keys_of h m (listed h m pairs S)) ≡ times k (keys_of h m (left h m pairs S key F ++ F.node ∷ right h m pairs S key F)) = ap (λ ns. times k (keys_of h m ns)) (parts h m pairs S key F) in
+        let s = times_keys h m k (left h m pairs S key F) (right h m pairs S key F) in
+        let t = times_keys h m k (left h m pairs S key F) (F.node ∷ right h m pairs S key F) in
+        let r = times-rest (m (key_cell h F.node)) k (keys_of h m (right h m pairs S key F)) in
+        omega (arith, le, e, f, s, t, r)
+
+    length_fewer : length (listed h m pairs S) ≡ length fewer + 1
+    length_fewer =
+        let e : length fewer ≡ length (left h m pairs S key F ++ right h m pairs S key F) = ap length (parts_without h m pairs S key F) in
+        let f : length (listed h m pairs S) ≡ length (left h m pairs S key F ++ F.node ∷ right h m pairs S key F) = ap length (parts h m pairs S key F) in
+        let s = length-append (left h m pairs S key F) (right h m pairs S key F) in
+        let t = length-append (left h m pairs S key F) (F.node ∷ right h m pairs S key F) in
+        omega (arith, e, f, s, t)
+
+    holds : without_key pairs key ≡ map_of h w fewer
+    holds =
+        let others = left h m pairs S key F ++ right h m pairs S key F in
+        ap (λ ps. without_key ps key) (pairs_parts h m pairs S key F)
+        ∙ without-with (map_of h m others) key (m (value_cell h F.node)) (map_none h m others key (key_others h m pairs S key F))
+        ∙ sym (map_same h m w others (λ j some. I.keys j) (λ j some. I.values j))
+        ∙ ap (map_of h w) (sym (parts_without h m pairs S key F))
+
+    pub stands_removed : StandsFor h w (without_key pairs key)
+    stands_removed = record {
+      some = S.some;
+      chains = with_chain S.chains (bucket_of h key) (F.front ++ F.rest);
+      free = F.node ∷ S.free;
+      linked = linked;
+      spare = spare;
+      placed = λ b lt. bucket_from h w b _ (λ j some. in_place b j lt some);
+      once = λ j lo hi.
+          let o = S.once j lo hi in
+          let e = times_fewer j in
+          let s = times-append j fewer (F.node ∷ S.free) in
+          let t = times-append j (listed h m pairs S) S.free in
+          let v = times-append j (F.node ∷ []) S.free in
+          omega (arith, o, e, s, t, v);
+      differ = differ;
+      count = (let e = S.count in let f = length_fewer in let c = I.count in omega (arith, e, f, c));
+      holds = holds;
+    }
+
+  -- the writes make that
+  pub taken_out : IsRemoved h m (removed h m F.node from) F.node from
+  taken_out =
+      let n = found_node h m pairs S key F in
+      let r = room h m pairs S in
+      is_removed h m F.node from n.0
+      (chain_first h m (next_cell h F.node) F.rest (behind (head_cell h (bucket_of h key)) F.front own))
+      (chain_first h m (free_cell h) S.free S.spare)
+      (let e = S.count in omega (arith, e, r))
+      (from_low (count_cell h) (low-count h) (λ e. count≢head h _ (sym e)))
+      (from_low (free_cell h) (low-free h) (λ e. free≢head h _ (sym e)))
+      (from_next F.node n.0 (λ x some. front_other x F.node some (has_here F.node F.rest)))
+      from_key
+      from_value
+    where
+      behind : (c : ℕ) (xs : List ℕ) → IsChain h m c (xs ++ F.node ∷ F.rest) → IsChain h m (next_cell h F.node) F.rest
+      behind c [] (e, lo, hi, rest) = rest
+      behind c (x ∷ xs) (e, lo, hi, rest) = behind (next_cell h x) xs rest
+
+  pub removes : StandsFor h (removed h m F.node from) (without_key pairs key)
+  removes = stands_removed (removed h m F.node from) taken_out

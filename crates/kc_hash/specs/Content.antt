@@ -1,0 +1,132 @@
+-- A table as a finite map: the list of its keys and values, in rising order of key.
+use Rattle.std.specs.Prelude.{◌≡◌, ℕ, zero, suc, ◌+◌, ◌-◌, ◌*◌, ◌/◌, ◌%◌, ◌<◌, ◌≤◌, ◌==◌, nat_lt, Bool, true, ◌&&◌, cond, List, [], ◌∷◌, ◌++◌, length, map, find, Option, Some, None}
+use Rattle.kc_model.specs.declared.reply.Reply.{Reply}
+use Rattle.kc_model.specs.declared.reply.Reply.TheVariants as reply
+use Rattle.kc_hash.specs.declared.hash.Hash.{Hash}
+use Rattle.kc_hash.specs.declared.operation.HashAct.{HashAct}
+use Rattle.kc_hash.specs.declared.operation.HashAct.TheVariants as act
+use Rattle.kc_hash.specs.Meaning.{count_cell, free_cell, head_cell, key_cell, value_cell, next_cell, bucket_of}
+
+-- ---- finite maps
+
+-- the value of a key, if it is there
+abbrev pub value_at : List (ℕ × ℕ) → ℕ → Option ℕ
+value_at [] key = None
+value_at (p ∷ ps) key = cond (p.0 == key) (Some p.1) (value_at ps key)
+
+-- with this value at the key: a new pair stands in front of the first greater key
+abbrev pub with_pair : List (ℕ × ℕ) → ℕ → ℕ → List (ℕ × ℕ)
+with_pair [] key value = (key, value) ∷ []
+with_pair (p ∷ ps) key value = cond (nat_lt p.0 key) (p ∷ with_pair ps key value) (cond (p.0 == key) ((key, value) ∷ ps) ((key, value) ∷ p ∷ ps))
+
+-- without the key
+abbrev pub without_key : List (ℕ × ℕ) → ℕ → List (ℕ × ℕ)
+without_key [] key = []
+without_key (p ∷ ps) key = cond (p.0 == key) ps (p ∷ without_key ps key)
+
+-- whether a key is above another one; all are above None
+abbrev pub is_above : Option ℕ → ℕ → Bool
+is_above None key = true
+is_above (Some k) key = nat_lt k key
+
+-- the first pair whose key is above this one
+abbrev pub first_above : Option ℕ → List (ℕ × ℕ) → Option (ℕ × ℕ)
+first_above after pairs = find (λ p. is_above after p.0) pairs
+
+-- whether a key is below that of a pair; all are below None
+abbrev pub is_below : ℕ → Option (ℕ × ℕ) → Bool
+is_below key None = true
+is_below key (Some p) = nat_lt key p.0
+
+-- the pair, where its key is above `after` and below that of the best one so far
+abbrev pub nearer : Option ℕ → Option (ℕ × ℕ) → ℕ × ℕ → Option (ℕ × ℕ)
+nearer after best p = cond (is_above after p.0 && is_below p.0 best) (Some p) best
+
+-- ---- cells that stand for a map
+
+-- how often a number stands in a list
+abbrev pub times : ℕ → List ℕ → ℕ
+times n [] = 0
+times n (x ∷ xs) = cond (x == n) 1 0 + times n xs
+
+-- From this link on, the chain has these nodes, and ends at 0.
+abbrev pub IsChain : Hash → (ℕ → ℕ) → ℕ → List ℕ → Type 0
+IsChain h m from [] = m from ≡ 0
+IsChain h m from (i ∷ is) = (m from ≡ i) × (1 ≤ i) × (i ≤ h.cap) × IsChain h m (next_cell h i) is
+
+-- each node has a key of this bucket
+abbrev pub AllInBucket : Hash → (ℕ → ℕ) → ℕ → List ℕ → Type 0
+AllInBucket h m b [] = Unit {0}
+AllInBucket h m b (i ∷ is) = (bucket_of h (m (key_cell h i)) ≡ b) × AllInBucket h m b is
+
+-- the nodes of n chains, from this one on
+abbrev pub nodes_of : (ℕ → List ℕ) → ℕ → ℕ → List ℕ
+nodes_of chains b zero = []
+nodes_of chains b (suc n) = chains b ++ nodes_of chains (b + 1) n
+
+-- the keys of nodes
+abbrev pub keys_of : Hash → (ℕ → ℕ) → List ℕ → List ℕ
+keys_of h m nodes = map (λ i. m (key_cell h i)) nodes
+
+-- the map of nodes
+abbrev pub map_of : Hash → (ℕ → ℕ) → List ℕ → List (ℕ × ℕ)
+map_of h m [] = []
+map_of h m (i ∷ is) = with_pair (map_of h m is) (m (key_cell h i)) (m (value_cell h i))
+
+-- The chains from the heads and the free chain have each node once, a node is in the chain of its key's bucket, and the keys differ.
+-- The count is the number of nodes in the chains from the heads, and the pairs are the map of these.
+pub record StandsFor (h : Hash) (m : ℕ → ℕ) (pairs : List (ℕ × ℕ)) : Type 0 where
+  pub some : 1 ≤ h.buckets
+  pub chains : ℕ → List ℕ
+  pub free : List ℕ
+  pub linked : (b : ℕ) → b < h.buckets → IsChain h m (head_cell h b) (chains b)
+  pub spare : IsChain h m (free_cell h) free
+  pub placed : (b : ℕ) → b < h.buckets → AllInBucket h m b (chains b)
+  pub once : (i : ℕ) → 1 ≤ i → i ≤ h.cap → times i (nodes_of chains 0 h.buckets ++ free) ≡ 1
+  pub differ : (key : ℕ) → times key (keys_of h m (nodes_of chains 0 h.buckets)) ≤ 1
+  pub count : m (count_cell h) ≡ length (nodes_of chains 0 h.buckets)
+  pub holds : pairs ≡ map_of h m (nodes_of chains 0 h.buckets)
+
+-- the cells stand for some pairs
+abbrev pub IsWellFormed : Hash → (ℕ → ℕ) → Type 0
+IsWellFormed h m = (pairs : List (ℕ × ℕ)) × StandsFor h m pairs
+
+-- Two maps have the same in each cell of the table.
+abbrev pub SameCells : Hash → (ℕ → ℕ) → (ℕ → ℕ) → Type 0
+SameCells h m w = (l : ℕ) → h.base.0 ≤ l → l < h.base.0 + 2 + h.buckets + 3 * h.cap → m l ≡ w l
+
+-- ---- the opening
+
+-- the link of a node to the next one, and 0 in the other cells of nodes
+abbrev pub node_opening : Hash → ℕ → ℕ
+node_opening h i = cond (i % 3 == 2) (cond (nat_lt (i / 3 + 1) h.cap) (i / 3 + 2) 0) 0
+
+-- what each cell holds at the opening: the free chain has all nodes, from the first to the last
+abbrev pub hash_opening : Hash → ℕ → ℕ
+hash_opening h i = cond (i == 1) 1 (cond (nat_lt i (2 + h.buckets)) 0 (node_opening h (i - (2 + h.buckets))))
+
+-- ---- values
+
+-- a reply, and the pairs then
+pub record HashValue : Type 0 where
+  pub reply : Reply
+  pub pairs : List (ℕ × ℕ)
+
+abbrev pub after : Reply → List (ℕ × ℕ) → HashValue
+after r pairs = record { reply = r; pairs = pairs }
+
+-- the reply of what stands at a key
+abbrev pub found_reply : Option ℕ → Reply
+found_reply None = reply.Empty
+found_reply (Some v) = reply.Value v
+
+-- Full where the key is new and there are as many as the capacity
+abbrev pub put_value : Hash → ℕ → ℕ → List (ℕ × ℕ) → Option ℕ → HashValue
+put_value h key value pairs None = cond (length pairs == h.cap) (after reply.Full pairs) (after reply.Unit (with_pair pairs key value))
+put_value h key value pairs (Some v) = after reply.Unit (with_pair pairs key value)
+
+abbrev pub hash_value : Hash → HashAct → List (ℕ × ℕ) → HashValue
+hash_value h (act.Put key value) pairs = put_value h key value pairs (value_at pairs key)
+hash_value h (act.Find key) pairs = after (found_reply (value_at pairs key)) pairs
+hash_value h (act.Del key) pairs = after (found_reply (value_at pairs key)) (without_key pairs key)
+hash_value h act.Len pairs = after (reply.Value (length pairs)) pairs

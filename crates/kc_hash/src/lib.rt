@@ -1,0 +1,15 @@
+//! A table of chains on locations.
+#![tactic(auto)]
+
+mod acts;
+mod hash;
+mod laws;
+mod operation;
+mod sweep;
+#[cfg(test)]
+mod tests;
+mod walk;
+
+pub use hash::Hash;
+pub use laws::{content_is_one, keeps_well_formed, means_its_value, opens_empty};
+pub use operation::{HashAct, HashOp};

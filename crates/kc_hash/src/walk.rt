@@ -1,0 +1,44 @@
+//! The walk over a chain.
+
+ghost use Rattle.std.specs.Prelude.{◌≡◌, ◌≤◌, ◌<◌, IfOk, IfSome};
+ghost use Rattle.kc_xt.specs.Steps.{Does};
+ghost use Rattle.kc_hash.specs.Meaning.{walk_program, cells_end, IsWithin};
+
+use crate::hash::Hash;
+use kc_model::Loc;
+use kc_xt::{Peek, Stop, Xt};
+
+/// Where a walk found its key: the node, and the cell with the link that led there.
+#[derive(Clone, Copy, Debug, PartialEq, Eq)]
+pub struct Place {
+    pub node: u32,
+    pub from: Loc,
+}
+
+// Sees at most as many nodes as the capacity, so that it ends where links form a circle.
+pub(crate) fn walk<P: Peek>(hash: Hash, key: u32, xt: &mut Xt<P>) -> Result<Option<Place>, Stop>
+    requires some { 1 ≤ hash.buckets }
+    requires within { cells_end hash ≤ P.locations xt.old.peek }
+    requires fits { cells_end hash ≤ 65536 }
+    ensures goes { Does P.peek_gives (walk_program hash key) xt.old result xt.new }
+    ensures place { IfOk result (λ found. IfSome found (λ place. IsWithin hash place)) }
+    ensures size { P.locations xt.new.peek ≡ P.locations xt.old.peek }
+{
+    let mut from = Loc(hash.base.0 + 2 + key % hash.buckets);
+    let head = xt.get(from)?;
+    let mut node = hash.link(head);
+    for _step in 0..hash.cap {
+        if node == 0 {
+            return Ok(None);
+        }
+        let cell = hash.key_cell(node);
+        let found = xt.get(Loc(cell))?;
+        if found == key {
+            return Ok(Some(Place { node, from }));
+        }
+        from = Loc(cell + 2);
+        let next = xt.get(from)?;
+        node = hash.link(next);
+    }
+    Ok(None)
+}
