@@ -1,0 +1,10 @@
+pub mod DllistLaw
+pub mod Times
+pub mod Rings
+pub mod Cells
+pub mod Changes
+pub mod Standing
+pub mod Runs
+pub mod Values
+pub mod Counts
+pub mod Walks
