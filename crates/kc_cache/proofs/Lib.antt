@@ -1,0 +1,7 @@
+pub mod CacheLaw
+pub mod Walked
+pub mod Index
+pub mod States
+pub mod Runs
+pub mod Values
+pub mod Cells
