@@ -1,8 +1,9 @@
-pub mod NameText
-pub mod Names
+pub mod Objects
 pub mod Lines
-pub mod Entries
-pub mod Given
-pub mod Placed
+pub mod LineWords
+pub mod Trees
+pub mod Took
+pub mod ReadLines
 pub mod Agree
 pub mod Spelled
+pub mod Kept

@@ -2,12 +2,13 @@
 use Rattle.std.proofs.Common.{◌≡◌, ℕ, ◌+◌, ◌<◌, ◌≤◌, List, length, get_or, drop, Result, Ok, sym, ap, ◌∙◌}
 use Rattle.std.specs.Prelude.{map}
 use Rattle.std.proofs.lemmas.List.{drop_more, drop_all}
-use Rattle.kc_script.specs.Words.{words}
-use Rattle.kc_script.specs.declared.complaint.Complaint.{Complaint}
-use Rattle.kc_script.specs.declared.complaint.Complaint.TheVariants as complaint
-use Rattle.kc_script.specs.declared.fault.Why.{Why}
-use Rattle.kc_script.specs.Grammar.{◌>>=◌}
-use Rattle.kc_script.specs.Reading.{State, Fails, any_line, all_lines}
+use Rattle.kc_lines.specs.Words.{words}
+use Rattle.kc_lines.specs.declared.complaint.Complaint.{Complaint}
+use Rattle.kc_lines.specs.declared.complaint.Complaint.TheVariants as complaint
+use Rattle.kc_lines.specs.declared.fault.Why.{Why}
+use Rattle.kc_lines.specs.Tests.{◌>>=◌}
+use Rattle.kc_lines.specs.Gives.{Fails}
+use Rattle.kc_script.specs.Reading.{State, any_line, all_lines}
 
 module _ {X : Type 0} (seen : X → List ℕ) (texts : List X) (i : ℕ) (d : X) (s : State) (total : Result State Why) (so_far : all_lines s (map seen (drop i texts)) ≡ total) where
   -- the line at the index, and the rest

@@ -1,44 +1,26 @@
 -- What holds of a script that bytes spell.
-use Rattle.std.proofs.Common.{◌≡◌, ℕ, zero, suc, ◌≤◌, ◌<◌, List, [], ◌∷◌, ◌++◌, length, get_or, Ok, ◌∙◌, arith}
-use Rattle.std.proofs.lemmas.List.{length-map}
-use Rattle.kc_model.specs.Store.{opened}
-use Rattle.kc_script.specs.declared.object.Object.{Object}
-use Rattle.kc_script.specs.declared.operation.Command.{Command}
-use Rattle.kc_script.specs.Script.{Names, Script, next_from, LieFrom, LiesInOrder, CellsWithin, IsFit, AreFit}
-use Rattle.kc_script.specs.State.{opening_values}
-use Rattle.kc_script.specs.Grammar.{declared, said, word_of}
-use Rattle.kc_script.specs.Spells.{Line, Declare, Say, Threads, Spells}
-use Rattle.kc_script.proofs.Placed as placed
-use Rattle.kc_script.proofs.Placed.{IsPlaced, next_from-more, lies_more, length-cells, declare_placed, say_fit}
+use Rattle.std.proofs.Common.{◌≡◌, ℕ, zero, suc, ◌+◌, ◌≤◌, ◌<◌, max, List, [], ◌∷◌, ◌++◌, length, get_or, refl, sym, append_assoc, ap, subst, ◌∙◌, arith, length-append}
+use Rattle.kc_term.specs.Tree.{Tree, op, trees, operations, all_operations, nesting, greatest_nesting}
+use Rattle.kc_bundle.specs.declared.operation.Op.{Op}
+use Rattle.kc_bundle.specs.declared.operation.Command.{Command}
+use Rattle.kc_bundle.specs.Script.{Names, Script, next_from, LieFrom, LiesInOrder, AreSized}
+use Rattle.kc_bundle.specs.On.{AllOn, CommandIsOn, CommandsAreOn}
+use Rattle.kc_verbs.specs.Saying.{said}
+use Rattle.kc_verbs.proofs.Declared.{declared_placed}
+use Rattle.kc_verbs.proofs.Said.{said_on}
+use Rattle.kc_script.specs.Spells.{Line, Declare, Block, Say, Threads, Spells}
+use Rattle.kc_script.specs.Threads.{AreThreads}
+use Rattle.kc_script.proofs.Trees.{IsSmall}
+use Rattle.kc_script.proofs.Objects.{next_from_more, lies_more, sized_more}
 
--- the cells of objects in order are below the first location behind them
-pub cells_within : (names : Names) → LieFrom 1 names → CellsWithin (next_from 1 names) names
-cells_within = placed.cells_within
-
--- a script has as many opening values as locations
-pub length-opening_values : (s : Script) → length (opening_values s) ≡ next_from 1 s.objects
-length-opening_values s = omega (arith, length-cells 1 s.objects)
-
--- a store opened with them has as many locations
-pub length-opened : (s : Script) → length (opened (opening_values s)) ≡ next_from 1 s.objects
-length-opened s = length-map (opening_values s) (λ v. record { version = 0; value = v }) ∙ length-opening_values s
-
--- an object that a line declares lies behind those before it
-line_placed : (names : Names) (line : Line) (entry : List ℕ × Object) → declared names line ≡ Ok entry → IsPlaced names entry.1
-line_placed names [] entry e = absurd cc
-line_placed names (first ∷ args) entry e = declare_placed names (word_of first) args entry e
-
--- a command that a line says is on a location
-line_fit : (n : ℕ) (names : Names) (line : Line) (c : Command) → said names line ≡ Ok c → CellsWithin n names → IsFit n c
-line_fit n names [] c e h = absurd cc
-line_fit n names (first ∷ args) c e h = say_fit n names (word_of first) args c e h
+-- ---- objects
 
 -- objects that lines declare lie behind those before them
-declares_lie : (names all : Names) (lines : List Line) → Declare names lines all → LieFrom 1 names → next_from 1 names ≤ 65536 → LieFrom 1 all × (next_from 1 all ≤ 65536)
-declares_lie names all lines Declare.none h le = (h, le)
-declares_lie names all _ (Declare.one {lines = lines} line entry e rest) h le =
-    let p = line_placed names line entry e in
-    declares_lie (names ++ entry ∷ []) all lines rest (lies_more 1 names entry h p.0) (omega (arith, next_from-more 1 names entry, p.1))
+declares_lie : (names all : Names) (lines : List Line) → Declare names lines all → LieFrom 1 names → next_from 1 names ≤ 65536 → AreSized names → LieFrom 1 all × (next_from 1 all ≤ 65536) × AreSized all
+declares_lie names all lines Declare.none h le sized = (h, le, sized)
+declares_lie names all _ (Declare.one {lines = lines} line entry e rest) h le sized =
+    let p = declared_placed names line entry e in
+    declares_lie (names ++ entry ∷ []) all lines rest (lies_more 1 names entry h p.0) (omega (arith, next_from_more 1 names entry, p.1)) (sized_more names entry sized p.2)
 
 -- no objects lie in order
 none_lie : (LieFrom 1 []) × (next_from 1 [] ≤ 65536)
@@ -48,36 +30,115 @@ none_lie = (tt, omega arith)
 -- the objects of a script that is spelled lie in order
 pub spelled_lies : {bytes : List ℕ} {s : Script} → Spells bytes s → LiesInOrder s
 spelled_lies {bytes} {s} p =
-    let h = declares_lie [] s.objects p.declaring p.declares none_lie.0 none_lie.1 in
+    let h = declares_lie [] s.objects p.declaring p.declares none_lie.0 none_lie.1 tt in
     record { lie = h.0; within = h.1 }
 
--- commands that lines say are on locations
-commands_fit : (n : ℕ) (names : Names) (lines : List Line) (cs : List Command) → Say names lines cs → CellsWithin n names → AreFit n cs
-commands_fit n names lines cs Say.none h = tt
-commands_fit n names _ _ (Say.one {lines = lines} {commands = cs} line c e rest) h = (line_fit n names line c e h, commands_fit n names lines cs rest h)
+-- and have their sizes
+pub spelled_sized : {bytes : List ℕ} {s : Script} → Spells bytes s → AreSized s.objects
+spelled_sized {bytes} {s} p = (declares_lie [] s.objects p.declaring p.declares none_lie.0 none_lie.1 tt).2
 
--- and so are those of each thread
-threads_fit : (n : ℕ) (names : Names) (lines : List Line) (threads : List (List Command)) → Threads names lines threads → CellsWithin n names → (k : ℕ) → AreFit n (get_or threads k [])
-threads_fit n names lines threads Threads.none h k = tt
-threads_fit n names _ _ (Threads.one {lines = lines} {commands = cs} said few rest) h zero = commands_fit n names lines cs said h
-threads_fit n names _ _ (Threads.one {more = more} {threads = threads} said few rest) h (suc k) = threads_fit n names more threads rest h k
+-- ---- blocks
 
--- the commands of a thread of a script that is spelled are on its locations
-pub spelled_fit : {bytes : List ℕ} {s : Script} → Spells bytes s → (k : ℕ) → AreFit (next_from 1 s.objects) (get_or s.threads k [])
-spelled_fit {bytes} {s} p k = threads_fit (next_from 1 s.objects) s.objects p.threading s.threads p.threads (cells_within s.objects (spelled_lies p).lie) k
+all_on_both : (names : Names) (os more : List Op) → AllOn names os → AllOn names more → AllOn names (os ++ more)
+all_on_both names [] more h k = k
+all_on_both names (o ∷ os) more h k = (h.0, all_on_both names os more h.1 k)
 
--- no thread has too many commands
-threads_few : (names : Names) (lines : List Line) (threads : List (List Command)) → Threads names lines threads → (k : ℕ) → length (get_or threads k []) ≤ 4096
-threads_few names lines threads Threads.none k = omega arith
-threads_few names _ _ (Threads.one said few rest) zero = few
-threads_few names _ _ (Threads.one {more = more} {threads = threads} said few rest) (suc k) = threads_few names more threads rest k
+-- the operations of parts and one more
+pub operations_more : (parts : List (Tree Op)) (t : Tree Op) → all_operations (trees (parts ++ t ∷ [])) ≡ all_operations (trees parts) ++ operations t
+operations_more [] t = append_one (operations t) where
+  append_one : (os : List Op) → os ++ [] ≡ os
+  append_one [] = refl
+  append_one (o ∷ os) = ap (λ rest. o ∷ rest) (append_one os)
+operations_more (p ∷ parts) t = ap (λ rest. operations p ++ rest) (operations_more parts t) ∙ sym (append_assoc (operations p) (all_operations (trees parts)) (operations t))
 
--- no thread of a script that is spelled has more than 4,096 commands
-pub spelled_few : {bytes : List ℕ} {s : Script} → Spells bytes s → (k : ℕ) → length (get_or s.threads k []) ≤ 4096
-spelled_few {bytes} {s} p k = threads_few s.objects p.threading s.threads p.threads k
+-- how deep parts and one more are nested
+pub nesting_more : (parts : List (Tree Op)) (t : Tree Op) → greatest_nesting (trees (parts ++ t ∷ [])) ≡ max (greatest_nesting (trees parts)) (nesting t)
+nesting_more [] t = omega arith
+nesting_more (p ∷ parts) t = omega (arith, nesting_more parts t)
 
--- of commands on locations below a number, each is
-pub fit_at : (n : ℕ) (cs : List Command) (i : ℕ) (d : Command) → AreFit n cs → i < length cs → IsFit n (get_or cs i d)
-fit_at n [] i d h lt = absurd (omega arith)
-fit_at n (c ∷ cs) zero d h lt = h.0
-fit_at n (c ∷ cs) (suc i) d h lt = fit_at n cs i d h.1 (omega arith)
+module _ (thread : ℕ) (names : Names) where
+  -- operations of a block are on objects
+  block_on : (level : ℕ) (parts : List (Tree Op)) (count : ℕ) (lines : List Line) (tree : Tree Op) (total : ℕ) → Block thread names level parts count lines tree total → AllOn names (all_operations (trees parts)) → AllOn names (operations tree)
+  block_on level parts count _ _ _ Block.ends h = h
+  block_on level parts count _ tree total (Block.one {lines = lines} line o e lt rest) h =
+      block_on level (parts ++ op o ∷ []) (count + 1) lines tree total rest (subst (AllOn names) (sym (operations_more parts (op o))) (all_on_both names (all_operations (trees parts)) (o ∷ []) h (said_on thread names line o e, tt)))
+  block_on level parts count _ _ total (Block.other {lines = lines} {tree = tree} shallow rest) h =
+      all_on_both names (all_operations (trees parts)) (operations tree) h (block_on (level + 1) [] count lines tree total rest tt)
+  block_on level parts count _ tree total (Block.inner {within = within} {inside = inside} {lines = lines} {block = block} shallow lt begun rest) h =
+      block_on level (parts ++ block ∷ []) within lines tree total rest (subst (AllOn names) (sym (operations_more parts block)) (all_on_both names (all_operations (trees parts)) (operations block) h (block_on (level + 1) [] (count + 1) inside block within begun tt)))
+
+  -- so many operations are counted
+  block_counted : (level : ℕ) (parts : List (Tree Op)) (count : ℕ) (lines : List Line) (tree : Tree Op) (total : ℕ) → Block thread names level parts count lines tree total → count ≤ 16 → (length (operations tree) + count ≤ length (all_operations (trees parts)) + total) × (total ≤ 16)
+  block_counted level parts count _ _ _ Block.ends le = (omega arith, le)
+  block_counted level parts count _ tree total (Block.one {lines = lines} line o e lt rest) le =
+      let h = block_counted level (parts ++ op o ∷ []) (count + 1) lines tree total rest (omega (arith, lt)) in
+      let n = ap (λ os. length os) (operations_more parts (op o)) ∙ length-append (all_operations (trees parts)) (o ∷ []) in
+      (omega (arith, h.0, n), h.1)
+  block_counted level parts count _ _ total (Block.other {lines = lines} {tree = tree} shallow rest) le =
+      let h = block_counted (level + 1) [] count lines tree total rest le in
+      (omega (arith, h.0, length-append (all_operations (trees parts)) (operations tree)), h.1)
+  block_counted level parts count _ tree total (Block.inner {within = within} {inside = inside} {lines = lines} {block = block} shallow lt begun rest) le =
+      let h = block_counted (level + 1) [] (count + 1) inside block within begun (omega (arith, lt)) in
+      let k = block_counted level (parts ++ block ∷ []) within lines tree total rest h.1 in
+      let n = ap (λ os. length os) (operations_more parts block) ∙ length-append (all_operations (trees parts)) (operations block) in
+      (omega (arith, h.0, k.0, n), k.1)
+
+  -- it is nested no deeper than its level lets it be
+  block_shallow : (level : ℕ) (parts : List (Tree Op)) (count : ℕ) (lines : List Line) (tree : Tree Op) (total : ℕ) → Block thread names level parts count lines tree total → level ≤ 8 → greatest_nesting (trees parts) + level ≤ 8 → (level < 8 → greatest_nesting (trees parts) + level ≤ 7) → nesting tree + level ≤ 8
+  block_shallow level parts count _ _ _ Block.ends le h k = h
+  block_shallow level parts count _ tree total (Block.one {lines = lines} line o e lt rest) le h k =
+      let n = nesting_more parts (op o) in
+      block_shallow level (parts ++ op o ∷ []) (count + 1) lines tree total rest le (omega (arith, h, n, le)) (λ below. let g = k below in omega (arith, g, n, below))
+  block_shallow level parts count _ _ total (Block.other {lines = lines} {tree = tree} shallow rest) le h k =
+      let r = block_shallow (level + 1) [] count lines tree total rest (omega (arith, shallow)) (omega (arith, shallow)) (λ below. omega (arith, below)) in
+      omega (arith, r, k shallow)
+  block_shallow level parts count _ tree total (Block.inner {within = within} {inside = inside} {lines = lines} {block = block} shallow lt begun rest) le h k =
+      let r = block_shallow (level + 1) [] (count + 1) inside block within begun (omega (arith, shallow)) (omega (arith, shallow)) (λ below. omega (arith, below)) in
+      let n = nesting_more parts block in
+      block_shallow level (parts ++ block ∷ []) within lines tree total rest le (omega (arith, h, n, r)) (λ below. let g = k below in omega (arith, g, n, r))
+
+  -- a block is within the limits
+  pub block_small : (level : ℕ) (count : ℕ) (lines : List Line) (tree : Tree Op) (total : ℕ) → level ≤ 8 → count ≤ 16 → Block thread names level [] count lines tree total → IsSmall tree
+  block_small level count lines tree total le few b =
+      let h = block_counted level [] count lines tree total b few in
+      let k = block_shallow level [] count lines tree total b le (omega (arith, le)) (λ below. omega (arith, below)) in
+      (omega (arith, h.0, h.1), omega (arith, k))
+
+  -- commands that lines say are on objects
+  commands_on : (lines : List Line) (cs : List Command) → Say thread names lines cs → CommandsAreOn names cs
+  commands_on lines cs Say.none = tt
+  commands_on _ _ (Say.one {lines = lines} {commands = cs} line o e rest) = (said_on thread names line o e, commands_on lines cs rest)
+  commands_on _ _ (Say.block {inside = inside} {lines = lines} {commands = cs} {tree = tree} {total = total} b rest) =
+      (((block_small 0 0 inside tree total (omega arith) (omega arith) b).0, block_on 0 [] 0 inside tree total b tt), commands_on lines cs rest)
+
+-- ---- threads
+
+threads_are : (names : Names) (thread : ℕ) (lines : List Line) (threads : List (List Command)) → Threads names thread lines threads → AreThreads names threads
+threads_are names thread lines threads Threads.none = tt
+threads_are names thread _ _ (Threads.one {lines = lines} {more = more} {commands = cs} {threads = threads} lt said few rest) = (few, commands_on thread names lines cs said, threads_are names (thread + 1) more threads rest)
+
+-- each thread of a script that is spelled has at most 4,096 commands, on its objects
+pub spelled_threads : {bytes : List ℕ} {s : Script} → Spells bytes s → AreThreads s.objects s.threads
+spelled_threads {bytes} {s} p = threads_are s.objects 0 p.threading s.threads p.threads
+
+threads_few : (names : Names) (thread : ℕ) (lines : List Line) (threads : List (List Command)) → Threads names thread lines threads → thread ≤ 16 → thread + length threads ≤ 16
+threads_few names thread lines threads Threads.none le = omega (arith, le)
+threads_few names thread _ _ (Threads.one {more = more} {threads = threads} lt said few rest) le =
+    let h = threads_few names (thread + 1) more threads rest (omega (arith, lt)) in
+    omega (arith, h)
+
+-- at most 16 threads
+pub spelled_threads_few : {bytes : List ℕ} {s : Script} → Spells bytes s → length s.threads ≤ 16
+spelled_threads_few {bytes} {s} p = let h = threads_few s.objects 0 p.threading s.threads p.threads (omega arith) in omega (arith, h)
+
+-- the thread at an index
+pub thread_at : (names : Names) (threads : List (List Command)) (k : ℕ) → AreThreads names threads → (length (get_or threads k []) ≤ 4096) × CommandsAreOn names (get_or threads k [])
+thread_at names [] k h = (omega arith, tt)
+thread_at names (cs ∷ threads) zero h = (h.0, h.1)
+thread_at names (cs ∷ threads) (suc k) h = thread_at names threads k h.2
+
+-- the command at an index
+pub on_at : (names : Names) (cs : List Command) (i : ℕ) (d : Command) → CommandsAreOn names cs → i < length cs → CommandIsOn names (get_or cs i d)
+on_at names [] i d h lt = absurd (omega arith)
+on_at names (c ∷ cs) zero d h lt = h.0
+on_at names (c ∷ cs) (suc i) d h lt = on_at names cs i d h.1 (omega arith)

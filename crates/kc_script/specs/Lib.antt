@@ -1,8 +1,5 @@
-pub mod Words
-pub mod Script
-pub mod Grammar
 pub mod Spells
 pub mod Refused
-pub mod State
+pub mod Threads
+pub mod Blocks
 pub mod Reading
-pub mod Meaning

@@ -1,97 +1,118 @@
 -- Reading line by line, as the parser does it; private to this crate.
-use Rattle.std.specs.Prelude.{◌≡◌, ℕ, Bool, true, false, List, [], ◌∷◌, ◌++◌, length, map, codes, Option, Some, None, Result, Ok, Err, nat_le, nat_lt, ◌==◌, if◌then◌else◌}
+use Rattle.std.specs.Prelude.{ℕ, ◌+◌, Bool, true, false, not, List, [], ◌∷◌, ◌++◌, length, map, reverse, codes, Option, Some, None, is_some, Result, Ok, Err, nat_le, nat_lt, ◌==◌, if◌then◌else◌}
 use Rattle.std.specs.Str.{bytes_eq}
-use Rattle.kc_script.specs.declared.complaint.Complaint.{Complaint}
-use Rattle.kc_script.specs.declared.complaint.Complaint.TheVariants as complaint
-use Rattle.kc_script.specs.declared.fault.Why.{Why}
-use Rattle.kc_script.specs.declared.fault.Why.TheVariants.{Header, UnknownWord, TooMany, NotBuilt}
-use Rattle.kc_script.specs.declared.fault.Limit.TheVariants.{Threads, Commands}
-use Rattle.kc_script.specs.declared.object.Object.{Object}
-use Rattle.kc_script.specs.declared.operation.Command.{Command}
+use Rattle.std.specs.Global.{Vec}
+use Rattle.kc_lines.specs.declared.fault.Why.{Why}
+use Rattle.kc_lines.specs.declared.fault.Why.TheVariants.{Header, UnknownWord, StrayWord, UnclosedBlock, TooMany, NotBuilt}
+use Rattle.kc_lines.specs.declared.fault.Limit.TheVariants.{Threads}
+use Rattle.kc_lines.specs.Words.{lines, words, is_skipped}
+use Rattle.kc_lines.specs.Tests.{◌>>=◌, wants, found, counted, word_at}
+use Rattle.kc_term.specs.Tree.{Tree}
+use Rattle.kc_bundle.specs.declared.object.Object.{Object}
+use Rattle.kc_bundle.specs.declared.operation.Op.{Op}
+use Rattle.kc_bundle.specs.declared.operation.Command.{Command}
+use Rattle.kc_bundle.specs.Script.{Names, Script, names_of}
+use Rattle.kc_verbs.specs.declared.verb.Verb.{Verb}
+use Rattle.kc_verbs.specs.declared.word.Kind.{Kind}
+use Rattle.kc_verbs.specs.declared.word.Word.{Word}
+use Rattle.kc_verbs.specs.declared.word.Word.TheVariants as word
+use Rattle.kc_verbs.specs.Words.{word_of}
+use Rattle.kc_verbs.specs.Declaring.{declare}
+use Rattle.kc_verbs.specs.Saying.{say}
+use Rattle.kc_script.specs.declared.reader.Open.{Open}
+use Rattle.kc_script.specs.declared.reader.Thread.{Thread}
 use Rattle.kc_script.specs.declared.reader.Reader.{Reader}
-use Rattle.kc_script.specs.declared.word.Word.{Word}
-use Rattle.kc_script.specs.declared.word.Word.TheVariants as word
-use Rattle.kc_script.specs.Script.{Names, Script, names_of}
-use Rattle.kc_script.specs.Words.{lines, words, is_skipped}
-use Rattle.kc_script.specs.Grammar.{◌>>=◌, wants, counted, word_at, word_of, declare, say}
-
--- ---- what a function of the parser returned
-
--- it stopped for what the grammar finds wrong, or for want of memory
-abbrev pub Fails : {Y : Type 0} → Complaint → Result Y Why → Type 0
-Fails complaint.NoMemory read = Unit {0}
-Fails (complaint.Here why) read = read ≡ Err why
-
--- what it returned, seen by view, is what the grammar gives
-abbrev pub Gives : {X Y : Type 0} → (X → Y) → Result X Complaint → Result Y Why → Type 0
-Gives view (Ok x) read = read ≡ Ok (view x)
-Gives view (Err e) read = Fails e read
-
--- it brought a reader to the state that the grammar gives
-abbrev pub Reaches : {X Y : Type 0} → Y → Result X Complaint → Result Y Why → Type 0
-Reaches new (Ok x) read = read ≡ Ok new
-Reaches new (Err e) read = Fails e read
+use Rattle.kc_script.specs.Blocks.{OpenBlock, Place, in_block, op_line, atomic_line, or_at, end_at}
 
 -- ---- what the lines so far have declared and said
 
 pub record State : Type 0 where
   pub begun : Bool
   pub objects : Names
+  -- the threads before the one that is open
   pub threads : List (List Command)
-  -- the commands of the thread that is open, where one is
-  pub in_thread : Bool
-  pub here : List Command
+  -- the number of the thread that is open, from 0 on, where one is
+  pub thread : Option ℕ
+  pub place : Place
+
+abbrev pub lists : List (Vec (Tree Op)) → List (List (Tree Op))
+lists vs = map (λ v. v.items) vs
+
+abbrev pub open_of : Open → OpenBlock
+open_of b = record { level = b.level; done = lists b.done.items; parts = b.parts.items }
+
+abbrev pub place_of : Thread → Place
+place_of t = record { here = t.here.items; open_blocks = reverse (map open_of t.open_blocks.items); count = t.count }
 
 abbrev pub state_of : Reader → State
 state_of r = record {
   begun = r.begun;
   objects = names_of r.objects;
   threads = map (λ commands. commands.items) r.threads.items;
-  in_thread = r.in_thread;
-  here = r.here.items;
+  thread = r.thread;
+  place = place_of r.place;
 }
 
+abbrev pub nowhere : Place
+nowhere = record { here = []; open_blocks = []; count = 0 }
+
 abbrev pub opening : State
-opening = record { begun = false; objects = []; threads = []; in_thread = false; here = [] }
+opening = record { begun = false; objects = []; threads = []; thread = None; place = nowhere }
 
 -- ---- lines
 
 abbrev pub with_object : State → List ℕ × Object → State
 with_object s entry = record s { objects = s.objects ++ entry ∷ [] }
 
-unfoldable pub declared_line : State → Option Word → List (List ℕ) → Result State Why
-declared_line s word args = do
-  entry ← declare s.objects word args
+unfoldable pub declared_line : State → Kind → List (List ℕ) → Result State Why
+declared_line s k args = do
+  outside ← wants (not (is_some s.thread)) StrayWord
+  entry ← declare s.objects k args
   Ok (with_object s entry)
 
-unfoldable pub with_command : State → Command → Result State Why
-with_command s command = do
-  room ← wants (nat_lt (length s.here) 4096) (TooMany Commands)
-  Ok (record s { here = s.here ++ command ∷ [] })
+-- what follows at a new place in the thread
+abbrev pub placed : State → Result Place Why → Result State Why
+placed s r = r >>= λ p. Ok (record s { place = p })
 
-unfoldable pub said_line : State → Option Word → List (List ℕ) → Result State Why
-said_line s word args = do
-  command ← say s.objects word args
-  with_command s command
+unfoldable pub said_line : State → Verb → List (List ℕ) → Result State Why
+said_line s v args = do
+  thread ← found s.thread StrayWord
+  o ← say thread s.objects v args
+  placed s (op_line s.place o)
+
+unfoldable pub begun_block : State → List (List ℕ) → Result State Why
+begun_block s args = do
+  thread ← found s.thread StrayWord
+  placed s (atomic_line s.place args)
 
 -- the open thread, where there is one, put behind the threads
 abbrev pub closed : State → State
-closed s = if s.in_thread then record s { threads = s.threads ++ s.here ∷ []; in_thread = false; here = [] } else s
+closed s = if is_some s.thread then record s { threads = s.threads ++ s.place.here ∷ []; place = nowhere } else s
+
+-- the number of the thread that begins next
+abbrev pub next_thread : Option ℕ → ℕ
+next_thread None = 0
+next_thread (Some n) = n + 1
+
+-- the blocks of the open thread have ended
+abbrev pub no_block : State → Result (Unit {0}) Why
+no_block s = wants (not (in_block s.place.open_blocks)) UnclosedBlock
 
 unfoldable pub thread_line : State → List (List ℕ) → Result State Why
 thread_line s args = do
+  ended ← no_block s
   all ← counted 0 args
-  room ← wants (nat_lt (length (closed s).threads) 16) (TooMany Threads)
-  Ok (record (closed s) { in_thread = true })
-
-abbrev pub begins_thread : Option Word → Bool
-begins_thread None = false
-begins_thread (Some word.Thread) = true
-begins_thread (Some word.Loc) = false
-begins_thread (Some (word.OnLoc on)) = false
+  room ← wants (nat_lt (next_thread s.thread) 16) (TooMany Threads)
+  Ok (record (closed s) { thread = Some (next_thread s.thread) })
 
 unfoldable pub worded_line : State → Option Word → List (List ℕ) → Result State Why
-worded_line s word args = if begins_thread word then thread_line s args else (if s.in_thread then said_line s word args else declared_line s word args)
+worded_line s None args = Err UnknownWord
+worded_line s (Some word.Thread) args = thread_line s args
+worded_line s (Some word.Atomic) args = begun_block s args
+worded_line s (Some word.Or) args = placed s (or_at s.place s.place.open_blocks args)
+worded_line s (Some word.End) args = placed s (end_at s.place s.place.open_blocks args)
+worded_line s (Some (word.Declare k)) args = declared_line s k args
+worded_line s (Some (word.Say v)) args = said_line s v args
 
 unfoldable pub header_line : State → List (List ℕ) → Result State Why
 header_line s words = do
@@ -117,6 +138,7 @@ all_lines s (text ∷ texts) = any_line s (words text) >>= λ next. all_lines ne
 unfoldable pub ended : State → Result Script Why
 ended s = do
   begun ← wants s.begun Header
+  ended ← no_block s
   Ok (record { objects = s.objects; threads = (closed s).threads })
 
 unfoldable pub spelled : List ℕ → Result Script Why

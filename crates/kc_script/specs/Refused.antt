@@ -1,9 +1,9 @@
 -- Why bytes are refused.
 use Rattle.std.specs.Prelude.{◌≡◌, ℕ, List}
-use Rattle.kc_script.specs.declared.fault.ScriptError.{ScriptError}
-use Rattle.kc_script.specs.declared.fault.ScriptError.TheVariants as error
-use Rattle.kc_script.specs.declared.fault.Why.TheVariants.{NotBuilt}
-use Rattle.kc_script.specs.Script.{Script}
+use Rattle.kc_lines.specs.declared.fault.ScriptError.{ScriptError}
+use Rattle.kc_lines.specs.declared.fault.ScriptError.TheVariants as error
+use Rattle.kc_lines.specs.declared.fault.Why.TheVariants.{NotBuilt}
+use Rattle.kc_bundle.specs.Script.{Script}
 use Rattle.kc_script.specs.Spells.{Spells, IsBuilt}
 
 -- they spell no script of the built form

@@ -1,9 +1,13 @@
 -- The grammar of bundles: which script bytes spell.
-use Rattle.std.specs.Prelude.{◌≡◌, ℕ, ◌≤◌, not, List, [], ◌∷◌, ◌++◌, length, filter, map, codes, Ok}
-use Rattle.kc_script.specs.Words.{lines, words, is_skipped}
-use Rattle.kc_script.specs.declared.operation.Command.{Command}
-use Rattle.kc_script.specs.Script.{Names, Script}
-use Rattle.kc_script.specs.Grammar.{declared, said}
+use Rattle.std.specs.Prelude.{◌≡◌, ℕ, ◌+◌, ◌≤◌, ◌<◌, not, List, [], ◌∷◌, ◌++◌, length, filter, map, codes, Ok}
+use Rattle.kc_lines.specs.Words.{lines, words, is_skipped}
+use Rattle.kc_term.specs.Tree.{Tree, op, seq, first, trees}
+use Rattle.kc_bundle.specs.declared.operation.Op.{Op}
+use Rattle.kc_bundle.specs.declared.operation.Command.{Command}
+use Rattle.kc_bundle.specs.declared.operation.Command.TheVariants as command
+use Rattle.kc_bundle.specs.Script.{Names, Script}
+use Rattle.kc_verbs.specs.Declaring.{declared}
+use Rattle.kc_verbs.specs.Saying.{said}
 
 -- the words of a line
 abbrev pub Line : Type 0
@@ -19,20 +23,56 @@ header = codes "kcas" ∷ codes "1" ∷ []
 abbrev pub thread_line : Line
 thread_line = codes "thread" ∷ []
 
+abbrev pub atomic_line : Line
+atomic_line = codes "atomic" ∷ []
+
+abbrev pub or_line : Line
+or_line = codes "or" ∷ []
+
+abbrev pub end_line : Line
+end_line = codes "end" ∷ []
+
 -- behind these names, the lines declare the rest of all names, one on each
 pub data Declare : Names → List Line → Names → Type 0 where
   none : {names : Names} → Declare names [] names
   one : {names all : Names} {lines : List Line} (line : Line) (entry : _) → declared names line ≡ Ok entry → Declare (names ++ entry ∷ []) lines all → Declare names (line ∷ lines) all
 
--- the lines say these commands, one on each
-pub data Say (names : Names) : List Line → List Command → Type 0 where
-  none : Say names [] []
-  one : {lines : List Line} {commands : List Command} (line : Line) (command : Command) → said names line ≡ Ok command → Say names lines commands → Say names (line ∷ lines) (command ∷ commands)
+-- The lines of a block, from a place in it to its end. They say the rest of an alternative behind these parts of it, and the
+-- alternatives that follow; the tree is these alternatives from this one on. An outermost block has level 0, and each `or`
+-- of a block adds 1 to what follows in it; a block inside begins one above the level where it stands. So many commands and
+-- blocks inside the outermost block have come before, and so many have come at the end.
+pub data Block (thread : ℕ) (names : Names) : ℕ → List (Tree Op) → ℕ → List Line → Tree Op → ℕ → Type 0 where
+  ends : {level count : ℕ} {parts : List (Tree Op)} → Block thread names level parts count [] (seq (trees parts)) count
+  one : {level count total : ℕ} {parts : List (Tree Op)} {lines : List Line} {tree : Tree Op} (line : Line) (o : Op) →
+      said thread names line ≡ Ok o → count < 16 →
+      Block thread names level (parts ++ op o ∷ []) (count + 1) lines tree total →
+      Block thread names level parts count (line ∷ lines) tree total
+  other : {level count total : ℕ} {parts : List (Tree Op)} {lines : List Line} {tree : Tree Op} →
+      level < 8 →
+      Block thread names (level + 1) [] count lines tree total →
+      Block thread names level parts count (or_line ∷ lines) (first (seq (trees parts)) tree) total
+  inner : {level count within total : ℕ} {parts : List (Tree Op)} {inside lines : List Line} {block tree : Tree Op} →
+      level < 8 → count < 16 →
+      Block thread names (level + 1) [] (count + 1) inside block within →
+      Block thread names level (parts ++ block ∷ []) within lines tree total →
+      Block thread names level parts count (atomic_line ∷ (inside ++ end_line ∷ lines)) tree total
 
--- the lines begin these threads, and say their commands
-pub data Threads (names : Names) : List Line → List (List Command) → Type 0 where
-  none : Threads names [] []
-  one : {lines more : List Line} {commands : List Command} {threads : List (List Command)} → Say names lines commands → length commands ≤ 4096 → Threads names more threads → Threads names (thread_line ∷ (lines ++ more)) (commands ∷ threads)
+-- in the thread of this number, the lines say these commands: an operation on one line, or a block
+pub data Say (thread : ℕ) (names : Names) : List Line → List Command → Type 0 where
+  none : Say thread names [] []
+  one : {lines : List Line} {commands : List Command} (line : Line) (o : Op) →
+      said thread names line ≡ Ok o →
+      Say thread names lines commands → Say thread names (line ∷ lines) (command.One o ∷ commands)
+  block : {inside lines : List Line} {commands : List Command} {tree : Tree Op} {total : ℕ} →
+      Block thread names 0 [] 0 inside tree total →
+      Say thread names lines commands → Say thread names (atomic_line ∷ (inside ++ end_line ∷ lines)) (command.Block tree ∷ commands)
+
+-- behind so many threads, the lines begin these threads, and say their commands
+pub data Threads (names : Names) : ℕ → List Line → List (List Command) → Type 0 where
+  none : {thread : ℕ} → Threads names thread [] []
+  one : {thread : ℕ} {lines more : List Line} {commands : List Command} {threads : List (List Command)} →
+      thread < 16 → Say thread names lines commands → length commands ≤ 4096 →
+      Threads names (thread + 1) more threads → Threads names thread (thread_line ∷ (lines ++ more)) (commands ∷ threads)
 
 -- the bytes spell the script: a header, declarations, and threads
 pub record Spells (bytes : List ℕ) (s : Script) : Type 0 where
@@ -40,8 +80,7 @@ pub record Spells (bytes : List ℕ) (s : Script) : Type 0 where
   pub threading : List Line
   pub lines : contents bytes ≡ header ∷ (declaring ++ threading)
   pub declares : Declare [] declaring s.objects
-  pub threads : Threads s.objects threading s.threads
-  pub few : length s.threads ≤ 16
+  pub threads : Threads s.objects 0 threading s.threads
 
 -- the form of scripts that is built today: one thread at most
 abbrev pub IsBuilt : Script → Type 0

@@ -1,10 +1,30 @@
 //! What holds of the grammar.
 
-ghost use Rattle.std.specs.Prelude.{◌≡◌, ℕ, List};
-ghost use Rattle.kc_script.specs.Script.{Script};
+ghost use Rattle.std.specs.Prelude.{◌≡◌, ◌≤◌, ℕ, List, ◌∷◌, length, Ok};
+ghost use Rattle.kc_bundle.specs.Script.{Script, LiesInOrder, AreSized};
 ghost use Rattle.kc_script.specs.Spells.{Spells};
+ghost use Rattle.kc_script.specs.Threads.{AreThreads};
+ghost use Rattle.kc_script.specs.Blocks.{OpenBlock, block_of};
+ghost use Rattle.kc_script.specs.Reading.{State, opening, all_lines};
+ghost use Rattle.kc_term.specs.Tree.{Tree};
+ghost use Rattle.kc_bundle.specs.declared.operation.Op.{Op};
 
 /// Bytes spell at most one bundle.
 pub fn bytes_spell_one()
     ensures { (bytes : List ℕ) (s t : Script) → Spells bytes s → Spells bytes t → s ≡ t }
+{}
+
+/// The objects of a bundle that bytes spell lie one behind another and have their sizes. It has at most 16 threads, and
+/// each has at most 4,096 commands, all on the bundle's objects.
+pub fn spelled_is_in_order()
+    ensures lies { (bytes : List ℕ) (s : Script) → Spells bytes s → LiesInOrder s }
+    ensures sized { (bytes : List ℕ) (s : Script) → Spells bytes s → AreSized s.objects }
+    ensures few { (bytes : List ℕ) (s : Script) → Spells bytes s → length s.threads ≤ 16 }
+    ensures threads { (bytes : List ℕ) (s : Script) → Spells bytes s → AreThreads s.objects s.threads }
+{}
+
+/// A block that is open behind some lines is made where it ends: what is too much in a block was refused before, at the
+/// line where it was too much.
+pub fn blocks_are_made()
+    ensures { (texts : List (List ℕ)) (s : State) (b : OpenBlock) (outer : List OpenBlock) → all_lines opening texts ≡ Ok s → s.place.open_blocks ≡ b ∷ outer → (t : Tree Op) × (block_of b ≡ Ok t) }
 {}

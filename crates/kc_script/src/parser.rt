@@ -1,16 +1,15 @@
 //! Reading a bundle.
 
 ghost use Rattle.std.specs.Prelude.{◌≤◌, length, IfOk, IfErr};
-ghost use Rattle.kc_script.specs.Script.{script_of};
+ghost use Rattle.kc_bundle.specs.Script.{script_of};
 ghost use Rattle.kc_script.specs.Spells.{Spells, IsBuilt};
 ghost use Rattle.kc_script.specs.Refused.{Refused};
-ghost use Rattle.kc_script.specs.Reading.{Gives, built};
+ghost use Rattle.kc_lines.specs.Gives.{Gives};
+ghost use Rattle.kc_script.specs.Reading.{built};
 
-use crate::bundle::Bundle;
-use crate::complaint::Complaint;
-use crate::fault::{ScriptError, Why};
-use crate::line::wants;
 use crate::reading::read;
+use kc_bundle::Bundle;
+use kc_lines::{Complaint, ScriptError, Why, wants};
 use std::alloc::Global;
 
 /// How many bytes a bundle may have.

@@ -1,10 +1,34 @@
-ghost use Rattle.std.specs.Prelude.{◌≡◌, ◌≤◌};
-ghost use Rattle.kc_script.specs.Script.{next_from, names_of};
+ghost use Rattle.std.specs.Prelude.{◌≡◌, ◌≤◌, ◌<◌, IfSome};
+ghost use Rattle.std.proofs.Props.{props};
+ghost use Rattle.kc_bundle.specs.Script.{next_from, names_of};
 
-use crate::object::Object;
-use crate::operation::Command;
 use indexmap::IndexMap;
+use kc_bundle::{Command, Object, Op};
+use kc_term::Term;
 use std::alloc::Global;
+
+/// A block that is open.
+#[derive(Drop)]
+pub struct Open {
+    /// The level where its lines stand.
+    pub level: u32,
+    /// The alternatives that are done.
+    pub done: Vec<Vec<Term<Op>>>,
+    /// The parts of the alternative that is not.
+    pub parts: Vec<Term<Op>>,
+    ghost shallow: { level ≤ 8 },
+}
+
+/// What the lines of a thread so far have said.
+#[derive(Drop)]
+pub struct Thread {
+    pub here: Vec<Command>,
+    /// The blocks that are open, the innermost last.
+    pub open_blocks: Vec<Open>,
+    /// How many commands and blocks the outermost of them has.
+    pub count: u32,
+    ghost few: { count ≤ 16 },
+}
 
 /// What the lines so far have declared and said.
 #[derive(Drop)]
@@ -15,10 +39,12 @@ pub struct Reader {
     pub objects: IndexMap<String, Object>,
     /// The first location that no object has.
     pub next: u32,
+    /// The threads before the one that is open.
     pub threads: Vec<Vec<Command>>,
-    pub in_thread: bool,
-    /// The commands of the thread that is open, where one is.
-    pub here: Vec<Command>,
+    /// The number of the thread that is open, from 0 on, where one is.
+    pub thread: Option<u32>,
+    pub place: Thread,
     ghost follows: { next ≡ next_from 1 (names_of objects) },
     ghost within: { next ≤ 65536 },
+    ghost numbered: { IfSome thread (λ n. n < 16) } by { Prim.hlevel props },
 }

@@ -1,34 +1,28 @@
 //! Reading line by line.
 
 ghost use Rattle.std.specs.Prelude.{◌≡◌, ◌≤◌, ◌+◌, map, None, OnOk};
-ghost use Rattle.kc_script.specs.Script.{script_of, names_of, cells};
-ghost use Rattle.kc_script.specs.Words.{words};
-ghost use Rattle.kc_script.specs.Grammar.{object_of};
-ghost use Rattle.kc_script.specs.Reading.{Gives, Reaches, state_of, opening, with_object, with_command, closed, declared_line, said_line, thread_line, worded_line, header_line, content_line, any_line, all_lines, ended, spelled};
+ghost use Rattle.kc_bundle.specs.Script.{script_of, names_of, cells, IsSized};
+ghost use Rattle.kc_lines.specs.Words.{words};
+ghost use Rattle.kc_lines.specs.Gives.{Gives, Reaches};
+ghost use Rattle.kc_verbs.specs.Objects.{object_of};
+ghost use Rattle.kc_script.specs.Blocks.{in_block};
+ghost use Rattle.kc_script.specs.Reading.{state_of, opening, with_object, closed, next_thread, no_block, placed, declared_line, said_line, begun_block, thread_line, worded_line, header_line, content_line, any_line, all_lines, ended, spelled};
 
-use crate::bundle::Bundle;
-use crate::complaint::Complaint;
-use crate::declaring::declare;
-use crate::fault::{Limit, Why};
-use crate::line::{complain, counted, wants, word_at};
-use crate::object::Object;
-use crate::objects::{add, cells};
-use crate::operation::Command;
+use crate::blocks::{atomic_line, begin_thread, end_line, in_block, op_line, or_line};
 use crate::reader::Reader;
-use crate::saying::say;
-use crate::word::{Word, word_of};
-use crate::words::{is_skipped, lines_of, words_of};
 use indexmap::IndexMap;
+use kc_bundle::{Bundle, Object};
+use kc_lines::{
+    Complaint, Limit, Why, complain, counted, is_skipped, lines_of, wants, word_at, words_of,
+};
+use kc_verbs::{Kind, Verb, Word, add, cells_of, declare, say, word_of};
 use std::alloc::{AllocError, Global};
 use std::mem;
 
 /// How many threads a bundle may have.
-const MOST_THREADS: usize = 16;
+const MOST_THREADS: u32 = 16;
 
-/// How many commands a thread may have.
-const MOST_COMMANDS: usize = 4096;
-
-#[tactic(auto, unfolding(crate::specs::Script::next_from))]
+#[tactic(auto, unfolding(kc_bundle::specs::Script::next_from))]
 fn open(alloc: Global) -> Reader
     ensures { state_of result ≡ opening }
 {
@@ -38,73 +32,90 @@ fn open(alloc: Global) -> Reader
         objects: IndexMap::new(alloc),
         next: 1,
         threads: Vec::new(alloc),
-        in_thread: false,
-        here: Vec::new(alloc),
+        thread: None,
+        place: begin_thread(alloc),
     }
 }
 
 fn with_object(reader: &mut Reader, name: &str, object: Object) -> Result<(), AllocError>
     requires new { object_of (names_of reader.old.objects) name.now ≡ None }
+    requires sized { IsSized object }
     requires room { reader.old.next + cells object ≤ 65536 }
     ensures { OnOk result (state_of reader.new ≡ with_object (state_of reader.old) (name.now, object)) }
 {
     add(reader.alloc, &mut reader.objects, name, object)?;
-    reader.next += cells(object);
+    reader.next += cells_of(object);
     Ok(())
 }
 
 #[tactic(auto, unfolding(crate::specs::Reading::declared_line))]
-fn declared_line(reader: &mut Reader, word: Option<Word>, args: &[&[u8]]) -> Result<(), Complaint>
-    ensures { Reaches (state_of reader.new) result (declared_line (state_of reader.old) word (map (λ word. word.now) args.now)) }
+fn declared_line(reader: &mut Reader, kind: Kind, args: &[&[u8]]) -> Result<(), Complaint>
+    ensures { Reaches (state_of reader.new) result (declared_line (state_of reader.old) kind (map (λ word. word.now) args.now)) }
 {
-    let (name, object) = declare(reader, word, args)?;
+    wants(reader.thread.is_none(), Why::StrayWord)?;
+    let (name, object) = declare(&reader.objects, reader.next, kind, args)?;
     with_object(reader, name, object)?;
     Ok(())
 }
 
-#[tactic(auto, unfolding(crate::specs::Reading::with_command))]
-fn with_command(reader: &mut Reader, command: Command) -> Result<(), Complaint>
-    ensures { Reaches (state_of reader.new) result (with_command (state_of reader.old) command) }
+#[tactic(auto, unfolding(crate::specs::Reading::said_line))]
+fn said_line(reader: &mut Reader, verb: Verb, args: &[&[u8]]) -> Result<(), Complaint>
+    ensures { Reaches (state_of reader.new) result (said_line (state_of reader.old) verb (map (λ word. word.now) args.now)) }
 {
-    wants(
-        reader.here.len() < MOST_COMMANDS,
-        Why::TooMany(Limit::Commands),
-    )?;
-    reader.here.push(command)?;
-    Ok(())
+    let Some(thread) = reader.thread else {
+        return complain(Why::StrayWord);
+    };
+    let operation = say(thread, &reader.objects, verb, args)?;
+    op_line(&mut reader.place, operation)
 }
 
-#[tactic(auto, unfolding(crate::specs::Reading::said_line))]
-fn said_line(reader: &mut Reader, word: Option<Word>, args: &[&[u8]]) -> Result<(), Complaint>
-    ensures { Reaches (state_of reader.new) result (said_line (state_of reader.old) word (map (λ word. word.now) args.now)) }
+#[tactic(auto, unfolding(crate::specs::Reading::begun_block))]
+fn begun_block(reader: &mut Reader, args: &[&[u8]]) -> Result<(), Complaint>
+    ensures { Reaches (state_of reader.new) result (begun_block (state_of reader.old) (map (λ word. word.now) args.now)) }
 {
-    let command = say(&reader.objects, word, args)?;
-    with_command(reader, command)
+    if reader.thread.is_none() {
+        return complain(Why::StrayWord);
+    }
+    atomic_line(reader.alloc, &mut reader.place, args)
 }
 
 // Puts the commands of the open thread, where there is one, behind the threads.
 fn close_thread(reader: &mut Reader) -> Result<(), AllocError>
     ensures { OnOk result (state_of reader.new ≡ closed (state_of reader.old)) }
 {
-    if reader.in_thread {
-        let here = mem::replace(&mut reader.here, Vec::new(reader.alloc));
-        reader.threads.push(here)?;
-        reader.in_thread = false;
+    if reader.thread.is_some() {
+        let place = mem::replace(&mut reader.place, begin_thread(reader.alloc));
+        reader.threads.push(place.here)?;
     }
     Ok(())
+}
+
+fn no_block(reader: &Reader) -> Result<(), Complaint>
+    ensures { Gives (λ x. x) result (no_block (state_of reader.now)) }
+{
+    wants(!in_block(&reader.place), Why::UnclosedBlock)
+}
+
+// The number of the thread that begins next.
+fn next_thread(reader: &Reader) -> u32
+    ensures { result ≡ next_thread (state_of reader.now).thread }
+{
+    match reader.thread {
+        None => 0,
+        Some(thread) => thread + 1,
+    }
 }
 
 #[tactic(auto, unfolding(crate::specs::Reading::thread_line))]
 fn thread_line(reader: &mut Reader, args: &[&[u8]]) -> Result<(), Complaint>
     ensures { Reaches (state_of reader.new) result (thread_line (state_of reader.old) (map (λ word. word.now) args.now)) }
 {
+    no_block(reader)?;
     counted(0, args)?;
+    let thread = next_thread(reader);
+    wants(thread < MOST_THREADS, Why::TooMany(Limit::Threads))?;
     close_thread(reader)?;
-    wants(
-        reader.threads.len() < MOST_THREADS,
-        Why::TooMany(Limit::Threads),
-    )?;
-    reader.in_thread = true;
+    reader.thread = Some(thread);
     Ok(())
 }
 
@@ -112,13 +123,14 @@ fn thread_line(reader: &mut Reader, args: &[&[u8]]) -> Result<(), Complaint>
 fn worded_line(reader: &mut Reader, word: Option<Word>, args: &[&[u8]]) -> Result<(), Complaint>
     ensures { Reaches (state_of reader.new) result (worded_line (state_of reader.old) word (map (λ word. word.now) args.now)) }
 {
-    if word == Some(Word::Thread) {
-        return thread_line(reader, args);
-    }
-    if reader.in_thread {
-        said_line(reader, word, args)
-    } else {
-        declared_line(reader, word, args)
+    match word {
+        None => complain(Why::UnknownWord),
+        Some(Word::Thread) => thread_line(reader, args),
+        Some(Word::Atomic) => begun_block(reader, args),
+        Some(Word::Or) => or_line(reader.alloc, &mut reader.place, args),
+        Some(Word::End) => end_line(reader.alloc, &mut reader.place, args),
+        Some(Word::Declare(kind)) => declared_line(reader, kind, args),
+        Some(Word::Say(verb)) => said_line(reader, verb, args),
     }
 }
 
@@ -181,6 +193,7 @@ fn ended(mut reader: Reader) -> Result<Bundle, Complaint>
     ensures { Gives script_of result (ended (state_of reader)) }
 {
     wants(reader.begun, Why::Header)?;
+    no_block(&reader)?;
     close_thread(&mut reader)?;
     Ok(Bundle {
         objects: reader.objects,

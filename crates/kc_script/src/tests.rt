@@ -1,16 +1,50 @@
 ghost use Rattle.std.specs.Prelude.{IfOk};
-ghost use Rattle.kc_script.specs.Script.{script_of};
+ghost use Rattle.kc_bundle.specs.Script.{script_of};
 ghost use Rattle.kc_script.specs.Spells.{Spells, IsBuilt};
 
 use crate::*;
-use kc_model::{FrailSink, Loc, PlainStore};
-use std::test::Fail;
+use kc_bundle::{Bundle, Command, Object, Op};
+use kc_cells::{AccAct, AccOp, Accumulator, Mvar, MvarAct, MvarOp, Promise, PromiseAct, PromiseOp};
+use kc_hash::{Hash, HashAct, HashOp};
+use kc_lines::{Complaint, Limit, ScriptError, Why};
+use kc_loc::{Fun, LocOp, Rel};
+use kc_model::Loc;
+use kc_queue::{Queue, QueueAct, QueueOp};
+use kc_stack::{Stack, StackAct, StackOp};
+use kc_term::{Node, Term};
 
-/// A script with each command.
-const ALL: &str =
-    "kcas 1\nloc x 5\nloc y 6\nthread\nget x\nset x 7\nxchg y 8\nswap x y\ncas x 1 2\nadd x 3\nincr x\ndecr y\nupdate x max 9\nmodify y xor 4294967295\ncheck x le 10\n";
+/// Declarations of each kind, and a thread that begins.
+const KINDS: &str =
+    "kcas 1\nloc x 5\nloc y 6\nstack s 3\nqueue q 4\ntable t 2 3\nmvar m\npromise p\nacc a 2\nthread\n";
 
-const DEMO: &str = "kcas 1\nloc x 5\nthread\nget x\nset x 7\nadd x 1\n";
+const X: Loc = Loc(1);
+
+const Y: Loc = Loc(2);
+
+const STACK: Stack = Stack {
+    base: Loc(3),
+    cap: 3,
+};
+
+const QUEUE: Queue = Queue {
+    base: Loc(7),
+    cap: 4,
+};
+
+const TABLE: Hash = Hash {
+    base: Loc(13),
+    buckets: 2,
+    cap: 3,
+};
+
+const MVAR: Mvar = Mvar { base: Loc(26) };
+
+const PROMISE: Promise = Promise { base: Loc(28) };
+
+const ACC: Accumulator = Accumulator {
+    base: Loc(30),
+    cells: 2,
+};
 
 fn read(rt: &HostRuntime, text: &str) -> Result<Bundle, ScriptError>
     ensures { IfOk result (λ bundle. Spells text.now (script_of bundle) × IsBuilt (script_of bundle)) }
@@ -22,100 +56,233 @@ fn read(rt: &HostRuntime, text: &str) -> Result<Bundle, ScriptError>
     parse(rt.alloc(), bytes)
 }
 
-// Whether a script has x, which opens with 5, and one thread that gets it, sets it to 7 and adds 1.
-fn is_demo(rt: &HostRuntime, text: &str) -> bool {
-    let Ok(bundle) = read(rt, text) else {
+// The one thread's operation at an index.
+fn op_at(bundle: &Bundle, i: usize) -> Option<Op> {
+    match bundle.threads.first()?.get(i)? {
+        Command::One(operation) => Some(*operation),
+        Command::Block(_) => None,
+    }
+}
+
+// Whether a script's one thread has these operations, behind declarations of each kind.
+fn says(rt: &HostRuntime, lines: &str, ops: &[Op]) -> bool {
+    let Ok(text) = format!(in rt.alloc(); "{KINDS}{lines}") else {
         return false;
     };
-    let at = Loc(1);
-    let commands = [
-        Command::One(Op::Loc(LocOp::Get(at))),
-        Command::One(Op::Loc(LocOp::Set(at, 7))),
-        Command::One(Op::Loc(LocOp::FetchAdd(at, 1))),
-    ];
+    let Ok(bundle) = read(rt, &text) else {
+        return false;
+    };
     let Some(thread) = bundle.threads.first() else {
         return false;
     };
-    bundle.threads.len() == 1
-        && bundle.objects.len() == 1
-        && bundle.objects.get("x").copied() == Some(Object::Loc { at, value: 5 })
-        && thread.as_slice() == commands.as_slice()
+    for i in 0..ops.len() {
+        if op_at(&bundle, i) != Some(ops[i]) {
+            return false;
+        }
+    }
+    thread.len() == ops.len()
 }
 
 #[test]
-fn demo_is_read(rt: HostRuntime) {
-    assert!(rt; is_demo(&rt, DEMO));
-    assert!(rt;
-        is_demo(
-            &rt,
-            "# demo\r\nkcas\t1\r\n\r\n\tloc x 5\r\nthread\r\nget\tx \r\nset x 7\r\nadd x 1"
-        )
-    );
-}
-
-// Whether a script's one thread has each command.
-fn has_all(rt: &HostRuntime, text: &str) -> bool {
-    let Ok(bundle) = read(rt, text) else {
-        return false;
-    };
-    let (x, y) = (Loc(1), Loc(2));
+fn commands_on_locations_are_read(rt: HostRuntime) {
+    let lines =
+        "get x\nset x 7\nxchg y 8\nswap x y\ncas x 1 2\nadd x 3\nincr x\ndecr y\nupdate x max 9\nmodify y xor 4294967295\ncheck x le 10";
     let ops = [
-        LocOp::Get(x),
-        LocOp::Set(x, 7),
-        LocOp::Exchange(y, 8),
-        LocOp::Swap(x, y),
-        LocOp::Cas(x, 1, 2),
-        LocOp::FetchAdd(x, 3),
-        LocOp::Incr(x),
-        LocOp::Decr(y),
-        LocOp::Update(x, Fun::Max(9)),
-        LocOp::Modify(y, Fun::Xor(u32::MAX)),
-        LocOp::Check(x, Rel::Le, 10),
+        LocOp::Get(X),
+        LocOp::Set(X, 7),
+        LocOp::Exchange(Y, 8),
+        LocOp::Swap(X, Y),
+        LocOp::Cas(X, 1, 2),
+        LocOp::FetchAdd(X, 3),
+        LocOp::Incr(X),
+        LocOp::Decr(Y),
+        LocOp::Update(X, Fun::Max(9)),
+        LocOp::Modify(Y, Fun::Xor(u32::MAX)),
+        LocOp::Check(X, Rel::Le, 10),
+    ]
+    .map(|o| Op::Loc(o));
+    assert!(rt; says(&rt, lines, &ops));
+}
+
+#[test]
+fn commands_on_stacks_and_queues_are_read(rt: HostRuntime) {
+    let lines = "push s 1\npop s\npopw s\ntop s\nlen s\nenq q 2\ndeq q\ndeqw q\nfront q\nlen q";
+    let stacked = |act| Op::Stack(StackOp { stack: STACK, act });
+    let queued = |act| Op::Queue(QueueOp { queue: QUEUE, act });
+    let ops = [
+        stacked(StackAct::Push(1)),
+        stacked(StackAct::Pop),
+        stacked(StackAct::PopWait),
+        stacked(StackAct::Top),
+        stacked(StackAct::Len),
+        queued(QueueAct::Enq(2)),
+        queued(QueueAct::Deq),
+        queued(QueueAct::DeqWait),
+        queued(QueueAct::Front),
+        queued(QueueAct::Len),
     ];
-    let commands = ops.map(|o| Command::One(Op::Loc(o)));
-    let Some(thread) = bundle.threads.first() else {
-        return false;
+    assert!(rt; says(&rt, lines, &ops));
+}
+
+#[test]
+fn commands_on_tables_and_cells_are_read(rt: HostRuntime) {
+    let lines =
+        "put t 1 2\nfind t 1\ndel t 1\nlen t\nmput m 3\nmtake m\nmpeek m\nresolve p 4\nawait p\nresolved p\nbump a 5\ntotal a";
+    let tabled = |act| Op::Hash(HashOp { hash: TABLE, act });
+    let held = |act| Op::Mvar(MvarOp { mvar: MVAR, act });
+    let promised = |act| Op::Promise(PromiseOp {
+        promise: PROMISE,
+        act,
+    });
+    let summed = |act| Op::Acc(AccOp { acc: ACC, act });
+    let ops = [
+        tabled(HashAct::Put(1, 2)),
+        tabled(HashAct::Find(1)),
+        tabled(HashAct::Del(1)),
+        tabled(HashAct::Len),
+        held(MvarAct::Put(3)),
+        held(MvarAct::Take),
+        held(MvarAct::Peek),
+        promised(PromiseAct::Resolve(4)),
+        promised(PromiseAct::Await),
+        promised(PromiseAct::IsResolved),
+        summed(AccAct::Bump(0, 5)),
+        summed(AccAct::Total),
+    ];
+    assert!(rt; says(&rt, lines, &ops));
+}
+
+#[test]
+fn blanks_and_comments_make_no_difference(rt: HostRuntime) {
+    let text = "# demo\r\nkcas\t1\r\n\r\n\tloc x 5\r\nthread\r\nget\tx \r\nset x 0000000007";
+    let Ok(bundle) = read(&rt, text) else {
+        panic!(rt; "it is spelled");
     };
-    bundle.threads.len() == 1 && thread.as_slice() == commands.as_slice()
+    assert!(rt; bundle.objects.get("x").copied() == Some(Object::Loc { at: X, value: 5 }));
+    assert!(rt; op_at(&bundle, 0) == Some(Op::Loc(LocOp::Get(X))));
+    assert!(rt; op_at(&bundle, 1) == Some(Op::Loc(LocOp::Set(X, 7))));
 }
 
-#[test]
-fn each_command_is_read(rt: HostRuntime) {
-    assert!(rt; has_all(&rt, ALL));
-}
-
-#[test]
-fn others_are_refused(rt: HostRuntime) {
-    let texts = [
-        "",
-        "kcas 1 2",
-        "kcas 1\nloc x 4294967296",
-        "kcas 1\nloc x 1\nget x",
-        "kcas 1\nthread\nget y",
-        "kcas 1\nloc x 1\nloc x 2",
-        "kcas 1\nloc abcdefghijabcdefghijabcdefghijabc 1",
-        "kcas 1\nloc x 00000000001",
-        "kcas 1\nthread\nthread",
-        "kcas 1\nloc x 1\nthread\nupdate x nand 1",
-        "kcas 1\nloc x 1\nthread\ncheck x is 1",
-        "kcas 1\nloc x 1\nthread\nswap x",
-        "kcas 1\nloc x 1\nthread\ncas x 1 2 3",
-    ];
-    let why = Why::NotBuilt;
-    for text in texts {
-        let error = read(&rt, text).err();
-        assert_eq!(rt; error, Some(ScriptError::Fault { line: 0, why }));
+// The reason for which the reader refuses the text.
+fn reason(rt: &HostRuntime, text: &str) -> Option<Why> {
+    match crate::reading::read(rt.alloc(), text.as_bytes()) {
+        Ok(_) | Err(Complaint::NoMemory) => None,
+        Err(Complaint::Here(why)) => Some(why),
     }
 }
 
 #[test]
-fn demo_opens_and_shows(rt: HostRuntime) -> Result<(), Fail> {
-    let bundle = read(&rt, DEMO)?;
-    let values = opening(rt.alloc(), &bundle)?;
-    assert!(rt; values.as_slice() == [1, 5].as_slice());
-    let store = PlainStore::open(rt.alloc(), &values)?;
-    let mut sink = FrailSink::new(rt.alloc(), 100, Vec::new(rt.alloc()))?;
-    write_state(&bundle, &store, &mut sink)?;
-    assert!(rt; sink.bytes() == b"x 5\n".as_slice());
-    Ok(())
+fn lines_are_refused_for_their_first_fault(rt: HostRuntime) {
+    let rows = [
+        ("", Why::Header),
+        ("kcas 1 2", Why::Header),
+        ("kcas 2", Why::Header),
+        ("kcas 1\nfoo", Why::UnknownWord),
+        ("kcas 1\nget x", Why::StrayWord),
+        ("kcas 1\natomic", Why::StrayWord),
+        ("kcas 1\nor", Why::StrayWord),
+        ("kcas 1\nthread\nend", Why::StrayWord),
+        ("kcas 1\nthread\nloc x 1", Why::StrayWord),
+        ("kcas 1\nthread\natomic\nloc x 1", Why::StrayWord),
+        ("kcas 1\nthread\natomic\nthread 1", Why::UnclosedBlock),
+        ("kcas 1\nthread\natomic", Why::UnclosedBlock),
+        ("kcas 1\nloc 1x", Why::MissingWord),
+        ("kcas 1\nmvar m 1", Why::ExtraWord),
+        ("kcas 1\nthread 1", Why::ExtraWord),
+        ("kcas 1\nthread\natomic 1", Why::ExtraWord),
+        ("kcas 1\nloc 1x y", Why::BadName),
+        ("kcas 1\nloc x 1\nstack x 0", Why::RepeatedName),
+        ("kcas 1\nloc x 4294967296", Why::BadNumber),
+        ("kcas 1\nloc x 00000000001", Why::BadNumber),
+        ("kcas 1\nstack s 0", Why::BadNumber),
+        ("kcas 1\nqueue q 4097", Why::BadNumber),
+        ("kcas 1\ntable t 1025 1", Why::BadNumber),
+        ("kcas 1\ntable t 1 0", Why::BadNumber),
+        ("kcas 1\nacc a 33", Why::BadNumber),
+        ("kcas 1\nthread\nget x", Why::UnknownName),
+        ("kcas 1\nloc x 1\nthread\npush x y", Why::WrongKind),
+        ("kcas 1\nloc x 1\nthread\nlen x", Why::WrongKind),
+        (
+            "kcas 1\nloc x 1\nstack s 1\nthread\nswap x s",
+            Why::WrongKind,
+        ),
+        ("kcas 1\nloc x 1\nthread\nupdate x nand 1", Why::UnknownWord),
+        ("kcas 1\nloc x 1\nthread\ncheck x is y", Why::UnknownWord),
+    ];
+    for (text, why) in rows {
+        assert_eq!(rt; reason(&rt, text), Some(why));
+    }
+}
+
+#[test]
+fn limits_are_kept(rt: HostRuntime) {
+    let rows = [
+        (
+            "kcas 1\ntable a 1024 4096\ntable b 1024 4096\ntable c 1024 4096\ntable d 1024 4096\ntable e 1024 4096",
+            Limit::Locations,
+        ),
+        (
+            "kcas 1\nthread\nthread\nthread\nthread\nthread\nthread\nthread\nthread\nthread\nthread\nthread\nthread\nthread\nthread\nthread\nthread\nthread",
+            Limit::Threads,
+        ),
+        (
+            "kcas 1\nloc x 1\nthread\natomic\natomic\nget x\nget x\nget x\nend\nget x\nget x\nget x\nget x\nget x\nget x\nget x\nget x\nget x\nget x\nget x\nget x\natomic",
+            Limit::Block,
+        ),
+        (
+            "kcas 1\nthread\natomic\natomic\nor\nor\nor\nor\nor\nor\nor\nor",
+            Limit::Depth,
+        ),
+        (
+            "kcas 1\nthread\natomic\nor\nor\nor\nor\nor\nor\nor\nor\natomic",
+            Limit::Depth,
+        ),
+    ];
+    for (text, limit) in rows {
+        assert_eq!(rt; reason(&rt, text), Some(Why::TooMany(limit)));
+    }
+}
+
+#[test]
+fn a_refusal_says_not_built(rt: HostRuntime) {
+    let why = Why::NotBuilt;
+    for text in ["", "kcas 1\nthread\nthread", "kcas 1\nthread\nget y"] {
+        assert_eq!(rt;
+            read(&rt, text).err(),
+            Some(ScriptError::Fault { line: 0, why })
+        );
+    }
+}
+
+// How many alternatives stand in a term, one in the other, each of so many operations.
+fn alternatives(term: &Term<Op>, parts: usize) -> Option<usize> {
+    let mut rest = term;
+    for n in 0..10_usize {
+        match rest.node() {
+            Node::First(a, b) => {
+                let Node::Seq(ops) = a.node() else {
+                    return None;
+                };
+                if ops.len() != parts {
+                    return None;
+                }
+                rest = b;
+            }
+            _ => return Some(n),
+        }
+    }
+    None
+}
+
+#[test]
+fn a_block_may_be_nested_eight_deep(rt: HostRuntime) {
+    let text =
+        "kcas 1\nloc x 1\nthread\natomic\nget x\nget x\nor\nget x\nget x\nor\nget x\nget x\nor\nget x\nget x\nor\nget x\nget x\nor\nget x\nget x\nor\nget x\nget x\nor\nget x\nget x\nor\nend";
+    let Ok(bundle) = read(&rt, text) else {
+        panic!(rt; "it is spelled");
+    };
+    let Some(Command::Block(term)) = bundle.threads.first().and_then(|thread| thread.first()) else {
+        panic!(rt; "it has a block");
+    };
+    assert_eq!(rt; alternatives(term, 2), Some(8));
 }

@@ -1,11 +1,11 @@
 use Rattle.std.proofs.Common.{ap, arith}
-use Rattle.kc_script.specs.Script.{next_from, names_of}
-use Rattle.kc_script.proofs.Placed.{next_from-more}
+use Rattle.kc_bundle.specs.Script.{next_from, names_of}
+use Rattle.kc_script.proofs.Objects.{next_from_more}
 use Rattle.kc_script.proofs.reading.with_object.Goals as goal
 
 pub invariant_of-reader-2-clause-follows : goal.invariant_of-reader-2-clause-follows
 invariant_of-reader-2-clause-follows c =
     let old = c.args.reader.now in
-    let more = next_from-more 1 (names_of old.objects) (c.args.name.now, c.args.object) in
+    let more = next_from_more 1 (names_of old.objects) (c.args.name.now, c.args.object) in
     let same = ap (next_from 1) c.in_ok-add.ensures.ok in
-    omega (arith, old.follows, more, same, c.cells.ensures.value)
+    omega (arith, old.follows, more, same, c.cells_of.ensures.value)

@@ -1,0 +1,151 @@
+-- An operation keeps the cells of all objects well formed.
+use Rattle.std.proofs.Common.{◌≡◌, ◌≢◌, ℕ, ◌+◌, ◌≤◌, ◌<◌, ◌==◌, Bool, true, false, cond, List, [], ◌∷◌, inl, inr, refl, sym, ap, subst, arith}
+use Rattle.std.specs.Prelude.{None, reverse}
+use Rattle.std.proofs.lemmas.Bool.Decides.{nat_tests}
+use Rattle.kc_model.specs.declared.footprint.Loc.{Loc}
+use Rattle.kc_xt.specs.Meaning.{Touch, too_large, put, last_written, map_after}
+use Rattle.kc_xt.specs.Program.{Program, meaning, replies}
+use Rattle.kc_xt.proofs.Spared.{Spares, spared}
+use Rattle.kc_xt.proofs.Laws.{Below, below-meaning}
+use Rattle.kc_xt.proofs.Written.{map_after-at, unwritten_above}
+use Rattle.kc_loc.specs.declared.operation.LocOp.{LocOp}
+use Rattle.kc_loc.specs.declared.operation.LocOp.TheVariants as loc
+use Rattle.kc_loc.specs.Meaning.{loc_value}
+use Rattle.kc_loc.proofs.Values.{loc_has_value}
+use Rattle.kc_stack.specs.Meaning.{stack_program}
+use Rattle.kc_stack.proofs.StackLaw.{stack_below, stack_spares}
+use Rattle.kc_stack.proofs.Values.{stack_keeps}
+use Rattle.kc_queue.specs.Meaning.{queue_program}
+use Rattle.kc_queue.proofs.QueueLaw.{act_below as queue_act_below, queue_spares}
+use Rattle.kc_queue.proofs.Values.{queue_has_value}
+use Rattle.kc_cells.specs.Mvar.{mvar_program}
+use Rattle.kc_cells.proofs.MvarLaw.{mvar_below, mvar_spares, mvar_keeps}
+use Rattle.kc_cells.specs.Promise.{promise_program}
+use Rattle.kc_cells.proofs.PromiseLaw.{promise_below, promise_spares, promise_keeps}
+use Rattle.kc_cells.specs.Accumulator.{acc_program}
+use Rattle.kc_cells.proofs.AccLaw.{act_below as acc_act_below, acc_spares}
+use Rattle.kc_hash.specs.Meaning.{hash_program, hash_end}
+use Rattle.kc_hash.proofs.HashLaw.{program_below, program_spares}
+use Rattle.kc_hash.proofs.Values.{hash_keeps}
+use Rattle.kc_cache.specs.Meaning.{cache_program}
+use Rattle.kc_cache.proofs.CacheLaw.{cache_below, cache_spares}
+use Rattle.kc_cache.proofs.Values.{cache_has_value}
+use Rattle.kc_bundle.specs.declared.object.Object.{Object}
+use Rattle.kc_bundle.specs.declared.object.Object.TheVariants as object
+use Rattle.kc_bundle.specs.declared.operation.Op.{Op}
+use Rattle.kc_bundle.specs.declared.operation.Op.TheVariants as op
+use Rattle.kc_bundle.specs.Script.{Names, base, cells, HasObject, LieFrom, AreSized}
+use Rattle.kc_bundle.specs.On.{IsOn, LocIsOn, IsLocation}
+use Rattle.kc_bundle.specs.Meaning.{op_meaning}
+use Rattle.kc_bundle.specs.State.{Content, number, items, place, pairs, Stands, AreWellFormed}
+use Rattle.kc_bundle.proofs.Having.{has_place, has_sizes}
+use Rattle.kc_bundle.proofs.Standing.{stands_same}
+
+-- an object's cells stand for some content
+abbrev pub IsWell : Object → (ℕ → ℕ) → Type 0
+IsWell o m = (c : Content) × Stands o m c
+
+-- the same in all cells from this location on
+pub all_same : (at : ℕ) (names : Names) (m w : ℕ → ℕ) → LieFrom at names → ((l : ℕ) → at ≤ l → m l ≡ w l) → AreWellFormed names m → AreWellFormed names w
+unfolding LieFrom
+all_same at [] m w lie same ([], h) = ([], tt)
+all_same at [] m w lie same (c ∷ cs, h) = absurd h
+all_same at (entry ∷ names) m w lie same ([], h) = absurd h
+all_same at (entry ∷ names) m w lie same (c ∷ cs, (h, hs)) =
+    let rest = all_same (at + cells entry.1) names m w lie.1 (λ l le. same l (omega (arith, le))) (cs, hs) in
+    (c ∷ rest.0, (stands_same entry.1 m w c (λ l lo hi. same l (let first = lie.0 in omega (arith, lo, first))) h, rest.1))
+
+-- one object's cells stay well formed, and nothing changes outside them
+pub one_changes : (o : Object) (m w : ℕ → ℕ) → ((l : ℕ) → l < base o → m l ≡ w l) → ((l : ℕ) → base o + cells o ≤ l → m l ≡ w l) → (IsWell o m → IsWell o w)
+    → (at : ℕ) (names : Names) → LieFrom at names → HasObject names o → AreWellFormed names m → AreWellFormed names w
+unfolding LieFrom
+one_changes o m w before behind keeps at [] lie has h = absurd has
+one_changes o m w before behind keeps at (entry ∷ names) lie has ([], h) = absurd h
+one_changes o m w before behind keeps at (entry ∷ names) lie (inl e) (c ∷ cs, (h, hs)) =
+    let well = keeps (c, subst (λ x. Stands x m c) e h) in
+    let rest = all_same (at + cells entry.1) names m w lie.1 (λ l le. behind l (let first = lie.0 in omega (arith, le, first, ap base e, ap cells e))) (cs, hs) in
+    (well.0 ∷ rest.0, (subst (λ x. Stands x w well.0) (sym e) well.1, rest.1))
+one_changes o m w before behind keeps at (entry ∷ names) lie (inr has) (c ∷ cs, (h, hs)) =
+    let later = (has_place (at + cells entry.1) names o lie.1 has).0 in
+    let rest = one_changes o m w before behind keeps (at + cells entry.1) names lie.1 has (cs, hs) in
+    (c ∷ rest.0, (stands_same entry.1 m w c (λ l lo hi. before l (let first = lie.0 in omega (arith, hi, later, first))) h, rest.1))
+
+unwritten : (m : ℕ → ℕ) (ts : List Touch) (l : ℕ) → last_written ts l ≡ None → m l ≡ map_after m ts l
+unwritten m ts l h = let e = map_after-at m ts l in sym (rw h at e)
+
+-- a program that writes to one object's cells alone
+program_keeps : (o : Object) (p : Program) (n : ℕ) (m : ℕ → ℕ) (ks : List ℕ) → ((l : ℕ) → l < base o → Spares l p) → Below (base o + cells o) p → (IsWell o m → IsWell o (map_after m (meaning p n m ks).touches))
+    → (names : Names) → LieFrom 1 names → HasObject names o → AreWellFormed names m → AreWellFormed names (map_after m (meaning p n m ks).touches)
+program_keeps o p n m ks spares below keeps names lie has well =
+    let ts = (meaning p n m ks).touches in
+    one_changes o m (map_after m ts) (λ l lt. unwritten m ts l (spared l p n m ks (spares l lt))) (λ l le. unwritten m ts l (unwritten_above (base o + cells o) ts l (below-meaning (base o + cells o) p n m ks below) le)) keeps 1 names lie has well
+
+-- ---- locations
+
+module _ (names : Names) (lie : LieFrom 1 names) (sized : AreSized names) where
+  put_keeps : (l : Loc) (v : ℕ) (m : ℕ → ℕ) → IsLocation names l → AreWellFormed names m → AreWellFormed names (put m l.0 v)
+  put_keeps l v m (value, has) well =
+      let o = object.Loc l value in
+      let before : (k : ℕ) → k < l.0 → m k ≡ put m l.0 v k = λ k lt. grind (arith, nat_tests) in
+      let behind : (k : ℕ) → l.0 + 1 ≤ k → m k ≡ put m l.0 v k = λ k le. grind (arith, nat_tests) in
+      one_changes o m (put m l.0 v) before behind (λ _. (number (put m l.0 v l.0), refl)) 1 names lie has well
+
+  if_keeps : (t : Bool) (m w : ℕ → ℕ) → AreWellFormed names m → AreWellFormed names w → AreWellFormed names (cond t m w)
+  if_keeps true m w h g = h
+  if_keeps false m w h g = g
+
+  value_keeps : (o : LocOp) (m : ℕ → ℕ) → LocIsOn names o → AreWellFormed names m → AreWellFormed names (loc_value o m).map
+  value_keeps (loc.Get l) m on well = well
+  value_keeps (loc.Set l v) m on well = put_keeps l v m on well
+  value_keeps (loc.Exchange l v) m on well = put_keeps l v m on well
+  value_keeps (loc.Swap a b) m on well = put_keeps b (m a.0) (put m a.0 (m b.0)) on.1 (put_keeps a (m b.0) m on.0 well)
+  value_keeps (loc.Cas l before after) m on well = if_keeps (m l.0 == before) (put m l.0 after) m (put_keeps l after m on well) well
+  value_keeps (loc.FetchAdd l k) m on well = put_keeps l _ m on well
+  value_keeps (loc.Incr l) m on well = put_keeps l _ m on well
+  value_keeps (loc.Decr l) m on well = put_keeps l _ m on well
+  value_keeps (loc.Update l f) m on well = put_keeps l _ m on well
+  value_keeps (loc.Modify l f) m on well = put_keeps l _ m on well
+  value_keeps (loc.Check l r k) m on well = well
+
+  -- ---- operations
+
+  pub op_keeps : (o : Op) (n : ℕ) (m : ℕ → ℕ) (ks : List ℕ) → IsOn names o → AreWellFormed names m → (op_meaning o n m ks).outcome ≢ too_large → AreWellFormed names (map_after m (op_meaning o n m ks).touches)
+  op_keeps (op.Loc o) n m ks on well ne = subst (AreWellFormed names) (sym (loc_has_value o n m ks ne).1) (value_keeps o m on well)
+  op_keeps (op.Stack o) n m ks on well ne =
+      let x = object.Stack o.stack in
+      let p = stack_program o.stack o.act replies in
+      let keeps : IsWell x m → IsWell x (map_after m (meaning p n m ks).touches) = λ (c, (xs, h, e)). let k = stack_keeps o n m ks (xs, h) ne in (items (reverse k.0), (k.0, k.1, refl)) in
+      program_keeps x p n m ks (stack_spares o) (subst (λ b. Below b p) (omega arith) (stack_below o)) keeps names lie on well
+  op_keeps (op.Queue o) n m ks on well ne =
+      let x = object.Queue o.queue in
+      let p = queue_program o.queue o.act replies in
+      let keeps : IsWell x m → IsWell x (map_after m (meaning p n m ks).touches) = λ (c, (xs, h, e)). let k = queue_has_value o n m ks xs h ne in (items _, (_, k.1, refl)) in
+      program_keeps x p n m ks (queue_spares o) (subst (λ b. Below b p) (omega arith) (queue_act_below o.queue o.act (let z = has_sizes names x sized on in omega (arith, z.0)))) keeps names lie on well
+  op_keeps (op.Mvar o) n m ks on well ne =
+      let x = object.Mvar o.mvar in
+      let p = mvar_program o.mvar o.act replies in
+      let keeps : IsWell x m → IsWell x (map_after m (meaning p n m ks).touches) = λ (c, (v, h, e)). let k = mvar_keeps o n m ks (v, h) ne in (place k.0, (k.0, k.1, refl)) in
+      program_keeps x p n m ks (mvar_spares o) (mvar_below o) keeps names lie on well
+  op_keeps (op.Promise o) n m ks on well ne =
+      let x = object.Promise o.promise in
+      let p = promise_program o.promise o.act replies in
+      let keeps : IsWell x m → IsWell x (map_after m (meaning p n m ks).touches) = λ (c, (v, h, e)). let k = promise_keeps o n m ks (v, h) ne in (place k.0, (k.0, k.1, refl)) in
+      program_keeps x p n m ks (promise_spares o) (promise_below o) keeps names lie on well
+  op_keeps (op.Acc o) n m ks on well ne =
+      let x = object.Acc o.acc in
+      let p = acc_program o.acc o.act replies in
+      let keeps : IsWell x m → IsWell x (map_after m (meaning p n m ks).touches) = λ h. (number _, (_, refl, refl)) in
+      program_keeps x p n m ks (acc_spares o) (acc_act_below o.acc o.act (let z = has_sizes names x sized on in omega (arith, z.0))) keeps names lie on well
+  op_keeps (op.Hash o) n m ks on well ne =
+      let x = object.Hash o.hash in
+      let p = hash_program o.hash o.act replies in
+      let keeps : IsWell x m → IsWell x (map_after m (meaning p n m ks).touches) = λ (c, (ps, h, e)). let k = hash_keeps o n m ks (ps, h) ne in (pairs k.0, (k.0, k.1, refl)) in
+      let some = (has_sizes names x sized on).0 in
+      let spares : (l : ℕ) → l < o.hash.base.0 → Spares l p = λ l lt. program_spares o.hash some l (λ k lo hi e. omega (arith, lt, lo, e)) o.act replies (λ r. tt) in
+      program_keeps x p n m ks spares (subst (λ b. Below b p) (omega arith) (program_below o.hash some (hash_end o) (omega arith) o.act replies (λ r. tt))) keeps names lie on well
+  op_keeps (op.Cache o) n m ks on well ne =
+      let x = object.Cache o.cache in
+      let p = cache_program o.cache o.act replies in
+      let keeps : IsWell x m → IsWell x (map_after m (meaning p n m ks).touches) = λ (c, (ps, h, e)). (pairs _, (_, (cache_has_value o n m ks ps h ne).1, refl)) in
+      let some = (has_sizes names x sized on).0 in
+      program_keeps x p n m ks (cache_spares o some) (subst (λ b. Below b p) (omega arith) (cache_below o some)) keeps names lie on well

@@ -1,0 +1,10 @@
+pub mod Places
+pub mod Entries
+pub mod Having
+pub mod Standing
+pub mod Opened
+pub mod Keeping
+pub mod Fitting
+pub mod Commands
+pub mod Above
+pub mod Listed

@@ -1,0 +1,4 @@
+pub mod Script
+pub mod On
+pub mod Meaning
+pub mod State

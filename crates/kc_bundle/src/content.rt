@@ -1,0 +1,108 @@
+//! The text of what one object holds. Each part begins with a space.
+
+ghost use Rattle.std.specs.Prelude.{◌≡◌, ◌≤◌, ◌<◌, ℕ, List, length, reverse};
+ghost use Rattle.std.specs.List.{flat_map};
+ghost use Rattle.kc_model.specs.Store.{store_of};
+ghost use Rattle.kc_model.specs.Pen.{Puts};
+ghost use Rattle.kc_xt.specs.Meaning.{values};
+ghost use Rattle.kc_stack.specs.Meaning.{cells_end as stack_cells_end};
+ghost use Rattle.kc_stack.specs.Content.{StandsFor as StackStands};
+ghost use Rattle.kc_queue.specs.Meaning.{cells_end as queue_cells_end, StandsFor as QueueStands};
+ghost use Rattle.kc_hash.specs.Meaning.{cells_end as hash_cells_end};
+ghost use Rattle.kc_hash.specs.Content.{StandsFor as HashStands};
+ghost use Rattle.kc_cache.specs.Meaning.{cells_end as cache_cells_end};
+ghost use Rattle.kc_cache.specs.Content.{StandsFor as CacheStands};
+ghost use Rattle.kc_bundle.specs.State.{place, number_text, pair_text, content_text};
+
+use kc_cache::Cache;
+use kc_hash::Hash;
+use kc_model::{Loc, Pen, PlainStore, Sink};
+use kc_queue::Queue;
+use kc_stack::Stack;
+
+pub(crate) fn put_number<K: Sink>(pen: &mut Pen<K>, number: u32)
+    ensures { Puts K.written K.faults K.write_gives pen.old pen.new (number_text number) }
+{
+    pen.put(b" ");
+    pen.put_number(number);
+}
+
+fn put_pair<K: Sink>(pen: &mut Pen<K>, key: u32, value: u32)
+    ensures { Puts K.written K.faults K.write_gives pen.old pen.new (pair_text (key, value)) }
+{
+    pen.put(b" ");
+    pen.put_number(key);
+    pen.put(b"=");
+    pen.put_number(value);
+}
+
+pub(crate) fn put_location<K: Sink>(pen: &mut Pen<K>, store: &PlainStore, at: Loc)
+    requires { at.0 < length store.now }
+    ensures { Puts K.written K.faults K.write_gives pen.old pen.new (number_text (values (store_of store.now) at.0)) }
+{
+    match store.get(at) {
+        Some(value) => put_number(pen, value),
+        None => unreachable!("the store has the location"),
+    }
+}
+
+pub(crate) fn put_place<K: Sink>(pen: &mut Pen<K>, held: Option<u32>)
+    ensures { Puts K.written K.faults K.write_gives pen.old pen.new (content_text (place held)) }
+{
+    match held {
+        Some(value) => put_number(pen, value),
+        None => pen.put(b" none"),
+    }
+}
+
+/// The items, from the top.
+pub(crate) fn put_stack<K: Sink>(pen: &mut Pen<K>, store: &PlainStore, stack: Stack)
+    requires within { stack_cells_end stack ≤ length store.now }
+    requires fits { stack_cells_end stack ≤ 65536 }
+    ensures same_sink { pen.new.sink.ghost_name ≡ pen.old.sink.ghost_name }
+    ensures shows { (xs : List ℕ) → StackStands stack (values (store_of store.now)) xs → Puts K.written K.faults K.write_gives pen.old pen.new (flat_map number_text (reverse xs)) }
+{
+    for i in 0..stack.count(store) {
+        put_number(pen, stack.item(store, i));
+    }
+}
+
+/// The items, from the front.
+pub(crate) fn put_queue<K: Sink>(pen: &mut Pen<K>, store: &PlainStore, queue: Queue)
+    requires within { queue_cells_end queue ≤ length store.now }
+    requires fits { queue_cells_end queue ≤ 65536 }
+    ensures same_sink { pen.new.sink.ghost_name ≡ pen.old.sink.ghost_name }
+    ensures shows { (xs : List ℕ) → QueueStands queue (values (store_of store.now)) xs → Puts K.written K.faults K.write_gives pen.old pen.new (flat_map number_text xs) }
+{
+    for i in 0..queue.count(store) {
+        put_number(pen, queue.item(store, i));
+    }
+}
+
+/// The pairs, in rising order of key. A table has at most as many as its capacity.
+pub(crate) fn put_table<K: Sink>(pen: &mut Pen<K>, store: &PlainStore, hash: Hash)
+    requires { hash_cells_end hash ≤ 65536 }
+    ensures same_sink { pen.new.sink.ghost_name ≡ pen.old.sink.ghost_name }
+    ensures shows { (ps : List (ℕ × ℕ)) → HashStands hash (values (store_of store.now)) ps → Puts K.written K.faults K.write_gives pen.old pen.new (flat_map pair_text ps) }
+{
+    let mut last = None;
+    for _step in 0..hash.cap {
+        let Some((key, value)) = hash.pair_above(store, last) else {
+            return;
+        };
+        put_pair(pen, key, value);
+        last = Some(key);
+    }
+}
+
+/// The pairs, from the most recently used one.
+pub(crate) fn put_cache<K: Sink>(pen: &mut Pen<K>, store: &PlainStore, cache: Cache)
+    requires { cache_cells_end cache ≤ 65536 }
+    ensures same_sink { pen.new.sink.ghost_name ≡ pen.old.sink.ghost_name }
+    ensures shows { (ps : List (ℕ × ℕ)) → CacheStands cache (values (store_of store.now)) ps → Puts K.written K.faults K.write_gives pen.old pen.new (flat_map pair_text ps) }
+{
+    let mut pairs = cache.pairs(store);
+    while let Some((key, value)) = pairs.next() {
+        put_pair(pen, key, value);
+    }
+}

@@ -1,0 +1,12 @@
+//! Lines of a script: their words, names and numbers, the tests of a line that look at its words alone, and what can be wrong.
+#![tactic(auto)]
+
+mod complaint;
+mod fault;
+mod line;
+mod words;
+
+pub use complaint::Complaint;
+pub use fault::{Limit, ScriptError, Why};
+pub use line::{complain, counted, number_to, wants, word_at};
+pub use words::{as_name, is_skipped, lines_of, number_of, words_of};

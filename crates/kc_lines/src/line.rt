@@ -1,0 +1,52 @@
+//! The tests of a line that look at its words alone.
+
+ghost use Rattle.std.specs.Prelude.{◌≡◌, ◌<◌, Err, map, length, OnOk};
+ghost use Rattle.kc_lines.specs.Gives.{Gives};
+ghost use Rattle.kc_lines.specs.Tests.{wants, counted, word_at, number_to};
+
+use crate::complaint::Complaint;
+use crate::fault::Why;
+use crate::words::number_of;
+
+pub fn complain<T>(why: Why) -> Result<T, Complaint>
+    ensures { result ≡ Err (Complaint.Here why) }
+{
+    Err(Complaint::Here(why))
+}
+
+pub fn wants(test: bool, why: Why) -> Result<(), Complaint>
+    ensures { Gives (λ x. x) result (wants test why) }
+{
+    if test { Ok(()) } else { complain(why) }
+}
+
+pub fn counted(count: usize, args: &[&[u8]]) -> Result<(), Complaint>
+    ensures gives { Gives (λ x. x) result (counted count (map (λ word. word.now) args.now)) }
+    ensures count { OnOk result (length args.now ≡ count) }
+{
+    if args.len() < count {
+        return complain(Why::MissingWord);
+    }
+    if args.len() > count {
+        return complain(Why::ExtraWord);
+    }
+    Ok(())
+}
+
+pub fn word_at<'a>(args: &[&'a [u8]], i: usize) -> &'a [u8]
+    requires { i < length args.now }
+    ensures { result.now ≡ word_at (map (λ word. word.now) args.now) i }
+{
+    args[i]
+}
+
+/// The number that the word spells, up to this one.
+#[tactic(auto, unfolding(crate::specs::Tests::number_to))]
+pub fn number_to(most: u32, word: &[u8]) -> Result<u32, Complaint>
+    ensures { Gives (λ n. n) result (number_to most word.now) }
+{
+    match number_of(word, most) {
+        Some(n) => Ok(n),
+        None => complain(Why::BadNumber),
+    }
+}

@@ -1,0 +1,10 @@
+-- What holds of each thread of a bundle.
+use Rattle.std.specs.Prelude.{◌≤◌, List, [], ◌∷◌, length}
+use Rattle.kc_bundle.specs.declared.operation.Command.{Command}
+use Rattle.kc_bundle.specs.Script.{Names}
+use Rattle.kc_bundle.specs.On.{CommandsAreOn}
+
+-- each has at most 4,096 commands, and they are on these objects
+abbrev pub AreThreads : Names → List (List Command) → Type 0
+AreThreads names [] = Unit {0}
+AreThreads names (commands ∷ threads) = (length commands ≤ 4096) × CommandsAreOn names commands × AreThreads names threads

@@ -1,0 +1,19 @@
+//! Single lines of a script: the words that begin them, the objects that they declare, and the operations that they say.
+#![tactic(auto)]
+
+mod acts;
+mod declaring;
+mod laws;
+mod named;
+mod objects;
+mod on_loc;
+mod saying;
+mod verb;
+mod word;
+
+pub use declaring::{cells_of, declare};
+pub use laws::{declares_behind, says_on_objects};
+pub use objects::add;
+pub use saying::say;
+pub use verb::{AccWord, LocWord, MvarWord, PromiseWord, QueueWord, StackWord, TableWord, Verb};
+pub use word::{Kind, Word, word_of};
