@@ -9,12 +9,11 @@ use Rattle.kc_xt.specs.Meaning.{Outcome, replied, retried, too_large, Meaning, l
 use Rattle.kc_xt.specs.Program.{replies, retries, meaning, full, touching, has_room}
 use Rattle.kc_xt.proofs.Spared.{spared, spares_if, spared-first, written-given_up}
 use Rattle.kc_loc.specs.Meaning.{loc_program}
-use Rattle.kc_loc.proofs.LocLaw.{loc_spares}
-use Rattle.kc_script.specs.declared.operation.Command.{Command}
-use Rattle.kc_script.specs.declared.operation.Command.TheVariants as command
-use Rattle.kc_script.specs.declared.operation.Op.TheVariants as op
-use Rattle.kc_script.specs.Script.{IsFit}
-use Rattle.kc_script.specs.Meaning.{command_meaning, alone_program, thread_meaning, end_meaning}
+use Rattle.kc_bundle.proofs.Fitting.{command_spares_zero}
+use Rattle.kc_bundle.specs.declared.operation.Command.{Command}
+use Rattle.kc_bundle.specs.Script.{Names, LieFrom, AreSized}
+use Rattle.kc_bundle.specs.On.{CommandIsOn}
+use Rattle.kc_bundle.specs.Meaning.{command_meaning, alone_program, thread_meaning, end_meaning}
 use Rattle.kc_history.specs.declared.record.Record.{Record}
 use Rattle.kc_top.specs.Commit.{IsCommit, kept, run_on, OneLives}
 
@@ -41,13 +40,10 @@ pub end_ends : (s : Store) → (run_on (end_meaning 0) s).outcome ≢ retried
 unfolding loc_program
 end_ends s h = cc
 
-command_spares : (n : ℕ) (c : Command) → IsFit n c → (m : ℕ → ℕ) (ks : List ℕ) → last_written (command_meaning c MOST m ks).touches 0 ≡ None
-command_spares n (command.One (op.Loc o)) fit m ks = spared 0 _ MOST m ks (loc_spares o 0 (omega (arith, fit.0)))
-
 -- a command doesn't write how many threads live
-pub spares_live : (n : ℕ) (c : Command) (s : Store) → IsFit n c → last_written (run_on (thread_meaning 0 c) s).touches 0 ≡ None
-spares_live n c s fit =
-    spared-first (command_meaning c) (meaning (alone_program 0)) 0 MOST (values s) [] (command_spares n c fit (values s) []) (λ js. spared 0 (alone_program 0) MOST (values s) js (λ v. spares_if 0 (v == 1) (replies reply.Stranded) retries tt tt))
+pub spares_live : (names : Names) (c : Command) (s : Store) → LieFrom 1 names → AreSized names → CommandIsOn names c → last_written (run_on (thread_meaning 0 c) s).touches 0 ≡ None
+spares_live names c s lie sized on =
+    spared-first (command_meaning c) (meaning (alone_program 0)) 0 MOST (values s) [] (command_spares_zero names lie sized c MOST (values s) [] on) (λ js. spared 0 (alone_program 0) MOST (values s) js (λ v. spares_if 0 (v == 1) (replies reply.Stranded) retries tt tt))
 
 -- where a commit doesn't, it stays
 pub still_lives : (m : Meaning) (s e : Store) (r : Record) → IsCommit m s r → last_written (run_on m s).touches 0 ≡ None → e ≡ after r.footprint s → OneLives s → OneLives e

@@ -13,12 +13,12 @@ use Rattle.kc_xt.specs.Steps.{Does}
 use Rattle.kc_xt.specs.Law.{Obeys}
 use Rattle.kc_xt.proofs.Laws.{below_if, law_of}
 use Rattle.kc_xt.proofs.Composed.{obeys_first_stays, obeys_first_else, obeys_wider}
-use Rattle.kc_script.specs.declared.operation.Command.{Command}
-use Rattle.kc_script.specs.declared.operation.Command.TheVariants as command
-use Rattle.kc_script.specs.declared.operation.Op.TheVariants as op
-use Rattle.kc_script.specs.Script.{IsFit}
-use Rattle.kc_script.specs.Meaning.{command_meaning, alone_program, thread_meaning}
-use Rattle.kc_top.specs.Ask.{command_end, ask_end}
+use Rattle.kc_bundle.specs.declared.operation.Command.{Command}
+use Rattle.kc_bundle.specs.Script.{Names, LieFrom, AreSized, next_from}
+use Rattle.kc_bundle.specs.On.{CommandIsOn}
+use Rattle.kc_bundle.specs.Meaning.{command_meaning, command_end, CommandIsFit, alone_program, thread_meaning}
+use Rattle.kc_bundle.proofs.Fitting.{command_fits, command_within}
+use Rattle.kc_top.specs.Ask.{ask_end}
 
 -- what comes of a command that would wait, and what comes behind its reply
 abbrev pub alone : ℕ → (Reply → Program) → Program
@@ -38,9 +38,10 @@ module _ {P : Type 0} (gives : Gives P) where
   ask_waited live c t r x y w z waited rising law back alone_obeys =
       obeys_first_else _ (command_meaning c) (meaning (alone_program live)) x y w r z rising (obeys_wider _ (ask_end live c) (omega arith) (command_meaning c) x (Err Retry) y (rw waited at law)) back (obeys_wider _ (ask_end live c) (omega arith) (meaning (alone_program live)) w r z alone_obeys)
 
--- a command on a store's locations
-pub ask_fit : (n : ℕ) (c : Command) → IsFit n c → n ≤ 65536 → IsFit 65536 c
-ask_fit n (command.One (op.Loc o)) fit le = (fit.0, omega (arith, fit.1, le))
+-- a command on a store's objects
+module _ (n : ℕ) (names : Names) (lie : LieFrom 1 names) (sized : AreSized names) (room : next_from 1 names ≤ n) (c : Command) (on : CommandIsOn names c) where
+  pub ask_fit : n ≤ 65536 → CommandIsFit c
+  ask_fit le = command_fits names lie (omega arith) sized c on
 
-pub ask_within : (n : ℕ) (c : Command) → IsFit n c → 0 < n → ask_end 0 c ≤ n
-ask_within n (command.One (op.Loc o)) fit some = omega (arith, fit.1, some)
+  pub ask_within : 0 < n → ask_end 0 c ≤ n
+  ask_within some = omega (arith, command_within names lie c on, room, some)

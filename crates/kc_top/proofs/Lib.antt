@@ -1,6 +1,7 @@
 pub mod OnStore
 pub mod Asks
 pub mod Alone
+pub mod Formed
 pub mod Threads
 pub mod Runs
 pub mod Bundles

@@ -6,10 +6,10 @@ use Rattle.std.specs.Option.{option_map}
 use Rattle.kc_model.specs.declared.footprint.Footprint.{Footprint}
 use Rattle.kc_model.specs.Footprint.{PutsWhatItReads}
 use Rattle.kc_model.specs.Store.{Store, store_of, opened, Finds, after}
-use Rattle.kc_script.specs.declared.operation.Command.{Command}
-use Rattle.kc_script.specs.Script.{Script}
+use Rattle.kc_bundle.specs.declared.operation.Command.{Command}
+use Rattle.kc_bundle.specs.Script.{Script}
 use Rattle.kc_xt.specs.Meaning.{Meaning}
-use Rattle.kc_script.specs.State.{opening_values}
+use Rattle.kc_bundle.specs.State.{opening_values}
 use Rattle.kc_history.specs.declared.record.Record.{Record}
 use Rattle.kc_history.specs.declared.record.Place.{Place}
 use Rattle.kc_history.specs.Records.{record_at, footprint_at, NamesRecords}

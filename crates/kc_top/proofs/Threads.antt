@@ -7,13 +7,13 @@ use Rattle.kc_model.specs.declared.footprint.Footprint.{Footprint}
 use Rattle.kc_model.specs.declared.plain_store.Cell.{Cell}
 use Rattle.kc_model.specs.Footprint.{put_at}
 use Rattle.kc_model.specs.Store.{Store, store_of, after, cell_after}
-use Rattle.kc_script.specs.declared.operation.Command.{Command}
+use Rattle.kc_bundle.specs.declared.operation.Command.{Command}
 use Rattle.kc_model.specs.declared.reply.Answer.TheVariants as answer
-use Rattle.kc_script.specs.declared.operation.Command.TheVariants as command
-use Rattle.kc_script.specs.declared.operation.Op.TheVariants as op
+use Rattle.kc_bundle.specs.declared.operation.Command.TheVariants as command
+use Rattle.kc_bundle.specs.declared.operation.Op.TheVariants as op
 use Rattle.kc_loc.specs.declared.operation.LocOp.TheVariants as loc
 use Rattle.kc_xt.specs.Meaning.{Meaning, last_written}
-use Rattle.kc_script.specs.Meaning.{thread_meaning, end_meaning}
+use Rattle.kc_bundle.specs.Meaning.{thread_meaning, end_meaning}
 use Rattle.kc_history.specs.declared.record.Record.{Record}
 use Rattle.kc_history.specs.declared.record.Mark.TheVariants as mark
 use Rattle.kc_history.specs.declared.record.Place.{Place}

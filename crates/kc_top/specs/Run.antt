@@ -1,11 +1,11 @@
 -- What a run of a script is, and its text.
 use Rattle.std.specs.Prelude.{◌≡◌, ℕ, ◌+◌, List, [], ◌∷◌, ◌++◌, Option, Some, map, codes, slice_get, slice_index_or}
 use Rattle.kc_model.specs.Store.{Store, store_of, opened, after}
-use Rattle.kc_script.specs.declared.operation.Command.{Command}
-use Rattle.kc_script.specs.Script.{Script}
-use Rattle.kc_xt.specs.Meaning.{Meaning}
-use Rattle.kc_script.specs.Meaning.{thread_meaning, end_meaning}
-use Rattle.kc_script.specs.State.{opening_values, state_lines}
+use Rattle.kc_bundle.specs.declared.operation.Command.{Command}
+use Rattle.kc_bundle.specs.Script.{Script}
+use Rattle.kc_xt.specs.Meaning.{Meaning, values}
+use Rattle.kc_bundle.specs.Meaning.{thread_meaning, end_meaning}
+use Rattle.kc_bundle.specs.State.{Content, AllStand, opening_values, state_lines}
 use Rattle.kc_history.specs.declared.record.Mark.TheVariants as mark
 use Rattle.kc_history.specs.declared.record.Record.{Record}
 use Rattle.kc_history.specs.declared.record.Place.{Place}
@@ -55,13 +55,15 @@ pub record IsRun (script : Script) (records : List (List Record)) (order : List 
   pub replays : Replays script.threads records (opening_store script) order last
 
 -- the replies by thread, the records in canonical order, and what the objects hold at last
-abbrev pub run_text : Script → List (List Record) → List Place → Store → List ℕ
-run_text script records order last = records_text records order ++ codes "state\n" ++ state_lines script last
+abbrev pub run_text : Script → List (List Record) → List Place → List Content → List ℕ
+run_text script records order contents = records_text records order ++ codes "state\n" ++ state_lines script.objects contents
 
 -- the text of a run of the script
 pub record IsText (script : Script) (text : List ℕ) : Type 0 where
   pub records : List (List Record)
   pub order : List Place
   pub last : Store
+  pub contents : List Content
   pub run : IsRun script records order last
-  pub spelled : text ≡ run_text script records order last
+  pub stand : AllStand script.objects (values last) contents
+  pub spelled : text ≡ run_text script records order contents

@@ -3,9 +3,9 @@ use Rattle.std.specs.Prelude.{◌≡◌, ℕ, ◌≤◌, Bool, true, false, List
 use Rattle.std.specs.Str.{bytes_eq}
 use Rattle.kc_model.specs.declared.outside.Failed.{Failed}
 use Rattle.kc_model.specs.Outside.{behind, Rises, WritesFront, Takes, FailsLast, CameWhole, CamePast, CameSome}
-use Rattle.kc_script.specs.declared.fault.ScriptError.TheVariants as error
+use Rattle.kc_lines.specs.declared.fault.ScriptError.TheVariants as error
 use Rattle.kc_script.specs.declared.parser.TheConstants.{MOST_BYTES}
-use Rattle.kc_script.specs.Script.{Script}
+use Rattle.kc_bundle.specs.Script.{Script}
 use Rattle.kc_script.specs.Spells.{Spells, IsBuilt}
 use Rattle.kc_script.specs.Refused.{Refused}
 use Rattle.kc_top.specs.declared.status.Status.{Status}

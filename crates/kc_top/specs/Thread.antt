@@ -4,8 +4,9 @@ use Rattle.kc_model.specs.Store.{Store, store_of, after}
 use Rattle.kc_xt.specs.Meaning.{Meaning}
 use Rattle.kc_history.specs.declared.record.Record.{Record}
 use Rattle.kc_history.specs.declared.record.Place.{Place}
-use Rattle.kc_script.specs.declared.operation.Command.{Command}
-use Rattle.kc_script.specs.Script.{Script, LiesInOrder, AreFit, next_from}
+use Rattle.kc_bundle.specs.declared.operation.Command.{Command}
+use Rattle.kc_bundle.specs.Script.{Names, Script, LiesInOrder, LieFrom, AreSized, next_from}
+use Rattle.kc_bundle.specs.On.{CommandsAreOn}
 use Rattle.kc_script.specs.Spells.{IsBuilt}
 use Rattle.kc_model.specs.declared.plain_store.Cell.{Cell}
 use Rattle.kc_top.specs.Commit.{IsCommit, label, VersionsTo, OneLives}
@@ -27,13 +28,18 @@ own_places index (x ∷ xs) = record { thread = 0; index = index } ∷ own_place
 pub record CanRun (s : Script) : Type 0 where
   pub built : IsBuilt s
   pub lies : LiesInOrder s
-  pub fit : AreFit (next_from 1 s.objects) (slice_index_or s.threads 0 [])
+  pub sized : AreSized s.objects
+  pub on : CommandsAreOn s.objects (slice_index_or s.threads 0 [])
   pub few : length (slice_index_or s.threads 0 []) ≤ 4096
 
 -- a store on which one thread can run these commands
 pub record CanRunOn (cells : List Cell) (commands : List Command) : Type 0 where
   pub few : length commands ≤ 4096
-  pub fit : AreFit (length cells) commands
+  pub names : Names
+  pub lie : LieFrom 1 names
+  pub sized : AreSized names
+  pub room : next_from 1 names ≤ length cells
+  pub on : CommandsAreOn names commands
   pub some : 0 < length cells
   pub size : length cells ≤ 65536
   pub live : OneLives (store_of cells)

@@ -6,14 +6,15 @@ use Rattle.kc_model.specs.declared.footprint.Put.{Put}
 use Rattle.kc_model.specs.declared.reply.Reply.TheVariants as reply
 use Rattle.kc_model.specs.declared.reply.Answer.TheVariants as answer
 use Rattle.kc_model.specs.Store.{Store}
-use Rattle.kc_script.specs.declared.object.Object.TheVariants as object
-use Rattle.kc_script.specs.declared.operation.Command.{Command}
-use Rattle.kc_script.specs.declared.operation.Command.TheVariants as command
+use Rattle.kc_bundle.specs.declared.object.Object.TheVariants as object
+use Rattle.kc_bundle.specs.declared.operation.Command.{Command}
+use Rattle.kc_bundle.specs.declared.operation.Command.TheVariants as command
 use Rattle.kc_loc.specs.declared.kinds.Rel.TheVariants as rel
 use Rattle.kc_xt.specs.Meaning.{Touch}
-use Rattle.kc_script.specs.declared.operation.Op.TheVariants as op
+use Rattle.kc_bundle.specs.declared.operation.Op.TheVariants as op
 use Rattle.kc_loc.specs.declared.operation.LocOp.TheVariants as loc
-use Rattle.kc_script.specs.Script.{Script}
+use Rattle.kc_bundle.specs.Script.{Script}
+use Rattle.kc_bundle.specs.State.{Content, number}
 use Rattle.kc_history.specs.declared.record.Mark.TheVariants as mark
 use Rattle.kc_history.specs.declared.record.Record.{Record}
 use Rattle.kc_history.specs.declared.record.Place.{Place}
@@ -50,6 +51,10 @@ first_order = at 0 ∷ at 1 ∷ at 2 ∷ at 3 ∷ []
 
 abbrev pub first_last : Store
 first_last l = cond (l == 1) (record { version = 2; value = 8 }) (record { version = 1; value = 0 })
+
+-- what x holds then
+abbrev pub first_contents : List Content
+first_contents = number 8 ∷ []
 
 -- check x eq 9
 abbrev pub waits_for_nine : Command

@@ -1,10 +1,11 @@
 //! A script from its opening to its text.
 
-ghost use Rattle.std.specs.Prelude.{◌≡◌, ◌≤◌, ◌++◌, length, map, codes, slice_index_or, [], IfOk};
+ghost use Rattle.std.specs.Prelude.{◌≡◌, ◌≤◌, ◌++◌, List, length, map, codes, slice_index_or, [], IfOk};
 ghost use Rattle.kc_model.specs.Pen.{Puts, Prints};
 ghost use Rattle.kc_model.specs.Store.{store_of, opened};
-ghost use Rattle.kc_script.specs.Script.{script_of, names_of, CellsWithin};
-ghost use Rattle.kc_script.specs.State.{opening_values};
+ghost use Rattle.kc_bundle.specs.Script.{script_of, names_of, CellsWithin};
+ghost use Rattle.kc_bundle.specs.State.{Content, AllStand, AreWellFormed, opening_values};
+ghost use Rattle.kc_xt.specs.Meaning.{values};
 ghost use Rattle.kc_history.specs.Records.{lists_of, NamesRecords};
 ghost use Rattle.kc_top.specs.Run.{IsRun, run_text};
 ghost use Rattle.kc_top.specs.Thread.{CanRun, CanRunOn, RunsOne};
@@ -12,9 +13,9 @@ ghost use Rattle.kc_top.specs.Statuses.{Performs};
 
 use crate::status::Status;
 use crate::thread::{own_order, room_for, run_thread};
+use kc_bundle::{Bundle, Command, opening, put_state};
 use kc_history::{Place, Record, put_text};
 use kc_model::{Failed, ModelError, NoMemory, Pen, PlainStore, Sink};
-use kc_script::{Bundle, Command, opening, put_state};
 use std::alloc::Global;
 
 /// What a run leaves: the records by thread, their order, and the store.
@@ -39,6 +40,7 @@ fn run_bundle(alloc: Global, bundle: &Bundle) -> Result<Ran, NoMemory>
     requires { CanRun (script_of bundle.now) }
     ensures run { IfOk result (λ ran. IsRun (script_of bundle.now) (lists_of ran.records.items) ran.order.items (store_of ran.store)) }
     ensures cells { IfOk result (λ ran. CellsWithin (length ran.store) (names_of bundle.now.objects)) }
+    ensures formed { IfOk result (λ ran. AreWellFormed (names_of bundle.now.objects) (values (store_of ran.store))) }
     ensures named { IfOk result (λ ran. NamesRecords (lists_of ran.records.items) ran.order.items) }
 {
     let values = opening(alloc, bundle)?;
@@ -85,7 +87,7 @@ fn run_one(alloc: Global, commands: &[Command], store: PlainStore) -> Result<Ran
 fn write_run<K: Sink>(bundle: &Bundle, ran: &Ran, sink: &mut K) -> Result<(), Failed>
     requires cells { CellsWithin (length ran.now.store) (names_of bundle.now.objects) }
     requires named { NamesRecords (lists_of ran.now.records.items) ran.now.order.items }
-    ensures { Prints K.written K.faults K.write_gives sink.old sink.new result (run_text (script_of bundle.now) (lists_of ran.now.records.items) ran.now.order.items (store_of ran.now.store)) }
+    ensures { (contents : List Content) → AllStand (names_of bundle.now.objects) (values (store_of ran.now.store)) contents → Prints K.written K.faults K.write_gives sink.old sink.new result (run_text (script_of bundle.now) (lists_of ran.now.records.items) ran.now.order.items contents) }
 {
     let mut pen = Pen::new(sink);
     put_run(&mut pen, bundle, ran);
@@ -95,7 +97,7 @@ fn write_run<K: Sink>(bundle: &Bundle, ran: &Ran, sink: &mut K) -> Result<(), Fa
 fn put_run<K: Sink>(pen: &mut Pen<K>, bundle: &Bundle, ran: &Ran)
     requires cells { CellsWithin (length ran.now.store) (names_of bundle.now.objects) }
     requires named { NamesRecords (lists_of ran.now.records.items) ran.now.order.items }
-    ensures { Puts K.written K.faults K.write_gives pen.old pen.new (run_text (script_of bundle.now) (lists_of ran.now.records.items) ran.now.order.items (store_of ran.now.store)) }
+    ensures { (contents : List Content) → AllStand (names_of bundle.now.objects) (values (store_of ran.now.store)) contents → Puts K.written K.faults K.write_gives pen.old pen.new (run_text (script_of bundle.now) (lists_of ran.now.records.items) ran.now.order.items contents) }
 {
     put_text(pen, &ran.records, &ran.order);
     pen.put(b"state\n");

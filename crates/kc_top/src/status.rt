@@ -2,8 +2,8 @@ ghost use Rattle.std.specs.Prelude.{◌≡◌};
 ghost use Rattle.kc_top.specs.Numbers.{number};
 ghost use Rattle.kc_top.specs.declared.status.Status.TheVariants as status;
 
+use kc_lines::Why;
 use kc_model::{Failed, NoMemory};
-use kc_script::Why;
 
 /// How a run ended.
 #[derive(Clone, Copy, Debug, PartialEq, Eq)]

@@ -1,15 +1,15 @@
 ghost use Rattle.std.specs.Prelude.{◌≡◌, ◌∷◌, [], codes, Some, None};
 ghost use Rattle.kc_model.specs.declared.reply.Reply.TheVariants as reply;
 ghost use Rattle.kc_xt.specs.Meaning.{replied, retried};
-ghost use Rattle.kc_script.specs.Meaning.{thread_meaning, end_meaning};
+ghost use Rattle.kc_bundle.specs.Meaning.{thread_meaning, end_meaning};
 ghost use Rattle.kc_top.specs.Commit.{run_on};
-ghost use Rattle.kc_script.specs.State.{opening_values};
+ghost use Rattle.kc_bundle.specs.State.{opening_values};
 ghost use Rattle.kc_top.specs.Run.{AreThreads, run_text};
-ghost use Rattle.kc_top.specs.Worked.{first_script, first_records, first_order, first_last, waits_for_nine, one_lives, looks_at_x_and_live};
+ghost use Rattle.kc_top.specs.Worked.{first_script, first_records, first_order, first_last, first_contents, waits_for_nine, one_lives, looks_at_x_and_live};
 
 use crate::{Status, kcas_main};
+use kc_lines::Why;
 use kc_model::{FrailSink, FrailSource};
-use kc_script::Why;
 use std::alloc::Global;
 use std::test::Fail;
 
@@ -25,7 +25,7 @@ const NOT_BUILT: Status = Status::Script {
 
 // The definitions, computed on the first script and its records by hand.
 fn first_script_by_hand()
-    ensures text { run_text first_script first_records first_order first_last ≡ codes "1.1 5\n1.2 ok\n1.3 7\norder\n1.1\n1.2\n1.3\n1.end\nstate\nx 8\n" }
+    ensures text { run_text first_script first_records first_order first_contents ≡ codes "1.1 5\n1.2 ok\n1.3 7\norder\n1.1\n1.2\n1.3\n1.end\nstate\nx 8\n" }
     ensures threads { AreThreads 1 first_script.threads first_records }
     ensures opening { opening_values first_script ≡ 1 ∷ 5 ∷ [] }
 {}
@@ -81,6 +81,110 @@ fn worked_scripts_give_their_texts(rt: HostRuntime) -> Result<(), Fail> {
         let (status, written) = run(&rt, script.as_bytes())?;
         assert_eq!(rt; status, Status::Done, "{script}");
         assert_eq!(rt; written.as_slice(), text.as_bytes(), "{script}");
+    }
+    Ok(())
+}
+
+#[test]
+fn worked_blocks_and_structures_give_their_texts(rt: HostRuntime) -> Result<(), Fail> {
+    let rows = [
+        (
+            "kcas 1\nstack s 2\nloc x 5\nthread\natomic\npush s 1\ncheck x eq 9\nor\nget x\nend\n",
+            "1.1 5\norder\n1.1\n1.end\nstate\ns\nx 5\n",
+        ),
+        (
+            "kcas 1\nloc x 5\nthread\natomic\ncheck x eq 9\nor\ncheck x eq 8\nend\n",
+            "1.1 stranded\norder\n1.1\n1.end\nstate\nx 5\n",
+        ),
+        (
+            "kcas 1\nthread\natomic\nend\n",
+            "1.1 -\norder\n1.1\n1.end\nstate\n",
+        ),
+        (
+            "kcas 1\nqueue q 1\nloc x 0\nthread\natomic\nenq q 4\natomic\ndeqw q\ncheck x eq 1\nor\nfront q\nend\nend\n",
+            "1.1 ok 4\norder\n1.1\n1.end\nstate\nq 4\nx 0\n",
+        ),
+        (
+            "kcas 1\nstack s 2\nloc x 5\nthread\natomic\npush s 1\nset x 6\npopw s\npopw s\nend\nget x\nlen s\n",
+            "1.1 stranded\n1.2 5\n1.3 0\norder\n1.1\n1.2\n1.3\n1.end\nstate\ns\nx 5\n",
+        ),
+        (
+            "kcas 1\nstack s 1\nthread\npush s 4\npush s 5\npop s\npop s\n",
+            "1.1 ok\n1.2 full\n1.3 4\n1.4 none\norder\n1.1\n1.2\n1.3\n1.4\n1.end\nstate\ns\n",
+        ),
+        (
+            "kcas 1\nqueue q 3\nthread\nenq q 1\nenq q 2\ndeq q\nenq q 3\nenq q 4\nenq q 5\ndeq q\nfront q\nlen q\n",
+            "1.1 ok\n1.2 ok\n1.3 1\n1.4 ok\n1.5 ok\n1.6 full\n1.7 2\n1.8 3\n1.9 2\norder\n1.1\n1.2\n1.3\n1.4\n1.5\n1.6\n1.7\n1.8\n1.9\n1.end\nstate\nq 3 4\n",
+        ),
+        (
+            "kcas 1\ntable t 1 3\nthread\nput t 1 10\nput t 2 20\nput t 3 30\ndel t 2\nfind t 1\nfind t 2\nfind t 3\nput t 9 90\nput t 8 80\nput t 1 11\nlen t\n",
+            "1.1 ok\n1.2 ok\n1.3 ok\n1.4 20\n1.5 10\n1.6 none\n1.7 30\n1.8 ok\n1.9 full\n1.10 ok\n1.11 3\norder\n1.1\n1.2\n1.3\n1.4\n1.5\n1.6\n1.7\n1.8\n1.9\n1.10\n1.11\n1.end\nstate\nt 1=11 3=30 9=90\n",
+        ),
+        (
+            "kcas 1\ncache c 2 2\nthread\ncput c 1 10\ncput c 2 20\ncget c 1\ncput c 3 30\ncget c 2\nlen c\n",
+            "1.1 ok\n1.2 ok\n1.3 10\n1.4 ok\n1.5 none\n1.6 2\norder\n1.1\n1.2\n1.3\n1.4\n1.5\n1.6\n1.end\nstate\nc 3=30 1=10\n",
+        ),
+        (
+            "kcas 1\ncache c 2 2\nthread\ncputw c 1 10\ncputw c 2 20\ncget c 1\ncput c 3 30\ncdel c 1\ncputw c 4 40\ncget c 3\nlen c\n",
+            "1.1 ok\n1.2 ok\n1.3 10\n1.4 ok\n1.5 10\n1.6 ok\n1.7 30\n1.8 2\norder\n1.1\n1.2\n1.3\n1.4\n1.5\n1.6\n1.7\n1.8\n1.end\nstate\nc 3=30 4=40\n",
+        ),
+        (
+            "kcas 1\ncache c 1 1\nthread\ncputw c 1 10\ncputw c 1 11\ncputw c 2 20\ncput c 2 21\n",
+            "1.1 ok\n1.2 ok\n1.3 stranded\n1.4 ok\norder\n1.1\n1.2\n1.3\n1.4\n1.end\nstate\nc 2=21\n",
+        ),
+        (
+            "kcas 1\npromise p\nthread\nresolve p 4\nresolve p 5\nawait p\nresolved p\n",
+            "1.1 ok\n1.2 false\n1.3 4\n1.4 true\norder\n1.1\n1.2\n1.3\n1.4\n1.end\nstate\np 4\n",
+        ),
+        (
+            "kcas 1\nmvar m\nthread\nmpeek m\nmtake m\nmput m 4\nmput m 5\nmpeek m\nmtake m\nmpeek m\n",
+            "1.1 none\n1.2 stranded\n1.3 ok\n1.4 stranded\n1.5 4\n1.6 4\n1.7 none\norder\n1.1\n1.2\n1.3\n1.4\n1.5\n1.6\n1.7\n1.end\nstate\nm none\n",
+        ),
+        (
+            "kcas 1\nacc a 32\nacc b 32\nloc x 1\nthread\natomic\ntotal a\ntotal b\nend\natomic\nbump a 5\ntotal a\ntotal b\nget x\nend\n",
+            "1.1 0 0\n1.2 toolarge\norder\n1.1\n1.2\n1.end\nstate\na 0\nb 0\nx 1\n",
+        ),
+        (
+            "kcas 1\nacc a 32\nacc b 31\nloc x 1\nthread\natomic\ntotal a\ntotal b\ncheck x eq 2\nend\natomic\ntotal a\ntotal b\ncheck x eq 1\nend\n",
+            "1.1 toolarge\n1.2 0 0 ok\norder\n1.1\n1.2\n1.end\nstate\na 0\nb 0\nx 1\n",
+        ),
+    ];
+    for (script, text) in rows {
+        let (status, written) = run(&rt, script.as_bytes())?;
+        assert_eq!(rt; status, Status::Done, "{script}");
+        assert_eq!(rt; written.as_slice(), text.as_bytes(), "{script}");
+    }
+    Ok(())
+}
+
+/// The script `examples/tour.kcas`, without its comments: each declaration and each command once.
+const TOUR: &str =
+    "kcas 1\nloc x 5\nloc y 6\nstack s 2\nqueue q 3\ntable t 1 3\ncache c 2 2\nmvar m\npromise p\nacc a 4\nthread\nget x\nset x 7\nxchg y 8\nswap x y\ncas x 8 9\nadd x 1\nincr x\ndecr y\nupdate x max 20\nmodify y xor 1\ncheck x eq 20\npush s 4\npush s 5\npush s 6\ntop s\npop s\nlen s\npopw s\nenq q 1\nenq q 2\ndeq q\nfront q\ndeqw q\nput t 1 10\nput t 2 20\nfind t 1\ndel t 2\nlen t\ncput c 1 10\ncputw c 2 20\ncget c 1\ncput c 3 30\ncdel c 1\nlen c\nmput m 3\nmpeek m\nmtake m\nresolve p 4\nresolved p\nawait p\nresolve p 5\nbump a 61\ntotal a\natomic\npush s 1\ncheck x eq 9\nor\nget x\natomic\npopw s\nor\nenq q 7\nend\nend\natomic\nend\npopw s\n";
+
+const TOUR_TEXT: &str =
+    "1.1 5\n1.2 ok\n1.3 6\n1.4 ok\n1.5 true\n1.6 9\n1.7 ok\n1.8 ok\n1.9 11\n1.10 ok\n1.11 ok\n1.12 ok\n1.13 ok\n1.14 full\n1.15 5\n1.16 5\n1.17 1\n1.18 4\n1.19 ok\n1.20 ok\n1.21 1\n1.22 2\n1.23 2\n1.24 ok\n1.25 ok\n1.26 10\n1.27 20\n1.28 1\n1.29 ok\n1.30 ok\n1.31 10\n1.32 ok\n1.33 10\n1.34 1\n1.35 ok\n1.36 3\n1.37 3\n1.38 ok\n1.39 true\n1.40 4\n1.41 false\n1.42 ok\n1.43 61\n1.44 20 ok\n1.45 -\n1.46 stranded\norder\n1.1\n1.2\n1.3\n1.4\n1.5\n1.6\n1.7\n1.8\n1.9\n1.10\n1.11\n1.12\n1.13\n1.14\n1.15\n1.16\n1.17\n1.18\n1.19\n1.20\n1.21\n1.22\n1.23\n1.24\n1.25\n1.26\n1.27\n1.28\n1.29\n1.30\n1.31\n1.32\n1.33\n1.34\n1.35\n1.36\n1.37\n1.38\n1.39\n1.40\n1.41\n1.42\n1.43\n1.44\n1.45\n1.46\n1.end\nstate\nx 20\ny 7\ns\nq 7\nt 1=10\nc 3=30\nm none\np 4\na 61\n";
+
+#[test]
+fn the_tour_of_all_commands_gives_its_text(rt: HostRuntime) -> Result<(), Fail> {
+    let (status, written) = run(&rt, TOUR.as_bytes())?;
+    assert_eq!(rt; status, Status::Done);
+    assert_eq!(rt; written.as_slice(), TOUR_TEXT.as_bytes());
+    Ok(())
+}
+
+#[test]
+fn the_longest_and_the_widest_table_are_used(rt: HostRuntime) -> Result<(), Fail> {
+    let rows = [("1 4096", "t 1=2 5000=7"), ("1024 4096", "t 1=2 5000=7")];
+    for (sizes, state) in rows {
+        let script = format!(in rt.alloc();
+            "kcas 1\ntable t {sizes}\nthread\nput t 5000 6\nput t 1 2\nput t 5000 7\nput t 9 9\ndel t 9\nlen t\n"
+        )?;
+        let text = format!(in rt.alloc();
+            "1.1 ok\n1.2 ok\n1.3 ok\n1.4 ok\n1.5 9\n1.6 2\norder\n1.1\n1.2\n1.3\n1.4\n1.5\n1.6\n1.end\nstate\n{state}\n"
+        )?;
+        let (status, written) = run(&rt, script.as_bytes())?;
+        assert_eq!(rt; status, Status::Done, "{sizes}");
+        assert_eq!(rt; written.as_slice(), text.as_bytes(), "{sizes}");
     }
     Ok(())
 }

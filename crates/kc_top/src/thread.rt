@@ -2,17 +2,17 @@
 
 ghost use Rattle.std.specs.Prelude.{◌≡◌, ◌+◌, ◌≤◌, length, map, take, drop, IfOk};
 ghost use Rattle.kc_model.specs.Store.{store_of};
-ghost use Rattle.kc_script.specs.Meaning.{thread_meaning};
+ghost use Rattle.kc_bundle.specs.Meaning.{thread_meaning};
 ghost use Rattle.kc_top.specs.Commit.{label, VersionsTo};
 ghost use Rattle.kc_top.specs.Run.{labels, meanings};
 ghost use Rattle.kc_top.specs.Thread.{CanRunOn, Commits, own_places};
 
 use crate::ask::Ask;
 use crate::commit::commit;
+use kc_bundle::Command;
 use kc_history::{Mark, Place, Record};
 use kc_loc::LocOp;
 use kc_model::{Loc, NoMemory, PlainStore};
-use kc_script::Command;
 use std::alloc::Global;
 
 // The location that counts the live threads.
@@ -70,7 +70,7 @@ fn run_commands(store: &mut PlainStore, commands: &[Command], records: &mut [Rec
 {
     for i in 0..commands.len() {
         let ask = Ask {
-            command: commands[i],
+            command: &commands[i],
             live: LIVE,
         };
         commit(store, &ask, &mut records[i]);

@@ -2,14 +2,15 @@
 
 ghost use Rattle.std.specs.Prelude.{map};
 ghost use Rattle.std.specs.String.{string_bytes};
-ghost use Rattle.kc_script.specs.Script.{script_of};
+ghost use Rattle.kc_bundle.specs.Script.{script_of};
 ghost use Rattle.kc_top.specs.Statuses.{is_run, Says, Ends};
 
 use crate::command_line::is_run;
 use crate::run::perform;
 use crate::status::Status;
+use kc_lines::ScriptError;
 use kc_model::{ReadError, Sink, Source, read_to_end};
-use kc_script::{MOST_BYTES, ScriptError, parse};
+use kc_script::{MOST_BYTES, parse};
 use std::alloc::Global;
 
 /// Runs the script that the source spells, and writes its text to the sink. The words have the program's name first,

@@ -1,6 +1,6 @@
 //! The line on standard error.
 
-use kc_script::{Limit, Why};
+use kc_lines::{Limit, Why};
 use kc_top::Status;
 
 /// Prints what went wrong, where something did. Where even that fails, the exit number still tells.
