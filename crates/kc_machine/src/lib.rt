@@ -1,0 +1,17 @@
+//! The machine of atomic steps: seats that change words, each step one access and one answer.
+#![tactic(auto)]
+
+mod hang;
+mod machine;
+mod seat;
+#[cfg(test)]
+mod tests;
+mod words;
+
+pub use hang::{Hang, HangStep, Leave, LeaveStep};
+pub use kc_steps::{
+    AfterCheck, AidStep, Aided, Commit, Event, Intent, Line, Look, LookStep, OwnStep, PassStep,
+    Stage, Task, Told,
+};
+pub use machine::Machine;
+pub use seat::{Seat, Work};

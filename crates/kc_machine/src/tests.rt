@@ -1,0 +1,388 @@
+use crate::*;
+use arrayvec::ArrayVec;
+use kc_model::{Footprint, Loc, OpenError, Put, Seen, Word};
+use kc_words::{Access, Mode, Touch};
+use std::test::Fail;
+
+fn seen(loc: u32, version: u32, value: u32) -> Seen {
+    Seen {
+        loc: Loc(loc),
+        version,
+        value,
+    }
+}
+
+// Reads are a location, a version and a value; puts a location, a version and a value after.
+fn commit(mode: Mode, reads: &[(u32, u32, u32)], puts: &[(u32, u32, u32)]) -> Task {
+    let mut footprint = Footprint::new();
+    for (loc, version, value) in reads {
+        let _ = footprint.reads.try_push(seen(*loc, *version, *value));
+    }
+    for (loc, version, after) in puts {
+        let _ = footprint.puts.try_push(Put {
+            loc: Loc(*loc),
+            version: *version,
+            after: *after,
+        });
+    }
+    Task::Commit { footprint, mode }
+}
+
+// Puts these two values in place of 5 and 6.
+fn two(mode: Mode, first: u32, second: u32) -> Task {
+    commit(
+        mode,
+        &[(0, 0, 5), (1, 0, 6)],
+        &[(0, 0, first), (1, 0, second)],
+    )
+}
+
+fn hang(version: u32) -> ArrayVec<Seen, 64> {
+    let mut reads = ArrayVec::new();
+    let _ = reads.try_push(seen(0, version, version));
+    reads
+}
+
+fn open(rt: &HostRuntime, values: &[u32], callers: u32) -> Result<Machine, Fail> {
+    match Machine::open(rt.alloc(), values, callers) {
+        Ok(machine) => Ok(machine),
+        Err(_) => Err(Fail::from("not opened")),
+    }
+}
+
+fn begin(machine: &mut Machine, seat: u32, task: Task) {
+    machine.event(Event::Begin { seat, task });
+}
+
+fn step(machine: &mut Machine, seat: u32, count: u32) {
+    for _ in 0..count {
+        machine.event(Event::Step { seat });
+    }
+}
+
+fn told(machine: &Machine, seat: u32) -> Option<Told> {
+    if seat < machine.callers() {
+        machine.seat(seat).told()
+    } else {
+        None
+    }
+}
+
+fn own(machine: &Machine, seat: u32) -> Option<(u32, u64)> {
+    if seat < machine.callers() {
+        machine.seat(seat).own()
+    } else {
+        None
+    }
+}
+
+fn steps(machine: &Machine, seat: u32) -> u64 {
+    if seat < machine.callers() {
+        machine.seat(seat).steps()
+    } else {
+        0
+    }
+}
+
+fn access(machine: &Machine, seat: u32) -> Access {
+    if seat < machine.callers() {
+        machine.seat(seat).access()
+    } else {
+        Access::Nothing
+    }
+}
+
+// The steps that the seat makes alone until it is told.
+fn finish(machine: &mut Machine, seat: u32) -> u64 {
+    let before = steps(machine, seat);
+    for _ in 0..10_000 {
+        if told(machine, seat).is_none() {
+            machine.event(Event::Step { seat });
+        }
+    }
+    steps(machine, seat).saturating_sub(before)
+}
+
+// What the location stands for, as a look of this seat tells it.
+fn look(machine: &mut Machine, seat: u32, loc: u32) -> Option<Told> {
+    begin(machine, seat, Task::Look(Loc(loc)));
+    finish(machine, seat);
+    told(machine, seat)
+}
+
+const WON: Option<Told> = Some(Told::Succeeded { number: 1 });
+
+const LOST: Option<Told> = Some(Told::Failed { entry: 0 });
+
+#[test]
+fn too_many_locations_and_callers_are_refused(rt: HostRuntime) -> Result<(), Fail> {
+    let many = vec![in rt.alloc(); 0u32; 65_537]?;
+    let locations = matches!(
+        &Machine::open(rt.alloc(), &many, 1),
+        Err(OpenError::TooManyLocs)
+    );
+    assert!(rt; locations);
+    let opened = Machine::open(rt.alloc(), &many[..65_536], 64).is_ok();
+    assert!(rt; opened);
+    for callers in [0, 65] {
+        let refused = matches!(
+            &Machine::open(rt.alloc(), &[5], callers),
+            Err(OpenError::TooManyCallers)
+        );
+        assert!(rt; refused);
+    }
+    Ok(())
+}
+
+#[test]
+fn a_stopped_owner_is_helped(rt: HostRuntime) -> Result<(), Fail> {
+    let mut machine = open(&rt, &[5, 6], 2)?;
+    begin(&mut machine, 0, two(Mode::All, 7, 8));
+    step(&mut machine, 0, 9);
+    begin(&mut machine, 1, two(Mode::All, 9, 9));
+    assert_eq!(rt; finish(&mut machine, 1), 27);
+    assert_eq!(rt; told(&machine, 1), LOST);
+    assert_eq!(rt; finish(&mut machine, 0), 7);
+    assert_eq!(rt; told(&machine, 0), WON);
+    assert_eq!(rt; look(&mut machine, 0, 0), Some(Told::Seen(seen(0, 1, 7))));
+    assert_eq!(rt; look(&mut machine, 1, 1), Some(Told::Seen(seen(1, 1, 8))));
+    Ok(())
+}
+
+#[test]
+fn a_held_descriptor_is_not_taken(rt: HostRuntime) -> Result<(), Fail> {
+    let mut machine = open(&rt, &[5, 6], 2)?;
+    begin(&mut machine, 0, two(Mode::All, 7, 8));
+    step(&mut machine, 0, 9);
+    begin(&mut machine, 1, two(Mode::All, 9, 9));
+    step(&mut machine, 1, 17);
+    let installs = matches!(
+        access(&machine, 1),
+        Access::Location(
+            Loc(1),
+            Touch::CompareExchange {
+                old: _,
+                new: Word::Ref {
+                    generation: 1,
+                    descriptor: 0,
+                    entry: 1,
+                },
+            },
+        )
+    );
+    assert!(rt; installs);
+    finish(&mut machine, 0);
+    assert_eq!(rt; told(&machine, 0), WON);
+    begin(
+        &mut machine,
+        0,
+        commit(Mode::All, &[(0, 1, 7)], &[(0, 1, 1)]),
+    );
+    step(&mut machine, 0, 3);
+    assert_eq!(rt; own(&machine, 0), Some((1, 1)));
+    finish(&mut machine, 0);
+    finish(&mut machine, 1);
+    begin(
+        &mut machine,
+        0,
+        commit(Mode::All, &[(0, 2, 1)], &[(0, 2, 3)]),
+    );
+    step(&mut machine, 0, 2);
+    assert_eq!(rt; own(&machine, 0), Some((0, 2)));
+    Ok(())
+}
+
+#[test]
+fn a_checked_comparison_is_not_seen_by_others(rt: HostRuntime) -> Result<(), Fail> {
+    let mut machine = open(&rt, &[5, 6], 2)?;
+    let reads = [(0, 0, 5), (1, 0, 6)];
+    begin(&mut machine, 0, commit(Mode::Light, &reads, &[(1, 0, 7)]));
+    step(&mut machine, 0, 10);
+    let decides = matches!(
+        access(&machine, 0),
+        Access::Status(_, Touch::CompareExchange { old: _, new: _ })
+    );
+    assert!(rt; decides);
+    begin(
+        &mut machine,
+        1,
+        commit(Mode::Light, &[(0, 0, 5)], &[(0, 0, 8)]),
+    );
+    assert_eq!(rt; finish(&mut machine, 1), 11);
+    assert_eq!(rt; told(&machine, 1), WON);
+    assert_eq!(rt; finish(&mut machine, 0), 4);
+    assert_eq!(rt; told(&machine, 0), WON);
+    Ok(())
+}
+
+#[test]
+fn commits_that_cross_are_told_so_and_go_on_in_all(rt: HostRuntime) -> Result<(), Fail> {
+    let mut machine = open(&rt, &[5, 6], 2)?;
+    let reads = [(0, 0, 5), (1, 0, 6)];
+    begin(&mut machine, 0, commit(Mode::Light, &reads, &[(1, 0, 7)]));
+    step(&mut machine, 0, 10);
+    begin(&mut machine, 1, commit(Mode::Light, &reads, &[(0, 0, 8)]));
+    assert_eq!(rt; finish(&mut machine, 1), 16);
+    assert_eq!(rt; told(&machine, 1), Some(Told::Crossed { entry: 1 }));
+    begin(&mut machine, 1, commit(Mode::All, &reads, &[(0, 0, 8)]));
+    assert_eq!(rt; finish(&mut machine, 1), 31);
+    assert_eq!(rt; told(&machine, 1), Some(Told::Succeeded { number: 2 }));
+    finish(&mut machine, 0);
+    assert_eq!(rt; told(&machine, 0), Some(Told::Crossed { entry: 0 }));
+    begin(&mut machine, 0, commit(Mode::All, &reads, &[(1, 0, 7)]));
+    finish(&mut machine, 0);
+    assert_eq!(rt; told(&machine, 0), LOST);
+    Ok(())
+}
+
+#[test]
+fn a_hang_is_woken_by_a_put(rt: HostRuntime) -> Result<(), Fail> {
+    let mut machine = open(&rt, &[0], 2)?;
+    begin(&mut machine, 1, Task::Hang { reads: hang(0) });
+    assert_eq!(rt; finish(&mut machine, 1), 2);
+    assert_eq!(rt; told(&machine, 1), Some(Told::Hung));
+    begin(
+        &mut machine,
+        0,
+        commit(Mode::Light, &[(0, 0, 0)], &[(0, 0, 1)]),
+    );
+    step(&mut machine, 0, 10);
+    let signals = matches!(access(&machine, 0), Access::Signal(1, true));
+    assert!(rt; signals);
+    assert_eq!(rt; finish(&mut machine, 0), 2);
+    begin(&mut machine, 1, Task::Hang { reads: hang(0) });
+    assert_eq!(rt; told(&machine, 1), Some(Told::Hung));
+    begin(&mut machine, 1, Task::Leave { reads: hang(0) });
+    assert_eq!(rt; finish(&mut machine, 1), 2);
+    assert_eq!(rt; told(&machine, 1), Some(Told::Free));
+    begin(&mut machine, 1, Task::Hang { reads: hang(0) });
+    assert_eq!(rt; finish(&mut machine, 1), 3);
+    assert_eq!(rt; told(&machine, 1), Some(Told::Changed { entry: 0 }));
+    Ok(())
+}
+
+// The owner stops after so many steps; the other then runs, and then the owner.
+#[test]
+fn wherever_an_owner_stops_the_other_goes_on(rt: HostRuntime) -> Result<(), Fail> {
+    let rows = [
+        (0, 16, 13),
+        (1, 16, 12),
+        (2, 16, 11),
+        (3, 16, 10),
+        (4, 16, 9),
+        (5, 16, 8),
+        (6, 16, 7),
+        (7, 16, 6),
+        (8, 16, 5),
+        (9, 27, 7),
+        (10, 27, 6),
+        (11, 20, 5),
+        (12, 13, 4),
+        (13, 13, 3),
+        (14, 13, 2),
+        (15, 13, 1),
+        (16, 13, 0),
+    ];
+    for (stop, others, left) in rows {
+        let mut machine = open(&rt, &[5, 6], 2)?;
+        begin(&mut machine, 0, two(Mode::All, 7, 8));
+        step(&mut machine, 0, stop);
+        begin(&mut machine, 1, two(Mode::All, 9, 9));
+        assert_eq!(rt; finish(&mut machine, 1), others, "after {stop}");
+        assert_eq!(rt; finish(&mut machine, 0), left, "after {stop}");
+        let answers = (told(&machine, 0), told(&machine, 1));
+        let wanted = if stop <= 8 { (LOST, WON) } else { (WON, LOST) };
+        assert_eq!(rt; answers, wanted, "after {stop}");
+    }
+    Ok(())
+}
+
+// The owner is halted after so many steps: the steps that it still makes, and whether it succeeds.
+#[test]
+fn wherever_an_owner_is_halted_it_ends_soon(rt: HostRuntime) -> Result<(), Fail> {
+    let rows = [
+        (0, 0, false),
+        (1, 0, false),
+        (2, 1, false),
+        (3, 1, false),
+        (4, 1, false),
+        (5, 1, false),
+        (6, 1, false),
+        (7, 1, false),
+        (8, 4, false),
+        (9, 4, false),
+        (10, 4, false),
+        (11, 5, true),
+        (12, 4, true),
+        (13, 3, true),
+        (14, 2, true),
+        (15, 1, true),
+        (16, 0, true),
+    ];
+    for (stop, left, succeeds) in rows {
+        let mut machine = open(&rt, &[5, 6], 2)?;
+        begin(&mut machine, 0, two(Mode::All, 7, 8));
+        step(&mut machine, 0, stop);
+        machine.event(Event::Halt { seat: 0 });
+        assert_eq!(rt; finish(&mut machine, 0), left, "after {stop}");
+        let wanted = if succeeds { WON } else { Some(Told::Halted) };
+        assert_eq!(rt; told(&machine, 0), wanted, "after {stop}");
+        let (version, value) = if succeeds { (1, 7) } else { (0, 5) };
+        assert_eq!(rt;
+            look(&mut machine, 1, 0),
+            Some(Told::Seen(seen(0, version, value))),
+            "after {stop}"
+        );
+    }
+    Ok(())
+}
+
+// The compare-exchanges from the start to the decision.
+fn exchanges(machine: &mut Machine) -> u32 {
+    let mut count = 0u32;
+    let mut decided = 0;
+    for _ in 0..10_000 {
+        match access(machine, 0) {
+            Access::Status(_, Touch::Store(_)) => count = 0,
+            Access::Location(_, Touch::CompareExchange { old: _, new: _ }) => {
+                count = count.saturating_add(1);
+            }
+            Access::Status(_, Touch::CompareExchange { old: _, new: _ }) => {
+                decided = count.saturating_add(1);
+            }
+            _ => {}
+        }
+        machine.event(Event::Step { seat: 0 });
+    }
+    decided
+}
+
+#[test]
+fn alone_a_commit_of_puts_makes_one_exchange_more_than_it_has_puts(
+    rt: HostRuntime,
+) -> Result<(), Fail> {
+    for (puts, expected) in [(2u32, 16), (64, 326)] {
+        let mut machine = open(&rt, &[0; 64], 1)?;
+        let mut footprint = Footprint::new();
+        for i in 0..puts {
+            let _ = footprint.reads.try_push(seen(i, 0, 0));
+            let _ = footprint.puts.try_push(Put {
+                loc: Loc(i),
+                version: 0,
+                after: 1,
+            });
+        }
+        begin(
+            &mut machine,
+            0,
+            Task::Commit {
+                footprint,
+                mode: Mode::All,
+            },
+        );
+        assert_eq!(rt; exchanges(&mut machine), puts + 1);
+        assert_eq!(rt; told(&machine, 0), WON);
+        assert_eq!(rt; steps(&machine, 0), expected);
+    }
+    Ok(())
+}

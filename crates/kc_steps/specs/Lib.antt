@@ -1,0 +1,6 @@
+pub mod Lines
+pub mod Looks
+pub mod Passes
+pub mod Aids
+pub mod Commits
+pub mod Halts

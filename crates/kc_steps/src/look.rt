@@ -1,0 +1,228 @@
+//! A look: what a location's word stands for.
+
+ghost use Rattle.std.specs.Prelude.{◌≡◌};
+ghost use Rattle.kc_steps.specs.Looks.{look_access, look_next, look_after, look_tells, look_halted, halts_at_once, reference_of, seen_as};
+
+use crate::commit::Onward;
+use crate::line::resolved;
+use crate::task::Told;
+use kc_model::{Loc, Seen, Word};
+use kc_words::{Access, First, Found, Grip, Handle, Phase, Reference, Touch};
+
+/// Where a look stands. `met` is the reference that stood at the location.
+#[derive(Clone, Copy)]
+pub enum LookStep {
+    Load,
+    Hold {
+        met: Reference,
+    },
+    /// The descriptor is held from here on.
+    Status {
+        met: Reference,
+    },
+    First {
+        met: Reference,
+        phase: Phase,
+    },
+    Second {
+        met: Reference,
+        phase: Phase,
+        first: First,
+    },
+    /// `stray`: the hold found another generation. Without a `then` the word is loaded again.
+    Drop {
+        met: Reference,
+        stray: bool,
+        then: Option<Seen>,
+    },
+}
+
+/// A task that looks.
+#[derive(Clone, Copy)]
+pub struct Look {
+    pub loc: Loc,
+    pub halted: bool,
+    pub step: LookStep,
+}
+
+/// What follows a step of a look.
+#[derive(Clone, Copy)]
+pub enum LookNext {
+    Goes(LookStep),
+    Saw(Seen),
+}
+
+pub fn reference_of(generation: u64, descriptor: u32, entry: u32) -> Reference
+    ensures { result ≡ reference_of generation descriptor entry }
+{
+    Reference {
+        handle: Handle {
+            descriptor,
+            generation,
+        },
+        line: entry,
+    }
+}
+
+pub fn look_access(loc: Loc, step: LookStep) -> Access
+    ensures { result ≡ look_access loc step }
+{
+    match step {
+        LookStep::Load => Access::Location(loc, Touch::Load),
+        LookStep::Hold { met } => Access::Control(met.handle.descriptor, Grip::Add),
+        LookStep::Status { met } => Access::Status(met.handle.descriptor, Touch::Load),
+        LookStep::First { met, phase: _ } => {
+            Access::First(met.handle.descriptor, met.line, Touch::Load)
+        }
+        LookStep::Second {
+            met,
+            phase: _,
+            first: _,
+        } => Access::Second(met.handle.descriptor, met.line, Touch::Load),
+        LookStep::Drop {
+            met,
+            stray: _,
+            then: _,
+        } => Access::Control(met.handle.descriptor, Grip::Subtract),
+    }
+}
+
+fn seen_as(loc: Loc, first: First, after: u32, phase: Phase) -> Seen
+    ensures { result ≡ seen_as loc first after phase }
+{
+    let (version, value) = resolved(first, after, phase);
+    Seen {
+        loc,
+        version,
+        value,
+    }
+}
+
+pub fn look_next(loc: Loc, step: LookStep, found: Found) -> LookNext
+    ensures { result ≡ look_next loc step found }
+{
+    let next = match (step, found) {
+        (LookStep::Load, Found::Word(Word::Plain { version, value })) => {
+            return LookNext::Saw(Seen {
+                loc,
+                version,
+                value,
+            });
+        }
+        (
+            LookStep::Load,
+            Found::Word(
+                Word::Ref {
+                    generation,
+                    descriptor,
+                    entry,
+                },
+            ),
+        ) => LookStep::Hold {
+            met: reference_of(generation, descriptor, entry),
+        },
+        (LookStep::Hold { met }, Found::Control(control)) => {
+            if control.generation == met.handle.generation {
+                LookStep::Status { met }
+            } else {
+                LookStep::Drop {
+                    met,
+                    stray: true,
+                    then: None,
+                }
+            }
+        }
+        (LookStep::Status { met }, Found::Status(status)) => LookStep::First {
+            met,
+            phase: status.phase,
+        },
+        (LookStep::First { met, phase }, Found::First(first)) => {
+            LookStep::Second { met, phase, first }
+        }
+        (LookStep::Second { met, phase, first }, Found::Second(second)) => LookStep::Drop {
+            met,
+            stray: false,
+            then: Some(seen_as(loc, first, second.after, phase)),
+        },
+        (
+            LookStep::Drop {
+                met: _,
+                stray: _,
+                then: Some(seen),
+            },
+            Found::Control(_),
+        ) => {
+            return LookNext::Saw(seen);
+        }
+        (
+            LookStep::Drop {
+                met: _,
+                stray: _,
+                then: None,
+            },
+            Found::Control(_),
+        ) => LookStep::Load,
+        _ => step,
+    };
+    LookNext::Goes(next)
+}
+
+impl Look {
+    /// The word that the next step touches, and how.
+    pub fn access(&self) -> Access
+        ensures { result ≡ look_access self.now.loc self.now.step }
+    {
+        look_access(self.loc, self.step)
+    }
+
+    /// The step, given what was found.
+    pub fn answer(&mut self, found: Found) -> Onward
+        ensures told { result ≡ look_tells self.old found }
+        ensures look { self.new ≡ look_after self.old found }
+    {
+        match look_next(self.loc, self.step, found) {
+            LookNext::Goes(step) => self.step = step,
+            LookNext::Saw(seen) => {
+                return Onward::Tells(if self.halted {
+                    Told::Halted
+                } else {
+                    Told::Seen(seen)
+                });
+            }
+        }
+        if self.halted {
+            Onward::Tells(Told::Halted)
+        } else {
+            Onward::Goes
+        }
+    }
+
+    /// A halt: whether nothing is held, so that the task ends at once.
+    pub fn halt(&mut self) -> bool
+        ensures at_once { result ≡ halts_at_once self.old.step }
+        ensures look { self.new ≡ look_halted self.old }
+    {
+        let (met, stray) = match self.step {
+            LookStep::Load | LookStep::Hold { met: _ } => return true,
+            LookStep::Status { met }
+            | LookStep::First { met, phase: _ }
+            | LookStep::Second {
+                met,
+                phase: _,
+                first: _,
+            } => (met, false),
+            LookStep::Drop {
+                met,
+                stray,
+                then: _,
+            } => (met, stray),
+        };
+        self.halted = true;
+        self.step = LookStep::Drop {
+            met,
+            stray,
+            then: None,
+        };
+        false
+    }
+}
