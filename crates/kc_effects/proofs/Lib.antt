@@ -1,0 +1,16 @@
+pub mod Sums
+pub mod Counted
+pub mod Tests
+pub mod PassSteps
+pub mod AidSteps
+pub mod LookSteps
+pub mod OwnSteps
+pub mod WaitSteps
+pub mod SeatSteps
+pub mod HaltSteps
+pub mod FormedSteps
+pub mod Held
+pub mod Worn
+pub mod Pools
+pub mod Runs
+pub mod PoolLaws

@@ -1,0 +1,99 @@
+-- The laws of the pool, over every opening and every schedule.
+use Rattle.std.proofs.Common.{◌≡◌, ℕ, refl, ap, ◌∙◌, arith, List, ⊎_elim}
+use Rattle.kc_steps.specs.declared.task.Event.{Event}
+use Rattle.kc_machine.specs.declared.seat.Seat.{Seat}
+use Rattle.kc_machine.specs.declared.seat.Work.{Work}
+use Rattle.kc_machine.specs.declared.seat.Work.TheVariants as work
+use Rattle.kc_steps.specs.declared.commit.Commit.{Commit}
+use Rattle.kc_steps.specs.declared.commit.Stage.{Stage}
+use Rattle.kc_steps.specs.declared.commit.Stage.TheVariants.{Scan, Take, Own}
+use Rattle.kc_steps.specs.declared.commit.OwnStep.{OwnStep}
+use Rattle.kc_steps.specs.declared.commit.OwnStep.TheVariants as own
+use Rattle.kc_steps.specs.declared.aid.Aided.{Aided}
+use Rattle.kc_steps.specs.declared.aid.AidStep.{AidStep}
+use Rattle.kc_steps.specs.declared.aid.AidStep.TheVariants as aid
+use Rattle.kc_machine.specs.declared.hang.Hang.{Hang}
+use Rattle.kc_machine.specs.declared.hang.HangStep.{HangStep}
+use Rattle.kc_machine.specs.declared.hang.HangStep.TheVariants as hang
+use Rattle.kc_words.specs.declared.words.Handle.{Handle}
+use Rattle.kc_words.specs.declared.words.Reference.{Reference}
+use Rattle.kc_machine.specs.Machine.{World, Opening, run, opened}
+use Rattle.kc_effects.specs.Stands.{Stand, Waits, stand, works, resting, commits, owns, aids, hangs}
+use Rattle.kc_effects.specs.Claims.{HoldsAreCounted, HoldsKeepGenerations, WornScansHold, WornIsTrue}
+use Rattle.kc_effects.specs.Holds.{Holds}
+use Rattle.kc_effects.proofs.Sums.{total_none}
+use Rattle.kc_effects.proofs.Worn.{place}
+use Rattle.kc_effects.proofs.Pools.{Fit, Pool, pool_effect}
+use Rattle.kc_effects.proofs.Runs.{holds_after}
+
+pub opened_pool : (o : Opening) → Pool o.callers (opened o).descriptors (opened o).world (λ k. stand ((opened o).seats k))
+opened_pool o = record {
+  counted = λ d. total_none o.callers;
+  fit = λ k l. record { own = λ d g q. absurd (cc); check = λ d g q. absurd (cc); aid = λ d g q. absurd (cc); look = λ d g q. absurd (cc) };
+  search = λ k l. record { round = (refl, omega arith); place = λ d worn q. absurd (cc); scans = λ d worn e q m b. absurd (cc); ends = λ e q m. absurd (cc) };
+}
+
+-- the facts of the pool, after every schedule
+pub pool_after : (o : Opening) (schedule : List Event) → Pool (run o schedule).callers (run o schedule).descriptors (run o schedule).world (λ k. stand ((run o schedule).seats k))
+pool_after o schedule = holds_after Pool (λ n m k l w v at t e p. pool_effect n m k l at e p) o schedule (opened_pool o)
+
+fit_holds : (w : World) (s : Stand) (d g : ℕ) → Fit w s → Holds s d g → (w.control d).generation ≡ g
+fit_holds w s d g f h = ⊎_elim (f.own d g) (λ a. ⊎_elim (f.check d g) (λ b. ⊎_elim (f.aid d g) (f.look d g) b) a) h
+
+pub holds_counted : (o : Opening) (schedule : List Event) → HoldsAreCounted (run o schedule)
+holds_counted o schedule = (pool_after o schedule).counted
+
+pub holds_kept : (o : Opening) (schedule : List Event) → HoldsKeepGenerations (run o schedule)
+holds_kept o schedule = λ k d g l h. let r = pool_after o schedule in fit_holds (run o schedule).world (stand ((run o schedule).seats k)) d g (r.fit k l) h
+
+-- what a seat was told, its stand was told
+same_told : (s : Seat) → (stand s).told ≡ s.told
+same_told s = go s.work
+  where
+    aided : (t : Stand) (r : Reference) (c : Aided) (a : AidStep) → (aids t r c a).told ≡ t.told
+    aided t r c aid.Hold = refl
+    aided t r c aid.Status = refl
+    aided t r c (aid.First p) = refl
+    aided t r c (aid.Second p f) = refl
+    aided t r c (aid.Release p x) = refl
+    aided t r c aid.Owner = refl
+    aided t r c aid.LoadFirst = refl
+    aided t r c (aid.LoadSecond f) = refl
+    aided t r c (aid.Pass p) = refl
+    aided t r c (aid.Leave o) = refl
+    aided t r c (aid.Drop stray o) = refl
+
+    owned : (t : Stand) (c : Commit) (h : Handle) (step : OwnStep) → (owns t c.intent c.copy h step).told ≡ t.told
+    owned t c h own.FillOwner = refl
+    owned t c h (own.FillFirst j) = refl
+    owned t c h (own.FillSecond j) = refl
+    owned t c h own.Start = refl
+    owned t c h own.Abandon = refl
+    owned t c h (own.Pass p) = refl
+    owned t c h (own.Aid j r a) = aided (record t { own = Waits h c.intent j }) r c.copy a
+    owned t c h (own.Wake j owed) = refl
+    owned t c h (own.Signal owed) = refl
+    owned t c h (own.Drop p) = refl
+
+    staged : (t : Stand) (c : Commit) (x : Stage) → (commits t c.intent c.copy x).told ≡ t.told
+    staged t c (Scan d worn) = refl
+    staged t c (Take d g) = refl
+    staged t c (Own h step) = owned t c h step
+
+    hung : (t : Stand) (h : Hang) (step : HangStep) → (hangs t h.reads.items step).told ≡ t.told
+    hung t h (hang.Set j) = refl
+    hung t h (hang.Look j step) = refl
+    hung t h (hang.Clear j n) = refl
+
+    go : (x : Work) → (works (resting s) x).told ≡ s.told
+    go work.Idle = refl
+    go (work.Look l) = refl
+    go (work.Commit c) = staged (record (resting s) { halted = c.halted }) c c.stage
+    go (work.Hang h) = hung (resting s) h h.step
+    go (work.Leave l) = refl
+
+pub scans_hold : (o : Opening) (schedule : List Event) → WornScansHold (run o schedule)
+scans_hold o schedule = λ k d worn e i l q m b. let r = pool_after o schedule in (r.search k l).scans d worn e (ap place q) m b
+
+pub worn_true : (o : Opening) (schedule : List Event) → WornIsTrue (run o schedule)
+worn_true o schedule = λ k d l q b. let r = pool_after o schedule in (r.search k l).ends d (same_told ((run o schedule).seats k) ∙ q) b
