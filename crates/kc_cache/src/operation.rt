@@ -11,7 +11,7 @@ use kc_xt::{Peek, Stop, Transact, Xt};
 #[derive(Clone, Copy, Debug, PartialEq, Eq)]
 pub enum CacheAct {
     /// Gives a key a value, as the most recent pair; where there is no place for a new one, the least recent pair is
-    /// dropped first.
+    /// dropped first. Replies `ok`, or Full where the cells have no pair to drop.
     CPut(u32, u32),
     /// As `CPut`, but waits where a pair would be dropped.
     CPutWait(u32, u32),

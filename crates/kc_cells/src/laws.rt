@@ -1,6 +1,6 @@
 //! What holds of the operations and of the cells.
 
-ghost use Rattle.std.specs.Prelude.{◌≡◌, ◌≢◌, ◌<◌, ◌+◌, ℕ, List, Option, None};
+ghost use Rattle.std.specs.Prelude.{◌≡◌, ◌≢◌, ◌<◌, ◌≤◌, ◌+◌, ℕ, List, Option, None};
 ghost use Rattle.kc_xt.specs.Meaning.{too_large, map_after};
 ghost use Rattle.kc_cells.specs.declared.mvar.Mvar.{Mvar};
 ghost use Rattle.kc_cells.specs.declared.mvar.MvarOp.{MvarOp};
@@ -9,9 +9,9 @@ ghost use Rattle.kc_cells.specs.declared.promise.PromiseOp.{PromiseOp};
 ghost use Rattle.kc_cells.specs.declared.accumulator.Accumulator.{Accumulator};
 ghost use Rattle.kc_cells.specs.declared.accumulator.AccOp.{AccOp};
 ghost use Rattle.kc_cells.specs.OnePlace.{place_cells, place_opening};
-ghost use Rattle.kc_cells.specs.Mvar.{mvar_meaning, MvarStandsFor, MvarIsWellFormed, mvar_value};
-ghost use Rattle.kc_cells.specs.Promise.{promise_meaning, PromiseStandsFor, PromiseIsWellFormed, promise_value};
-ghost use Rattle.kc_cells.specs.Accumulator.{acc_meaning, acc_opening, AccStandsFor, AccIsWellFormed, acc_value};
+ghost use Rattle.kc_cells.specs.Mvar.{mvar_meaning, mvar_cells_end, MvarStandsFor, MvarIsWellFormed, mvar_value};
+ghost use Rattle.kc_cells.specs.Promise.{promise_meaning, promise_cells_end, PromiseStandsFor, PromiseIsWellFormed, promise_value};
+ghost use Rattle.kc_cells.specs.Accumulator.{acc_meaning, acc_cells_end, acc_opening, AccStandsFor, AccIsWellFormed, acc_value};
 
 /// On cells that stand for a content, an operation that isn't too large means what it does to the content: the same
 /// reply or retry, and the cells then stand for the content then.
@@ -38,9 +38,12 @@ pub fn opens_empty()
     ensures acc { (x : Accumulator) (m : ℕ → ℕ) → ((i : ℕ) → i < x.cells → m (x.base.0 + i) ≡ acc_opening x i) → AccStandsFor x m 0 }
 {}
 
-/// Cells stand for one content at most.
+/// Cells stand for one content at most, and for which depends on the structure's own cells alone.
 pub fn content_is_one()
-    ensures mvar { (x : Mvar) (m : ℕ → ℕ) (c d : Option ℕ) → MvarStandsFor x m c → MvarStandsFor x m d → c ≡ d }
-    ensures promise { (x : Promise) (m : ℕ → ℕ) (c d : Option ℕ) → PromiseStandsFor x m c → PromiseStandsFor x m d → c ≡ d }
-    ensures acc { (x : Accumulator) (m : ℕ → ℕ) (t u : ℕ) → AccStandsFor x m t → AccStandsFor x m u → t ≡ u }
+    ensures mvar_same { (x : Mvar) (m w : ℕ → ℕ) (c : Option ℕ) → ((l : ℕ) → x.base.0 ≤ l → l < mvar_cells_end x → m l ≡ w l) → MvarStandsFor x m c → MvarStandsFor x w c }
+    ensures mvar_one { (x : Mvar) (m : ℕ → ℕ) (c d : Option ℕ) → MvarStandsFor x m c → MvarStandsFor x m d → c ≡ d }
+    ensures promise_same { (x : Promise) (m w : ℕ → ℕ) (c : Option ℕ) → ((l : ℕ) → x.base.0 ≤ l → l < promise_cells_end x → m l ≡ w l) → PromiseStandsFor x m c → PromiseStandsFor x w c }
+    ensures promise_one { (x : Promise) (m : ℕ → ℕ) (c d : Option ℕ) → PromiseStandsFor x m c → PromiseStandsFor x m d → c ≡ d }
+    ensures acc_same { (x : Accumulator) (m w : ℕ → ℕ) (t : ℕ) → ((l : ℕ) → x.base.0 ≤ l → l < acc_cells_end x → m l ≡ w l) → AccStandsFor x m t → AccStandsFor x w t }
+    ensures acc_one { (x : Accumulator) (m : ℕ → ℕ) (t u : ℕ) → AccStandsFor x m t → AccStandsFor x m u → t ≡ u }
 {}

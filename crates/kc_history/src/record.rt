@@ -29,10 +29,11 @@ pub struct Place {
 }
 
 impl Record {
-    /// A record that is still to be filled: it replies nothing, and has read and put nothing.
+    /// A record that is still to be filled: it replies `ok`, and has read and put nothing.
     pub fn new(thread: u32, mark: Mark) -> Record
         ensures thread { result.thread ≡ thread }
         ensures mark { result.mark ≡ mark }
+        ensures answer { result.answer ≡ Answer.Reply Reply.Unit }
         ensures reads { result.footprint.reads.items ≡ [] }
         ensures puts { result.footprint.puts.items ≡ [] }
     {

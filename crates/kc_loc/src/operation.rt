@@ -21,7 +21,9 @@ pub enum LocOp {
     Cas(Loc, u32, u32),
     /// Adds, and replies the value before. The sum wraps.
     FetchAdd(Loc, u32),
+    /// Adds one, and replies `ok`. The sum wraps.
     Incr(Loc),
+    /// Takes one away, and replies `ok`. The difference wraps.
     Decr(Loc),
     /// Sets what the function makes of the value, and replies the one before.
     Update(Loc, Fun),

@@ -26,7 +26,7 @@ pub record WritesFront (old new : Option (List ℕ)) (bytes : List ℕ) : Type 0
   pub within : count ≤ length bytes
   pub front : new ≡ behind old (take count bytes)
 
--- a sink by calls of write, each of which took something
+-- a sink by calls of write, none of which failed
 pub data Takes {K : Type 0} (gives : K → List ℕ → Result ℕ Failed → K → Type 0) : K → K → Type 0 where
   none : {x : K} → Takes gives x x
   more : {x y z : K} (piece : List ℕ) (n : ℕ) → gives x piece (Ok n) y → Takes gives y z → Takes gives x z

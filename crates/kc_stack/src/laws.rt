@@ -1,9 +1,9 @@
 //! What holds of the operations.
 
-ghost use Rattle.std.specs.Prelude.{◌≡◌, ◌≢◌, ◌<◌, ◌+◌, ℕ, List, []};
+ghost use Rattle.std.specs.Prelude.{◌≡◌, ◌≢◌, ◌<◌, ◌≤◌, ◌+◌, ℕ, List, []};
 ghost use Rattle.kc_stack.specs.declared.stack.Stack.{Stack};
 ghost use Rattle.kc_stack.specs.declared.operation.StackOp.{StackOp};
-ghost use Rattle.kc_stack.specs.Meaning.{stack_meaning, stack_cells};
+ghost use Rattle.kc_stack.specs.Meaning.{stack_meaning, stack_cells, cells_end};
 ghost use Rattle.kc_stack.specs.Content.{StandsFor, IsWellFormed, stack_value, stack_opening};
 ghost use Rattle.kc_xt.specs.Meaning.{too_large, map_after};
 
@@ -23,7 +23,8 @@ pub fn opens_empty()
     ensures { (s : Stack) (m : ℕ → ℕ) → ((i : ℕ) → i < stack_cells s → m (s.base.0 + i) ≡ stack_opening s i) → StandsFor s m [] }
 {}
 
-/// Cells stand for one list of items at most.
+/// Cells stand for one list of items at most, and for which depends on the stack's own cells alone.
 pub fn content_is_one()
-    ensures { (s : Stack) (m : ℕ → ℕ) (items others : List ℕ) → StandsFor s m items → StandsFor s m others → items ≡ others }
+    ensures same { (s : Stack) (m w : ℕ → ℕ) (items : List ℕ) → ((l : ℕ) → s.base.0 ≤ l → l < cells_end s → m l ≡ w l) → StandsFor s m items → StandsFor s w items }
+    ensures one { (s : Stack) (m : ℕ → ℕ) (items others : List ℕ) → StandsFor s m items → StandsFor s m others → items ≡ others }
 {}

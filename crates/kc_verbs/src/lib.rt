@@ -15,5 +15,7 @@ pub use declaring::{cells_of, declare};
 pub use laws::{declares_behind, says_on_objects};
 pub use objects::add;
 pub use saying::say;
-pub use verb::{AccWord, LocWord, MvarWord, PromiseWord, QueueWord, StackWord, TableWord, Verb};
+pub use verb::{
+    AccWord, CacheWord, LocWord, MvarWord, PromiseWord, QueueWord, StackWord, TableWord, Verb,
+};
 pub use word::{Kind, Word, word_of};

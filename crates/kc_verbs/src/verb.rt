@@ -45,7 +45,7 @@ pub enum TableWord {
     Del,
 }
 
-/// A word that begins a command on a cache.
+/// A word of a command on caches.
 #[derive(Clone, Copy, Debug, PartialEq, Eq)]
 pub enum CacheWord {
     CPut,
