@@ -7,6 +7,6 @@ mod line;
 mod words;
 
 pub use complaint::Complaint;
-pub use fault::{Limit, ScriptError, Why};
+pub use fault::{LONGEST_WORDS, Limit, ScriptError, Why};
 pub use line::{complain, counted, number_to, wants, word_at};
 pub use words::{as_name, is_skipped, lines_of, number_of, words_of};

@@ -8,18 +8,21 @@ use crate::complaint::Complaint;
 use crate::fault::Why;
 use crate::words::number_of;
 
+/// Refuses the line for this reason.
 pub fn complain<T>(why: Why) -> Result<T, Complaint>
     ensures { result ≡ Err (Complaint.Here why) }
 {
     Err(Complaint::Here(why))
 }
 
+/// Refuses the line for this reason, unless the test holds.
 pub fn wants(test: bool, why: Why) -> Result<(), Complaint>
     ensures { Gives (λ x. x) result (wants test why) }
 {
     if test { Ok(()) } else { complain(why) }
 }
 
+/// Refuses a line with fewer or more words behind its first than this many.
 pub fn counted(count: usize, args: &[&[u8]]) -> Result<(), Complaint>
     ensures gives { Gives (λ x. x) result (counted count (map (λ word. word.now) args.now)) }
     ensures count { OnOk result (length args.now ≡ count) }
@@ -33,6 +36,7 @@ pub fn counted(count: usize, args: &[&[u8]]) -> Result<(), Complaint>
     Ok(())
 }
 
+/// The word at an index, from 0.
 pub fn word_at<'a>(args: &[&'a [u8]], i: usize) -> &'a [u8]
     requires { i < length args.now }
     ensures { result.now ≡ word_at (map (λ word. word.now) args.now) i }

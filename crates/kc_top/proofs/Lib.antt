@@ -5,3 +5,4 @@ pub mod Formed
 pub mod Threads
 pub mod Runs
 pub mod Bundles
+pub mod Legals

@@ -22,7 +22,7 @@ use Rattle.kc_top.proofs.OnStore.{makes_finds}
 use Rattle.kc_top.specs.Thread.{Commits, RunsOne, own_places}
 
 -- a commit's reads are what stands
-commit_finds : (m : Meaning) (s : Store) (r : Record) → IsCommit m s r → Finds r.footprint s
+pub commit_finds : (m : Meaning) (s : Store) (r : Record) → IsCommit m s r → Finds r.footprint s
 commit_finds m s r commit = makes_finds s _ r.footprint commit.makes
 
 -- each commit puts what it reads

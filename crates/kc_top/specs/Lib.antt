@@ -4,4 +4,5 @@ pub mod Ask
 pub mod Thread
 pub mod Statuses
 pub mod Numbers
+pub mod Lines
 pub mod Worked

@@ -35,7 +35,7 @@ pub record ReadsNone (left left' : Option (List ℕ)) (line : ℕ) (why : _) : T
   pub refused : Refused bytes (error.Fault line why)
 
 module _ {K : Type 0} (written : K → Option (List ℕ)) (faults : K → ℕ) (gives : K → List ℕ → Result ℕ Failed → K → Type 0) where
-  -- the sink took the text of a run of the script, all of it, in writes that each took something
+  -- the sink took the text of a run of the script, all of it, in writes none of which failed
   pub record Writes (script : Script) (k k' : K) : Type 0 where
     pub text : List ℕ
     pub is_text : IsText script text

@@ -4,6 +4,7 @@
 mod ask;
 mod command_line;
 mod commit;
+mod laws;
 mod run;
 mod status;
 #[cfg(test)]
@@ -11,5 +12,6 @@ mod tests;
 mod thread;
 mod top;
 
-pub use status::Status;
+pub use laws::runs_are_legal;
+pub use status::{LONGEST_LINE, Status};
 pub use top::kcas_main;

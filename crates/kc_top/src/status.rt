@@ -1,9 +1,15 @@
 ghost use Rattle.std.specs.Prelude.{◌≡◌};
 ghost use Rattle.kc_top.specs.Numbers.{number};
+ghost use Rattle.kc_top.specs.Lines.{status_line};
 ghost use Rattle.kc_top.specs.declared.status.Status.TheVariants as status;
 
-use kc_lines::Why;
+use arrayvec::ArrayString;
+use itoa::Buffer;
+use kc_lines::{LONGEST_WORDS, Why};
 use kc_model::{Failed, NoMemory};
+
+/// The most bytes that a line on standard error has: 19 around two numbers of ten digits, and the words for a fault.
+pub const LONGEST_LINE: usize = 39 + LONGEST_WORDS;
 
 /// How a run ended.
 #[derive(Clone, Copy, Debug, PartialEq, Eq)]
@@ -38,6 +44,33 @@ impl Status {
             Status::NoMemory => 6,
             Status::TooLong => 7,
         }
+    }
+
+    /// The line on standard error, without its newline; nothing where the run is done. It takes no memory, since there
+    /// may be none, and is no `Display`, whose contract would let it fail.
+    pub fn line(&self) -> ArrayString<LONGEST_LINE>
+        ensures { result.bytes ≡ status_line self.now }
+    {
+        let mut text = ArrayString::new();
+        match self {
+            Status::Done => {}
+            Status::Usage => {
+                text.push_str("kcas: usage: kcas run, kcas files SETUP FILE.., or kcas storm N");
+            }
+            Status::Script { part, line, why } => {
+                text.push_str("kcas: part ");
+                text.push_str(Buffer::new().format(*part));
+                text.push_str(" line ");
+                text.push_str(Buffer::new().format(*line));
+                text.push_str(": ");
+                text.push_str(why.words());
+            }
+            Status::ReadFault => text.push_str("kcas: reading failed"),
+            Status::WriteFault => text.push_str("kcas: writing failed"),
+            Status::NoMemory => text.push_str("kcas: out of memory"),
+            Status::TooLong => text.push_str("kcas: input longer than 1048576 bytes"),
+        }
+        text
     }
 }
 

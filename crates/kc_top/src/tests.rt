@@ -8,7 +8,7 @@ ghost use Rattle.kc_top.specs.Run.{AreThreads, run_text};
 ghost use Rattle.kc_top.specs.Worked.{first_script, first_records, first_order, first_last, first_contents, waits_for_nine, one_lives, looks_at_x_and_live};
 
 use crate::{Status, kcas_main};
-use kc_lines::Why;
+use kc_lines::{Limit, Why};
 use kc_model::{FrailSink, FrailSource};
 use std::alloc::Global;
 use std::test::Fail;
@@ -157,7 +157,7 @@ fn worked_blocks_and_structures_give_their_texts(rt: HostRuntime) -> Result<(), 
     Ok(())
 }
 
-/// The script `examples/tour.kcas`, without its comments: each declaration and each command once.
+/// The script `examples/tour.kcas`, without its comments: each declaration and each command at least once.
 const TOUR: &str =
     "kcas 1\nloc x 5\nloc y 6\nstack s 2\nqueue q 3\ntable t 1 3\ncache c 2 2\nmvar m\npromise p\nacc a 4\nthread\nget x\nset x 7\nxchg y 8\nswap x y\ncas x 8 9\nadd x 1\nincr x\ndecr y\nupdate x max 20\nmodify y xor 1\ncheck x eq 20\npush s 4\npush s 5\npush s 6\ntop s\npop s\nlen s\npopw s\nenq q 1\nenq q 2\ndeq q\nfront q\ndeqw q\nput t 1 10\nput t 2 20\nfind t 1\ndel t 2\nlen t\ncput c 1 10\ncputw c 2 20\ncget c 1\ncput c 3 30\ncdel c 1\nlen c\nmput m 3\nmpeek m\nmtake m\nresolve p 4\nresolved p\nawait p\nresolve p 5\nbump a 61\ntotal a\natomic\npush s 1\ncheck x eq 9\nor\nget x\natomic\npopw s\nor\nenq q 7\nend\nend\natomic\nend\npopw s\n";
 
@@ -296,4 +296,56 @@ fn one_byte_past_the_limit_is_too_long(rt: HostRuntime) -> Result<(), Fail> {
     assert_eq!(rt; status, Status::TooLong);
     assert!(rt; sink.bytes().is_empty());
     Ok(())
+}
+
+#[test]
+fn each_status_has_its_line(rt: HostRuntime) {
+    let name_is_bad = Status::Script {
+        part: 3,
+        line: 12,
+        why: Why::BadName,
+    };
+    let rows = [
+        (Status::Done, ""),
+        (
+            Status::Usage,
+            "kcas: usage: kcas run, kcas files SETUP FILE.., or kcas storm N",
+        ),
+        (NOT_BUILT, "kcas: part 0 line 0: not built"),
+        (name_is_bad, "kcas: part 3 line 12: bad name"),
+        (Status::ReadFault, "kcas: reading failed"),
+        (Status::WriteFault, "kcas: writing failed"),
+        (Status::NoMemory, "kcas: out of memory"),
+        (Status::TooLong, "kcas: input longer than 1048576 bytes"),
+    ];
+    for (status, line) in rows {
+        let text = status.line();
+        assert_eq!(rt; text.as_str(), line);
+    }
+}
+
+#[test]
+fn each_fault_has_its_words(rt: HostRuntime) {
+    let rows = [
+        (Why::Header, "no header"),
+        (Why::UnknownWord, "unknown word"),
+        (Why::UnknownName, "unknown name"),
+        (Why::RepeatedName, "repeated name"),
+        (Why::BadName, "bad name"),
+        (Why::BadNumber, "bad number"),
+        (Why::WrongKind, "wrong kind"),
+        (Why::MissingWord, "missing word"),
+        (Why::ExtraWord, "extra word"),
+        (Why::UnclosedBlock, "unclosed block"),
+        (Why::StrayWord, "word out of place"),
+        (Why::TooMany(Limit::Locations), "too many locations"),
+        (Why::TooMany(Limit::Threads), "too many threads"),
+        (Why::TooMany(Limit::Commands), "too many commands"),
+        (Why::TooMany(Limit::Block), "too many commands in a block"),
+        (Why::TooMany(Limit::Depth), "too deep"),
+        (Why::NotBuilt, "not built"),
+    ];
+    for (why, words) in rows {
+        assert_eq!(rt; why.words(), words);
+    }
 }

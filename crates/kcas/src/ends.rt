@@ -1,6 +1,8 @@
-//! Standard input and standard output as a source and a sink. Each counts its faults, and tells nothing of what it moves.
+//! Standard input and standard output as a source and a sink: each passes on what the reader or the writer moves, and
+//! counts its faults. It tells no bytes of its own, since a reader may come to know its bytes later.
 
 ghost use Rattle.std.specs.Prelude.{◌≡◌, None};
+ghost use Rattle.std.specs.Io.KnownBytes.{ReadConsumes, WriteAppends};
 
 use kc_model::{Failed, Sink, Source};
 use std::io::{Read, Write};
@@ -25,7 +27,7 @@ impl<R: Read> Source for StdinSource<R> {
 
     ghost faults = { λ s. s.faults };
 
-    ghost read_gives = { λ _ _ _ _ _. Unit {0} };
+    ghost read_gives = { λ before _ result buf after. ReadConsumes (R.remaining before.input) (R.remaining after.input) result buf };
 
     #[tactic(auto, unfolding(kc_model::specs::Outside::ahead))]
     fn read(&mut self, buf: &mut [u8]) -> Result<usize, Failed> {
@@ -59,7 +61,7 @@ impl<W: Write> Sink for StdoutSink<W> {
 
     ghost faults = { λ s. s.faults };
 
-    ghost write_gives = { λ _ _ _ _. Unit {0} };
+    ghost write_gives = { λ before buf result after. WriteAppends (W.contents before.output) (W.contents after.output) result buf };
 
     #[tactic(auto, unfolding(kc_model::specs::Outside::behind))]
     // A writer that would take nothing of a piece counts as failed, since writing would not end.
