@@ -1,8 +1,8 @@
 -- The holds that a control counts change as the seat's do.
-use Rattle.std.proofs.Common.{◌≡◌, ◌≢◌, ℕ, ◌+◌, ◌<◌, ◌≤◌, refl, sym, ap, arith, Bool, true, false, ◌==◌}
+use Rattle.std.proofs.Common.{◌≡◌, ◌≢◌, ℕ, ◌+◌, ◌≤◌, refl, sym, arith}
 use borrow.Author.Tests.{eq-eqb, ne_eqb}
 use Rattle.kc_machine.specs.Machine.{World}
-use Rattle.kc_machine.proofs.Functions.{put_here, put_else, put_cases}
+use Rattle.kc_machine.proofs.Functions.{put_here, put_else}
 use Rattle.kc_effects.specs.Stands.{Stand}
 use Rattle.kc_effects.specs.Holds.{one_at, holds_on}
 use Rattle.kc_effects.specs.Effects

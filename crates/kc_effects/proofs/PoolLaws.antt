@@ -1,5 +1,5 @@
 -- The laws of the pool, over every opening and every schedule.
-use Rattle.std.proofs.Common.{◌≡◌, ℕ, refl, ap, ◌∙◌, arith, List, ⊎_elim}
+use Rattle.std.proofs.Common.{◌≡◌, refl, ap, subst, ◌∙◌, arith, List, ⊎_elim}
 use Rattle.kc_steps.specs.declared.task.Event.{Event}
 use Rattle.kc_machine.specs.declared.seat.Seat.{Seat}
 use Rattle.kc_machine.specs.declared.seat.Work.{Work}
@@ -19,17 +19,18 @@ use Rattle.kc_words.specs.declared.words.Handle.{Handle}
 use Rattle.kc_words.specs.declared.words.Reference.{Reference}
 use Rattle.kc_machine.specs.Machine.{World, Opening, run, opened}
 use Rattle.kc_effects.specs.Stands.{Stand, Waits, stand, works, resting, commits, owns, aids, hangs}
-use Rattle.kc_effects.specs.Claims.{HoldsAreCounted, HoldsKeepGenerations, WornScansHold, WornIsTrue}
-use Rattle.kc_effects.specs.Holds.{Holds}
+use Rattle.kc_effects.specs.Claims.{HoldsAreCounted, HoldsKeepGenerations, StraysAreOthers, WornScansHold, WornIsTrue}
+use Rattle.kc_effects.specs.Holds.{Hold, Proper, Stray, Has}
 use Rattle.kc_effects.proofs.Sums.{total_none}
 use Rattle.kc_effects.proofs.Worn.{place}
+use Rattle.kc_effects.proofs.Held.{Fits}
 use Rattle.kc_effects.proofs.Pools.{Fit, Pool, pool_effect}
 use Rattle.kc_effects.proofs.Runs.{holds_after}
 
 pub opened_pool : (o : Opening) → Pool o.callers (opened o).descriptors (opened o).world (λ k. stand ((opened o).seats k))
 opened_pool o = record {
   counted = λ d. total_none o.callers;
-  fit = λ k l. record { own = λ d g q. absurd (cc); check = λ d g q. absurd (cc); aid = λ d g q. absurd (cc); look = λ d g q. absurd (cc) };
+  fit = λ k l. record { own = tt; check = tt; aid = tt; look = tt };
   search = λ k l. record { round = (refl, omega arith); place = λ d worn q. absurd (cc); scans = λ d worn e q m b. absurd (cc); ends = λ e q m. absurd (cc) };
 }
 
@@ -37,14 +38,17 @@ opened_pool o = record {
 pub pool_after : (o : Opening) (schedule : List Event) → Pool (run o schedule).callers (run o schedule).descriptors (run o schedule).world (λ k. stand ((run o schedule).seats k))
 pool_after o schedule = holds_after Pool (λ n m k l w v at t e p. pool_effect n m k l at e p) o schedule (opened_pool o)
 
-fit_holds : (w : World) (s : Stand) (d g : ℕ) → Fit w s → Holds s d g → (w.control d).generation ≡ g
-fit_holds w s d g f h = ⊎_elim (f.own d g) (λ a. ⊎_elim (f.check d g) (λ b. ⊎_elim (f.aid d g) (f.look d g) b) a) h
+each_fits : (w : World) (s : Stand) (x : Hold) → Fit w s → Has s x → Fits w x
+each_fits w s x f h = ⊎_elim (λ q. subst (Fits w) q f.own) (λ a. ⊎_elim (λ q. subst (Fits w) q f.check) (λ b. ⊎_elim (λ q. subst (Fits w) q f.aid) (λ q. subst (Fits w) q f.look) b) a) h
 
 pub holds_counted : (o : Opening) (schedule : List Event) → HoldsAreCounted (run o schedule)
 holds_counted o schedule = (pool_after o schedule).counted
 
 pub holds_kept : (o : Opening) (schedule : List Event) → HoldsKeepGenerations (run o schedule)
-holds_kept o schedule = λ k d g l h. let r = pool_after o schedule in fit_holds (run o schedule).world (stand ((run o schedule).seats k)) d g (r.fit k l) h
+holds_kept o schedule = λ k d g l h. let r = pool_after o schedule in each_fits (run o schedule).world (stand ((run o schedule).seats k)) (Proper d g) (r.fit k l) h
+
+pub strays_kept : (o : Opening) (schedule : List Event) → StraysAreOthers (run o schedule)
+strays_kept o schedule = λ k d g l h. let r = pool_after o schedule in each_fits (run o schedule).world (stand ((run o schedule).seats k)) (Stray d g) (r.fit k l) h
 
 -- what a seat was told, its stand was told
 same_told : (s : Seat) → (stand s).told ≡ s.told

@@ -10,7 +10,7 @@ use Rattle.kc_effects.proofs.Counted.{balance}
 use Rattle.kc_effects.proofs.Worn.{InRound, Placed, Scanned, ToldWorn, worn_stays, in_round, placed, scanned, told_worn}
 use Rattle.kc_effects.proofs.Held.{Fits, kept, own_fits, check_fits, aid_fits, look_fits}
 
--- each hold of a seat that found a generation
+-- each hold of a seat fits
 pub record Fit (w : World) (s : Stand) : Type 0 where
   pub own : Fits w (own_hold s.own)
   pub check : Fits w (check_hold s.pass)

@@ -1,4 +1,5 @@
--- The changes that steps make to the words, by name.
+-- The changes that steps make to the words: each puts one word, of location l, descriptor d (and its line k) or caller c,
+-- and leaves all others.
 use Rattle.std.specs.Prelude.{ℕ, ◌+◌, ◌-◌, Bool}
 use Rattle.kc_model.specs.declared.word.Word.{Word}
 use Rattle.kc_words.specs.declared.words.Status.{Status}

@@ -1,11 +1,13 @@
--- What the steps of seat k do to the words and to how the seat stands, each effect with its guard. The parts that an
--- effect doesn't name stay; a fact of a later group is one more row over all effects.
+-- What the steps of seat k do to the words and to how the seat stands. A guard says what the step found, or how the seat
+-- stood, where a fact needs it; an effect without one may be wider than the step. The parts that an effect doesn't name
+-- stay; a fact of a later group is one more row over all effects.
 use Rattle.std.specs.Prelude.{◌≡◌, ◌≢◌, ℕ, ◌+◌, ◌-◌, ◌<◌, ◌≤◌, ◌==◌, List, length, slice_get, nat_lt, bit_and, Bool, true, false, Option, None, Some}
 use Rattle.std.specs.Int.Count.{count_trailing_zeros}
 use Rattle.kc_model.specs.declared.footprint.Footprint.{Footprint}
 use Rattle.kc_model.specs.declared.footprint.Loc.{Loc}
 use Rattle.kc_model.specs.declared.footprint.Seen.{Seen}
 use Rattle.kc_model.specs.declared.word.Word.TheVariants.{Plain, Ref}
+use Rattle.kc_words.specs.declared.words.TheConstants.{LAST_GENERATION}
 use Rattle.kc_words.specs.declared.words.Handle.{Handle}
 use Rattle.kc_words.specs.declared.words.Reference.{Reference}
 use Rattle.kc_words.specs.declared.words.Mode.{Mode}
@@ -70,11 +72,11 @@ pub data Effect (k : ℕ) : World → Stand → World → Stand → Type 0 where
   begin_hang : {w : World} (s : Stand) (reads : List Seen) → s.blocked ≡ false → Effect k w (idle s) w (record (idle s) { told = None; wait = Hangs reads (hang.Set 0) })
   begin_leave : {w : World} (s : Stand) (reads : List Seen) → Effect k w (idle s) w (record (idle s) { told = None; wait = Leaving reads leave.Unsignal })
   -- the search for a descriptor
-  scan_free : {w : World} (s : Stand) {i : Intent} {d n : ℕ} → (w.control d).generation < 1099511627775 → (w.control d).holds ≡ 0 → Effect k w (record s { scan = Scans i d n }) w (record s { scan = Takes i d (w.control d).generation })
-  scan_held : {w : World} (s : Stand) {i : Intent} {d n : ℕ} → (w.control d).generation < 1099511627775 → (w.control d).holds ≢ 0 → Effect k w (record s { scan = Scans i d n }) w (record s { scan = Scans i (after_scan s.descriptors d) 0 })
-  scan_worn : {w : World} (s : Stand) {i : Intent} {d n : ℕ} → 1099511627775 ≤ (w.control d).generation → n < s.descriptors - 1 → Effect k w (record s { scan = Scans i d n }) w (record s { scan = Scans i (after_scan s.descriptors d) (n + 1) })
-  scan_ends : {w : World} (s : Stand) {i : Intent} {d n : ℕ} {b : Bool} → 1099511627775 ≤ (w.control d).generation → s.descriptors - 1 ≤ n → Effect k w (record (idle s) { halted = b; scan = Scans i d n }) w (ends s told.Worn)
-  take : {w : World} (s : Stand) {i : Intent} (d g : ℕ) → (w.control d).generation ≡ g → (w.control d).holds ≡ 0 → g < 1099511627775 → Effect k w (record s { scan = Takes i d g; own = NoOwn }) (taken w d g) (record s { scan = NoScan; own = Owns (record { descriptor = d; generation = g + 1 }) i own.FillOwner; calls = one_more s.calls })
+  scan_free : {w : World} (s : Stand) {i : Intent} {d n : ℕ} → (w.control d).generation < LAST_GENERATION → (w.control d).holds ≡ 0 → Effect k w (record s { scan = Scans i d n }) w (record s { scan = Takes i d (w.control d).generation })
+  scan_held : {w : World} (s : Stand) {i : Intent} {d n : ℕ} → (w.control d).generation < LAST_GENERATION → (w.control d).holds ≢ 0 → Effect k w (record s { scan = Scans i d n }) w (record s { scan = Scans i (after_scan s.descriptors d) 0 })
+  scan_worn : {w : World} (s : Stand) {i : Intent} {d n : ℕ} → LAST_GENERATION ≤ (w.control d).generation → n < s.descriptors - 1 → Effect k w (record s { scan = Scans i d n }) w (record s { scan = Scans i (after_scan s.descriptors d) (n + 1) })
+  scan_ends : {w : World} (s : Stand) {i : Intent} {d n : ℕ} {b : Bool} → LAST_GENERATION ≤ (w.control d).generation → s.descriptors - 1 ≤ n → Effect k w (record (idle s) { halted = b; scan = Scans i d n }) w (ends s told.Worn)
+  take : {w : World} (s : Stand) {i : Intent} (d g : ℕ) → (w.control d).generation ≡ g → (w.control d).holds ≡ 0 → g < LAST_GENERATION → Effect k w (record s { scan = Takes i d g; own = NoOwn }) (taken w d g) (record s { scan = NoScan; own = Owns (record { descriptor = d; generation = g + 1 }) i own.FillOwner; calls = one_more s.calls })
   take_lost : {w : World} (s : Stand) {i : Intent} {d g : ℕ} → Effect k w (record s { scan = Takes i d g }) w (record s { scan = Scans i (after_scan s.descriptors d) 0 })
   -- the own descriptor
   fill_owner : {w : World} (s : Stand) {h : Handle} {i : Intent} → Effect k w (record s { own = Owns h i own.FillOwner }) (with_owner w h.descriptor (record { caller = s.caller; mode = i.mode; lines = length i.lines.items; number = s.calls })) (record s { own = Owns h i (fill_next i.lines.items 0) })

@@ -1,4 +1,4 @@
--- What a seat's own data keep.
+-- What a seat's own data keep through every event, whatever its steps find: a halted look is at its drop.
 use Rattle.std.specs.Prelude.{◌≡◌, true}
 use Rattle.kc_steps.specs.declared.look.LookStep.{LookStep}
 use Rattle.kc_steps.specs.declared.look.LookStep.TheVariants as look

@@ -11,7 +11,7 @@ use Rattle.kc_steps.specs.declared.aid.AidStep.TheVariants as aid
 use Rattle.kc_steps.specs.declared.aid.AidNext.TheVariants as aiding
 use Rattle.kc_effects.specs.Stands.{Own, NoOwn, Owns, Runs, Waits, Turn, At, Passing, NoPass, Over, Aiding, NoAid, Aids, Passes, Looking, NoLook, Looks, Stand}
 
--- a hold on descriptor d that found generation g, or another one
+-- a hold on descriptor d at generation g, or one that looked for g and found another
 pub data Hold : Type 0 where
   NoHold : Hold
   Proper : (d g : ℕ) → Hold
@@ -90,7 +90,16 @@ abbrev pub total : (ℕ → ℕ) → ℕ → ℕ
 total f zero = 0
 total f (suc n) = f n + total f n
 
--- ---- whether (d, g) is held: as its owner, or by a hold that found generation g
+-- ---- whether d is held at generation g
 
+-- x is one of the seat's holds
+abbrev pub Has : Stand → Hold → Type 0
+Has s x = (own_hold s.own ≡ x) ⊎ (check_hold s.pass ≡ x) ⊎ (aid_hold s.aid ≡ x) ⊎ (look_hold s.look ≡ x)
+
+-- as its owner, or by a hold that found generation g
 abbrev pub Holds : Stand → ℕ → ℕ → Type 0
-Holds s d g = (own_hold s.own ≡ Proper d g) ⊎ (check_hold s.pass ≡ Proper d g) ⊎ (aid_hold s.aid ≡ Proper d g) ⊎ (look_hold s.look ≡ Proper d g)
+Holds s d g = Has s (Proper d g)
+
+-- by a hold that looked for generation g, and found another
+abbrev pub Strays : Stand → ℕ → ℕ → Type 0
+Strays s d g = Has s (Stray d g)

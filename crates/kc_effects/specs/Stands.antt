@@ -76,7 +76,9 @@ pub data Waiting : Type 0 where
 pub record Stand : Type 0 where
   pub caller : ℕ
   pub descriptors : ℕ
+  -- where its searches begin
   pub first : ℕ
+  -- how many descriptors it has taken
   pub calls : ℕ
   pub blocked : Bool
   pub told : Option Told
@@ -129,6 +131,7 @@ commits t i c (stage.Scan d worn) = record t { scan = Scans i d worn }
 commits t i c (stage.Take d g) = record t { scan = Takes i d g }
 commits t i c (stage.Own h step) = owns t i c h step
 
+-- where a hang looks for a read; past its last read no step touches a location, and 0 only stands there
 abbrev pub location_of : Option Seen → Loc
 location_of None = record { 0 = 0 }
 location_of (Some seen) = seen.loc

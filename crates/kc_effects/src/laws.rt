@@ -3,7 +3,7 @@
 ghost use Rattle.std.specs.Prelude.{List};
 ghost use Rattle.kc_machine.specs.Machine.{Opening, run};
 ghost use Rattle.kc_steps.specs.declared.task.Event.{Event};
-ghost use Rattle.kc_effects.specs.Claims.{HoldsAreCounted, HoldsKeepGenerations, WornScansHold, WornIsTrue};
+ghost use Rattle.kc_effects.specs.Claims.{HoldsAreCounted, HoldsKeepGenerations, StraysAreOthers, WornScansHold, WornIsTrue};
 
 /// The holds in a control word are as many as the seats' holds on its descriptor, stray ones counted.
 pub fn holds_are_counted()
@@ -11,8 +11,10 @@ pub fn holds_are_counted()
 {}
 
 /// While a seat holds descriptor d at generation g, that is d's generation.
+/// While it holds d by a stray hold, one that looked for g and found another, d's generation is not g.
 pub fn holds_keep_generations()
-    ensures { (o : Opening) (schedule : List Event) → HoldsKeepGenerations (run o schedule) }
+    ensures proper { (o : Opening) (schedule : List Event) → HoldsKeepGenerations (run o schedule) }
+    ensures stray { (o : Opening) (schedule : List Event) → StraysAreOthers (run o schedule) }
 {}
 
 /// The last `worn` descriptors that a search scanned stand at their last generation. Where a seat was told Worn, all do.

@@ -1,5 +1,8 @@
-use Rattle.kc_effects.proofs.PoolLaws.{holds_kept}
+use Rattle.kc_effects.proofs.PoolLaws.{holds_kept, strays_kept}
 use Rattle.kc_effects.proofs.laws.holds_keep_generations.Goals as goal
 
-pub returns : goal.returns
-returns c = holds_kept
+pub returns-clause-proper : goal.returns-clause-proper
+returns-clause-proper c = holds_kept
+
+pub returns-clause-stray : goal.returns-clause-stray
+returns-clause-stray c = strays_kept
