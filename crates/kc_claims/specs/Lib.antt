@@ -1,0 +1,4 @@
+pub mod Histories
+pub mod Traces
+pub mod Claims
+pub mod Worked
