@@ -1,0 +1,4 @@
+pub mod Fits
+pub mod Formed
+pub mod Made
+pub mod Seated
