@@ -1,0 +1,83 @@
+-- A seat has at most three holds: no seat looks while it commits.
+use Rattle.std.proofs.Common.{◌≡◌, ◌≤◌, refl, ap, arith}
+use Rattle.kc_words.specs.declared.words.Handle.{Handle}
+use Rattle.kc_words.specs.declared.words.Reference.{Reference}
+use Rattle.kc_machine.specs.declared.seat.Seat.{Seat}
+use Rattle.kc_machine.specs.declared.seat.Work.{Work}
+use Rattle.kc_machine.specs.declared.seat.Work.TheVariants as work
+use Rattle.kc_machine.specs.declared.hang.Hang.{Hang}
+use Rattle.kc_machine.specs.declared.hang.HangStep.{HangStep}
+use Rattle.kc_machine.specs.declared.hang.HangStep.TheVariants as hang
+use Rattle.kc_steps.specs.declared.commit.Commit.{Commit}
+use Rattle.kc_steps.specs.declared.commit.Stage.{Stage}
+use Rattle.kc_steps.specs.declared.commit.Stage.TheVariants.{Scan, Take, Own}
+use Rattle.kc_steps.specs.declared.commit.OwnStep.{OwnStep}
+use Rattle.kc_steps.specs.declared.commit.OwnStep.TheVariants as own
+use Rattle.kc_steps.specs.declared.aid.Aided.{Aided}
+use Rattle.kc_steps.specs.declared.aid.AidStep.{AidStep}
+use Rattle.kc_steps.specs.declared.aid.AidStep.TheVariants as aid
+use Rattle.kc_effects.specs.Stands.{Stand, Waits, NoLook, stand, works, resting, commits, owns, aids, hangs}
+use Rattle.kc_effects.specs.Holds.{Hold, NoHold, Proper, Stray, own_hold, check_hold, aid_hold, look_hold}
+use Rattle.kc_pool.specs.Counts.{one_if_held, holds_of}
+
+one_at_most : (x : Hold) → one_if_held x ≤ 1
+one_at_most NoHold = omega arith
+one_at_most (Proper d g) = omega arith
+one_at_most (Stray d g) = omega arith
+
+-- no look
+unlooking : (s : Stand) → s.look ≡ NoLook → holds_of s ≤ 3
+unlooking s q =
+    let a = one_at_most (own_hold s.own) in
+    let b = one_at_most (check_hold s.pass) in
+    let c = one_at_most (aid_hold s.aid) in
+    let d = ap (λ x. one_if_held (look_hold x)) q in
+    omega arith
+
+aided : (t : Stand) (r : Reference) (c : Aided) (a : AidStep) → (aids t r c a).look ≡ t.look
+aided t r c aid.Hold = refl
+aided t r c aid.Status = refl
+aided t r c (aid.First p) = refl
+aided t r c (aid.Second p f) = refl
+aided t r c (aid.Release p x) = refl
+aided t r c aid.Owner = refl
+aided t r c aid.LoadFirst = refl
+aided t r c (aid.LoadSecond f) = refl
+aided t r c (aid.Pass p) = refl
+aided t r c (aid.Leave o) = refl
+aided t r c (aid.Drop stray o) = refl
+
+owned : (t : Stand) (c : Commit) (h : Handle) (step : OwnStep) → (owns t c.intent c.copy h step).look ≡ t.look
+owned t c h own.FillOwner = refl
+owned t c h (own.FillFirst j) = refl
+owned t c h (own.FillSecond j) = refl
+owned t c h own.Start = refl
+owned t c h own.Abandon = refl
+owned t c h (own.Pass p) = refl
+owned t c h (own.Aid j r a) = aided (record t { own = Waits h c.intent j }) r c.copy a
+owned t c h (own.Wake j owed) = refl
+owned t c h (own.Signal owed) = refl
+owned t c h (own.Drop p) = refl
+
+staged : (t : Stand) (c : Commit) (x : Stage) → (commits t c.intent c.copy x).look ≡ t.look
+staged t c (Scan d worn) = refl
+staged t c (Take d g) = refl
+staged t c (Own h step) = owned t c h step
+
+looking : (s : Stand) → one_if_held (look_hold s.look) ≤ 1
+looking s = one_at_most (look_hold s.look)
+
+hung : (t : Seat) (h : Hang) (step : HangStep) → holds_of (hangs (resting t) h.reads.items step) ≤ 3
+hung t h (hang.Set j) = omega arith
+hung t h (hang.Look j step) = let a = looking (hangs (resting t) h.reads.items (hang.Look j step)) in omega arith
+hung t h (hang.Clear j n) = omega arith
+
+pub three_at_most : (s : Seat) → holds_of (stand s) ≤ 3
+three_at_most s = go s.work
+  where
+    go : (x : Work) → holds_of (works (resting s) x) ≤ 3
+    go work.Idle = omega arith
+    go (work.Look l) = let a = looking (works (resting s) (work.Look l)) in omega arith
+    go (work.Commit c) = unlooking (works (resting s) (work.Commit c)) (staged (record (resting s) { halted = c.halted }) c c.stage)
+    go (work.Hang h) = hung s h h.step
+    go (work.Leave l) = omega arith

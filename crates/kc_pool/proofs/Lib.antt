@@ -1,0 +1,12 @@
+pub mod Owners
+pub mod Statuses
+pub mod Shapes
+pub mod Aims
+pub mod Phases
+pub mod Published
+pub mod Filled
+pub mod Counts
+pub mod AtMostThree
+pub mod Lives
+pub mod LifeLaws
+pub mod Started

@@ -1,0 +1,5 @@
+pub mod Owners
+pub mod References
+pub mod Filled
+pub mod Counts
+pub mod Started
