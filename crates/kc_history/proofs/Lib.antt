@@ -1,4 +1,11 @@
 pub mod Choice
 pub mod Ready
+pub mod Exchange
+pub mod Entries
+pub mod Tallies
+pub mod Totals
+pub mod Opening
+pub mod Passing
+pub mod Placed
 pub mod Places
 pub mod Lines

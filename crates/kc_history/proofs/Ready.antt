@@ -39,7 +39,7 @@ first_later : (p : Put) (ps : List Put) (q : Put) (l : ℕ) → FirstAt q ps l �
 first_later p ps q l h = ((suc h.0.0, omega arith, h.0.2), h.1)
 
 -- nothing is not something
-no_some : {A : Type 0} (x : A) → None ≡ Some x → ⊥
+pub no_some : {A : Type 0} (x : A) → None ≡ Some x → ⊥
 no_some x e = cc
 
 -- the put of a location is in the list

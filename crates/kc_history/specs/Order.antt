@@ -57,6 +57,10 @@ abbrev pub Chooses : Footprints → (ℕ → ℕ) → (ℕ → ℕ) → List Pla
 Chooses a n v [] m w = (m ≡ n) × (w ≡ v)
 Chooses a n v (p ∷ ps) m w = (f : Footprint) × Chosen a n v p f × Chooses a (more p.thread n) (raised f v) ps m w
 
+-- no record that doesn't stand yet is ready
+abbrev pub NoneReady : Footprints → (ℕ → ℕ) → (ℕ → ℕ) → Type 0
+NoneReady a n v = (p : Place) (f : Footprint) → Ready a n v p f → ⊥
+
 -- the canonical order, which takes in all records
 pub record IsCanonical (a : Footprints) (ps : List Place) : Type 0 where
   pub stand : ℕ → ℕ

@@ -1,12 +1,19 @@
 //! The records of a run, their canonical order, and the lines that show both.
 #![tactic(auto)]
 
+mod arranging;
+mod counting;
 mod laws;
+mod placing;
 mod record;
 #[cfg(test)]
 mod tests;
 mod text;
 
-pub use laws::{one_order_is_canonical, own_order_is_canonical};
+pub use arranging::{Cycle, Room, arrange};
+pub use laws::{
+    arranging_ends_in_one_way, canonical_is_legal, entries_are_records, looks_can_be_left, one_order_is_canonical,
+    own_order_is_canonical,
+};
 pub use record::{Mark, Place, Record};
 pub use text::{put_text, write_text};

@@ -1,5 +1,5 @@
 use super::*;
-use kc_model::{Answer, FrailSink, Item, Items, Reply};
+use kc_model::{Answer, Footprint, FrailSink, Item, Items, Loc, Put, Reply, Seen};
 use std::alloc::Global;
 use std::process::Abort;
 use std::test::Fail;
@@ -61,4 +61,22 @@ fn items_and_too_large_in_words(rt: HostRuntime) -> Result<(), Fail> {
         b"1.1 ok 4\norder\n",
     )?;
     shows(&rt, rt.alloc(), Answer::TooLarge, b"1.1 toolarge\norder\n")
+}
+
+// A footprint of location 0 that reads this version, and puts or not.
+fn of_version(version: u32, puts: bool) -> Footprint {
+    let mut footprint = Footprint::new();
+    footprint.reads.push(Seen {
+        loc: Loc(0),
+        version,
+        value: version,
+    });
+    if puts {
+        footprint.puts.push(Put {
+            loc: Loc(0),
+            version,
+            after: version + 1,
+        });
+    }
+    footprint
 }

@@ -1,0 +1,6 @@
+use Rattle.std.proofs.Common.{◌≡◌, ◌+◌, ◌<◌, ℕ, length, take, slice_index}
+use Rattle.kc_history.specs.Counts.{readers, slot, width}
+use Rattle.kc_history.proofs.counting.forget_reads.Given as goal
+
+abbrev pub invariant-loop-read : goal.invariant-loop-read
+invariant-loop-read l = (x v : ℕ) → x + 1 < length l.starts → v < width l.starts x → slice_index l.left (slot l.starts x v) + readers x v (take l.read-index l.reads) ≡ slice_index l.initial.left (slot l.starts x v)

@@ -1,0 +1,143 @@
+//! The canonical order, found in room that was taken before.
+
+ghost use Rattle.std.specs.Prelude.{◌≡◌, ◌+◌, ◌*◌, ◌^◌, ◌<◌, ◌≤◌, IfOk, IfErr, IsOk, [], length, take};
+ghost use Rattle.kc_history.specs.Records.{footprint_at, lists_of};
+ghost use Rattle.kc_history.specs.Order.{IsCanonical};
+ghost use Rattle.kc_history.specs.Counts.{AllWellMade, foot_at, records_in};
+ghost use Rattle.kc_history.specs.Ends.{AreWellMade, HasLegalList, IsStuck};
+
+use crate::counting::{clear_numbers, count_records};
+use crate::placing::{Tested, UNTESTED, clear_tests, first_left, place_all};
+use crate::record::{Place, Record};
+use kc_model::{MOST, MOST_LOCATIONS, NoMemory};
+use std::alloc::Global;
+use std::marker::Model;
+
+/// Room for the order of so many threads and records. Contracts see both numbers, and the order that was found last.
+#[derive(Drop)]
+pub struct Room {
+    order: Vec<Place>,
+    placed: usize,
+    next: Vec<u32>,
+    versions: Vec<u32>,
+    starts: Vec<usize>,
+    left: Vec<usize>,
+    tested: Vec<Tested>,
+}
+
+impl Model for Room {
+    ghost use Rattle.std.specs.Prelude.{◌≡◌, ◌+◌, ◌*◌, ◌^◌, ◌<◌, ◌≤◌, take, vec_len};
+    ghost use Rattle.kc_history.specs.Rooms.{RoomValue};
+
+    ghost Value = { RoomValue };
+
+    ghost view = { λ r. record { threads = vec_len r.next; records = vec_len r.order; order = take r.placed r.order.items } };
+
+    ghost invariant = { λ r. (vec_len r.versions ≡ 65536) × (vec_len r.starts ≡ 65537) × (65537 + 64 * vec_len r.order ≤ vec_len r.left) × (vec_len r.order < 2 ^ 32) × (vec_len r.next < 2 ^ 32) × (vec_len r.tested ≡ vec_len r.next) × (r.placed ≤ vec_len r.order) };
+}
+
+/// No record that is left is ready: the lowest thread with a record left, and that record's place in it, both from 1.
+#[derive(Clone, Copy, Debug, PartialEq, Eq)]
+pub struct Cycle {
+    pub thread: u32,
+    pub number: u32,
+}
+
+impl Room {
+    /// Room for so many threads and so many records.
+    pub fn open(alloc: Global, threads: u32, records: u32) -> Result<Room, NoMemory>
+        ensures { IfOk result (λ room. room ≡ record { threads = threads; records = records; order = [] }) }
+    {
+        let records = records as usize;
+        let nowhere = Place {
+            thread: 0,
+            index: 0,
+        };
+        Ok(Room {
+            order: vec![in alloc; nowhere; records]?,
+            placed: 0,
+            next: vec![in alloc; 0; threads as usize]?,
+            versions: vec![in alloc; 0; MOST_LOCATIONS]?,
+            starts: vec![in alloc; 0; MOST_LOCATIONS + 1]?,
+            left: vec![in alloc; 0; MOST_LOCATIONS + 1 + MOST * records]?,
+            tested: vec![in alloc; UNTESTED; threads as usize]?,
+        })
+    }
+
+    /// The order that was found last.
+    pub fn order(&self) -> &[Place]
+        ensures { result.now ≡ self.now.order }
+    {
+        &self.order[..self.placed]
+    }
+}
+
+/// Finds the canonical order of the records. It takes no memory, and works in time linear in all reads and puts, and
+/// in threads times records.
+///
+/// # Errors
+///
+/// `Cycle`, exactly where a record is left and none is ready. Records that have a legal order never come to that.
+pub fn arrange(records: &[Vec<Record>], room: &mut Room) -> Result<(), Cycle>
+    requires made { AreWellMade (footprint_at (lists_of records.now)) }
+    requires threads { length records.now ≤ room.old.threads }
+    requires records { records_in records.now ≤ room.old.records }
+    ensures arranged { IfOk result (λ _. IsCanonical (footprint_at (lists_of records.now)) room.new.order) }
+    ensures stuck { IfErr result (λ cycle. IsStuck (footprint_at (lists_of records.now)) cycle) }
+    ensures never { HasLegalList (footprint_at (lists_of records.now)) → IsOk result }
+    ensures threads { room.new.threads ≡ room.old.threads }
+    ensures records { room.new.records ≡ room.old.records }
+{
+    let (placed, ended) = find_order(
+        records,
+        room.order.as_mut_slice(),
+        room.next.as_mut_slice(),
+        room.versions.as_mut_slice(),
+        room.starts.as_mut_slice(),
+        room.left.as_mut_slice(),
+        room.tested.as_mut_slice(),
+    );
+    room.placed = placed;
+    ended
+}
+
+// Finds the order, and says how many records stand in it.
+fn find_order(
+    records: &[Vec<Record>],
+    order: &mut [Place],
+    next: &mut [u32],
+    versions: &mut [u32],
+    starts: &mut [usize],
+    left: &mut [usize],
+    tested: &mut [Tested],
+) -> (usize, Result<(), Cycle>)
+    requires threads { length records.now ≤ length next.old }
+    requires tests { length records.now ≤ length tested.old }
+    requires few { length next.old < 2 ^ 32 }
+    requires made { AllWellMade (length versions.old) records.now }
+    requires locations { length starts.old ≡ length versions.old + 1 }
+    requires counts { length starts.old + 64 * length order.old ≤ length left.old }
+    requires bytes { length left.old < 2 ^ 64 }
+    requires records { records_in records.now ≤ length order.old }
+    requires short { length order.old < 2 ^ 32 }
+    ensures within { result.0 ≤ length order.new }
+    ensures arranged { IfOk result.1 (λ _. IsCanonical (foot_at records.now) (take result.0 order.new)) }
+    ensures stuck { IfErr result.1 (λ cycle. IsStuck (foot_at records.now) cycle) }
+    ensures never { HasLegalList (foot_at records.now) → IsOk result.1 }
+{
+    clear_numbers(next);
+    clear_numbers(versions);
+    clear_tests(tested);
+    count_records(records, starts, left);
+    let placed = place_all(records, order, next, versions, starts, left, tested);
+    match first_left(records, next) {
+        None => (placed, Ok(())),
+        Some(thread) => {
+            let cycle = Cycle {
+                thread: thread as u32 + 1,
+                number: next[thread] + 1,
+            };
+            (placed, Err(cycle))
+        }
+    }
+}

@@ -1,0 +1,147 @@
+//! The counts of reads and puts from which the order is made.
+
+ghost use Rattle.std.specs.Prelude.{◌≡◌, ℕ, ◌+◌, ◌-◌, ◌*◌, ◌^◌, ◌<◌, ◌≤◌, All, List, length, slice_index, sum, sum_by, take};
+ghost use Rattle.kc_history.specs.Counts.{AllWellMade, Counted, Forgets, Slots, putters, readers, records_in, slot, width};
+
+use crate::record::Record;
+use kc_model::{Put, Seen};
+
+// Adds the reads of a record to the counts of readers.
+fn count_reads(reads: &[Seen], starts: &[usize], left: &mut [usize])
+    requires slots { Slots starts.now (length left.old) }
+    requires below { All (λ r. r.loc.0 + 1 < length starts.now) reads.now }
+    requires room { (k : ℕ) → slice_index left.old k + length reads.now < 2 ^ 64 }
+    ensures counts { (l v : ℕ) → l + 1 < length starts.now → v < width starts.now l → slice_index left.new (slot starts.now l v) ≡ slice_index left.old (slot starts.now l v) + readers l v reads.now }
+    ensures most { (k : ℕ) → slice_index left.new k ≤ slice_index left.old k + length reads.now }
+{
+    for read in reads {
+        let loc = read.loc.0 as usize;
+        let width = starts[loc + 1] - starts[loc];
+        if (read.version as usize) < width {
+            left[starts[loc] + read.version as usize] += 1;
+        }
+    }
+}
+
+// Takes the reads of a record out of the counts of readers.
+pub(crate) fn forget_reads(reads: &[Seen], starts: &[usize], left: &mut [usize])
+    requires slots { Slots starts.now (length left.old) }
+    requires below { All (λ r. r.loc.0 + 1 < length starts.now) reads.now }
+    requires stands { All (λ r. r.version < width starts.now r.loc.0) reads.now }
+    requires counted { (l v : ℕ) → l + 1 < length starts.now → v < width starts.now l → readers l v reads.now ≤ slice_index left.old (slot starts.now l v) }
+    ensures { Forgets starts.now left.old left.new reads.now }
+{
+    for read in reads {
+        left[starts[read.loc.0 as usize] + read.version as usize] -= 1;
+    }
+}
+
+// Adds the puts of a record to the numbers of versions.
+fn count_puts(puts: &[Put], widths: &mut [usize])
+    requires below { All (λ p. p.loc.0 < length widths.old) puts.now }
+    requires room { sum widths.old + length puts.now < 2 ^ 64 }
+    ensures counts { (l : ℕ) → l < length widths.old → slice_index widths.new l ≡ slice_index widths.old l + putters l puts.now }
+    ensures sum { sum widths.new ≡ sum widths.old + length puts.now }
+{
+    for put in puts {
+        widths[put.loc.0 as usize] += 1;
+    }
+}
+
+// Makes of widths where each location's counts start; the last is where they end.
+fn sum_up(widths: &mut [usize])
+    requires { sum widths.old < 2 ^ 64 }
+    ensures { (k : ℕ) → k < length widths.old → slice_index widths.new k ≡ sum (take k widths.old) }
+{
+    let mut start = 0;
+    for width in widths {
+        let here = *width;
+        *width = start;
+        start += here;
+    }
+}
+
+fn count_list_puts(list: &[Record], widths: &mut [usize])
+    requires below { All (λ r. All (λ p. p.loc.0 < length widths.old) r.footprint.puts.items) list.now }
+    requires room { sum widths.old + 64 * length list.now < 2 ^ 64 }
+    ensures counts { (l : ℕ) → l < length widths.old → slice_index widths.new l ≡ slice_index widths.old l + sum_by (λ r. putters l r.footprint.puts.items) list.now }
+    ensures sum { sum widths.new ≤ sum widths.old + 64 * length list.now }
+{
+    for commit in list {
+        count_puts(commit.footprint.puts.as_slice(), widths);
+    }
+}
+
+fn count_all_puts(records: &[Vec<Record>], widths: &mut [usize])
+    requires below { All (λ list. All (λ r. All (λ p. p.loc.0 < length widths.old) r.footprint.puts.items) list.items) records.now }
+    requires room { sum widths.old + 64 * records_in records.now < 2 ^ 64 }
+    ensures counts { (l : ℕ) → l < length widths.old → slice_index widths.new l ≡ slice_index widths.old l + sum_by (λ list. sum_by (λ r. putters l r.footprint.puts.items) list.items) records.now }
+    ensures sum { sum widths.new ≤ sum widths.old + 64 * records_in records.now }
+{
+    for list in records {
+        count_list_puts(list.as_slice(), widths);
+    }
+}
+
+fn count_list_reads(list: &[Record], starts: &[usize], left: &mut [usize])
+    requires slots { Slots starts.now (length left.old) }
+    requires below { All (λ c. All (λ r. r.loc.0 + 1 < length starts.now) c.footprint.reads.items) list.now }
+    requires room { (k : ℕ) → slice_index left.old k + 64 * length list.now < 2 ^ 64 }
+    ensures counts { (l v : ℕ) → l + 1 < length starts.now → v < width starts.now l → slice_index left.new (slot starts.now l v) ≡ slice_index left.old (slot starts.now l v) + sum_by (λ r. readers l v r.footprint.reads.items) list.now }
+    ensures most { (k : ℕ) → slice_index left.new k ≤ slice_index left.old k + 64 * length list.now }
+{
+    for commit in list {
+        count_reads(commit.footprint.reads.as_slice(), starts, left);
+    }
+}
+
+fn count_all_reads(records: &[Vec<Record>], starts: &[usize], left: &mut [usize])
+    requires slots { Slots starts.now (length left.old) }
+    requires below { All (λ list. All (λ c. All (λ r. r.loc.0 + 1 < length starts.now) c.footprint.reads.items) list.items) records.now }
+    requires room { (k : ℕ) → slice_index left.old k + 64 * records_in records.now < 2 ^ 64 }
+    ensures { (l v : ℕ) → l + 1 < length starts.now → v < width starts.now l → slice_index left.new (slot starts.now l v) ≡ slice_index left.old (slot starts.now l v) + sum_by (λ list. sum_by (λ r. readers l v r.footprint.reads.items) list.items) records.now }
+{
+    for list in records {
+        count_list_reads(list.as_slice(), starts, left);
+    }
+}
+
+fn clear(counts: &mut [usize])
+    ensures { (k : ℕ) → slice_index counts.new k ≡ 0 }
+{
+    for count in counts.iter_mut() {
+        *count = 0;
+    }
+}
+
+pub(crate) fn clear_numbers(numbers: &mut [u32])
+    ensures { (k : ℕ) → slice_index numbers.new k ≡ 0 }
+{
+    for number in numbers.iter_mut() {
+        *number = 0;
+    }
+}
+
+fn make_ones(counts: &mut [usize])
+    ensures each { (k : ℕ) → k < length counts.new → slice_index counts.new k ≡ 1 }
+    ensures sum { sum counts.new ≤ length counts.new }
+{
+    for count in counts.iter_mut() {
+        *count = 1;
+    }
+}
+
+// Makes all counts anew, as they are where no record stands.
+pub(crate) fn count_records(records: &[Vec<Record>], starts: &mut [usize], left: &mut [usize])
+    requires made { AllWellMade (length starts.old - 1) records.now }
+    requires one { 0 < length starts.old }
+    requires room { length starts.old + 64 * records_in records.now ≤ length left.old }
+    requires short { length left.old < 2 ^ 64 }
+    ensures { (next versions : List ℕ) → length starts.new ≡ length versions + 1 → ((u : ℕ) → slice_index next u ≡ 0) → ((l : ℕ) → slice_index versions l ≡ 0) → Counted records.now next versions starts.new left.new }
+{
+    make_ones(starts);
+    count_all_puts(records, starts);
+    sum_up(starts);
+    clear(left);
+    count_all_reads(records, starts, left);
+}
