@@ -4,3 +4,4 @@ pub mod Pens
 pub mod Stores
 pub mod Footprints
 pub mod Lists
+pub mod Rises

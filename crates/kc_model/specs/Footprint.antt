@@ -27,9 +27,13 @@ abbrev pub put_at : List Put → ℕ → Option Put
 put_at [] l = None
 put_at (p ∷ ps) l = cond (p.loc.0 == l) (Some p) (put_at ps l)
 
+-- the version that a put ends is among the reads
+abbrev pub IsRead : List Seen → Put → Type 0
+IsRead rs p = (r : Seen) × Contains rs r × (r.loc.0 ≡ p.loc.0) × (r.version ≡ p.version)
+
 -- each put ends a version that was read
 abbrev pub PutsWhatItReads : Footprint → Type 0
-PutsWhatItReads f = (p : Put) → Puts f p → (r : Seen) × Reads f r × (r.loc.0 ≡ p.loc.0) × (r.version ≡ p.version)
+PutsWhatItReads f = (p : Put) → Puts f p → IsRead f.reads.items p
 
 pub record IsWellMade (f : Footprint) : Type 0 where
   pub reads_rise : IsRising (map read_location f.reads.items)

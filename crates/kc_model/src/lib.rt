@@ -14,6 +14,7 @@ mod sure;
 #[cfg(test)]
 mod tests;
 mod word;
+mod well_made;
 mod writing;
 
 pub use errors::{ModelError, NoMemory, OpenError};
