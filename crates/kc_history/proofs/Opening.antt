@@ -1,5 +1,5 @@
 -- The counts where no record stands.
-use Rattle.std.proofs.Common.{◌≡◌, ℕ, zero, suc, ◌+◌, ◌<◌, ◌≤◌, List, [], ◌∷◌, Some, Vec, vec_len, All, length, take, slice_get, slice_index, slice_index_or, sum, sum_by, refl, sym, ap, ◌∙◌, arith, ◌++◌, drop, append-nil, take_all}
+use Rattle.std.proofs.Common.{◌≡◌, ℕ, zero, suc, ◌+◌, ◌<◌, ◌≤◌, List, [], ◌∷◌, Some, Vec, vec_len, All, length, take, slice_get, slice_index, slice_index_or, sum, sum_by, refl, sym, ap, subst, ◌∙◌, arith, ◌++◌, drop, append-nil, take_all}
 use Rattle.std.proofs.Math.Path.{fun_ext}
 use Rattle.std.proofs.Math.ListN.{drop_of_length-le}
 use Rattle.std.proofs.lemmas.List.Sums.{sum_by-cons, sum_by_more, sum_by-take-le}
@@ -7,6 +7,7 @@ use Rattle.std.specs.Global.{Global}
 use Rattle.kc_model.specs.declared.footprint.Footprint.{Footprint}
 use Rattle.kc_history.specs.declared.record.Record.{Record}
 use Rattle.kc_history.specs.Counts.{foot_at, footprints, total, readers_of, putters_of, slot, width, Slots, Counted}
+use Rattle.kc_history.proofs.Choice.{some_is}
 use Rattle.kc_history.proofs.Totals.{total_all, record_is, list_is}
 
 pub ones_sum : (xs : List ℕ) → ((k : ℕ) → k < length xs → slice_index xs k ≡ 1) → sum xs ≤ length xs
@@ -27,6 +28,17 @@ all_lists P vs h u d lt k e kt =
     let v = slice_index_or vs u d in
     let r = slice_index_or v.items k e in
     h u k r.footprint (record_is vs u v v.items k r lt (any_default vs u d v lt) refl kt (any_default v.items k e r kt))
+
+-- and back
+pub by_lists : (P : Footprint → Type 0) (vs : List (Vec Record Global)) → All (λ (v : Vec Record Global). All (λ (r : Record). P r.footprint) v.items) vs → (u k : ℕ) (f : Footprint) → foot_at vs u k ≡ Some f → P f
+by_lists P [] h u k f e = absurd (cc)
+by_lists P (v ∷ vs) h zero k f e = in_list P v.items (h zero v (omega arith)) k f e
+  where
+    in_list : (P : Footprint → Type 0) (rs : List Record) → All (λ (r : Record). P r.footprint) rs → (k : ℕ) (f : Footprint) → slice_get (footprints rs) k ≡ Some f → P f
+    in_list P [] h k f e = absurd (cc)
+    in_list P (r ∷ rs) h zero f e = subst P (some_is r.footprint f e) (h zero r (omega arith))
+    in_list P (r ∷ rs) h (suc k) f e = in_list P rs (λ j d lt. h (suc j) d (omega arith)) k f e
+by_lists P (v ∷ vs) h (suc u) k f e = by_lists P vs (λ j d lt. h (suc j) d (omega arith)) u k f e
 
 pub slots_of : (starts widths : List ℕ) (size : ℕ) → length starts ≡ length widths → ((k : ℕ) → k < length widths → slice_index starts k ≡ sum (take k widths)) → sum widths ≤ size → Slots starts size
 slots_of starts widths size len h few = record {

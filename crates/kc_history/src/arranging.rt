@@ -1,15 +1,15 @@
 //! The canonical order, found in room that was taken before.
 
-ghost use Rattle.std.specs.Prelude.{◌≡◌, ◌+◌, ◌*◌, ◌^◌, ◌<◌, ◌≤◌, IfOk, IfErr, IsOk, [], length, take};
+ghost use Rattle.std.specs.Prelude.{◌≡◌, ◌+◌, ◌*◌, ◌^◌, ◌<◌, ◌≤◌, ◌↔◌, All, IfOk, IfErr, IsOk, IsTrue, [], length, take};
 ghost use Rattle.kc_history.specs.Records.{footprint_at, lists_of};
 ghost use Rattle.kc_history.specs.Order.{IsCanonical};
 ghost use Rattle.kc_history.specs.Counts.{AllWellMade, foot_at, records_in};
-ghost use Rattle.kc_history.specs.Ends.{AreWellMade, HasLegalList, IsStuck};
+ghost use Rattle.kc_history.specs.Ends.{AreWellMade, CanStand, HasLegalList, IsStuck};
 
 use crate::counting::{clear_numbers, count_records};
 use crate::placing::{Tested, UNTESTED, clear_tests, first_left, place_all};
 use crate::record::{Place, Record};
-use kc_model::{MOST, MOST_LOCATIONS, NoMemory};
+use kc_model::{Footprint, MOST, MOST_LOCATIONS, NoMemory};
 use std::alloc::Global;
 use std::marker::Model;
 
@@ -70,6 +70,38 @@ impl Room {
     {
         &self.order[..self.placed]
     }
+}
+
+/// Whether each footprint is well made, and of locations that a store may have.
+pub fn are_well_made(records: &[Vec<Record>]) -> bool
+    ensures { IsTrue result ↔ AreWellMade (footprint_at (lists_of records.now)) }
+{
+    for list in records {
+        if !all_well_made(list) {
+            return false;
+        }
+    }
+    true
+}
+
+fn all_well_made(list: &[Record]) -> bool
+    ensures { IsTrue result ↔ All (λ r. CanStand r.footprint) list.now }
+{
+    for commit in list {
+        if !can_stand(&commit.footprint) {
+            return false;
+        }
+    }
+    true
+}
+
+fn can_stand(footprint: &Footprint) -> bool
+    ensures { IsTrue result ↔ CanStand footprint.now }
+{
+    if !footprint.is_well_made() {
+        return false;
+    }
+    footprint.is_below(MOST_LOCATIONS as u32)
 }
 
 /// Finds the canonical order of the records. It takes no memory, and works in time linear in all reads and puts, and

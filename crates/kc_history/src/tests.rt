@@ -1,5 +1,7 @@
+ghost use Rattle.std.specs.Prelude.{◌+◌, ◌≤◌, vec_len};
+
 use super::*;
-use kc_model::{Answer, Footprint, FrailSink, Item, Items, Loc, Put, Reply, Seen};
+use kc_model::{Answer, FrailSink, Item, Items, Loc, Put, Reply, Seen};
 use std::alloc::Global;
 use std::process::Abort;
 use std::test::Fail;
@@ -63,20 +65,72 @@ fn items_and_too_large_in_words(rt: HostRuntime) -> Result<(), Fail> {
     shows(&rt, rt.alloc(), Answer::TooLarge, b"1.1 toolarge\norder\n")
 }
 
-// A footprint of location 0 that reads this version, and puts or not.
-fn of_version(version: u32, puts: bool) -> Footprint {
-    let mut footprint = Footprint::new();
-    footprint.reads.push(Seen {
-        loc: Loc(0),
+// A record that reads location 0 at this version, and puts it or not.
+fn of_version(thread: u32, number: u32, version: u32, puts: bool) -> Record {
+    let mut commit = Record::new(thread, Mark::Command(number));
+    let loc = Loc(0);
+    let _ = commit.footprint.reads.try_push(Seen {
+        loc,
         version,
-        value: version,
+        value: 7,
     });
     if puts {
-        footprint.puts.push(Put {
-            loc: Loc(0),
+        let _ = commit.footprint.puts.try_push(Put {
+            loc,
             version,
-            after: version + 1,
+            after: 7,
         });
     }
-    footprint
+    commit
+}
+
+// The records of two threads, in their order, or where that is stuck.
+fn arranged(
+    alloc: Global,
+    first: Vec<Record>,
+    second: Vec<Record>,
+) -> Result<(Room, Result<(), Cycle>), Fail>
+    requires { vec_len first + vec_len second ≤ 4 }
+{
+    let mut records = Vec::new(alloc);
+    records.push(first)?;
+    records.push(second)?;
+    let mut room = Room::open(alloc, 2, 4)?;
+    let lists = records.as_slice();
+    if !are_well_made(lists) {
+        return Err(Fail::from("a record isn't well made"));
+    }
+    let ended = arrange(lists, &mut room);
+    Ok((room, ended))
+}
+
+fn at(thread: u32, index: u32) -> Place {
+    Place { thread, index }
+}
+
+#[test]
+fn a_later_reader_of_what_a_put_ends_stands_before_it(rt: HostRuntime) -> Result<(), Fail> {
+    let mut first = Vec::new(rt.alloc());
+    first.push(of_version(1, 1, 0, true))?;
+    let mut second = Vec::new(rt.alloc());
+    second.push(of_version(2, 1, 0, false))?;
+    second.push(of_version(2, 2, 1, true))?;
+    let (room, ended) = arranged(rt.alloc(), first, second)?;
+    assert_eq!(rt; ended, Ok(()));
+    assert_eq!(rt; room.order(), [at(1, 0), at(0, 0), at(1, 1)].as_slice());
+    Ok(())
+}
+
+#[test]
+fn two_records_that_end_one_version_are_stuck(rt: HostRuntime) -> Result<(), Fail> {
+    let mut first = Vec::new(rt.alloc());
+    first.push(of_version(1, 1, 0, true))?;
+    first.push(of_version(1, 2, 0, true))?;
+    let (_, ended) = arranged(rt.alloc(), first, Vec::new(rt.alloc()))?;
+    let stuck = Cycle {
+        thread: 1,
+        number: 1,
+    };
+    assert_eq!(rt; ended, Err(stuck));
+    Ok(())
 }
