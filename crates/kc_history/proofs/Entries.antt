@@ -1,8 +1,7 @@
 -- From legal entries to legal records.
-use Rattle.std.proofs.Common.{◌≡◌, ◌≢◌, ℕ, zero, suc, ◌+◌, ◌-◌, List, [], ◌∷◌, cond, Some, None, slice_get, refl, sym, ap, ap₂, ◌∙◌, subst, subst₂, arith, eq-eqb, ne_eqb, add-zero, inl, inr}
+use Rattle.std.proofs.Common.{◌≡◌, ◌≢◌, ℕ, zero, suc, ◌+◌, ◌-◌, List, [], ◌∷◌, cond, slice_get, refl, sym, ap, ◌∙◌, subst, arith, eq-eqb, ne_eqb, add-zero, inl, inr}
 use Rattle.kc_model.specs.declared.footprint.Footprint.{Footprint}
-use Rattle.kc_history.specs.declared.record.Place.{Place}
-use Rattle.kc_history.specs.Order.{Footprints, more, raised, IsNext, Legal, Ready, Chooses, NoneReady}
+use Rattle.kc_history.specs.Order.{Footprints, more, Legal}
 use Rattle.kc_model.specs.Store.{Store, after, cell_after}
 use Rattle.kc_model.specs.Footprint.{put_at}
 use Rattle.std.proofs.Math.Path.{fun_ext}

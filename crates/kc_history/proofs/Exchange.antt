@@ -1,14 +1,13 @@
 -- A ready record can be brought to the front of a legal list.
-use Rattle.std.proofs.Common.{◌≡◌, ◌≢◌, ◌⊎◌, inl, inr, ℕ, ◌+◌, ◌<◌, ◌≤◌, List, [], ◌∷◌, Option, Some, None, refl, sym, ap, ◌∙◌, subst, subst₂, arith}
+use Rattle.std.proofs.Common.{◌≡◌, ◌≢◌, inl, inr, ℕ, ◌+◌, ◌≤◌, List, [], ◌∷◌, Some, sym, ap, ◌∙◌, subst, subst₂, arith}
 use Rattle.std.proofs.Math.Path.{fun_ext}
 use Rattle.kc_model.specs.declared.footprint.Seen.{Seen}
-use Rattle.kc_model.specs.declared.footprint.Put.{Put}
 use Rattle.kc_model.specs.declared.footprint.Footprint.{Footprint}
 use Rattle.kc_model.specs.declared.plain_store.Cell.{Cell}
-use Rattle.kc_model.specs.Footprint.{Reads, Puts, PutsWhatItReads, put_at}
+use Rattle.kc_model.specs.Footprint.{Reads, PutsWhatItReads, put_at}
 use Rattle.kc_model.specs.Store.{Store, cell_after, after, Finds}
 use Rattle.kc_history.specs.declared.record.Place.{Place}
-use Rattle.kc_history.specs.Order.{Footprints, more, IsNext, NoneLeft, Legal, raised, Ready, Chooses, NoneReady, IsCanonical}
+use Rattle.kc_history.specs.Order.{Footprints, more, IsNext, NoneLeft, Legal, Ready, Chooses, NoneReady, IsCanonical}
 use Rattle.kc_history.specs.Moves.{PutsNothingOf, Exchanges}
 use Rattle.kc_history.specs.Moves.Exchanged.{here, there}
 use Rattle.kc_history.specs.Moves.Exchanges.{none, one}

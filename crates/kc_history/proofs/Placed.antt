@@ -1,5 +1,5 @@
 -- One more record is placed.
-use Rattle.std.proofs.Common.{◌≡◌, ◌≢◌, ℕ, zero, suc, ◌+◌, ◌^◌, ◌<◌, ◌≤◌, List, [], ◌∷◌, ◌++◌, Some, Vec, vec_len, All, length, take, slice_get, slice_set, slice_index, slice_index_or, sum_by, refl, sym, ap, ◌∙◌, subst, subst₂, arith, inl, inr, Contains, Option, add-one, length-take, get_or-take, get_or-set_same, get_or-set_other}
+use Rattle.std.proofs.Common.{◌≡◌, ◌≢◌, ℕ, zero, suc, ◌+◌, ◌^◌, ◌<◌, ◌≤◌, List, [], ◌∷◌, ◌++◌, Some, Vec, vec_len, All, length, take, slice_get, slice_set, slice_index, slice_index_or, sum_by, refl, sym, ap, ◌∙◌, subst, subst₂, arith, inl, inr, Contains, add-one, length-take, get_or-take, get_or-set_same, get_or-set_other}
 use Rattle.std.proofs.Math.Path.{fun_ext}
 use Rattle.std.proofs.Math.Seq.{take-suc-set}
 use Rattle.std.proofs.lemmas.List.Elements.{All-contains, Contains-get_or}
@@ -14,7 +14,7 @@ use Rattle.kc_history.specs.Order.{Footprints, version_after, more, raised, None
 use Rattle.kc_model.specs.Footprint.{put_at, Reads, Puts}
 use Rattle.kc_history.specs.Counts.{Slots, Forgets, footprints, foot_at, total, readers, readers_of, putters_of, slot, width, records_in, WellMade, AllWellMade, Passes, Counted}
 use Rattle.kc_history.specs.declared.placing.Tested.{Tested}
-use Rattle.kc_history.specs.Tested.{Finds, IsAlone, IsTested, AllTested, untested, Placing}
+use Rattle.kc_history.specs.Tested.{Finds, IsTested, AllTested, untested, Placing}
 use Rattle.kc_history.proofs.Ready.{same_or, more_same, more_other, Skips, skips_or, ends_what_stands}
 use Rattle.kc_history.proofs.Opening.{in_items}
 use Rattle.kc_history.proofs.Tallies.{all_taken}

@@ -1,5 +1,5 @@
 -- The counts from which the order is made. They serve private functions and proofs.
-use Rattle.std.specs.Prelude.{◌≡◌, ℕ, zero, suc, ◌+◌, ◌-◌, ◌^◌, ◌<◌, ◌≤◌, List, [], ◌∷◌, map, Option, Some, All, AllPairs, drop, take, slice_get, Bool, ◌==◌, ◌&&◌, count_by, sum_by, length, slice_index, Vec, vec_len}
+use Rattle.std.specs.Prelude.{◌≡◌, ℕ, zero, suc, ◌+◌, ◌-◌, ◌^◌, ◌<◌, ◌≤◌, List, [], ◌∷◌, map, Option, Some, All, AllPairs, drop, slice_get, Bool, ◌==◌, ◌&&◌, count_by, sum_by, length, slice_index, Vec, vec_len}
 use Rattle.std.specs.Global.{Global}
 use Rattle.kc_model.specs.declared.footprint.Seen.{Seen}
 use Rattle.kc_model.specs.declared.footprint.Put.{Put}

@@ -12,8 +12,8 @@ mod text;
 
 pub use arranging::{Cycle, Room, are_well_made, arrange};
 pub use laws::{
-    arranging_ends_in_one_way, canonical_is_legal, entries_are_records, looks_can_be_left, one_order_is_canonical,
-    own_order_is_canonical,
+    arranging_ends_in_one_way, canonical_is_legal, entries_are_records, looks_can_be_left,
+    one_order_is_canonical, own_order_is_canonical,
 };
 pub use record::{Mark, Place, Record};
 pub use text::{put_text, write_text};

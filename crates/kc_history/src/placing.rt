@@ -39,7 +39,13 @@ fn count_found(reads: &[Seen], versions: &[u32], known: usize) -> usize
 }
 
 // Goes on behind the puts that are known to end versions which one record alone still reads, to the first that doesn't.
-fn count_alone(puts: &[Put], versions: &[u32], starts: &[usize], left: &[usize], known: usize) -> usize
+fn count_alone(
+    puts: &[Put],
+    versions: &[u32],
+    starts: &[usize],
+    left: &[usize],
+    known: usize,
+) -> usize
     requires versions { All (λ p. p.loc.0 < length versions.now) puts.now }
     requires starts { All (λ p. p.loc.0 < length starts.now) puts.now }
     requires left { All (λ p. slot starts.now p.loc.0 (slice_index versions.now p.loc.0) < length left.now) puts.now }
@@ -104,7 +110,13 @@ fn first_ready(
         let index = next[thread] as usize;
         if index < list.len() {
             let commit = &list[index];
-            if may_stand(&commit.footprint, versions, starts, left, &mut tested[thread]) {
+            if may_stand(
+                &commit.footprint,
+                versions,
+                starts,
+                left,
+                &mut tested[thread],
+            ) {
                 return Some(thread);
             }
         }

@@ -1,5 +1,5 @@
-use Rattle.std.proofs.Common.{◌≡◌, ℕ, List, ap, arith, subst, sym, take, drop, length, ◌++◌}
-use Rattle.std.specs.Prelude.{IsOk, IfErr}
+use Rattle.std.proofs.Common.{◌≡◌, ℕ, arith, subst, sym, take, drop, length, ◌++◌}
+use Rattle.std.specs.Prelude.{IfErr}
 use Rattle.kc_history.specs.Order.{Footprints}
 use Rattle.kc_history.specs.Counts.{AllWellMade}
 use Rattle.kc_history.specs.Ends.{IsStuck, HasLegalList}

@@ -1,4 +1,4 @@
-use Rattle.std.proofs.Common.{◌≡◌, ◌<◌, ◌+◌, ◌^◌, slice_index, arith, rules}
+use Rattle.std.proofs.Common.{◌<◌, ◌+◌, ◌^◌, slice_index, arith, rules}
 use Rattle.kc_history.specs.Counts.{foot_at}
 use Rattle.kc_history.proofs.Exchange.{choice_legal}
 use Rattle.kc_history.proofs.Placed.{few_records}

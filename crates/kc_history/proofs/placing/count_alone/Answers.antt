@@ -1,4 +1,4 @@
-use Rattle.std.proofs.Common.{◌≤◌, length, arith}
+use Rattle.std.proofs.Common.{arith}
 use Rattle.std.proofs.lemmas.List.Elements.{All-more}
 use Rattle.kc_model.specs.declared.footprint.Put.{Put}
 use Rattle.kc_history.specs.Tested.{IsAlone}

@@ -1,7 +1,7 @@
-use Rattle.std.proofs.Common.{◌≡◌, ◌<◌, ◌≤◌, All, length, slice_index, slice_index_or, subst, inl, inr, refl, arith, ap, sym, ◌∙◌}
+use Rattle.std.proofs.Common.{All, length, slice_index, subst, inl, inr, arith}
 use Rattle.kc_model.specs.declared.footprint.Footprint.{Footprint}
 use Rattle.kc_history.specs.Counts.{Passes}
-use Rattle.kc_history.specs.Tested.{Finds, IsAlone, IsTested, untested}
+use Rattle.kc_history.specs.Tested.{Finds, IsAlone}
 use Rattle.kc_history.proofs.Passing.{puts_below, not_below, at_or_below, below_end}
 use Rattle.kc_history.proofs.Placed.{tested_set}
 use Rattle.kc_history.proofs.Totals.{record_is, record_past, no_thread, same_record}
@@ -68,12 +68,12 @@ loop-thread-preserved c =
             known = rw w.tested-is (tested_set c.args.records.now c.args.next.now c.args.versions.now c.args.starts.now c.args.left.now c.loop-thread.tested t w.may_stand.new.tested w.index-list-index.result.footprint (let a = c.requires.room in let b = c.loop-thread-test.true in let d = c.loop-thread.auto.tested in omega arith) is c.loop-thread.invariant.known w.may_stand.ensures.tested);
           }
       | else-index-list w ↦ record {
-            none = λ u f lt h. elim (at_or_below t u lt) [
-              | inl below ↦ c.loop-thread.invariant.none u f below h
-              | inr e ↦
-                  let g : Passes c.args.records.now c.args.next.now c.args.versions.now c.args.starts.now c.args.left.now t f = subst (λ u. Passes c.args.records.now c.args.next.now c.args.versions.now c.args.starts.now c.args.left.now u f) e h in
-                  record_past c.args.records.now t c.index-records-thread.result c.as_slice-list.result.now (slice_index c.args.next.now t) c.loop-thread-test.true c.index-records-thread.is c.as_slice-list.ensures.value w.if-index-list.false f g.is
-            ];
-            known = rw w.tested-is c.loop-thread.invariant.known;
-          }
+        none = λ u f lt h. elim (at_or_below t u lt) [
+          | inl below ↦ c.loop-thread.invariant.none u f below h
+          | inr e ↦
+              let g : Passes c.args.records.now c.args.next.now c.args.versions.now c.args.starts.now c.args.left.now t f = subst (λ u. Passes c.args.records.now c.args.next.now c.args.versions.now c.args.starts.now c.args.left.now u f) e h in
+              record_past c.args.records.now t c.index-records-thread.result c.as_slice-list.result.now (slice_index c.args.next.now t) c.loop-thread-test.true c.index-records-thread.is c.as_slice-list.ensures.value w.if-index-list.false f g.is
+        ];
+        known = rw w.tested-is c.loop-thread.invariant.known;
+      }
     ]
