@@ -1,7 +1,7 @@
 -- Pieces that are taken from a list and put before or behind another.
-use Rattle.std.proofs.Common.{◌≡◌, ℕ, ◌+◌, ◌≤◌, List, [], ◌∷◌, ◌++◌, length, take, drop, Option, Some, None, refl, sym, ap, subst, ◌∙◌, append_assoc, arith, length-drop}
+use Rattle.std.proofs.Common.{◌≡◌, ℕ, ◌+◌, ◌≤◌, List, [], ◌++◌, length, take, drop, Option, Some, None, refl, sym, ap, append_assoc, arith, length-drop}
 use Rattle.std.proofs.lemmas.List.{length-take-le, take_at, take-append-drop, drop-drop, append-nil, take-take, drop-take}
-use Rattle.kc_model.specs.Outside.{ahead, behind, IsSpent}
+use Rattle.kc_model.specs.Outside.{ahead, behind}
 
 -- bytes that were copied on to the front of a buffer, and those behind them
 pub front_copied : (bytes buf : List ℕ) (at n : ℕ) → at + n ≤ length bytes → drop at bytes ≡ take n (take n (drop at bytes) ++ drop n buf) ++ drop (at + n) bytes
@@ -43,30 +43,14 @@ unfolding behind
 behind-some old bytes new e = ap (λ (x : List ℕ). Some x) e
 
 -- a front, and a piece after it
-take_two : (bytes : List ℕ) (at n : ℕ) → at + n ≤ length bytes → take at bytes ++ take n (drop at bytes) ≡ take (at + n) bytes
+pub take_two : (bytes : List ℕ) (at n : ℕ) → at + n ≤ length bytes → take at bytes ++ take n (drop at bytes) ≡ take (at + n) bytes
 take_two bytes at n le =
     let front : take at (take (at + n) bytes) ≡ take at bytes = take-take at (at + n) bytes (omega arith) in
     let back : drop at (take (at + n) bytes) ≡ take n (drop at bytes) = drop-take at n bytes in
     rw (← front, ← back) (take-append-drop at (take (at + n) bytes))
 
--- a further piece: what was written up to a place is written up to the end of the piece
-pub behind-more : (old mid new : Option (List ℕ)) (bytes : List ℕ) (at n : ℕ) → at + n ≤ length bytes → mid ≡ behind old (take at bytes) → new ≡ behind mid (take n (drop at bytes)) → new ≡ behind old (take (at + n) bytes)
-behind-more old mid new bytes at n le h k =
-    k ∙ ap (λ (o : Option (List ℕ)). behind o (take n (drop at bytes))) h ∙ behind-append old (take at bytes) (take n (drop at bytes)) ∙ ap (behind old) (take_two bytes at n le)
-
--- one more piece was read
-pub ahead-more : (items piece all : List ℕ) (first mid last : Option (List ℕ)) → all ≡ items ++ piece → first ≡ ahead items mid → mid ≡ ahead piece last → first ≡ ahead all last
-ahead-more items piece all first mid last whole e f = e ∙ ap (ahead items) f ∙ sym (ahead-append items piece last) ∙ ap (λ (x : List ℕ). ahead x last) (sym whole)
-
 -- nothing was read
-pub ahead-none : (items : List ℕ) (left : Option (List ℕ)) → items ≡ [] → left ≡ ahead items left
+pub ahead-none : (left : Option (List ℕ)) → left ≡ ahead [] left
 unfolding ahead
-ahead-none items None e = refl
-ahead-none items (Some rest) e = rw e refl
-
--- where nothing came and nothing was left, nothing is left
-pub spent-after : (piece : List ℕ) (first last : Option (List ℕ)) → first ≡ ahead piece last → IsSpent first → IsSpent last
-unfolding ahead
-spent-after piece first None e spent = tt
-spent-after [] first (Some rest) e spent = subst IsSpent e spent
-spent-after (x ∷ piece) first (Some rest) e spent = absurd (cc (subst IsSpent e spent))
+ahead-none None = refl
+ahead-none (Some rest) = refl

@@ -1,5 +1,6 @@
 pub mod Bytes
 pub mod Writes
+pub mod ReadCalls
 pub mod Pens
 pub mod Stores
 pub mod Footprints

@@ -1,5 +1,5 @@
 -- Lists that are written over.
-use Rattle.std.proofs.Common.{◌≡◌, ℕ, List, ◌++◌, length, take, drop, refl, arith}
+use Rattle.std.proofs.Common.{◌≡◌, ℕ, List, ◌++◌, length, take, drop, arith}
 use Rattle.std.proofs.lemmas.List.{drop_all, take_all, append-nil}
 
 -- a vector written over as a slice has what the slice has

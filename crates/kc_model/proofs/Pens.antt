@@ -1,31 +1,13 @@
 -- Pieces that are asked of a pen one after the other are one piece.
-use Rattle.std.proofs.Common.{◌≡◌, ℕ, ◌+◌, ◌≤◌, ◌<◌, Bool, true, false, List, [], ◌++◌, length, take, drop, get_or, Option, refl, sym, ap, subst, ◌∙◌, append_assoc, arith, length-append}
-use Rattle.std.proofs.lemmas.List.{take-append-le, append-nil, drop_more, drop_all}
-use Rattle.std.proofs.Math.Seq.{take-append-add}
+use Rattle.std.proofs.Common.{◌≡◌, ℕ, ◌+◌, ◌≤◌, ◌<◌, Bool, true, false, List, [], ◌++◌, length, drop, get_or, Option, refl, sym, ap, subst, ◌∙◌, append_assoc}
+use Rattle.std.proofs.lemmas.List.{append-nil, drop_more, drop_all}
 use Rattle.std.specs.List.{flat_map}
 use Rattle.std.specs.Prelude.{Result, Ok, Err, OnOk, OnErr}
 use Rattle.kc_model.specs.declared.outside.Failed.{Failed}
 use Rattle.kc_model.specs.declared.pen.Pen.{Pen}
-use Rattle.kc_model.specs.Outside.{behind, WritesFront, none}
-use Rattle.kc_model.specs.Pen.{Sheet, sheet, Hands, Fails, Asks, Owes, Puts, Prints}
-use Rattle.kc_model.proofs.Bytes.{behind-append, behind-nil}
-use Rattle.kc_model.proofs.Writes.{takes_then, fails_then}
-
--- a front of the bytes is a front of more bytes
-front_longer : (old new : Option (List ℕ)) (xs ys : List ℕ) → WritesFront old new xs → WritesFront old new (xs ++ ys)
-front_longer old new xs ys w = record {
-  count = w.count;
-  within = omega (arith, w.within, length-append xs ys);
-  front = w.front ∙ ap (behind old) (sym (take-append-le w.count xs ys w.within));
-}
-
--- bytes, and then a front of more bytes
-front_after : (old mid new : Option (List ℕ)) (xs ys : List ℕ) → mid ≡ behind old xs → WritesFront mid new ys → WritesFront old new (xs ++ ys)
-front_after old mid new xs ys e w = record {
-  count = length xs + w.count;
-  within = omega (arith, w.within, length-append xs ys);
-  front = w.front ∙ ap (λ (o : Option (List ℕ)). behind o (take w.count ys)) e ∙ behind-append old xs (take w.count ys) ∙ ap (behind old) (sym (take-append-add xs ys w.count));
-}
+use Rattle.kc_model.specs.Outside.{Took, TookFront}
+use Rattle.kc_model.specs.Pen.{Sheet, sheet, Hands, Asks, Owes, Puts, Prints}
+use Rattle.kc_model.proofs.Writes.{took_none, took_then, front_longer, front_after}
 
 -- where a pen has not failed, it had not failed before
 not_before : (p q : Bool) (A : Type 0) → (p ≡ true → (q ≡ true) × A) → q ≡ false → p ≡ false
@@ -41,42 +23,25 @@ module _ {K : Type 0} {written : K → Option (List ℕ)} {faults : K → ℕ} {
   hands_then : {a b c : Sheet K} {xs ys : List ℕ} → Hands written faults gives a b xs → Hands written faults gives b c ys → Hands written faults gives a c (xs ++ ys)
   hands_then {a} {b} {c} {xs} {ys} p q = record {
     handed = p.handed ++ q.handed;
-    reached = q.reached ∙ ap (λ (o : Option (List ℕ)). behind o q.handed) p.reached ∙ behind-append (written a.sink) p.handed q.handed;
+    took = took_then p.took q.took;
     whole = append_assoc p.handed q.handed c.held ∙ ap (λ (zs : List ℕ). p.handed ++ zs) q.whole ∙ parted p.handed b.held a.held xs ys p.whole;
-    takes = takes_then p.takes q.takes;
   }
 
   -- asked for some bytes and then for others, a pen was asked for both
   pub asks_then : {a b c : Sheet K} {xs ys : List ℕ} → Asks written faults gives a b xs → Asks written faults gives b c ys → Asks written faults gives a c (xs ++ ys)
   asks_then {a} {b} {c} {xs} {ys} p q = record {
-    later = omega (arith, p.later, q.later);
     hands = λ ok. hands_then (p.hands (not_before b.failed c.failed (c.sink ≡ b.sink) q.stays ok)) (q.hands ok);
     stays = λ had. let mid = p.stays had in let end = q.stays mid.0 in (end.0, end.1 ∙ mid.1);
     fails = λ ok gave. within a b c xs ys p q ok gave b.failed refl;
   } where
-    within : (a b c : Sheet K) (xs ys : List ℕ) → Asks written faults gives a b xs → Asks written faults gives b c ys → a.failed ≡ false → c.failed ≡ true → (m : Bool) → b.failed ≡ m → Fails written faults gives a c (xs ++ ys)
-    within a b c xs ys p q ok gave true e =
-        let first = p.fails ok e in
-        let same = (q.stays e).1 in
-        record {
-          front = rw (same, ← append_assoc a.held xs ys) (front_longer (written a.sink) (written b.sink) (a.held ++ xs) ys first.front);
-          last = rw same first.last;
-          cause = omega (arith, first.cause, q.later);
-        }
-    within a b c xs ys p q ok gave false e =
-        let first = p.hands e in
-        let second = q.fails e gave in
-        record {
-          front = rw (← parted first.handed b.held a.held xs ys first.whole) (front_after (written a.sink) (written b.sink) (written c.sink) first.handed (b.held ++ ys) first.reached second.front);
-          last = fails_then first.takes second.last;
-          cause = omega (arith, second.cause, p.later);
-        }
+    within : (a b c : Sheet K) (xs ys : List ℕ) → Asks written faults gives a b xs → Asks written faults gives b c ys → a.failed ≡ false → c.failed ≡ true → (m : Bool) → b.failed ≡ m → TookFront written faults gives a.sink (a.held ++ (xs ++ ys)) c.sink
+    within a b c xs ys p q ok gave true e = rw ((q.stays e).1, ← append_assoc a.held xs ys) (front_longer ys (p.fails ok e))
+    within a b c xs ys p q ok gave false e = let first = p.hands e in rw (← parted first.handed b.held a.held xs ys first.whole) (front_after first.took (q.fails e gave))
 
   -- the bytes were put behind what was held
   pub asks_held : (a : Sheet K) (held xs : List ℕ) → held ≡ a.held ++ xs → Asks written faults gives a (record { sink = a.sink; held = held; failed = a.failed }) xs
   asks_held a held xs e = record {
-    later = omega arith;
-    hands = λ ok. record { handed = []; reached = sym (behind-nil (written a.sink)); whole = e; takes = none };
+    hands = λ ok. record { handed = []; took = took_none a.sink; whole = e };
     stays = λ had. (had, refl);
     fails = λ ok gave. absurd (cc (ok, gave));
   }
@@ -128,10 +93,8 @@ module _ {K : Type 0} {written : K → Option (List ℕ)} {faults : K → ℕ} {
   prints (Ok x) start new text q ok err =
       let h = q.hands ok.0 in
       let e : h.handed ≡ text = sym (append-nil h.handed) ∙ ap (λ (zs : List ℕ). h.handed ++ zs) (sym ok.1) ∙ h.whole in
-      record { whole = h.reached ∙ ap (behind (written start)) e; takes = h.takes; front = tt; last = tt; cause = tt; later = q.later }
-  prints (Err e) start new text q ok err =
-      let f = q.fails refl err in
-      record { whole = tt; takes = tt; front = f.front; last = f.last; cause = f.cause; later = q.later }
+      record { whole = subst (λ (bs : List ℕ). Took written faults gives start bs new.sink) e h.took; front = tt }
+  prints (Err e) start new text q ok err = record { whole = tt; front = q.fails refl err }
 
   -- a pen was made for a sink, put the text, and ended
   pub prints_sink : {T : Type 0} {start end : K} {first mid last : Pen K} {result : Result T Failed} {text : List ℕ} → sheet first ≡ record { sink = start; held = []; failed = false } → Puts written faults gives first mid text → Puts written faults gives mid last [] → OnOk result ((last.failed ≡ false) × (last.page.items ≡ [])) → OnErr result (last.failed ≡ true) → end ≡ last.sink.now → Prints written faults gives start end result text

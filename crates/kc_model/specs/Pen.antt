@@ -1,8 +1,8 @@
 -- What was asked of a pen, and what of it the sink has.
-use Rattle.std.specs.Prelude.{◌≡◌, ℕ, ◌≤◌, List, ◌++◌, Option, Bool, true, false, Result, OnOk, OnErr}
+use Rattle.std.specs.Prelude.{◌≡◌, ℕ, List, ◌++◌, Option, Bool, true, false, Result, OnOk, OnErr}
 use Rattle.kc_model.specs.declared.outside.Failed.{Failed}
 use Rattle.kc_model.specs.declared.pen.Pen.{Pen}
-use Rattle.kc_model.specs.Outside.{behind, Rises, WritesFront, Takes, FailsLast}
+use Rattle.kc_model.specs.Outside.{Took, TookFront}
 
 -- the sink, the bytes that are still to be handed to it, and whether it has failed
 pub record Sheet (K : Type 0) : Type 0 where
@@ -17,22 +17,14 @@ module _ {K : Type 0} (written : K → Option (List ℕ)) (faults : K → ℕ) (
   -- some was handed to the sink, and with what is held that is what was asked
   pub record Hands (old new : Sheet K) (bytes : List ℕ) : Type 0 where
     pub handed : List ℕ
-    pub reached : written new.sink ≡ behind (written old.sink) handed
+    pub took : Took written faults gives old.sink handed new.sink
     pub whole : handed ++ new.held ≡ old.held ++ bytes
-    pub takes : Takes gives old.sink new.sink
-
-  -- the sink failed within what was held and asked
-  pub record Fails (old new : Sheet K) (bytes : List ℕ) : Type 0 where
-    pub front : WritesFront (written old.sink) (written new.sink) (old.held ++ bytes)
-    pub last : FailsLast gives old.sink new.sink
-    pub cause : Rises (faults old.sink) (faults new.sink)
 
   -- The pen was asked for the bytes: they stand with the sink and the pen, or the sink failed within them, or it had failed before.
   pub record Asks (old new : Sheet K) (bytes : List ℕ) : Type 0 where
-    pub later : faults old.sink ≤ faults new.sink
     pub hands : new.failed ≡ false → Hands old new bytes
     pub stays : old.failed ≡ true → (new.failed ≡ true) × (new.sink ≡ old.sink)
-    pub fails : old.failed ≡ false → new.failed ≡ true → Fails old new bytes
+    pub fails : old.failed ≡ false → new.failed ≡ true → TookFront written faults gives old.sink (old.held ++ bytes) new.sink
 
   -- all but the rest was asked
   pub record Owes (old new : Sheet K) (rest all : List ℕ) : Type 0 where
@@ -47,9 +39,5 @@ module _ {K : Type 0} (written : K → Option (List ℕ)) (faults : K → ℕ) (
 
   -- a call wrote the text, or the sink failed within it and was not called again
   pub record Prints {T : Type 0} (old new : K) (result : Result T Failed) (text : List ℕ) : Type 0 where
-    pub whole : OnOk result (written new ≡ behind (written old) text)
-    pub takes : OnOk result (Takes gives old new)
-    pub front : OnErr result (WritesFront (written old) (written new) text)
-    pub last : OnErr result (FailsLast gives old new)
-    pub cause : OnErr result (Rises (faults old) (faults new))
-    pub later : faults old ≤ faults new
+    pub whole : OnOk result (Took written faults gives old text new)
+    pub front : OnErr result (TookFront written faults gives old text new)

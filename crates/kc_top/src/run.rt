@@ -7,7 +7,7 @@ ghost use Rattle.kc_bundle.specs.Script.{script_of, names_of, CellsWithin};
 ghost use Rattle.kc_bundle.specs.State.{Content, AllStand, AreWellFormed, opening_values};
 ghost use Rattle.kc_xt.specs.Meaning.{values};
 ghost use Rattle.kc_history.specs.Records.{lists_of, NamesRecords};
-ghost use Rattle.kc_top.specs.Run.{IsRun, run_text};
+ghost use Rattle.kc_top.specs.Run.{IsRun, IsText, run_text};
 ghost use Rattle.kc_top.specs.Thread.{CanRun, CanRunOn, RunsOne};
 ghost use Rattle.kc_top.specs.Statuses.{Performs};
 
@@ -29,7 +29,7 @@ struct Ran {
 /// Runs a bundle and writes its text. All memory is taken before the first command.
 pub fn perform<K: Sink>(alloc: Global, bundle: &Bundle, sink: &mut K) -> Result<(), Status>
     requires { CanRun (script_of bundle.now) }
-    ensures { Performs K.written K.faults K.write_gives (script_of bundle.now) sink.old sink.new result }
+    ensures { Performs K.written K.faults K.write_gives (IsText (script_of bundle.now)) sink.old sink.new result }
 {
     let ran = run_bundle(alloc, bundle)?;
     write_run(bundle, &ran, sink)?;

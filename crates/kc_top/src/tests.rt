@@ -1,4 +1,4 @@
-ghost use Rattle.std.specs.Prelude.{◌≡◌, ◌∷◌, [], codes, Some, None};
+ghost use Rattle.std.specs.Prelude.{◌≡◌, ◌≤◌, ◌∷◌, [], codes, Some, None};
 ghost use Rattle.kc_model.specs.declared.reply.Reply.TheVariants as reply;
 ghost use Rattle.kc_xt.specs.Meaning.{replied, retried};
 ghost use Rattle.kc_bundle.specs.Meaning.{thread_meaning, end_meaning};
@@ -9,8 +9,9 @@ ghost use Rattle.kc_top.specs.Worked.{first_script, first_records, first_order, 
 
 use crate::{Status, kcas_main};
 use kc_lines::{Limit, Why};
-use kc_model::{FrailSink, FrailSource};
+use kc_model::{Failed, FrailSink, FrailSource, Sink, SureSource};
 use std::alloc::Global;
+use std::fmt::Write;
 use std::test::Fail;
 
 const FIRST: &str = "kcas 1\nloc x 5\nthread\nget x\nset x 7\nadd x 1\n";
@@ -258,43 +259,139 @@ fn other_words_are_usage(rt: HostRuntime) -> Result<(), Fail> {
     Ok(())
 }
 
-#[test]
-fn a_sink_that_fails_at_its_second_write_has_a_front_of_the_text(
-    rt: HostRuntime,
-) -> Result<(), Fail> {
+// The status of `kcas run` on the first script where one read and one write fail, and what it wrote.
+fn run_failing(
+    rt: &HostRuntime,
+    failing_read: u64,
+    failing_write: u64,
+) -> Result<(Status, Vec<u8>), Fail>
+    requires read { (1 ≤ failing_read) × (failing_read ≤ 9) }
+    requires write { (1 ≤ failing_write) × (failing_write ≤ 9) }
+{
     let alloc = rt.alloc();
     let words = words(alloc, "run")?;
-    let mut source = FrailSource::new(FIRST.as_bytes().to_vec(alloc)?, Vec::new(alloc));
-    let mut sink = FrailSink::new(alloc, 4096, vec![in alloc; 2]?)?;
-    let status = kcas_main(&rt, alloc, &words, &mut source, &mut sink);
-    assert_eq!(rt; status, Status::WriteFault);
-    assert!(rt; !sink.bytes().is_empty());
-    assert!(rt; FIRST_TEXT.as_bytes().starts_with(sink.bytes()));
+    let script = FIRST.as_bytes().to_vec(alloc)?;
+    let mut source = FrailSource::new(script, vec![in alloc; failing_read]?);
+    let mut sink = FrailSink::new(alloc, 4096, vec![in alloc; failing_write]?)?;
+    let status = kcas_main(rt, alloc, &words, &mut source, &mut sink);
+    Ok((status, sink.bytes().to_vec(alloc)?))
+}
+
+#[test]
+fn each_read_that_fails_is_a_read_fault_and_writes_nothing(rt: HostRuntime) -> Result<(), Fail> {
+    for call in 1..5 {
+        let (status, written) = run_failing(&rt, call, 9)?;
+        assert_eq!(rt; status, Status::ReadFault, "{call}");
+        assert!(rt; written.is_empty(), "{call}");
+    }
+    let (status, _) = run_failing(&rt, 5, 9)?;
+    assert_eq!(rt; status, Status::Done);
     Ok(())
 }
 
 #[test]
-fn a_source_that_fails_at_its_first_read_is_a_read_fault(rt: HostRuntime) -> Result<(), Fail> {
+fn each_write_that_fails_is_a_write_fault_behind_a_front_of_the_text(
+    rt: HostRuntime,
+) -> Result<(), Fail> {
+    for call in 1..5 {
+        let (status, written) = run_failing(&rt, 9, call)?;
+        assert_eq!(rt; status, Status::WriteFault, "{call}");
+        assert_eq!(rt;
+            written.as_slice(),
+            &FIRST_TEXT.as_bytes()[..16 * (call as usize - 1)]
+        );
+    }
+    let (status, written) = run_failing(&rt, 9, 5)?;
+    assert_eq!(rt; status, Status::Done);
+    assert_eq!(rt; written.as_slice(), FIRST_TEXT.as_bytes());
+    Ok(())
+}
+
+// Counts the calls and the bytes.
+#[derive(Drop)]
+struct CountingSink {
+    calls: usize,
+    bytes: usize,
+}
+
+impl Sink for CountingSink {
+    ghost written = { λ _. None };
+
+    ghost faults = { λ _. 0 };
+
+    ghost write_gives = { λ _ _ _ _. Unit {0} };
+
+    #[tactic(auto, unfolding(kc_model::specs::Outside::behind))]
+    fn write(&mut self, buf: &[u8]) -> Result<usize, Failed> {
+        self.calls = self.calls.saturating_add(1);
+        self.bytes = self.bytes.saturating_add(buf.len());
+        Ok(buf.len())
+    }
+}
+
+#[test]
+fn as_many_commands_as_may_be_are_run_and_written_by_the_page(rt: HostRuntime) -> Result<(), Fail> {
     let alloc = rt.alloc();
+    let mut script = String::from_str(alloc, "kcas 1\nloc x 0\nthread\n")?;
+    let mut text = String::new(alloc);
+    let mut order = String::from_str(alloc, "order\n")?;
+    for n in 0..4096u32 {
+        script.push_str("add x 1\n")?;
+        write!(text, "1.{} {n}\n", n + 1)?;
+        write!(order, "1.{}\n", n + 1)?;
+    }
+    text.push_str(&order)?;
+    text.push_str("1.end\nstate\nx 4096\n")?;
     let words = words(alloc, "run")?;
-    let mut source = FrailSource::new(FIRST.as_bytes().to_vec(alloc)?, vec![in alloc; 1]?);
-    let mut sink = FrailSink::new(alloc, 4096, Vec::new(alloc))?;
+    let mut source = SureSource::new(script.as_bytes().to_vec(alloc)?);
+    let mut sink = FrailSink::new(alloc, 100_000, Vec::new(alloc))?;
     let status = kcas_main(&rt, alloc, &words, &mut source, &mut sink);
-    assert_eq!(rt; status, Status::ReadFault);
-    assert!(rt; sink.bytes().is_empty());
+    assert_eq!(rt; status, Status::Done);
+    assert_eq!(rt; sink.bytes(), text.as_bytes());
+    let mut source = SureSource::new(script.as_bytes().to_vec(alloc)?);
+    let mut counting = CountingSink { calls: 0, bytes: 0 };
+    let status = kcas_main(&rt, alloc, &words, &mut source, &mut counting);
+    assert_eq!(rt; status, Status::Done);
+    assert_eq!(rt; counting.bytes, text.len());
+    assert!(rt;
+        counting.calls <= counting.bytes / 4000 + 1,
+        "{}",
+        counting.calls
+    );
+    Ok(())
+}
+
+#[test]
+fn as_many_locations_as_may_be_are_opened(rt: HostRuntime) -> Result<(), Fail> {
+    let alloc = rt.alloc();
+    let mut script = String::from_str(alloc, "kcas 1\n")?;
+    let mut text = String::from_str(alloc, "1.1 4\norder\n1.1\n1.end\nstate\n")?;
+    for n in 0..65_535u32 {
+        write!(script, "loc n{n} {}\n", n % 10)?;
+        write!(text, "n{n} {}\n", n % 10)?;
+    }
+    script.push_str("thread\nget n65534\n")?;
+    let words = words(alloc, "run")?;
+    let mut source = SureSource::new(script.as_bytes().to_vec(alloc)?);
+    let mut sink = FrailSink::new(alloc, 1_000_000, Vec::new(alloc))?;
+    let status = kcas_main(&rt, alloc, &words, &mut source, &mut sink);
+    assert_eq!(rt; status, Status::Done);
+    assert_eq!(rt; sink.bytes(), text.as_bytes());
     Ok(())
 }
 
 #[test]
 fn one_byte_past_the_limit_is_too_long(rt: HostRuntime) -> Result<(), Fail> {
     let alloc = rt.alloc();
-    let words = words(alloc, "run")?;
-    let long = vec![in alloc; b'#'; 1_048_577]?;
-    let mut source = FrailSource::new(long, Vec::new(alloc));
-    let mut sink = FrailSink::new(alloc, 4096, Vec::new(alloc))?;
-    let status = kcas_main(&rt, alloc, &words, &mut source, &mut sink);
+    let mut script = Vec::from_slice(alloc, b"kcas 1\n")?;
+    script.resize(1_048_576, b'#')?;
+    let (status, written) = run(&rt, &script)?;
+    assert_eq!(rt; status, Status::Done);
+    assert_eq!(rt; written.as_slice(), b"order\nstate\n".as_slice());
+    script.push(b'#')?;
+    let (status, written) = run(&rt, &script)?;
     assert_eq!(rt; status, Status::TooLong);
-    assert!(rt; sink.bytes().is_empty());
+    assert!(rt; written.is_empty());
     Ok(())
 }
 

@@ -22,7 +22,7 @@ pub fn kcas_main<R, S: Source, K: Sink>(
     source: &mut S,
     sink: &mut K,
 ) -> Status
-    ensures { Says S.left S.faults K.written K.faults K.write_gives (is_run (map string_bytes words.now)) source.old source.new sink.old sink.new result }
+    ensures { Says S.left S.faults S.read_gives K.written K.faults K.write_gives (is_run (map string_bytes words.now)) source.old source.new sink.old sink.new result }
 {
     if !is_run(words) {
         return Status::Usage;
@@ -34,7 +34,7 @@ pub fn kcas_main<R, S: Source, K: Sink>(
 }
 
 fn run<S: Source, K: Sink>(alloc: Global, source: &mut S, sink: &mut K) -> Result<(), Status>
-    ensures { Ends S.left S.faults K.written K.faults K.write_gives source.old source.new sink.old sink.new result }
+    ensures { Ends S.left S.faults S.read_gives K.written K.faults K.write_gives source.old source.new sink.old sink.new result }
 {
     let bytes = match read_to_end(alloc, source, MOST_BYTES) {
         Ok(bytes) => bytes,

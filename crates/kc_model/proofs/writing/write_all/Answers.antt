@@ -1,19 +1,15 @@
-use Rattle.std.proofs.Common.{◌≤◌, ◌+◌, length, sym, arith, length-drop}
-use Rattle.std.proofs.lemmas.List.{take_rest}
-use Rattle.kc_model.specs.Outside.{none}
-use Rattle.kc_model.proofs.Bytes.{behind-nil, behind-more}
-use Rattle.kc_model.proofs.Writes.{takes_more}
+use Rattle.std.proofs.Common.{◌≤◌, ◌<◌, ◌+◌, ◌-◌, length, drop, arith, length-drop}
+use Rattle.std.proofs.lemmas.List.{take_rest, length-take-le}
+use Rattle.kc_model.proofs.Bytes.{take_two}
+use Rattle.kc_model.proofs.Writes.{took_none, took_once, took_then}
 use Rattle.kc_model.proofs.writing.write_all.Goals as goal
 
 pub loop-at-init : goal.loop-at-init
-loop-at-init g c = record { within = omega arith; front = sym (behind-nil _); takes = none; later = omega arith }
+loop-at-init g c = (omega arith, took_none _)
 
 pub loop-at-preserved : goal.loop-at-preserved
 loop-at-preserved g c =
     let le : c.loop-at.at + c.in_ok-at.field-0 ≤ length c.args.bytes.now = omega (arith, length-drop c.loop-at.at c.args.bytes.now, c.in_ok-at.ensures.within) in
-    record {
-      within = le;
-      front = behind-more _ _ _ c.args.bytes.now c.loop-at.at c.in_ok-at.field-0 le c.loop-at.invariant.front (rw take_rest at c.in_ok-at.ensures.taken);
-      takes = takes_more _ _ c.loop-at.invariant.takes c.in_ok-at.ensures.gives;
-      later = omega (arith, c.loop-at.invariant.later, c.write.ensures.later);
-    }
+    let w = c.in_ok-at.ensures in
+    let some : 0 < c.in_ok-at.field-0 = w.some (omega (arith, c.loop-at-test.true, length-take-le (length c.args.bytes.now - c.loop-at.at) (drop c.loop-at.at c.args.bytes.now), length-drop c.loop-at.at c.args.bytes.now)) in
+    (le, rw (← take_two c.args.bytes.now c.loop-at.at c.in_ok-at.field-0 le) (took_then c.loop-at.invariant.1 (took_once (drop c.loop-at.at c.args.bytes.now) c.in_ok-at.field-0 some (rw take_rest at w.gives) (rw take_rest at w.taken) w.faultless)))
