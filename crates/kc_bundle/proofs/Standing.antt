@@ -9,7 +9,8 @@ use Rattle.kc_cells.proofs.OnePlaces.{holds_one, holds_opened}
 use Rattle.kc_cells.proofs.MvarLaw.{mvar_same}
 use Rattle.kc_cells.proofs.PromiseLaw.{promise_same}
 use Rattle.kc_cells.proofs.AccLaw.{acc_opens, acc_same}
-use Rattle.kc_hash.proofs.Kept.{same_cells, one_content}
+use Rattle.kc_hash.proofs.Kept.{same_cells}
+use Rattle.kc_hash.proofs.Sweeps.{one_content}
 use Rattle.kc_hash.proofs.Opened.{hash_opens}
 use Rattle.kc_cache.proofs.Cells.{cache_same, content_one_pairs, cache_opens}
 use Rattle.kc_bundle.specs.declared.object.Object.{Object}

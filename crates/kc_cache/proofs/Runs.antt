@@ -8,7 +8,7 @@ use Rattle.kc_xt.specs.Program.{Program, plain}
 use Rattle.kc_hash.specs.declared.operation.HashAct.TheVariants as table
 use Rattle.kc_hash.specs.Meaning.{hash_program}
 use Rattle.kc_hash.specs.Content.{HashValue, after, without_key, found_reply, put_value}
-use Rattle.kc_hash.proofs.Pairs.{without-none}
+use Rattle.kc_hash.proofs.FiniteMaps.{without-none}
 use Rattle.kc_dllist.specs.declared.operation.DllistAct.TheVariants as list
 use Rattle.kc_dllist.specs.Meaning.{dllist_program, IsNode}
 use Rattle.kc_dllist.specs.Content.{Listed, Content, numbers, times, payload_of, without}

@@ -8,7 +8,7 @@ use Rattle.kc_xt.specs.Meaning.{put, too_large, replied, retried, map_after}
 use Rattle.kc_xt.specs.Program.{Program, Plain, plain, replies, retries, write}
 use Rattle.kc_xt.proofs.PlainRuns.{plain-meaning}
 use Rattle.kc_hash.specs.Content.{without_key, value_at, found_reply}
-use Rattle.kc_hash.proofs.Pairs.{without-none}
+use Rattle.kc_hash.proofs.FiniteMaps.{without-none}
 use Rattle.kc_dllist.specs.declared.operation.DllistAct.TheVariants as list
 use Rattle.kc_dllist.specs.Content.{Listed, Content, numbers, times, without}
 use Rattle.kc_dllist.proofs.Times.{times-append}

@@ -4,9 +4,9 @@ use Rattle.kc_xt.specs.Meaning.{put}
 use Rattle.kc_hash.specs.declared.hash.Hash.{Hash}
 use Rattle.kc_hash.specs.Meaning.{count_cell, free_cell, head_cell, key_cell, value_cell, next_cell, bucket_of}
 use Rattle.kc_hash.specs.Content.{times, keys_of, nodes_of, map_of, with_pair, StandsFor, SameCells}
-use Rattle.kc_hash.proofs.Pairs.{with_pair-twice}
+use Rattle.kc_hash.proofs.FiniteMaps.{with_pair-twice}
 use Rattle.kc_hash.proofs.Maps.{keys_same, map_same, map_split}
-use Rattle.kc_hash.proofs.Chains.{chain_moved, chain_one, chain_nodes, in_bucket, bucket_from, Found}
+use Rattle.kc_hash.proofs.Chains.{chain_moved, chain_nodes, in_bucket, bucket_from, Found}
 use Rattle.kc_hash.proofs.Cells.{put-here, put-other, key≢value, value≢next, value≢value, value≢low, low-count, low-free, low-head}
 use Rattle.kc_hash.proofs.Formed.{listed, listed_nodes, free_nodes, found_node, alone, key_left, pairs_parts, parts, left, right, times_parts}
 
@@ -72,16 +72,3 @@ module _ (h : Hash) (m : ℕ → ℕ) (pairs : List (ℕ × ℕ)) (S : StandsFor
         (subst (λ ks. times (w (key_cell h i)) ks ≡ 0) (sym (keys_same h m w (left h m pairs S key F) (λ j some. keys j)))
         (subst (λ k. times k (keys_of h m (left h m pairs S key F)) ≡ 0) (sym (keys i)) (key_left h m pairs S key F))))
         ∙ ap (map_of h w) (sym (parts h m pairs S key F)))
-
--- the same chains have the same nodes
-nodes_same : (f g : ℕ → List ℕ) (b n : ℕ) → ((c : ℕ) → b ≤ c → c < b + n → f c ≡ g c) → nodes_of f b n ≡ nodes_of g b n
-nodes_same f g b zero same = refl
-nodes_same f g b (suc n) same =
-    ap (λ xs. xs ++ nodes_of f (b + 1) n) (same b (omega arith) (omega arith))
-    ∙ ap (λ xs. g b ++ xs) (nodes_same f g (b + 1) n (λ c lo hi. same c (omega (arith, lo)) (omega (arith, hi))))
-
--- cells stand for one content
-pub one_content : (h : Hash) (m : ℕ → ℕ) (pairs others : List (ℕ × ℕ)) → StandsFor h m pairs → StandsFor h m others → pairs ≡ others
-one_content h m pairs others S T =
-    let same : nodes_of S.chains 0 h.buckets ≡ nodes_of T.chains 0 h.buckets = nodes_same S.chains T.chains 0 h.buckets (λ c lo hi. chain_one h m (head_cell h c) (S.chains c) (T.chains c) (S.linked c (omega (arith, hi))) (T.linked c (omega (arith, hi)))) in
-    S.holds ∙ ap (map_of h m) same ∙ sym T.holds

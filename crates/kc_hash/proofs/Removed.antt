@@ -5,7 +5,7 @@ use Rattle.kc_xt.specs.Meaning.{put}
 use Rattle.kc_hash.specs.declared.hash.Hash.{Hash}
 use Rattle.kc_hash.specs.Meaning.{count_cell, free_cell, head_cell, key_cell, value_cell, next_cell, bucket_of, link_of, counted}
 use Rattle.kc_hash.specs.Content.{times, keys_of, nodes_of, map_of, without_key, IsChain, StandsFor}
-use Rattle.kc_hash.proofs.Pairs.{without-with}
+use Rattle.kc_hash.proofs.FiniteMaps.{without-with}
 use Rattle.kc_hash.proofs.Lists.{times-here, times-rest, times-append}
 use Rattle.kc_hash.proofs.Maps.{has_here, has_rest, times_keys, keys_same, map_same, map_none}
 use Rattle.kc_hash.proofs.Chains.{link_is, link_behind, chain_first, chain_moved, chain_nodes, in_bucket, bucket_from, Found}

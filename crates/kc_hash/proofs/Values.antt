@@ -13,7 +13,7 @@ use Rattle.kc_hash.specs.declared.operation.HashAct.TheVariants as act
 use Rattle.kc_hash.specs.Meaning.{hash_program, hash_meaning, cells_end, found_program, placed_program, link_program, removed_program, bucket_of, link_of, count_cell, free_cell, head_cell, value_cell}
 use Rattle.kc_hash.specs.Content.{times, keys_of, IsChain, StandsFor, IsWellFormed, HashValue, hash_value, after, found_reply, put_value, with_pair}
 use Rattle.kc_hash.proofs.HashLaw.{program_spares, bucket_within}
-use Rattle.kc_hash.proofs.Pairs.{without-none}
+use Rattle.kc_hash.proofs.FiniteMaps.{without-none}
 use Rattle.kc_hash.proofs.Chains.{link_is, plain_true, plain_false, walk_misses, walk_finds_it, Found, seek}
 use Rattle.kc_hash.proofs.Cells.{put-other}
 use Rattle.kc_hash.proofs.Formed.{room, pairs_length, chain_length, value_missing, value_found}

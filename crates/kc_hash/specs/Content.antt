@@ -1,11 +1,12 @@
 -- A table as a finite map: the list of its keys and values, in rising order of key.
-use Rattle.std.specs.Prelude.{◌≡◌, ℕ, zero, suc, ◌+◌, ◌-◌, ◌*◌, ◌/◌, ◌%◌, ◌<◌, ◌≤◌, ◌==◌, nat_lt, Bool, true, ◌&&◌, cond, List, [], ◌∷◌, ◌++◌, length, map, find, Option, Some, None}
+use Rattle.std.specs.Prelude.{◌≡◌, ℕ, zero, suc, ◌+◌, ◌-◌, ◌*◌, ◌/◌, ◌%◌, ◌<◌, ◌≤◌, ◌==◌, nat_lt, Bool, true, ◌&&◌, cond, List, [], ◌∷◌, ◌++◌, length, map, Option, Some, None}
+use Rattle.std.specs.List.{filter}
 use Rattle.kc_model.specs.declared.reply.Reply.{Reply}
 use Rattle.kc_model.specs.declared.reply.Reply.TheVariants as reply
 use Rattle.kc_hash.specs.declared.hash.Hash.{Hash}
 use Rattle.kc_hash.specs.declared.operation.HashAct.{HashAct}
 use Rattle.kc_hash.specs.declared.operation.HashAct.TheVariants as act
-use Rattle.kc_hash.specs.Meaning.{count_cell, free_cell, head_cell, key_cell, value_cell, next_cell, bucket_of}
+use Rattle.kc_hash.specs.Meaning.{count_cell, free_cell, head_cell, key_cell, value_cell, next_cell, bucket_of, link_of}
 
 -- ---- finite maps
 
@@ -29,9 +30,18 @@ abbrev pub is_above : Option ℕ → ℕ → Bool
 is_above None key = true
 is_above (Some k) key = nat_lt k key
 
+-- the pairs whose keys are above this one
+abbrev pub above : Option ℕ → List (ℕ × ℕ) → List (ℕ × ℕ)
+above key pairs = filter (λ p. is_above key p.0) pairs
+
+-- the first of some pairs, if there is one
+abbrev pub first_pair : List (ℕ × ℕ) → Option (ℕ × ℕ)
+first_pair [] = None
+first_pair (p ∷ ps) = Some p
+
 -- the first pair whose key is above this one
 abbrev pub first_above : Option ℕ → List (ℕ × ℕ) → Option (ℕ × ℕ)
-first_above after pairs = find (λ p. is_above after p.0) pairs
+first_above key pairs = first_pair (above key pairs)
 
 -- whether a key is below that of a pair; all are below None
 abbrev pub is_below : ℕ → Option (ℕ × ℕ) → Bool
@@ -94,6 +104,19 @@ IsWellFormed h m = (pairs : List (ℕ × ℕ)) × StandsFor h m pairs
 -- Two maps have the same in each cell of the table.
 abbrev pub SameCells : Hash → (ℕ → ℕ) → (ℕ → ℕ) → Type 0
 SameCells h m w = (l : ℕ) → h.base.0 ≤ l → l < h.base.0 + 2 + h.buckets + 3 * h.cap → m l ≡ w l
+
+-- ---- what the cells show
+
+-- the nodes that a pass over the chains sees: from this node on, and then in the chains from this bucket on; each node and each bucket takes one of so many steps
+unfoldable pub seen_from : Hash → (ℕ → ℕ) → ℕ → ℕ → ℕ → List ℕ
+seen_from h m bucket node zero = []
+seen_from h m bucket node (suc n) = cond (node == 0)
+    (cond (bucket == h.buckets) [] (seen_from h m (bucket + 1) (link_of h (m (head_cell h bucket))) n))
+    (node ∷ seen_from h m bucket (link_of h (m (next_cell h node))) n)
+
+-- the pairs of the nodes that a pass with a step for each bucket and node sees, whatever the cells hold
+abbrev pub shown : Hash → (ℕ → ℕ) → List (ℕ × ℕ)
+shown h m = map_of h m (seen_from h m 0 0 (h.buckets + h.cap))
 
 -- ---- the opening
 

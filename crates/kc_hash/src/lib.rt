@@ -5,7 +5,7 @@ mod acts;
 mod hash;
 mod laws;
 mod operation;
-mod sweep;
+mod shown;
 #[cfg(test)]
 mod tests;
 mod walk;
@@ -13,3 +13,4 @@ mod walk;
 pub use hash::Hash;
 pub use laws::{content_is_one, keeps_well_formed, means_its_value, opens_empty};
 pub use operation::{HashAct, HashOp};
+pub use shown::Pairs;

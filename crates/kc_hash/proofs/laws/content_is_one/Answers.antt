@@ -1,5 +1,6 @@
 use Rattle.kc_hash.proofs.Formed.{pairs_within, pairs_rise}
-use Rattle.kc_hash.proofs.Kept.{same_cells, one_content}
+use Rattle.kc_hash.proofs.Kept.{same_cells}
+use Rattle.kc_hash.proofs.Sweeps.{shows, one_content}
 use Rattle.kc_hash.proofs.laws.content_is_one.Goals as goal
 
 pub returns-clause-same : goal.returns-clause-same
@@ -10,6 +11,9 @@ returns-clause-rising c = pairs_rise
 
 pub returns-clause-within : goal.returns-clause-within
 returns-clause-within c = pairs_within
+
+pub returns-clause-shown : goal.returns-clause-shown
+returns-clause-shown c = shows
 
 pub returns-clause-one : goal.returns-clause-one
 returns-clause-one c = one_content
