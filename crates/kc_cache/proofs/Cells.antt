@@ -7,12 +7,13 @@ use Rattle.kc_hash.specs.Content.{hash_opening}
 use Rattle.kc_hash.proofs.Kept.{same_cells}
 use Rattle.kc_hash.proofs.Opened.{hash_opens}
 use Rattle.kc_dllist.specs.Meaning.{dllist_cells, dllist_opening}
-use Rattle.kc_dllist.specs.Content.{Content, numbers, opening_content}
+use Rattle.kc_dllist.specs.Content.{Listed, numbers, opening_content}
 use Rattle.kc_dllist.proofs.Standing.{listed_node}
-use Rattle.kc_dllist.proofs.Values.{content_one, dllist_same, opened_empty}
+use Rattle.kc_dllist.proofs.Values.{dllist_same, opened_empty}
+use Rattle.kc_dllist.proofs.Walks.{walk_listed}
 use Rattle.kc_cache.specs.declared.cache.Cache.{Cache}
 use Rattle.kc_cache.specs.Meaning.{table_of, order_of, space_cell, value_cell, cells_end}
-use Rattle.kc_cache.specs.Content.{StandsFor, IsOpened, index_of, pairs_of}
+use Rattle.kc_cache.specs.Content.{StandsFor, IsOpened, index_of, pairs_of, shown}
 use Rattle.kc_cache.proofs.States.{pairs_same}
 
 pub cache_same : (c : Cache) (m w : ℕ → ℕ) (pairs : List (ℕ × ℕ)) → ((l : ℕ) → c.base.0 ≤ l → l < cells_end c → w l ≡ m l) → StandsFor c m pairs → StandsFor c w pairs
@@ -26,8 +27,8 @@ cache_same c m w pairs f s = record {
   holds = s.holds ∙ pairs_same (λ i. m (value_cell c i)) (λ i. w (value_cell c i)) s.order.listed (λ i h. let n = listed_node (order_of c) (numbers s.order.listed) s.order.free s.ordered.each i h in sym (f (value_cell c i) (omega arith) (omega (arith, n))));
 }
 
-pub content_one_pairs : (c : Cache) (m : ℕ → ℕ) (a b : List (ℕ × ℕ)) → StandsFor c m a → StandsFor c m b → a ≡ b
-content_one_pairs c m a b s r = s.holds ∙ ap (λ (o : Content). pairs_of c m o.listed) (content_one (order_of c) m s.order r.order s.ordered r.ordered) ∙ sym r.holds
+pub cache_shows : (c : Cache) (m : ℕ → ℕ) (pairs : List (ℕ × ℕ)) → StandsFor c m pairs → shown c m ≡ pairs
+cache_shows c m pairs s = ap (λ (xs : List Listed). pairs_of c m xs) (walk_listed (order_of c) m s.order s.ordered) ∙ sym s.holds
 
 module _ (c : Cache) (m : ℕ → ℕ) (o : IsOpened c m) where
   opens_table : (i : ℕ) → i < hash_cells (table_of c) → m ((table_of c).base.0 + i) ≡ hash_opening (table_of c) i

@@ -3,7 +3,7 @@ use Rattle.std.specs.Prelude.{◌≡◌, ℕ, ◌+◌, ◌-◌, ◌<◌, ◌≤�
 use Rattle.kc_model.specs.declared.reply.Reply.TheVariants as reply
 use Rattle.kc_xt.specs.Meaning.{Outcome, replied, retried}
 use Rattle.kc_hash.specs.Content.{with_pair, without_key, value_at, found_reply, StandsFor as TableStandsFor}
-use Rattle.kc_dllist.specs.Content.{Listed, Content, times, StandsFor as ListStandsFor}
+use Rattle.kc_dllist.specs.Content.{Listed, Content, times, walked, StandsFor as ListStandsFor}
 use Rattle.kc_cache.specs.declared.cache.Cache.{Cache}
 use Rattle.kc_cache.specs.declared.operation.CacheAct.{CacheAct}
 use Rattle.kc_cache.specs.declared.operation.CacheAct.TheVariants as act
@@ -24,10 +24,9 @@ index_of (x ∷ xs) = with_pair (index_of xs) x.payload x.node
 abbrev pub pairs_of : Cache → (ℕ → ℕ) → List Listed → List (ℕ × ℕ)
 pairs_of c m xs = map (λ x. (x.payload, m (value_cell c x.node))) xs
 
--- the first of some pairs, if there is one
-abbrev pub first_pair : List (ℕ × ℕ) → Option (ℕ × ℕ)
-first_pair [] = None
-first_pair (p ∷ ps) = Some p
+-- the pairs of the nodes that a walk over the list sees, whatever the cells hold
+abbrev pub shown : Cache → (ℕ → ℕ) → List (ℕ × ℕ)
+shown c m = pairs_of c m (walked (order_of c) m)
 
 -- There is a place. The list and the table are well formed; keys differ, and the table has the node of each key on the list and no other key; the free places are those without a pair.
 -- The pairs are those of the listed nodes, in order.
