@@ -14,3 +14,5 @@ pub mod Commits
 pub mod Spared
 pub mod Singles
 pub mod Written
+pub mod Stay
+pub mod Structures

@@ -7,4 +7,6 @@ pub mod Calls
 pub mod Steps
 pub mod Law
 pub mod Single
+pub mod Stays
+pub mod Structure
 pub mod Worked

@@ -6,6 +6,7 @@ mod peek;
 mod place;
 mod plain_peek;
 mod stop;
+mod structure;
 #[cfg(test)]
 mod tests;
 mod transact;
@@ -14,5 +15,6 @@ mod xt;
 pub use peek::{Peek, PeekBusy};
 pub use plain_peek::PlainPeek;
 pub use stop::Stop;
+pub use structure::{counter_keeps_the_laws, keeps_to_its_cells};
 pub use transact::Transact;
 pub use xt::{Snapshot, Xt};
