@@ -1,9 +1,10 @@
 -- What the operations that link no node leave.
 use Rattle.std.proofs.Common.{◌≡◌, ◌≢◌, ℕ, zero, suc, ◌+◌, ◌<◌, ◌≤◌, List, ◌++◌, refl, sym, ap, ◌∙◌, subst, arith}
 use Rattle.kc_xt.specs.Meaning.{put}
+use Rattle.kc_xt.specs.Structure.{SameCells}
 use Rattle.kc_hash.specs.declared.hash.Hash.{Hash}
-use Rattle.kc_hash.specs.Meaning.{count_cell, free_cell, head_cell, key_cell, value_cell, next_cell, bucket_of}
-use Rattle.kc_hash.specs.Content.{times, keys_of, nodes_of, map_of, with_pair, StandsFor, SameCells}
+use Rattle.kc_hash.specs.Meaning.{count_cell, free_cell, head_cell, key_cell, value_cell, next_cell, bucket_of, cells_end}
+use Rattle.kc_hash.specs.Content.{times, keys_of, nodes_of, map_of, with_pair, StandsFor}
 use Rattle.kc_hash.proofs.FiniteMaps.{with_pair-twice}
 use Rattle.kc_hash.proofs.Maps.{keys_same, map_same, map_split}
 use Rattle.kc_hash.proofs.Chains.{chain_moved, chain_nodes, in_bucket, bucket_from, Found}
@@ -30,7 +31,7 @@ module _ (h : Hash) (m : ℕ → ℕ) (pairs : List (ℕ × ℕ)) (S : StandsFor
   }
 
   -- what the cells stand for depends on the table's cells alone
-  pub same_cells : (w : ℕ → ℕ) → SameCells h m w → StandsFor h w pairs
+  pub same_cells : (w : ℕ → ℕ) → SameCells h.base.0 (cells_end h) m w → StandsFor h w pairs
   same_cells w same = keeps_chains w pairs
       (sym (same (count_cell h) (omega arith) (omega arith)))
       (sym (same (free_cell h) (omega arith) (omega arith)))

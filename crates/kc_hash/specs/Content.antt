@@ -3,6 +3,8 @@ use Rattle.std.specs.Prelude.{◌≡◌, ℕ, zero, suc, ◌+◌, ◌-◌, ◌*�
 use Rattle.std.specs.List.{filter}
 use Rattle.kc_model.specs.declared.reply.Reply.{Reply}
 use Rattle.kc_model.specs.declared.reply.Reply.TheVariants as reply
+use Rattle.kc_xt.specs.Meaning.{replied}
+use Rattle.kc_xt.specs.Structure.{Value, comes_to}
 use Rattle.kc_hash.specs.declared.hash.Hash.{Hash}
 use Rattle.kc_hash.specs.declared.operation.HashAct.{HashAct}
 use Rattle.kc_hash.specs.declared.operation.HashAct.TheVariants as act
@@ -97,14 +99,6 @@ pub record StandsFor (h : Hash) (m : ℕ → ℕ) (pairs : List (ℕ × ℕ)) : 
   pub count : m (count_cell h) ≡ length (nodes_of chains 0 h.buckets)
   pub holds : pairs ≡ map_of h m (nodes_of chains 0 h.buckets)
 
--- the cells stand for some pairs
-abbrev pub IsWellFormed : Hash → (ℕ → ℕ) → Type 0
-IsWellFormed h m = (pairs : List (ℕ × ℕ)) × StandsFor h m pairs
-
--- Two maps have the same in each cell of the table.
-abbrev pub SameCells : Hash → (ℕ → ℕ) → (ℕ → ℕ) → Type 0
-SameCells h m w = (l : ℕ) → h.base.0 ≤ l → l < h.base.0 + 2 + h.buckets + 3 * h.cap → m l ≡ w l
-
 -- ---- what the cells show
 
 -- the nodes that a pass over the chains sees: from this node on, and then in the chains from this bucket on; each node and each bucket takes one of so many steps
@@ -131,12 +125,8 @@ hash_opening h i = cond (i == 1) 1 (cond (nat_lt i (2 + h.buckets)) 0 (node_open
 -- ---- values
 
 -- a reply, and the pairs then
-pub record HashValue : Type 0 where
-  pub reply : Reply
-  pub pairs : List (ℕ × ℕ)
-
-abbrev pub after : Reply → List (ℕ × ℕ) → HashValue
-after r pairs = record { reply = r; pairs = pairs }
+abbrev pub after : Reply → List (ℕ × ℕ) → Value (List (ℕ × ℕ))
+after r pairs = comes_to (replied r) pairs
 
 -- the reply of what stands at a key
 abbrev pub found_reply : Option ℕ → Reply
@@ -144,11 +134,11 @@ found_reply None = reply.Empty
 found_reply (Some v) = reply.Value v
 
 -- Full where the key is new and there are as many as the capacity
-abbrev pub put_value : Hash → ℕ → ℕ → List (ℕ × ℕ) → Option ℕ → HashValue
+abbrev pub put_value : Hash → ℕ → ℕ → List (ℕ × ℕ) → Option ℕ → Value (List (ℕ × ℕ))
 put_value h key value pairs None = cond (length pairs == h.cap) (after reply.Full pairs) (after reply.Unit (with_pair pairs key value))
 put_value h key value pairs (Some v) = after reply.Unit (with_pair pairs key value)
 
-abbrev pub hash_value : Hash → HashAct → List (ℕ × ℕ) → HashValue
+abbrev pub hash_value : Hash → HashAct → List (ℕ × ℕ) → Value (List (ℕ × ℕ))
 hash_value h (act.Put key value) pairs = put_value h key value pairs (value_at pairs key)
 hash_value h (act.Find key) pairs = after (found_reply (value_at pairs key)) pairs
 hash_value h (act.Del key) pairs = after (found_reply (value_at pairs key)) (without_key pairs key)
