@@ -2,8 +2,8 @@ use Rattle.std.proofs.Common.{sym, ◌∙◌}
 use Rattle.kc_cache.proofs.Cells.{cache_same, cache_shows}
 use Rattle.kc_cache.proofs.laws.content_is_one.Goals as goal
 
-pub returns-clause-same : goal.returns-clause-same
-returns-clause-same c = cache_same
+pub returns-clause-own : goal.returns-clause-own
+returns-clause-own c = cache_same
 
 pub returns-clause-shown : goal.returns-clause-shown
 returns-clause-shown c = cache_shows
