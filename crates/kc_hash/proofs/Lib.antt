@@ -5,7 +5,6 @@ pub mod Lists
 pub mod Maps
 pub mod Chains
 pub mod Buckets
-pub mod Cells
 pub mod Formed
 pub mod Kept
 pub mod Inserted
