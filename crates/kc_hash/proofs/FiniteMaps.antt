@@ -5,41 +5,6 @@ use Rattle.std.proofs.lemmas.Bool.Decides.{nat_tests}
 use Rattle.kc_model.specs.Rising.{IsRising, IsRisingAbove}
 use Rattle.kc_hash.specs.Content.{value_at, with_pair, without_key}
 
--- ---- one step of each
-
-module _ (p : ℕ × ℕ) (ps : List (ℕ × ℕ)) (k : ℕ) where
-  pub with-less : (v : ℕ) → p.0 < k → with_pair (p ∷ ps) k v ≡ p ∷ with_pair ps k v
-  with-less v lt = ap (λ t. cond t (p ∷ with_pair ps k v) (cond (eqb p.0 k) ((k, v) ∷ ps) ((k, v) ∷ p ∷ ps))) (lt-ltb p.0 k lt)
-
-  pub with-same : (v : ℕ) → p.0 ≡ k → with_pair (p ∷ ps) k v ≡ (k, v) ∷ ps
-  with-same v e =
-      ap (λ t. cond t (p ∷ with_pair ps k v) (cond (eqb p.0 k) ((k, v) ∷ ps) ((k, v) ∷ p ∷ ps))) (le-ltb p.0 k (omega arith))
-      ∙ ap (λ t. cond t ((k, v) ∷ ps) ((k, v) ∷ p ∷ ps)) (eq-eqb p.0 k e)
-
-  pub with-more : (v : ℕ) → k < p.0 → with_pair (p ∷ ps) k v ≡ (k, v) ∷ p ∷ ps
-  with-more v lt =
-      ap (λ t. cond t (p ∷ with_pair ps k v) (cond (eqb p.0 k) ((k, v) ∷ ps) ((k, v) ∷ p ∷ ps))) (le-ltb p.0 k (omega arith))
-      ∙ ap (λ t. cond t ((k, v) ∷ ps) ((k, v) ∷ p ∷ ps)) (ne_eqb p.0 k (λ e. omega (arith, e, lt)))
-
-  at-same : p.0 ≡ k → value_at (p ∷ ps) k ≡ Some p.1
-  at-same e = ap (λ t. cond t (Some p.1) (value_at ps k)) (eq-eqb p.0 k e)
-
-  at-other : p.0 ≢ k → value_at (p ∷ ps) k ≡ value_at ps k
-  at-other ne = ap (λ t. cond t (Some p.1) (value_at ps k)) (ne_eqb p.0 k ne)
-
-  without-same : p.0 ≡ k → without_key (p ∷ ps) k ≡ ps
-  without-same e = ap (λ t. cond t ps (p ∷ without_key ps k)) (eq-eqb p.0 k e)
-
-  without-other : p.0 ≢ k → without_key (p ∷ ps) k ≡ p ∷ without_key ps k
-  without-other ne = ap (λ t. cond t ps (p ∷ without_key ps k)) (ne_eqb p.0 k ne)
-
--- a pair, and then another one
-twice : (ps qs rs : List (ℕ × ℕ)) (k v j u : ℕ) → with_pair ps k v ≡ qs → with_pair qs j u ≡ rs → with_pair (with_pair ps k v) j u ≡ rs
-twice ps qs rs k v j u e f = ap (λ z. with_pair z j u) e ∙ f
-
-some≢none : {A : Type 0} (a : A) (o : Option A) → o ≡ Some a → o ≡ None → ⊥
-some≢none a o e f = cc
-
 -- ---- pairs of different keys, in either order
 
 pub with_pair-comm : (ps : List (ℕ × ℕ)) (k v j u : ℕ) → k ≢ j → with_pair (with_pair ps k v) j u ≡ with_pair (with_pair ps j u) k v
@@ -63,10 +28,10 @@ value_at-other (p ∷ ps) k v j ne = let again = value_at-other ps k v j ne in g
 
 -- a key that is not first, where the list has none
 none_first : (p : ℕ × ℕ) (ps : List (ℕ × ℕ)) (k : ℕ) → value_at (p ∷ ps) k ≡ None → p.0 ≢ k
-none_first p ps k none e = some≢none p.1 _ (at-same p ps k e) none
+none_first p ps k none e = grind (arith, nat_tests, none, e)
 
 none_rest : (p : ℕ × ℕ) (ps : List (ℕ × ℕ)) (k : ℕ) → value_at (p ∷ ps) k ≡ None → value_at ps k ≡ None
-none_rest p ps k none = sym (at-other p ps k (none_first p ps k none)) ∙ none
+none_rest p ps k none = let ne = none_first p ps k none in grind (arith, nat_tests, none, ne)
 
 -- what was put and is taken out again
 pub without-with : (ps : List (ℕ × ℕ)) (k v : ℕ) → value_at ps k ≡ None → without_key (with_pair ps k v) k ≡ ps
@@ -102,9 +67,9 @@ above-with n [] k v h lt = (lt, tt)
 above-with n (p ∷ ps) k v (h, hs) lt = by (above-with p.0 ps k v hs) (cases_order p.0 k)
   where
     by : (p.0 < k → IsRisingAbove p.0 (keys (with_pair ps k v))) → (p.0 ≡ k) ⊎ ((p.0 < k) ⊎ (k < p.0)) → IsRisingAbove n (keys (with_pair (p ∷ ps) k v))
-    by again (inl e) = subst (λ z. IsRisingAbove n (keys z)) (sym (with-same p ps k v e)) (lt, subst (λ j. IsRisingAbove j (keys ps)) e hs)
-    by again (inr (inl l)) = subst (λ z. IsRisingAbove n (keys z)) (sym (with-less p ps k v l)) (h, again l)
-    by again (inr (inr l)) = subst (λ z. IsRisingAbove n (keys z)) (sym (with-more p ps k v l)) (lt, (l, hs))
+    by again (inl e) = subst (λ z. IsRisingAbove n (keys z)) (let s : (k, v) ∷ ps ≡ with_pair (p ∷ ps) k v = grind (arith, nat_tests, e) in s) (lt, subst (λ j. IsRisingAbove j (keys ps)) e hs)
+    by again (inr (inl l)) = subst (λ z. IsRisingAbove n (keys z)) (let s : p ∷ with_pair ps k v ≡ with_pair (p ∷ ps) k v = grind (arith, nat_tests, l) in s) (h, again l)
+    by again (inr (inr l)) = subst (λ z. IsRisingAbove n (keys z)) (let s : (k, v) ∷ p ∷ ps ≡ with_pair (p ∷ ps) k v = grind (arith, nat_tests, l) in s) (lt, (l, hs))
 
 -- keys stay in rising order
 pub rising-with : (ps : List (ℕ × ℕ)) (k v : ℕ) → IsRising (keys ps) → IsRising (keys (with_pair ps k v))
@@ -112,6 +77,6 @@ rising-with [] k v h = tt
 rising-with (p ∷ ps) k v h = by (cases_order p.0 k)
   where
     by : (p.0 ≡ k) ⊎ ((p.0 < k) ⊎ (k < p.0)) → IsRising (keys (with_pair (p ∷ ps) k v))
-    by (inl e) = subst (λ z. IsRising (keys z)) (sym (with-same p ps k v e)) (subst (λ j. IsRisingAbove j (keys ps)) e h)
-    by (inr (inl l)) = subst (λ z. IsRising (keys z)) (sym (with-less p ps k v l)) (above-with p.0 ps k v h l)
-    by (inr (inr l)) = subst (λ z. IsRising (keys z)) (sym (with-more p ps k v l)) (l, h)
+    by (inl e) = subst (λ z. IsRising (keys z)) (let s : (k, v) ∷ ps ≡ with_pair (p ∷ ps) k v = grind (arith, nat_tests, e) in s) (subst (λ j. IsRisingAbove j (keys ps)) e h)
+    by (inr (inl l)) = subst (λ z. IsRising (keys z)) (let s : p ∷ with_pair ps k v ≡ with_pair (p ∷ ps) k v = grind (arith, nat_tests, l) in s) (above-with p.0 ps k v h l)
+    by (inr (inr l)) = subst (λ z. IsRising (keys z)) (let s : (k, v) ∷ p ∷ ps ≡ with_pair (p ∷ ps) k v = grind (arith, nat_tests, l) in s) (l, h)
