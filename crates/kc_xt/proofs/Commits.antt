@@ -16,15 +16,16 @@ use Rattle.kc_xt.specs.declared.line.Line.{Line}
 use Rattle.kc_xt.specs.declared.peek.PeekBusy.{PeekBusy}
 use Rattle.kc_xt.specs.declared.stop.Stop.{Stop}
 use Rattle.kc_xt.specs.declared.stop.Stop.TheVariants.{Retry, TooLarge, Busy}
-use Rattle.kc_xt.specs.Meaning.{Touch, Meaning, AllBelow, is_touched, last_written, values, Makes, CanMake}
+use Rattle.kc_xt.specs.Meaning.{Touch, Meaning, AllBelow, is_touched, last_written, values, Makes, CanMake, answers}
 use Rattle.kc_xt.specs.Lines.{look, locations, line_at, seen_at, after_at, with_line, seen_line, with_after, bare, with_looks, looked_at, with_wrote, with_touches, seens, puts, put_line, CanPut}
 use Rattle.kc_xt.specs.Log.{Log, empty_log}
 use Rattle.kc_xt.specs.Peeks.{Gives, Looks, PlainLooks}
-use Rattle.kc_xt.specs.Law.{Obeys, LooksTo, Commits}
+use Rattle.kc_xt.specs.Law.{Obeys, LooksTo, Commits, ending}
 use Rattle.kc_xt.proofs.Options.{some_is, none≢some, or_assoc, or_test, or_none, or_nothing}
 use Rattle.kc_xt.proofs.Lines.{seen_at-line_at, seen_at-with_line, seen_at-with_after, after_at-with_line, after_at-with_after, locations-with_after}
 use Rattle.kc_xt.proofs.Places.{rising-with_line, rising-tail}
 use Rattle.kc_xt.proofs.Footprints.{puts_rise, first_put}
+use Rattle.kc_xt.proofs.Rooms.{ends_under_own}
 use Rattle.kc_xt.proofs.Touching.{missing, line_at-looked_at, by_line, there_is}
 
 -- each line saw what the store shows
@@ -248,6 +249,13 @@ makes s ts ls f all left er ep made can =
       puts = λ l. ap (λ ps. put_at ps l) ep ∙ at l;
     }
 
+-- what ends by itself is answered as it ends
+as_answered : (r : Result Reply Stop) → r ≢ Err Busy → r ≡ answers (ending r)
+as_answered (Ok a) ne = refl
+as_answered (Err Retry) ne = refl
+as_answered (Err TooLarge) ne = refl
+as_answered (Err Busy) ne = absurd (ne refl)
+
 -- a run on the empty log over a plain store never stops with Busy
 pub plain_not_busy : {m : Meaning} {bound : ℕ} {r : Result Reply Stop} {y : Log (List Cell)} (cells : List Cell) → Obeys PlainLooks m bound (empty_log cells) r y → r ≢ Err Busy
 plain_not_busy {y = y} cells o e = go (rw e at o.looked)
@@ -261,10 +269,10 @@ commits {m} {bound} {r} {y} cells o f er ep made =
     let s = store_of cells in
     let looks = looks_in PlainLooks r y.lines cells o.looks y.peek o.looked in
     let all : AllShown s y.lines = shown-bare s y.lines (rw o.grown (shown-with_looks s [] o.looks (all_looked cells cells o.looks looks.0 refl looks.1) tt)) in
-    let run = o.law s (λ l e h. shown_at s y.lines l e all h) (plain_not_busy cells o) in
+    let run = o.law MOST (ends_under_own r MOST [] y.lines (plain_not_busy cells o) o.room) s (λ l e h. shown_at s y.lines l e all h) in
     let below : LinesBelow bound y.lines = rw run.lines (below-with_touches s bound [] (m MOST (values s) []).touches run.below tt) in
     record {
-      answer = run.answer;
+      answer = as_answered r (plain_not_busy cells o) ∙ ap answers (sym run.answer);
       makes = makes s (m MOST (values s) []).touches y.lines f all run.lines er ep made;
       within = λ e h. reads_below s bound y.lines e below (rw er at h);
     }

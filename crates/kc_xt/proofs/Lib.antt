@@ -2,6 +2,7 @@ pub mod Options
 pub mod Outcomes
 pub mod Lines
 pub mod Places
+pub mod Rooms
 pub mod LogSteps
 pub mod Chain
 pub mod Calls
