@@ -12,6 +12,7 @@ pub mod Touching
 pub mod Composed
 pub mod Footprints
 pub mod Commits
+pub mod Tries
 pub mod Spared
 pub mod Singles
 pub mod Written
