@@ -2,6 +2,7 @@ pub mod Options
 pub mod Outcomes
 pub mod Lines
 pub mod Places
+pub mod Rooms
 pub mod LogSteps
 pub mod Chain
 pub mod Calls
@@ -11,6 +12,7 @@ pub mod Touching
 pub mod Composed
 pub mod Footprints
 pub mod Commits
+pub mod Tries
 pub mod Spared
 pub mod Singles
 pub mod Written

@@ -1,6 +1,7 @@
 //! The log of a transaction, and the law that a transaction keeps.
 #![tactic(auto)]
 
+mod attempts;
 mod line;
 mod peek;
 mod place;
@@ -12,6 +13,7 @@ mod tests;
 mod transact;
 mod xt;
 
+pub use attempts::{Tried, attempt, is_found_somewhere, plain_attempts};
 pub use peek::{Peek, PeekBusy};
 pub use plain_peek::PlainPeek;
 pub use stop::Stop;
