@@ -6,5 +6,4 @@ pub mod Opened
 pub mod Keeping
 pub mod Fitting
 pub mod Commands
-pub mod Above
 pub mod Listed

@@ -3,7 +3,7 @@ use Rattle.std.proofs.Common.{◌≡◌, ◌≢◌, ℕ, suc, ◌<◌, ◌≤◌
 use Rattle.std.proofs.lemmas.Bool.{eqb-true, eqb-false, eq-eqb, ne_eqb}
 use Rattle.kc_model.specs.declared.reply.Reply.TheVariants as reply
 use Rattle.kc_hash.specs.Content.{with_pair, without_key, value_at}
-use Rattle.kc_hash.proofs.Pairs.{with_pair-comm, value_at-with, value_at-other, without-with, length-with}
+use Rattle.kc_hash.proofs.FiniteMaps.{with_pair-comm, value_at-with, value_at-other, without-with, length-with}
 use Rattle.kc_dllist.specs.Content.{Listed, numbers, times, payload_of, without, last_reply}
 use Rattle.kc_dllist.proofs.Times.{times-here, times-append, among_here, among_more, among_rest}
 use Rattle.kc_cache.specs.Content.{keys, index_of, without_last}

@@ -4,8 +4,8 @@ use Rattle.std.proofs.lemmas.Bool.{ne_eqb}
 use Rattle.std.proofs.lemmas.Bool.Decides.{nat_tests}
 use Rattle.kc_xt.specs.Meaning.{put}
 use Rattle.kc_dllist.specs.declared.dllist.Dllist.{Dllist}
-use Rattle.kc_dllist.specs.Meaning.{last_cell, free_cell, payload_cell, prev_cell, next_cell, after_cell, before_cell, node_in, cells_end}
-use Rattle.kc_dllist.specs.Content.{Listed, numbers, times, Chain, Backward, Payloads, IsOutside, below, above}
+use Rattle.kc_dllist.specs.Meaning.{last_cell, free_cell, payload_cell, prev_cell, next_cell, after_cell, before_cell, node_in}
+use Rattle.kc_dllist.specs.Content.{Listed, numbers, times, Chain, Backward, Payloads}
 use Rattle.kc_dllist.proofs.Times.{among_here, among_more}
 use Rattle.kc_dllist.proofs.Rings.{Ring, put_here, put_else}
 
@@ -103,11 +103,6 @@ module _ (d : Dllist) (m : ℕ → ℕ) (v j : ℕ) where
 
   pub payload-payload : (i : ℕ) → j ≢ i → put m (payload_cell d j) v (payload_cell d i) ≡ m (payload_cell d i)
   payload-payload i ne = put_else m (payload_cell d j) v (payload_cell d i) (λ e. ne (omega (arith, e)))
-
-  -- a write among the cells changes nothing outside
-  pub outside : (l : ℕ) → IsOutside d l → d.base.0 ≤ j → j < cells_end d → put m j v l ≡ m l
-  outside l (below h) lo hi = put_else m j v l (λ e. omega (arith, h, lo, e))
-  outside l (above h) lo hi = put_else m j v l (λ e. omega (arith, h, hi, e))
 
 -- ---- chains and rings
 

@@ -5,16 +5,22 @@ use Rattle.kc_model.specs.declared.reply.Reply.{Reply}
 use Rattle.kc_model.specs.declared.reply.Reply.TheVariants as reply
 use Rattle.kc_xt.specs.Meaning.{put}
 use Rattle.kc_xt.specs.Program.{Program, plain, read}
+use Rattle.kc_xt.specs.Structure.{Value}
+use Rattle.kc_xt.proofs.Inside.{GoesTo}
 use Rattle.kc_dllist.specs.declared.dllist.Dllist.{Dllist}
 use Rattle.kc_dllist.specs.declared.operation.DllistAct.{DllistAct}
 use Rattle.kc_dllist.specs.declared.operation.DllistAct.TheVariants as act
 use Rattle.kc_dllist.specs.Meaning.{dllist_program, unlink_program, take_program, release_program, bring_program, lead_program, first_cell, last_cell, free_cell, payload_cell, next_cell, after_cell, node_in, IsNode}
-use Rattle.kc_dllist.specs.Content.{Listed, Content, numbers, times, Chain, HasEachOnce, StandsFor, Performs, NamesListed, payload_of, without, last_reply, dllist_value, pushed, comes_to}
+use Rattle.kc_dllist.specs.Content.{Listed, Content, numbers, times, Chain, HasEachOnce, StandsFor, NamesListed, payload_of, without, last_reply, dllist_value, pushed, comes_to}
 use Rattle.kc_dllist.proofs.Times.{times-append, times-less, among_here, among_more, apart, less}
 use Rattle.kc_dllist.proofs.Rings.{Ring, Apart, put_here, put_else, ring_same, ring_near, ring_first}
-use Rattle.kc_dllist.proofs.Cells.{nexts, prevs, next_is, node_as_is, nexts-after, prevs-after, nexts-free, prevs-free, nexts-payload, prevs-payload, free-payload, payload-after, payload-free, payload-payload, outside, payloads_same}
-use Rattle.kc_dllist.proofs.Changes.{unlinked, led, plain_unlink, nexts-unlinked, free-unlinked, payload-unlinked, outside-unlinked, ring_unlinked, plain_lead, nexts-led, free-led, payload-led, outside-led, ring_led}
+use Rattle.kc_dllist.proofs.Cells.{nexts, prevs, next_is, node_as_is, nexts-after, prevs-after, nexts-free, prevs-free, nexts-payload, prevs-payload, free-payload, payload-after, payload-free, payload-payload, payloads_same}
+use Rattle.kc_dllist.proofs.Changes.{unlinked, led, plain_unlink, nexts-unlinked, free-unlinked, payload-unlinked, ring_unlinked, plain_lead, nexts-led, free-led, payload-led, ring_led}
 use Rattle.kc_dllist.proofs.Standing.{each_same, apart_of, listed_node, free_node, listed_some, free_some, not_free, not_listed, listed_once, listed_zero, free_zero, listed_apart, chain_within, ring, stands, free_same, payload_at, payloads_without, numbers-without, last_is}
+
+-- an operation goes to a value
+abbrev pub Goes : Dllist → DllistAct → (ℕ → ℕ) → Value Content → Type 0
+Goes d a m v = GoesTo (StandsFor d) (dllist_program d a) m v
 
 -- ---- PushFront
 
@@ -97,17 +103,16 @@ module _ (d : Dllist) (m : ℕ → ℕ) (v : ℕ) (xs : List Listed) (f : ℕ) (
       let e = times-append j ns fs in
       omega (arith, a, b, c, e)) s.each
 
-  push_performs : Performs d (act.PushFront v) m (comes_to (reply.Value f) (record { node = f; payload = v } ∷ xs) fs)
+  push_performs : Goes d (act.PushFront v) m (comes_to (reply.Value f) (record { node = f; payload = v } ∷ xs) fs)
   push_performs = record {
     left = led d two f h;
     runs = push_runs;
-    stands = stands d (led d two f h) _ push_ring (payload-led d two f h f push_node.0 ∙ put_here one (payload_cell d f) v (payload_cell d f) refl, payloads_same d m (led d two f h) xs push_payload s.payloads) push_free push_each;
-    kept = λ l g. outside-led d two f h l push_node.1 first_within g ∙ outside d one v (payload_cell d f) l g (omega arith) (let w = push_node in omega (arith, w)) ∙ outside d m (m (next_cell d f)) (free_cell d) l g (omega arith) (omega arith);
+    stand = stands d (led d two f h) _ push_ring (payload-led d two f h f push_node.0 ∙ put_here one (payload_cell d f) v (payload_cell d f) refl, payloads_same d m (led d two f h) xs push_payload s.payloads) push_free push_each;
   }
 
-full_performs : (d : Dllist) (m : ℕ → ℕ) (v : ℕ) (xs : List Listed) → (let c : Content = record { listed = xs; free = [] } in StandsFor d m c) → Performs d (act.PushFront v) m (comes_to reply.Full xs [])
+full_performs : (d : Dllist) (m : ℕ → ℕ) (v : ℕ) (xs : List Listed) → (let c : Content = record { listed = xs; free = [] } in StandsFor d m c) → Goes d (act.PushFront v) m (comes_to reply.Full xs [])
 unfolding dllist_program
-full_performs d m v xs s = record { left = m; runs = full_runs; stands = s; kept = λ l g. refl }
+full_performs d m v xs s = record { left = m; runs = full_runs; stand = s }
   where
     full_runs : (k : Reply → Program) → plain (dllist_program d (act.PushFront v) k) m ≡ plain (k reply.Full) m
     full_runs k =
@@ -226,14 +231,13 @@ module _ (d : Dllist) (m : ℕ → ℕ) (i : ℕ) (xs : List Listed) (fs : List 
       let x = times-append j (i ∷ []) fs in
       omega (arith, t, u, v, w, x)) s.each
 
-  remove_performs : Performs d (act.Remove i) m (comes_to (reply.Value (payload_of i xs)) (without i xs) (i ∷ fs))
+  remove_performs : Goes d (act.Remove i) m (comes_to (reply.Value (payload_of i xs)) (without i xs) (i ∷ fs))
   remove_performs =
       let e = sym (numbers-without i xs) in
       record {
         left = gone;
         runs = remove_runs;
-        stands = stands d gone _ (subst (λ (ns : List ℕ). Ring (nexts d gone) (prevs d gone) 0 ns) e gone_ring) (payloads_without d gone i xs (payloads_same d m gone xs (λ j g. gone_payload j (listed_node d is fs s.each j g).0) s.payloads)) gone_free (subst (λ (ns : List ℕ). HasEachOnce d (ns ++ i ∷ fs)) e gone_each);
-        kept = λ l g. outside d (put cut (after_cell d i) n) i (free_cell d) l g (omega arith) (omega arith) ∙ subst (λ c. put cut c n l ≡ cut l) (next_is d i cut_some) (outside d cut n (next_cell d i) l g (omega arith) (let w = cut_node in omega (arith, w))) ∙ outside-unlinked d m a b l beside_within.0 beside_within.1 g;
+        stand = stands d gone _ (subst (λ (ns : List ℕ). Ring (nexts d gone) (prevs d gone) 0 ns) e gone_ring) (payloads_without d gone i xs (payloads_same d m gone xs (λ j g. gone_payload j (listed_node d is fs s.each j g).0) s.payloads)) gone_free (subst (λ (ns : List ℕ). HasEachOnce d (ns ++ i ∷ fs)) e gone_each);
       }
 
   -- ---- MoveFront of a node that is not the first
@@ -259,14 +263,13 @@ module _ (d : Dllist) (m : ℕ → ℕ) (i : ℕ) (xs : List Listed) (fs : List 
       (λ j g. nexts-led d cut i (nexts d cut 0) j ∙ put_else (put (nexts d cut) i (nexts d cut 0)) 0 i j (λ e. free_some d is fs s.each j g (sym e)) ∙ put_else (nexts d cut) i (nexts d cut 0) j (free_other j g) ∙ cut_nexts j g)
       s.free
 
-  move_performs : (node_in d (m (first_cell d)) == i) ≡ false → Performs d (act.MoveFront i) m (comes_to reply.Unit (record { node = i; payload = payload_of i xs } ∷ without i xs) fs)
+  move_performs : (node_in d (m (first_cell d)) == i) ≡ false → Goes d (act.MoveFront i) m (comes_to reply.Unit (record { node = i; payload = payload_of i xs } ∷ without i xs) fs)
   move_performs e =
       let w = sym (numbers-without i xs) in
       record {
         left = moved;
         runs = move_runs e;
-        stands = stands d moved _ (subst (λ (ns : List ℕ). Ring (nexts d moved) (prevs d moved) 0 (i ∷ ns)) w (ring_led d cut i (nexts d cut 0) (less i is) cut_some refl cut_out less_apart cut_ring)) (moved_payload i cut_node.0 ∙ payload_at d m i xs on s.payloads, payloads_without d moved i xs (payloads_same d m moved xs (λ j g. moved_payload j (listed_node d is fs s.each j g).0) s.payloads)) moved_free (subst (λ (ns : List ℕ). HasEachOnce d ((i ∷ ns) ++ fs)) w (each_same d (is ++ fs) ((i ∷ less i is) ++ fs) cut_times s.each));
-        kept = λ l g. outside-led d cut i (nexts d cut 0) l cut_node.1 cut_first g ∙ outside-unlinked d m a b l beside_within.0 beside_within.1 g;
+        stand = stands d moved _ (subst (λ (ns : List ℕ). Ring (nexts d moved) (prevs d moved) 0 (i ∷ ns)) w (ring_led d cut i (nexts d cut 0) (less i is) cut_some refl cut_out less_apart cut_ring)) (moved_payload i cut_node.0 ∙ payload_at d m i xs on s.payloads, payloads_without d moved i xs (payloads_same d m moved xs (λ j g. moved_payload j (listed_node d is fs s.each j g).0) s.payloads)) moved_free (subst (λ (ns : List ℕ). HasEachOnce d ((i ∷ ns) ++ fs)) w (each_same d (is ++ fs) ((i ∷ less i is) ++ fs) cut_times s.each));
       }
 
 -- ---- MoveFront of the first node changes nothing
@@ -274,10 +277,10 @@ module _ (d : Dllist) (m : ℕ → ℕ) (i : ℕ) (xs : List Listed) (fs : List 
 first_again : (i : ℕ) (x : Listed) (xs : List Listed) → x.node ≡ i → (let y : Listed = record { node = i; payload = payload_of i (x ∷ xs) } in y ∷ without i (x ∷ xs)) ≡ x ∷ xs
 first_again i x xs e = rw (eq-eqb x.node i e) (ap (λ n. let y : Listed = record { node = n; payload = x.payload } in y ∷ xs) (sym e))
 
-stay_performs : (d : Dllist) (m : ℕ → ℕ) (i : ℕ) (xs : List Listed) (fs : List ℕ) → (let c : Content = record { listed = xs; free = fs } in StandsFor d m c) → 0 < times i (numbers xs) → (node_in d (m (first_cell d)) == i) ≡ true → Performs d (act.MoveFront i) m (comes_to reply.Unit (record { node = i; payload = payload_of i xs } ∷ without i xs) fs)
+stay_performs : (d : Dllist) (m : ℕ → ℕ) (i : ℕ) (xs : List Listed) (fs : List ℕ) → (let c : Content = record { listed = xs; free = fs } in StandsFor d m c) → 0 < times i (numbers xs) → (node_in d (m (first_cell d)) == i) ≡ true → Goes d (act.MoveFront i) m (comes_to reply.Unit (record { node = i; payload = payload_of i xs } ∷ without i xs) fs)
 unfolding dllist_program
 stay_performs d m i [] fs s on e = absurd (omega (arith, on))
-stay_performs d m i (x ∷ xs) fs s on e = record { left = m; runs = stay_runs; stands = subst (λ (ys : List Listed). let c : Content = record { listed = ys; free = fs } in StandsFor d m c) (sym (first_again i x xs first_is)) s; kept = λ l g. refl }
+stay_performs d m i (x ∷ xs) fs s on e = record { left = m; runs = stay_runs; stand = subst (λ (ys : List Listed). let c : Content = record { listed = ys; free = fs } in StandsFor d m c) (sym (first_again i x xs first_is)) s }
   where
     stay_runs : (k : Reply → Program) → plain (dllist_program d (act.MoveFront i) k) m ≡ plain (k reply.Unit) m
     stay_runs k =
@@ -287,22 +290,22 @@ stay_performs d m i (x ∷ xs) fs s on e = record { left = m; runs = stay_runs; 
     first_is : x.node ≡ i
     first_is = sym (ap (node_in d) s.forward.0 ∙ node_as_is d x.node (listed_node d (numbers (x ∷ xs)) fs s.each x.node (among_here x.node (numbers xs))).1) ∙ eqb-true (node_in d (m (first_cell d))) i e
 
-front_performs : (d : Dllist) (m : ℕ → ℕ) (i : ℕ) (xs : List Listed) (fs : List ℕ) → (let c : Content = record { listed = xs; free = fs } in StandsFor d m c) → 0 < times i (numbers xs) → (t : Bool) → (node_in d (m (first_cell d)) == i) ≡ t → Performs d (act.MoveFront i) m (comes_to reply.Unit (record { node = i; payload = payload_of i xs } ∷ without i xs) fs)
+front_performs : (d : Dllist) (m : ℕ → ℕ) (i : ℕ) (xs : List Listed) (fs : List ℕ) → (let c : Content = record { listed = xs; free = fs } in StandsFor d m c) → 0 < times i (numbers xs) → (t : Bool) → (node_in d (m (first_cell d)) == i) ≡ t → Goes d (act.MoveFront i) m (comes_to reply.Unit (record { node = i; payload = payload_of i xs } ∷ without i xs) fs)
 front_performs d m i xs fs s on true e = stay_performs d m i xs fs s on e
 front_performs d m i xs fs s on false e = move_performs d m i xs fs s on e
 
 -- ---- Last
 
-last_performs : (d : Dllist) (m : ℕ → ℕ) (xs : List Listed) (fs : List ℕ) → (let c : Content = record { listed = xs; free = fs } in StandsFor d m c) → Performs d act.Last m (comes_to (last_reply xs) xs fs)
+last_performs : (d : Dllist) (m : ℕ → ℕ) (xs : List Listed) (fs : List ℕ) → (let c : Content = record { listed = xs; free = fs } in StandsFor d m c) → Goes d act.Last m (comes_to (last_reply xs) xs fs)
 unfolding dllist_program
-last_performs d m [] fs s = record { left = m; runs = none_runs; stands = s; kept = λ l g. refl }
+last_performs d m [] fs s = record { left = m; runs = none_runs; stand = s }
   where
     none_runs : (k : Reply → Program) → plain (dllist_program d act.Last k) m ≡ plain (k reply.Empty) m
     none_runs k =
         let e : node_in d (m (last_cell d)) ≡ 0 = ap (node_in d) s.backward ∙ node_as_is d 0 (omega arith) in
         let P : ℕ → Type 0 = λ i. plain (cond (i == 0) (k reply.Empty) (read (payload_cell d i) (λ v. k (reply.Value v)))) m ≡ plain (k reply.Empty) m in
         subst P (sym e) refl
-last_performs d m (x ∷ xs) fs s = record { left = m; runs = some_runs; stands = s; kept = λ l g. refl }
+last_performs d m (x ∷ xs) fs s = record { left = m; runs = some_runs; stand = s }
   where
     some_runs : (k : Reply → Program) → plain (dllist_program d act.Last k) m ≡ plain (k (last_reply (x ∷ xs))) m
     some_runs k =
@@ -315,12 +318,12 @@ last_performs d m (x ∷ xs) fs s = record { left = m; runs = some_runs; stands 
 
 -- ---- each operation
 
-push_value : (d : Dllist) (m : ℕ → ℕ) (v : ℕ) (xs : List Listed) (fs : List ℕ) → (let c : Content = record { listed = xs; free = fs } in StandsFor d m c) → Performs d (act.PushFront v) m (pushed v xs fs)
+push_value : (d : Dllist) (m : ℕ → ℕ) (v : ℕ) (xs : List Listed) (fs : List ℕ) → (let c : Content = record { listed = xs; free = fs } in StandsFor d m c) → Goes d (act.PushFront v) m (pushed v xs fs)
 push_value d m v xs [] s = full_performs d m v xs s
 push_value d m v xs (f ∷ fs) s = push_performs d m v xs f fs s
 
 -- The program of each operation, on cells that stand for a content, whatever comes behind it.
-pub performs : (d : Dllist) (a : DllistAct) (m : ℕ → ℕ) (c : Content) → StandsFor d m c → NamesListed a c → Performs d a m (dllist_value a c)
+pub performs : (d : Dllist) (a : DllistAct) (m : ℕ → ℕ) (c : Content) → StandsFor d m c → NamesListed a c → Goes d a m (dllist_value a c)
 performs d (act.PushFront v) m c s on = push_value d m v c.listed c.free s
 performs d (act.Remove i) m c s on = remove_performs d m i c.listed c.free s on
 performs d (act.MoveFront i) m c s on = front_performs d m i c.listed c.free s on (node_in d (m (first_cell d)) == i) refl

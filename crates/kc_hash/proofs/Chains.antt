@@ -33,15 +33,6 @@ module _ (h : Hash) where
   chain_moved m w c d [] e same kept = same ∙ e
   chain_moved m w c d (i ∷ is) (e, lo, hi, rest) same kept = (same ∙ e, lo, hi, chain_moved m w (next_cell h i) (next_cell h i) is rest (kept i (has_here i is)) (λ j some. kept j (has_rest i j is some)))
 
-  -- a cell begins one chain
-  pub chain_one : (m : ℕ → ℕ) (c : ℕ) (ns os : List ℕ) → IsChain h m c ns → IsChain h m c os → ns ≡ os
-  chain_one m c [] [] a b = refl
-  chain_one m c [] (j ∷ js) a (e, lo, hi, rest) = absurd (omega (arith, a, e, lo))
-  chain_one m c (i ∷ is) [] (e, lo, hi, rest) b = absurd (omega (arith, b, e, lo))
-  chain_one m c (i ∷ is) (j ∷ js) (e, lo, hi, rest) (f, lo', hi', rest') =
-      let same : i ≡ j = sym e ∙ f in
-      ap (λ x. x ∷ is) same ∙ ap (λ xs. j ∷ xs) (chain_one m (next_cell h j) is js (subst (λ x. IsChain h m (next_cell h x) is) same rest) rest')
-
   -- the bucket of a chain's node
   pub in_bucket : (m : ℕ → ℕ) (b : ℕ) (ns : List ℕ) → AllInBucket h m b ns → (j : ℕ) → 1 ≤ times j ns → bucket_of h (m (key_cell h j)) ≡ b
   in_bucket m b [] a j some = absurd (omega (arith, some))

@@ -6,7 +6,7 @@ use Rattle.kc_hash.specs.declared.hash.Hash.{Hash}
 use Rattle.kc_hash.specs.Meaning.{key_cell, value_cell, head_cell, free_cell, bucket_of}
 use Rattle.kc_hash.specs.Content.{times, keys_of, nodes_of, map_of, with_pair, value_at, StandsFor}
 use Rattle.kc_hash.proofs.HashLaw.{bucket_within}
-use Rattle.kc_hash.proofs.Pairs.{keys, value_at-with}
+use Rattle.kc_hash.proofs.FiniteMaps.{keys, value_at-with}
 use Rattle.kc_hash.proofs.Lists.{times-here, times-append, length-once}
 use Rattle.kc_hash.proofs.Maps.{times_keys, map_split, map_none, map_length, map_rising, has_here}
 use Rattle.kc_hash.proofs.Chains.{chain_nodes, in_bucket, Found}

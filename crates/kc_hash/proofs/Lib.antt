@@ -1,11 +1,10 @@
 pub mod WalkSteps
 pub mod HashLaw
-pub mod Pairs
+pub mod FiniteMaps
 pub mod Lists
 pub mod Maps
 pub mod Chains
 pub mod Buckets
-pub mod Cells
 pub mod Formed
 pub mod Kept
 pub mod Inserted

@@ -5,7 +5,7 @@ use Rattle.kc_model.specs.Rising.{IsRising}
 use Rattle.kc_hash.specs.declared.hash.Hash.{Hash}
 use Rattle.kc_hash.specs.Meaning.{key_cell, value_cell}
 use Rattle.kc_hash.specs.Content.{times, keys_of, map_of, with_pair, value_at}
-use Rattle.kc_hash.proofs.Pairs.{keys, with_pair-comm, value_at-other, length-with, rising-with}
+use Rattle.kc_hash.proofs.FiniteMaps.{keys, with_pair-comm, value_at-other, length-with, rising-with}
 use Rattle.kc_hash.proofs.Lists.{times-here, times-rest, times-append}
 
 -- the first stands there

@@ -18,3 +18,4 @@ pub mod Singles
 pub mod Written
 pub mod Stay
 pub mod Structures
+pub mod Inside
