@@ -7,7 +7,7 @@ use Rattle.kc_xt.specs.Structure.{Standing, Value, goes_on, RunsInsideOthers, Me
 use Rattle.kc_xt.proofs.PlainRuns.{plain-meaning}
 
 -- behind its reply nothing more is done
-alone : (o : Outcome) (left : ℕ → ℕ) → goes_on o replies left ≡ (let w : Plain = record { outcome = o; map = left } in w)
+pub alone : (o : Outcome) (left : ℕ → ℕ) → goes_on o replies left ≡ (let w : Plain = record { outcome = o; map = left } in w)
 alone (replied a) left = refl
 alone retried left = refl
 alone too_large left = refl
