@@ -5,7 +5,6 @@ use Rattle.std.specs.List.{flat_map}
 use Rattle.std.specs.Prelude.{map, slice_get}
 use Rattle.kc_bundle.specs.declared.object.Object.{Object}
 use Rattle.kc_bundle.specs.Script.{Names, base, cells, CellsWithin}
-use Rattle.kc_bundle.specs.State.{Content, Stands, AllStand, state_line, state_lines}
 
 -- the entry at an index
 pub entry_at : {X Y : Type 0} (f : X → Y) (es : List X) (i : ℕ) (e : X) → Some e ≡ slice_get es i → get_or (map f es) i (f e) ≡ f e
@@ -27,20 +26,3 @@ module _ {X : Type 0} (f : X → List ℕ) (xs : List X) (i : ℕ) (front total 
   -- those of all elements were added
   pub adds_all : length xs ≤ i → front ≡ total
   adds_all le = sym (append-nil front) ∙ ap (λ (rest : List X). front ++ flat_map f rest) (sym (drop_all i xs le)) ∙ so_far
-
-lines_at : (names : Names) (contents : List Content) (m : ℕ → ℕ) (i : ℕ) (d : List ℕ × Object) → i < length names → AllStand names m contents
-    → (c : Content) × Stands (get_or names i d).1 m c × (state_lines (drop i names) (drop i contents) ≡ state_line (get_or names i d).0 c ++ state_lines (drop (suc i) names) (drop (suc i) contents))
-lines_at [] contents m i d lt h = absurd (omega arith)
-lines_at (entry ∷ names) [] m i d lt h = absurd h
-lines_at (entry ∷ names) (c ∷ cs) m zero d lt h = (c, h.0, refl)
-lines_at (entry ∷ names) (c ∷ cs) m (suc i) d lt h = lines_at names cs m i d (omega arith) h.1
-
--- the lines from an entry on: its own, and then the others
-pub lines_next : (names : Names) (contents : List Content) (m : ℕ → ℕ) (i : ℕ) (d e : List ℕ × Object) → i < length names → get_or names i d ≡ e → AllStand names m contents
-    → (c : Content) × Stands e.1 m c × (state_lines (drop i names) (drop i contents) ≡ state_line e.0 c ++ state_lines (drop (i + 1) names) (drop (i + 1) contents))
-lines_next names contents m i d e lt same h =
-    let next : (n : ℕ) → suc i ≡ n → (c : Content) × Stands e.1 m c × (state_lines (drop i names) (drop i contents) ≡ state_line e.0 c ++ state_lines (drop n names) (drop n contents)) = λ n is. rw (same, is) at (lines_at names contents m i d lt h) in
-    next (i + 1) (omega arith)
-
-pub lines_end : (names : Names) (contents : List Content) (i : ℕ) → length names ≤ i → state_lines (drop i names) (drop i contents) ≡ []
-lines_end names contents i le = rw (drop_all i names le) refl

@@ -3,8 +3,8 @@ pub mod Entries
 pub mod Having
 pub mod Standing
 pub mod Opened
+pub mod Own
 pub mod Keeping
 pub mod Fitting
 pub mod Commands
-pub mod Above
 pub mod Listed

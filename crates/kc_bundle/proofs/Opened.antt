@@ -8,7 +8,7 @@ use Rattle.kc_xt.specs.Meaning.{values}
 use Rattle.kc_bundle.specs.declared.object.Object.{Object}
 use Rattle.kc_bundle.specs.Script.{Names, base, cells, LieFrom, AreSized}
 use Rattle.kc_bundle.specs.State.{values_from, opening_value, opening_cells, opening_contents, AllStand}
-use Rattle.kc_bundle.proofs.Places.{length-opening_cells}
+use Rattle.kc_bundle.proofs.Places.{value_at, length-opening_cells}
 use Rattle.kc_bundle.proofs.Standing.{stands_opened}
 
 module _ (f : ℕ → ℕ) (i n : ℕ) (front total : List ℕ) where
@@ -23,14 +23,6 @@ module _ (f : ℕ → ℕ) (i n : ℕ) (front total : List ℕ) where
   values_end le so_far =
       let left : n - i ≡ 0 = omega arith in
       sym (append-nil front) ∙ rw left at so_far
-
--- a value by its place
-value_at : (f : ℕ → ℕ) (i n k : ℕ) → k < n → get_or (values_from f i n) k 0 ≡ f (i + k)
-value_at f i zero k lt = absurd (omega arith)
-value_at f i (suc n) zero lt = let e : i ≡ i + 0 = omega arith in ap f e
-value_at f i (suc n) (suc k) lt =
-    let e : i + 1 + k ≡ i + suc k = omega arith in
-    value_at f (i + 1) n k (omega arith) ∙ ap f e
 
 -- the opened store has the values
 opened_value : (vs : List ℕ) (l : ℕ) → values (store_of (opened vs)) l ≡ get_or vs l 0

@@ -1,5 +1,5 @@
 -- Where the objects of a script lie.
-use Rattle.std.proofs.Common.{◌≡◌, ℕ, zero, suc, ◌+◌, ◌≤◌, List, [], ◌∷◌, ◌++◌, length, refl, ap, arith, length-append}
+use Rattle.std.proofs.Common.{◌≡◌, ℕ, zero, suc, ◌+◌, ◌≤◌, ◌<◌, List, [], ◌∷◌, ◌++◌, length, get_or, refl, ap, ◌∙◌, arith, length-append}
 use Rattle.std.specs.List.{flat_map}
 use Rattle.kc_bundle.specs.declared.object.Object.{Object}
 use Rattle.kc_bundle.specs.Script.{Names, base, cells, next_from, LieFrom, CellsWithin}
@@ -32,9 +32,17 @@ cells_from at (entry ∷ names) first h = ((rw h.0 first, rw h.0 (next_from-abov
 pub cells_within : (names : Names) → LieFrom 1 names → CellsWithin (next_from 1 names) names
 cells_within names h = cells_from 1 names (omega arith) h
 
-length-values_from : (f : ℕ → ℕ) (i n : ℕ) → length (values_from f i n) ≡ n
+pub length-values_from : (f : ℕ → ℕ) (i n : ℕ) → length (values_from f i n) ≡ n
 length-values_from f i zero = refl
 length-values_from f i (suc n) = ap suc (length-values_from f (i + 1) n)
+
+-- a value by its place
+pub value_at : (f : ℕ → ℕ) (i n k : ℕ) → k < n → get_or (values_from f i n) k 0 ≡ f (i + k)
+value_at f i zero k lt = absurd (omega arith)
+value_at f i (suc n) zero lt = let e : i ≡ i + 0 = omega arith in ap f e
+value_at f i (suc n) (suc k) lt =
+    let e : i + 1 + k ≡ i + suc k = omega arith in
+    value_at f (i + 1) n k (omega arith) ∙ ap f e
 
 -- each object has as many opening values as cells
 pub length-opening_cells : (o : Object) → length (opening_cells o) ≡ cells o

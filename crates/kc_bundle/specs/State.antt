@@ -1,18 +1,22 @@
 -- The values with which a script opens, what its objects hold, and the lines that show it.
-use Rattle.std.specs.Prelude.{◌≡◌, ℕ, zero, suc, ◌+◌, List, [], ◌∷◌, ◌++◌, Option, Some, None, length, map, reverse, codes, decimal}
+use Rattle.std.specs.Prelude.{◌≡◌, ℕ, zero, suc, ◌+◌, ◌-◌, List, [], ◌∷◌, ◌++◌, Option, Some, None, length, map, reverse, codes, decimal}
 use Rattle.std.specs.List.{flat_map}
 use Rattle.kc_bundle.specs.declared.object.Object.{Object}
 use Rattle.kc_bundle.specs.declared.object.Object.TheVariants as object
 use Rattle.kc_bundle.specs.Script.{Names, Script, cells}
+use Rattle.kc_xt.specs.Program.{wrapped}
+use Rattle.kc_stack.specs.declared.stack.Stack.{Stack}
+use Rattle.kc_stack.specs.Meaning.{counted as stack_counted}
 use Rattle.kc_stack.specs.Content.{stack_opening, StandsFor as StackStands}
-use Rattle.kc_queue.specs.Meaning.{queue_opening, StandsFor as QueueStands}
-use Rattle.kc_cells.specs.OnePlace.{place_opening}
+use Rattle.kc_queue.specs.declared.queue.Queue.{Queue}
+use Rattle.kc_queue.specs.Meaning.{queue_opening, head_cell, count_cell, ring_cell, head_in, back_of, counted as queue_counted, StandsFor as QueueStands}
+use Rattle.kc_cells.specs.OnePlace.{place_opening, held}
 use Rattle.kc_cells.specs.Mvar.{MvarStandsFor}
 use Rattle.kc_cells.specs.Promise.{PromiseStandsFor}
-use Rattle.kc_cells.specs.Accumulator.{acc_opening, AccStandsFor}
-use Rattle.kc_hash.specs.Content.{hash_opening, StandsFor as HashStands}
+use Rattle.kc_cells.specs.Accumulator.{acc_opening, cells_sum, AccStandsFor}
+use Rattle.kc_hash.specs.Content.{hash_opening, shown as table_shown, StandsFor as HashStands}
 use Rattle.kc_cache.specs.Meaning.{cache_opening}
-use Rattle.kc_cache.specs.Content.{StandsFor as CacheStands}
+use Rattle.kc_cache.specs.Content.{shown as cache_shown, StandsFor as CacheStands}
 
 -- ---- the opening
 
@@ -85,6 +89,33 @@ opening_content (object.Cache x) = pairs []
 abbrev pub opening_contents : Names → List Content
 opening_contents names = map (λ entry. opening_content entry.1) names
 
+-- ---- what the cells show, whatever they hold
+
+-- an item of a stack, counted from the top; a number of items above the capacity counts as the capacity
+abbrev pub from_top : Stack → (ℕ → ℕ) → ℕ → ℕ
+from_top s m i = m (s.base.0 + stack_counted s (m s.base.0) - i)
+
+abbrev pub stack_shown : Stack → (ℕ → ℕ) → List ℕ
+stack_shown s m = values_from (from_top s m) 0 (stack_counted s (m s.base.0))
+
+-- an item of a queue, counted from the front; a head not below the capacity counts as 0
+abbrev pub from_front : Queue → (ℕ → ℕ) → ℕ → ℕ
+from_front q m i = m (ring_cell q (back_of q (head_in q (m (head_cell q))) i))
+
+abbrev pub queue_shown : Queue → (ℕ → ℕ) → List ℕ
+queue_shown q m = values_from (from_front q m) 0 (queue_counted q (m (count_cell q)))
+
+-- where the cells stand for a content, they show it
+abbrev pub shown : Object → (ℕ → ℕ) → Content
+shown (object.Loc at value) m = number (m at.0)
+shown (object.Stack s) m = items (stack_shown s m)
+shown (object.Queue q) m = items (queue_shown q m)
+shown (object.Mvar x) m = place (held x.base.0 m)
+shown (object.Promise p) m = place (held p.base.0 m)
+shown (object.Acc a) m = number (wrapped (cells_sum m a.base.0 a.cells))
+shown (object.Hash h) m = pairs (table_shown h m)
+shown (object.Cache c) m = pairs (cache_shown c m)
+
 -- ---- the lines
 
 abbrev pub number_text : ℕ → List ℕ
@@ -108,3 +139,7 @@ abbrev pub state_lines : Names → List Content → List ℕ
 state_lines (entry ∷ names) (c ∷ cs) = state_line entry.0 c ++ state_lines names cs
 state_lines [] cs = []
 state_lines (entry ∷ names) [] = []
+
+-- the lines that show a store, whatever its cells hold
+abbrev pub state_text : Names → (ℕ → ℕ) → List ℕ
+state_text names m = flat_map (λ entry. state_line entry.0 (shown entry.1 m)) names

@@ -1,18 +1,17 @@
 //! The text of what one object holds. Each part begins with a space.
 
-ghost use Rattle.std.specs.Prelude.{◌≡◌, ◌≤◌, ◌<◌, ℕ, List, length, reverse};
+ghost use Rattle.std.specs.Prelude.{◌≤◌, ◌<◌, length};
 ghost use Rattle.std.specs.List.{flat_map};
 ghost use Rattle.kc_model.specs.Store.{store_of};
 ghost use Rattle.kc_model.specs.Pen.{Puts};
 ghost use Rattle.kc_xt.specs.Meaning.{values};
 ghost use Rattle.kc_stack.specs.Meaning.{cells_end as stack_cells_end};
-ghost use Rattle.kc_stack.specs.Content.{StandsFor as StackStands};
-ghost use Rattle.kc_queue.specs.Meaning.{cells_end as queue_cells_end, StandsFor as QueueStands};
+ghost use Rattle.kc_queue.specs.Meaning.{cells_end as queue_cells_end};
 ghost use Rattle.kc_hash.specs.Meaning.{cells_end as hash_cells_end};
-ghost use Rattle.kc_hash.specs.Content.{StandsFor as HashStands};
+ghost use Rattle.kc_hash.specs.Content.{shown as table_shown};
 ghost use Rattle.kc_cache.specs.Meaning.{cells_end as cache_cells_end};
-ghost use Rattle.kc_cache.specs.Content.{StandsFor as CacheStands};
-ghost use Rattle.kc_bundle.specs.State.{place, number_text, pair_text, content_text};
+ghost use Rattle.kc_cache.specs.Content.{shown as cache_shown};
+ghost use Rattle.kc_bundle.specs.State.{place, stack_shown, queue_shown, number_text, pair_text, content_text};
 
 use kc_cache::Cache;
 use kc_hash::Hash;
@@ -59,8 +58,7 @@ pub(crate) fn put_place<K: Sink>(pen: &mut Pen<K>, held: Option<u32>)
 pub(crate) fn put_stack<K: Sink>(pen: &mut Pen<K>, store: &PlainStore, stack: Stack)
     requires within { stack_cells_end stack ≤ length store.now }
     requires fits { stack_cells_end stack ≤ 65536 }
-    ensures same_sink { pen.new.sink.ghost_name ≡ pen.old.sink.ghost_name }
-    ensures shows { (xs : List ℕ) → StackStands stack (values (store_of store.now)) xs → Puts K.written K.faults K.write_gives pen.old pen.new (flat_map number_text (reverse xs)) }
+    ensures { Puts K.written K.faults K.write_gives pen.old pen.new (flat_map number_text (stack_shown stack (values (store_of store.now)))) }
 {
     for i in 0..stack.count(store) {
         put_number(pen, stack.item(store, i));
@@ -71,35 +69,28 @@ pub(crate) fn put_stack<K: Sink>(pen: &mut Pen<K>, store: &PlainStore, stack: St
 pub(crate) fn put_queue<K: Sink>(pen: &mut Pen<K>, store: &PlainStore, queue: Queue)
     requires within { queue_cells_end queue ≤ length store.now }
     requires fits { queue_cells_end queue ≤ 65536 }
-    ensures same_sink { pen.new.sink.ghost_name ≡ pen.old.sink.ghost_name }
-    ensures shows { (xs : List ℕ) → QueueStands queue (values (store_of store.now)) xs → Puts K.written K.faults K.write_gives pen.old pen.new (flat_map number_text xs) }
+    ensures { Puts K.written K.faults K.write_gives pen.old pen.new (flat_map number_text (queue_shown queue (values (store_of store.now)))) }
 {
     for i in 0..queue.count(store) {
         put_number(pen, queue.item(store, i));
     }
 }
 
-/// The pairs, in rising order of key. A table has at most as many as its capacity.
+/// The pairs, in rising order of key.
 pub(crate) fn put_table<K: Sink>(pen: &mut Pen<K>, store: &PlainStore, hash: Hash)
     requires { hash_cells_end hash ≤ 65536 }
-    ensures same_sink { pen.new.sink.ghost_name ≡ pen.old.sink.ghost_name }
-    ensures shows { (ps : List (ℕ × ℕ)) → HashStands hash (values (store_of store.now)) ps → Puts K.written K.faults K.write_gives pen.old pen.new (flat_map pair_text ps) }
+    ensures { Puts K.written K.faults K.write_gives pen.old pen.new (flat_map pair_text (table_shown hash (values (store_of store.now)))) }
 {
-    let mut last = None;
-    for _step in 0..hash.cap {
-        let Some((key, value)) = hash.pair_above(store, last) else {
-            return;
-        };
+    let mut pairs = hash.pairs(store);
+    while let Some((key, value)) = pairs.next() {
         put_pair(pen, key, value);
-        last = Some(key);
     }
 }
 
 /// The pairs, from the most recently used one.
 pub(crate) fn put_cache<K: Sink>(pen: &mut Pen<K>, store: &PlainStore, cache: Cache)
     requires { cache_cells_end cache ≤ 65536 }
-    ensures same_sink { pen.new.sink.ghost_name ≡ pen.old.sink.ghost_name }
-    ensures shows { (ps : List (ℕ × ℕ)) → CacheStands cache (values (store_of store.now)) ps → Puts K.written K.faults K.write_gives pen.old pen.new (flat_map pair_text ps) }
+    ensures { Puts K.written K.faults K.write_gives pen.old pen.new (flat_map pair_text (cache_shown cache (values (store_of store.now)))) }
 {
     let mut pairs = cache.pairs(store);
     while let Some((key, value)) = pairs.next() {

@@ -7,7 +7,7 @@ ghost use Rattle.kc_bundle.specs.declared.operation.Command.{Command};
 ghost use Rattle.kc_bundle.specs.Script.{Names, Script, LieFrom, AreSized, next_from};
 ghost use Rattle.kc_bundle.specs.On.{CommandIsOn};
 ghost use Rattle.kc_bundle.specs.Meaning.{command_meaning, command_end, CommandIsFit};
-ghost use Rattle.kc_bundle.specs.State.{Content, AllStand, AreWellFormed, opening_values, opening_contents};
+ghost use Rattle.kc_bundle.specs.State.{Content, AllStand, AreWellFormed, opening_values, opening_contents, state_lines, state_text};
 
 /// A command on objects that lie in order may be run where their cells are.
 pub fn fits()
@@ -33,4 +33,9 @@ pub fn opens_well_formed()
 /// Cells stand for one content at most.
 pub fn contents_are_one()
     ensures { (names : Names) (m : ℕ → ℕ) (contents others : List Content) → AllStand names m contents → AllStand names m others → contents ≡ others }
+{}
+
+/// Cells that stand for contents show them, so that the lines of a state are those of its contents.
+pub fn shows_its_contents()
+    ensures { (names : Names) (m : ℕ → ℕ) (contents : List Content) → AllStand names m contents → state_text names m ≡ state_lines names contents }
 {}

@@ -1,11 +1,12 @@
-//! The lines that show what a bundle's objects hold. Cells that stand for nothing are shown too, as what their numbers count as.
+//! The lines that show what a bundle's objects hold. Cells that stand for nothing are shown too, as what their numbers
+//! count as.
 
-ghost use Rattle.std.specs.Prelude.{◌≡◌, ◌≤◌, ◌+◌, ℕ, List, length};
+ghost use Rattle.std.specs.Prelude.{◌≤◌, ◌+◌, length};
 ghost use Rattle.kc_model.specs.Store.{store_of};
 ghost use Rattle.kc_model.specs.Pen.{Puts, Prints};
 ghost use Rattle.kc_xt.specs.Meaning.{values};
 ghost use Rattle.kc_bundle.specs.Script.{names_of, base, cells, CellsWithin};
-ghost use Rattle.kc_bundle.specs.State.{Content, Stands, AllStand, content_text, state_line, state_lines};
+ghost use Rattle.kc_bundle.specs.State.{shown, content_text, state_line, state_text};
 
 use crate::bundle::Bundle;
 use crate::content;
@@ -15,8 +16,7 @@ use kc_model::{Failed, Pen, PlainStore, Sink};
 fn put_content<K: Sink>(pen: &mut Pen<K>, store: &PlainStore, object: Object)
     requires within { base object + cells object ≤ length store.now }
     requires fits { base object + cells object ≤ 65536 }
-    ensures same_sink { pen.new.sink.ghost_name ≡ pen.old.sink.ghost_name }
-    ensures shows { (c : Content) → Stands object (values (store_of store.now)) c → Puts K.written K.faults K.write_gives pen.old pen.new (content_text c) }
+    ensures { Puts K.written K.faults K.write_gives pen.old pen.new (content_text (shown object (values (store_of store.now)))) }
 {
     match object {
         Object::Loc { at, .. } => content::put_location(pen, store, at),
@@ -33,8 +33,7 @@ fn put_content<K: Sink>(pen: &mut Pen<K>, store: &PlainStore, object: Object)
 fn put_line<K: Sink>(pen: &mut Pen<K>, store: &PlainStore, name: &str, object: Object)
     requires within { base object + cells object ≤ length store.now }
     requires fits { base object + cells object ≤ 65536 }
-    ensures same_sink { pen.new.sink.ghost_name ≡ pen.old.sink.ghost_name }
-    ensures shows { (c : Content) → Stands object (values (store_of store.now)) c → Puts K.written K.faults K.write_gives pen.old pen.new (state_line name.now c) }
+    ensures { Puts K.written K.faults K.write_gives pen.old pen.new (state_line name.now (shown object (values (store_of store.now)))) }
 {
     pen.put(name.as_bytes());
     put_content(pen, store, object);
@@ -44,8 +43,7 @@ fn put_line<K: Sink>(pen: &mut Pen<K>, store: &PlainStore, name: &str, object: O
 /// Puts a line for each object, with what it holds in the store.
 pub fn put_state<K: Sink>(pen: &mut Pen<K>, bundle: &Bundle, store: &PlainStore)
     requires { CellsWithin (length store.now) (names_of bundle.now.objects) }
-    ensures same_sink { pen.new.sink.ghost_name ≡ pen.old.sink.ghost_name }
-    ensures shows { (contents : List Content) → AllStand (names_of bundle.now.objects) (values (store_of store.now)) contents → Puts K.written K.faults K.write_gives pen.old pen.new (state_lines (names_of bundle.now.objects) contents) }
+    ensures { Puts K.written K.faults K.write_gives pen.old pen.new (state_text (names_of bundle.now.objects) (values (store_of store.now))) }
 {
     prove!(store.len() <= 65536);
     for i in 0..bundle.objects.len() {
@@ -59,7 +57,7 @@ pub fn put_state<K: Sink>(pen: &mut Pen<K>, bundle: &Bundle, store: &PlainStore)
 /// Writes a line for each object, with what it holds in the store. After a failed write no further one is made.
 pub fn write_state<K: Sink>(bundle: &Bundle, store: &PlainStore, sink: &mut K) -> Result<(), Failed>
     requires { CellsWithin (length store.now) (names_of bundle.now.objects) }
-    ensures { (contents : List Content) → AllStand (names_of bundle.now.objects) (values (store_of store.now)) contents → Prints K.written K.faults K.write_gives sink.old sink.new result (state_lines (names_of bundle.now.objects) contents) }
+    ensures { Prints K.written K.faults K.write_gives sink.old sink.new result (state_text (names_of bundle.now.objects) (values (store_of store.now))) }
 {
     let mut pen = Pen::new(sink);
     put_state(&mut pen, bundle, store);

@@ -2,61 +2,63 @@
 use Rattle.std.proofs.Common.{◌≡◌, ℕ, ◌+◌, ◌-◌, ◌*◌, ◌<◌, ◌≤◌, ◌==◌, true, false, List, [], refl, sym, ap, ◌∙◌, arith}
 use Rattle.std.specs.Prelude.{nat_lt}
 use Rattle.std.proofs.lemmas.Bool.{ne_eqb, lt-ltb, le-ltb}
+use Rattle.kc_xt.specs.Structure.{DependsOnItsCells, Opened}
 use Rattle.kc_hash.specs.Meaning.{hash_cells}
 use Rattle.kc_hash.specs.Content.{hash_opening}
 use Rattle.kc_hash.proofs.Kept.{same_cells}
 use Rattle.kc_hash.proofs.Opened.{hash_opens}
 use Rattle.kc_dllist.specs.Meaning.{dllist_cells, dllist_opening}
-use Rattle.kc_dllist.specs.Content.{Content, numbers, opening_content}
+use Rattle.kc_dllist.specs.Content.{Listed, numbers, opening_content}
 use Rattle.kc_dllist.proofs.Standing.{listed_node}
-use Rattle.kc_dllist.proofs.Values.{content_one, dllist_same, opened_empty}
+use Rattle.kc_dllist.proofs.Values.{dllist_same, opened_empty}
+use Rattle.kc_dllist.proofs.Walks.{walk_listed}
 use Rattle.kc_cache.specs.declared.cache.Cache.{Cache}
-use Rattle.kc_cache.specs.Meaning.{table_of, order_of, space_cell, value_cell, cells_end}
-use Rattle.kc_cache.specs.Content.{StandsFor, IsOpened, index_of, pairs_of}
+use Rattle.kc_cache.specs.Meaning.{table_of, order_of, space_cell, value_cell, cells_end, cache_cells, cache_opening}
+use Rattle.kc_cache.specs.Content.{StandsFor, index_of, pairs_of, shown}
 use Rattle.kc_cache.proofs.States.{pairs_same}
 
-pub cache_same : (c : Cache) (m w : ℕ → ℕ) (pairs : List (ℕ × ℕ)) → ((l : ℕ) → c.base.0 ≤ l → l < cells_end c → w l ≡ m l) → StandsFor c m pairs → StandsFor c w pairs
+pub cache_same : (c : Cache) → DependsOnItsCells (StandsFor c) c.base.0 (cells_end c)
 cache_same c m w pairs f s = record {
   some = s.some;
   order = s.order;
   ordered = dllist_same (order_of c) m w s.order (λ l lo hi. f l (omega (arith, lo)) (omega (arith, hi))) s.ordered;
   differ = s.differ;
-  indexed = same_cells (table_of c) m (index_of s.order.listed) s.indexed w (λ l lo hi. sym (f l (omega (arith, lo)) (omega (arith, hi))));
-  space = f (space_cell c) (omega arith) (omega arith) ∙ s.space;
-  holds = s.holds ∙ pairs_same (λ i. m (value_cell c i)) (λ i. w (value_cell c i)) s.order.listed (λ i h. let n = listed_node (order_of c) (numbers s.order.listed) s.order.free s.ordered.each i h in sym (f (value_cell c i) (omega arith) (omega (arith, n))));
+  indexed = same_cells (table_of c) m (index_of s.order.listed) s.indexed w (λ l lo hi. f l (omega (arith, lo)) (omega (arith, hi)));
+  space = sym (f (space_cell c) (omega arith) (omega arith)) ∙ s.space;
+  holds = s.holds ∙ pairs_same (λ i. m (value_cell c i)) (λ i. w (value_cell c i)) s.order.listed (λ i h. let n = listed_node (order_of c) (numbers s.order.listed) s.order.free s.ordered.each i h in f (value_cell c i) (omega arith) (omega (arith, n)));
 }
 
-pub content_one_pairs : (c : Cache) (m : ℕ → ℕ) (a b : List (ℕ × ℕ)) → StandsFor c m a → StandsFor c m b → a ≡ b
-content_one_pairs c m a b s r = s.holds ∙ ap (λ (o : Content). pairs_of c m o.listed) (content_one (order_of c) m s.order r.order s.ordered r.ordered) ∙ sym r.holds
+pub cache_shows : (c : Cache) (m : ℕ → ℕ) (pairs : List (ℕ × ℕ)) → StandsFor c m pairs → shown c m ≡ pairs
+cache_shows c m pairs s = ap (λ (xs : List Listed). pairs_of c m xs) (walk_listed (order_of c) m s.order s.ordered) ∙ sym s.holds
 
-module _ (c : Cache) (m : ℕ → ℕ) (o : IsOpened c m) where
+module _ (c : Cache) (m : ℕ → ℕ) (buckets : 1 ≤ c.buckets) (some : 1 ≤ c.cap) (opened : Opened c.base.0 (cache_cells c) (cache_opening c) m) where
   opens_table : (i : ℕ) → i < hash_cells (table_of c) → m ((table_of c).base.0 + i) ≡ hash_opening (table_of c) i
   opens_table i h =
       let at : c.base.0 + (1 + i) ≡ c.base.0 + 1 + i = omega arith in
-      let some : (1 + i == 0) ≡ false = ne_eqb (1 + i) 0 (λ e. omega (arith, e)) in
+      let later : (1 + i == 0) ≡ false = ne_eqb (1 + i) 0 (λ e. omega (arith, e)) in
       let low : nat_lt (1 + i) (3 + c.buckets + 3 * c.cap) ≡ true = lt-ltb (1 + i) (3 + c.buckets + 3 * c.cap) (omega (arith, h)) in
       let back : 1 + i - 1 ≡ i = omega arith in
-      ap m (sym at) ∙ o.opens (1 + i) (omega (arith, h)) ∙ rw (some, low) (ap (hash_opening (table_of c)) back)
+      ap m (sym at) ∙ opened (1 + i) (omega (arith, h)) ∙ rw (later, low) (ap (hash_opening (table_of c)) back)
 
   opens_order : (i : ℕ) → i < dllist_cells (order_of c) → m ((order_of c).base.0 + i) ≡ dllist_opening (order_of c) i
   opens_order i h =
       let at : c.base.0 + (3 + c.buckets + 3 * c.cap + i) ≡ c.base.0 + 3 + c.buckets + 3 * c.cap + i = omega arith in
-      let some : (3 + c.buckets + 3 * c.cap + i == 0) ≡ false = ne_eqb (3 + c.buckets + 3 * c.cap + i) 0 (λ e. omega (arith, e)) in
+      let later : (3 + c.buckets + 3 * c.cap + i == 0) ≡ false = ne_eqb (3 + c.buckets + 3 * c.cap + i) 0 (λ e. omega (arith, e)) in
       let past : nat_lt (3 + c.buckets + 3 * c.cap + i) (3 + c.buckets + 3 * c.cap) ≡ false = le-ltb (3 + c.buckets + 3 * c.cap + i) (3 + c.buckets + 3 * c.cap) (omega arith) in
       let low : nat_lt (3 + c.buckets + 3 * c.cap + i) (6 + c.buckets + 6 * c.cap) ≡ true = lt-ltb (3 + c.buckets + 3 * c.cap + i) (6 + c.buckets + 6 * c.cap) (omega (arith, h)) in
       let back : 3 + c.buckets + 3 * c.cap + i - (3 + c.buckets + 3 * c.cap) ≡ i = omega arith in
-      ap m (sym at) ∙ o.opens (3 + c.buckets + 3 * c.cap + i) (omega (arith, h)) ∙ rw (some, past, low) (ap (dllist_opening (order_of c)) back)
+      ap m (sym at) ∙ opened (3 + c.buckets + 3 * c.cap + i) (omega (arith, h)) ∙ rw (later, past, low) (ap (dllist_opening (order_of c)) back)
 
   pub cache_opens : StandsFor c m []
   cache_opens =
       let at : c.base.0 + 0 ≡ c.base.0 = omega arith in
       let all : c.cap ≡ c.cap - 0 = omega arith in
       record {
-        some = o.some;
+        some = some;
         order = opening_content (order_of c);
         ordered = opened_empty (order_of c) m opens_order;
         differ = λ key. omega arith;
-        indexed = hash_opens (table_of c) m opens_table o.buckets o.some;
-        space = sym (ap m at) ∙ o.opens 0 (omega arith) ∙ all;
+        indexed = hash_opens (table_of c) m opens_table buckets some;
+        space = sym (ap m at) ∙ opened 0 (omega arith) ∙ all;
         holds = refl;
       }

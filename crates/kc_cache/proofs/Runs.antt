@@ -1,18 +1,21 @@
 -- The plain run of each operation on cells that stand for pairs, whatever comes behind it.
-use Rattle.std.proofs.Common.{◌≡◌, ◌≢◌, ℕ, suc, ◌+◌, ◌<◌, ◌≤◌, ◌==◌, Bool, true, false, cond, List, [], ◌∷◌, length, Some, None, refl, sym, ap, ap₂, ◌∙◌, subst, arith}
-use Rattle.std.proofs.lemmas.Bool.{ne_eqb, eqb-true}
+use Rattle.std.proofs.Common.{◌≡◌, ◌≢◌, ℕ, suc, ◌+◌, ◌<◌, ◌≤◌, ◌==◌, Bool, true, false, cond, List, [], ◌∷◌, length, Some, None, refl, sym, ap, ap₂, ◌∙◌, subst, arith, inl, inr}
+use Rattle.std.proofs.lemmas.Bool.{ne_eqb, cases_eq}
+use Rattle.kc_xt.specs.Times.{times}
+use Rattle.kc_xt.proofs.Times.{times-here, times-there, times-append, has_here, apart}
 use Rattle.kc_model.specs.declared.reply.Reply.{Reply}
 use Rattle.kc_model.specs.declared.reply.Reply.TheVariants as reply
-use Rattle.kc_xt.specs.Meaning.{put}
+use Rattle.kc_xt.specs.Meaning.{Outcome, replied, put}
 use Rattle.kc_xt.specs.Program.{Program, plain}
+use Rattle.kc_xt.specs.Structure.{Value}
 use Rattle.kc_hash.specs.declared.operation.HashAct.TheVariants as table
 use Rattle.kc_hash.specs.Meaning.{hash_program}
-use Rattle.kc_hash.specs.Content.{HashValue, after, without_key, found_reply, put_value}
-use Rattle.kc_hash.proofs.Pairs.{without-none}
+use Rattle.kc_hash.specs.Content.{after, without_key, found_reply, put_value}
+use Rattle.kc_hash.proofs.FiniteMaps.{without-none}
 use Rattle.kc_dllist.specs.declared.operation.DllistAct.TheVariants as list
 use Rattle.kc_dllist.specs.Meaning.{dllist_program, IsNode}
-use Rattle.kc_dllist.specs.Content.{Listed, Content, numbers, times, payload_of, without}
-use Rattle.kc_dllist.proofs.Times.{times-append, times-here, times-less, among_here, apart, less}
+use Rattle.kc_dllist.specs.Content.{Listed, Content, numbers, payload_of, without}
+use Rattle.kc_dllist.proofs.Times.{times-less, less}
 use Rattle.kc_dllist.proofs.Rings.{put_here, put_else}
 use Rattle.kc_dllist.proofs.Cells.{node_as_is}
 use Rattle.kc_dllist.proofs.Standing.{listed_node, free_node, listed_once, not_listed, numbers-without}
@@ -23,7 +26,7 @@ use Rattle.kc_cache.proofs.Index.{pairs_by, Differ, index_none, index_length, En
 use Rattle.kc_cache.proofs.States.{State, Step, on_table, on_list, on_space, on_value, pairs_same}
 
 -- one part behind another
-then_step : (c : Cache) (f : (Reply → Program) → Program) (g : Reply → (Reply → Program) → Program) (m : ℕ → ℕ) (a b : Reply) (l r : Content) (t u : List (ℕ × ℕ)) (s n : ℕ) (v w : ℕ → ℕ) (h : Step c f m a l t s v) → Step c (g a) h.left b r u n w → Step c (λ k. f (λ a. g a k)) m b r u n w
+then_step : (c : Cache) (f : (Reply → Program) → Program) (g : Reply → (Reply → Program) → Program) (m : ℕ → ℕ) (a b : Reply) (l r : Content) (t u : List (ℕ × ℕ)) (s n : ℕ) (v w : ℕ → ℕ) (h : Step c f m (replied a) l t s v) → Step c (g a) h.left (replied b) r u n w → Step c (λ k. f (λ a. g a k)) m (replied b) r u n w
 then_step c f g m a b l r t u s n v w h i = record { left = i.left; runs = λ k. h.runs (λ a. g a k) ∙ i.runs k; state = i.state }
 
 -- a node that is none ends so; one goes on
@@ -70,22 +73,22 @@ module _ (c : Cache) (m : ℕ → ℕ) (l : Content) (s : ℕ) (v : ℕ → ℕ)
     gone_out =
         let o = listed_once (order_of c) (numbers xs) l.free S.list.each i in
         let t = times-less i i (numbers xs) e.listed in
-        let h = times-here i (less i (numbers xs)) in
+        let h = times-here i i (less i (numbers xs)) refl in
         let n = ap (times i) (numbers-without i xs) in
         omega (arith, o, t, h, n)
 
     -- the list's move, in any such state
-    move_step : (m : ℕ → ℕ) → State c m l (index_of xs) s v → Step c (dllist_program (order_of c) (list.MoveFront i)) m reply.Unit front (index_of xs) s v
+    move_step : (m : ℕ → ℕ) → State c m l (index_of xs) s v → Step c (dllist_program (order_of c) (list.MoveFront i)) m (replied reply.Unit) front (index_of xs) s v
     move_step m T =
-        let P : ℕ → Type 0 = λ p. Step c (dllist_program (order_of c) (list.MoveFront i)) m reply.Unit (record { listed = (let x : Listed = record { node = i; payload = p } in x) ∷ without i xs; free = l.free }) (index_of xs) s v in
+        let P : ℕ → Type 0 = λ p. Step c (dllist_program (order_of c) (list.MoveFront i)) m (replied reply.Unit) (record { listed = (let x : Listed = record { node = i; payload = p } in x) ∷ without i xs; free = l.free }) (index_of xs) s v in
         subst P e.payload (on_list c m l (index_of xs) s v T (list.MoveFront i) e.listed)
 
-    find_step : Step c (hash_program (table_of c) (table.Find key)) m (reply.Value i) l (index_of xs) s v
-    find_step = subst (λ a. Step c (hash_program (table_of c) (table.Find key)) m a l (index_of xs) s v) (ap found_reply e.indexed) (on_table c m l (index_of xs) s v S (table.Find key))
+    find_step : Step c (hash_program (table_of c) (table.Find key)) m (replied (reply.Value i)) l (index_of xs) s v
+    find_step = subst (λ a. Step c (hash_program (table_of c) (table.Find key)) m a l (index_of xs) s v) (ap (λ o. replied (found_reply o)) e.indexed) (on_table c m l (index_of xs) s v S (table.Find key))
 
     -- ---- CGet
 
-    got_step : (m : ℕ → ℕ) → State c m l (index_of xs) s v → Step c (got_program c (reply.Value i)) m (reply.Value (v i)) front (index_of xs) s v
+    got_step : (m : ℕ → ℕ) → State c m l (index_of xs) s v → Step c (got_program c (reply.Value i)) m (replied (reply.Value (v i))) front (index_of xs) s v
     got_step m T =
         let h = move_step m T in
         record {
@@ -98,12 +101,12 @@ module _ (c : Cache) (m : ℕ → ℕ) (l : Content) (s : ℕ) (v : ℕ → ℕ)
           state = h.state;
         }
 
-    pub get_there : Step c (get_program c key) m (reply.Value (v i)) front (index_of xs) s v
+    pub get_there : Step c (get_program c key) m (replied (reply.Value (v i))) front (index_of xs) s v
     get_there = then_step c _ (got_program c) m _ _ l front _ _ s s v v find_step (got_step find_step.left find_step.state)
 
     -- ---- CPut
 
-    renew_step : (value : ℕ) (m : ℕ → ℕ) → State c m l (index_of xs) s v → Step c (renew_program c i value) m reply.Unit front (index_of xs) s (put v i value)
+    renew_step : (value : ℕ) (m : ℕ → ℕ) → State c m l (index_of xs) s v → Step c (renew_program c i value) m (replied reply.Unit) front (index_of xs) s (put v i value)
     renew_step value m T =
         let h = move_step m T in
         record {
@@ -112,7 +115,7 @@ module _ (c : Cache) (m : ℕ → ℕ) (l : Content) (s : ℕ) (v : ℕ → ℕ)
           state = on_value c h.left front (index_of xs) s v h.state i value entry_node;
         }
 
-    pub put_there : (waits : Bool) (value : ℕ) → Step c (put_program c waits key value) m reply.Unit front (index_of xs) s (put v i value)
+    pub put_there : (waits : Bool) (value : ℕ) → Step c (put_program c waits key value) m (replied reply.Unit) front (index_of xs) s (put v i value)
     put_there waits value =
         let r = renew_step value find_step.left find_step.state in
         then_step c _ (placed_program c waits key value) m _ _ l front _ _ s s v (put v i value) find_step (record {
@@ -127,20 +130,20 @@ module _ (c : Cache) (m : ℕ → ℕ) (l : Content) (s : ℕ) (v : ℕ → ℕ)
 
     -- ---- CDel, and the part of it that CPut has too
 
-    pub del_step : Step c (hash_program (table_of c) (table.Del key)) m (reply.Value i) l (index_of (without i xs)) s v
+    pub del_step : Step c (hash_program (table_of c) (table.Del key)) m (replied (reply.Value i)) l (index_of (without i xs)) s v
     del_step =
-        let P : Reply → List (ℕ × ℕ) → Type 0 = λ a t. Step c (hash_program (table_of c) (table.Del key)) m a l t s v in
-        subst (λ t. P (reply.Value i) t) (entry_out v xs key e differ) (subst (λ a. P a (without_key (index_of xs) key)) (ap found_reply e.indexed) (on_table c m l (index_of xs) s v S (table.Del key)))
+        let P : Outcome → List (ℕ × ℕ) → Type 0 = λ a t. Step c (hash_program (table_of c) (table.Del key)) m a l t s v in
+        subst (λ t. P (replied (reply.Value i)) t) (entry_out v xs key e differ) (subst (λ a. P a (without_key (index_of xs) key)) (ap (λ o. replied (found_reply o)) e.indexed) (on_table c m l (index_of xs) s v S (table.Del key)))
 
     -- the list's node, taken out
-    pub remove_step : (m : ℕ → ℕ) (t : List (ℕ × ℕ)) → State c m l t s v → Step c (dllist_program (order_of c) (list.Remove i)) m (reply.Value (payload_of i xs)) rest t s v
+    pub remove_step : (m : ℕ → ℕ) (t : List (ℕ × ℕ)) → State c m l t s v → Step c (dllist_program (order_of c) (list.Remove i)) m (replied (reply.Value (payload_of i xs))) rest t s v
     remove_step m t T = on_list c m l t s v T (list.Remove i) e.listed
 
     -- the node is named by its number
     named_runs : (m : ℕ → ℕ) (none : Program) (f : ℕ → Program) → plain (with_node (node_named c (Some i)) none f) m ≡ plain (f i) m
     named_runs m none f = with_some (node_named c (Some i)) none f m (λ z. entry_some (sym entry_named ∙ z)) ∙ ap (λ j. plain (f j) m) entry_named
 
-    freed_step : s ≤ c.cap → (m : ℕ → ℕ) (t : List (ℕ × ℕ)) → State c m rest t s v → Step c (freed_program c i) m (reply.Value (v i)) rest t (s + 1) v
+    freed_step : s ≤ c.cap → (m : ℕ → ℕ) (t : List (ℕ × ℕ)) → State c m rest t s v → Step c (freed_program c i) m (replied (reply.Value (v i))) rest t (s + 1) v
     freed_step h m t T =
         let n : counted c (m (space_cell c)) + 1 ≡ s + 1 = let q = T.space in omega (arith, q, h) in
         let w = on_space c m rest t s v T (s + 1) in
@@ -150,7 +153,7 @@ module _ (c : Cache) (m : ℕ → ℕ) (l : Content) (s : ℕ) (v : ℕ → ℕ)
           state = w;
         }
 
-    taken_step : s ≤ c.cap → (m : ℕ → ℕ) (t : List (ℕ × ℕ)) → State c m l t s v → Step c (taken_program c (reply.Value i)) m (reply.Value (v i)) rest t (s + 1) v
+    taken_step : s ≤ c.cap → (m : ℕ → ℕ) (t : List (ℕ × ℕ)) → State c m l t s v → Step c (taken_program c (reply.Value i)) m (replied (reply.Value (v i))) rest t (s + 1) v
     taken_step h m t T =
         let r = remove_step m t T in
         let f = freed_step h r.left t r.state in
@@ -160,7 +163,7 @@ module _ (c : Cache) (m : ℕ → ℕ) (l : Content) (s : ℕ) (v : ℕ → ℕ)
           state = f.state;
         }
 
-    pub del_there : s ≤ c.cap → Step c (del_program c key) m (reply.Value (v i)) rest (index_of (without i xs)) (s + 1) v
+    pub del_there : s ≤ c.cap → Step c (del_program c key) m (replied (reply.Value (v i))) rest (index_of (without i xs)) (s + 1) v
     del_there h = then_step c _ (taken_program c) m _ _ l rest _ _ s (s + 1) v v del_step (taken_step h del_step.left (index_of (without i xs)) del_step.state)
 
     -- the pair is dropped, and what comes behind goes on in the state without it
@@ -176,17 +179,17 @@ module _ (c : Cache) (m : ℕ → ℕ) (l : Content) (s : ℕ) (v : ℕ → ℕ)
   -- ---- a key that is not there
 
   module _ (key : ℕ) (S : State c m l (index_of xs) s v) (none : times key (keys xs) ≡ 0) where
-    pub miss_step : Step c (hash_program (table_of c) (table.Find key)) m reply.Empty l (index_of xs) s v
-    miss_step = subst (λ a. Step c (hash_program (table_of c) (table.Find key)) m a l (index_of xs) s v) (ap found_reply (index_none xs key none)) (on_table c m l (index_of xs) s v S (table.Find key))
+    pub miss_step : Step c (hash_program (table_of c) (table.Find key)) m (replied reply.Empty) l (index_of xs) s v
+    miss_step = subst (λ a. Step c (hash_program (table_of c) (table.Find key)) m a l (index_of xs) s v) (ap (λ o. replied (found_reply o)) (index_none xs key none)) (on_table c m l (index_of xs) s v S (table.Find key))
 
-    pub get_missing : Step c (get_program c key) m reply.Empty l (index_of xs) s v
+    pub get_missing : Step c (get_program c key) m (replied reply.Empty) l (index_of xs) s v
     get_missing = record { left = miss_step.left; runs = λ k. miss_step.runs (λ r. got_program c r k); state = miss_step.state }
 
-    pub del_missing : Step c (del_program c key) m reply.Empty l (index_of xs) s v
+    pub del_missing : Step c (del_program c key) m (replied reply.Empty) l (index_of xs) s v
     del_missing =
-        let P : Reply → List (ℕ × ℕ) → Type 0 = λ a t. Step c (hash_program (table_of c) (table.Del key)) m a l t s v in
+        let P : Outcome → List (ℕ × ℕ) → Type 0 = λ a t. Step c (hash_program (table_of c) (table.Del key)) m a l t s v in
         let absent = index_none xs key none in
-        let h : P reply.Empty (index_of xs) = subst (λ t. P reply.Empty t) (without-none (index_of xs) key absent) (subst (λ a. P a (without_key (index_of xs) key)) (ap found_reply absent) (on_table c m l (index_of xs) s v S (table.Del key))) in
+        let h : P (replied reply.Empty) (index_of xs) = subst (λ t. P (replied reply.Empty) t) (without-none (index_of xs) key absent) (subst (λ a. P a (without_key (index_of xs) key)) (ap (λ o. replied (found_reply o)) absent) (on_table c m l (index_of xs) s v S (table.Del key))) in
         record { left = h.left; runs = λ k. h.runs (λ r. taken_program c r k); state = h.state }
 
     -- what comes behind goes on in such a state
@@ -206,32 +209,31 @@ module _ (c : Cache) (m : ℕ → ℕ) (xs : List Listed) (f : ℕ) (fs : List �
   entered = record { listed = new; free = fs }
 
   new_node : IsNode (order_of c) f
-  new_node = free_node (order_of c) (numbers xs) (f ∷ fs) S.list.each f (among_here f fs)
+  new_node = free_node (order_of c) (numbers xs) (f ∷ fs) S.list.each f (has_here f fs)
 
   new_some : f ≢ 0
   new_some z = let n = new_node in omega (arith, n, z)
 
   new_out : times f (numbers xs) ≡ 0
-  new_out = not_listed (order_of c) (numbers xs) (f ∷ fs) S.list.each f (among_here f fs)
+  new_out = not_listed (order_of c) (numbers xs) (f ∷ fs) S.list.each f (has_here f fs)
 
   pub new_differ : Differ (keys new)
-  new_differ k = let a = times-append k (key ∷ []) (keys xs) in by_test k (k == key) refl
-    where
-      by_test : (k : ℕ) (t : Bool) → (k == key) ≡ t → cond t (suc (times k (keys xs))) (times k (keys xs)) ≤ 1
-      by_test k true e = let z = ap (λ j. times j (keys xs)) (eqb-true k key e) in omega (arith, z, none)
-      by_test k false e = differ k
+  new_differ k = elim (cases_eq key k) [
+    | inl e ↦ let z = ap (λ j. times j (keys xs)) e in let a = times-here key k (keys xs) e in omega (arith, a, z, none)
+    | inr ne ↦ let a = times-there key k (keys xs) ne in let b = differ k in omega (arith, a, b)
+  ]
 
-  push_step : Step c (dllist_program (order_of c) (list.PushFront key)) m (reply.Value f) entered (index_of xs) s v
+  push_step : Step c (dllist_program (order_of c) (list.PushFront key)) m (replied (reply.Value f)) entered (index_of xs) s v
   push_step = on_list c m _ (index_of xs) s v S (list.PushFront key) tt
 
-  table_step : (m : ℕ → ℕ) → State c m entered (index_of xs) s v → Step c (hash_program (table_of c) (table.Put key f)) m reply.Unit entered (index_of new) s v
+  table_step : (m : ℕ → ℕ) → State c m entered (index_of xs) s v → Step c (hash_program (table_of c) (table.Put key f)) m (replied reply.Unit) entered (index_of new) s v
   table_step m T =
-      let P : HashValue → Type 0 = λ w. Step c (hash_program (table_of c) (table.Put key f)) m w.reply entered w.pairs s v in
+      let P : Value (List (ℕ × ℕ)) → Type 0 = λ w. Step c (hash_program (table_of c) (table.Put key f)) m w.outcome entered w.content s v in
       let full : (length (index_of xs) == c.cap) ≡ false = ne_eqb (length (index_of xs)) c.cap (λ e. (let n = index_length xs differ in omega (arith, n, e, room))) in
       let unit : put_value (table_of c) key f (index_of xs) None ≡ after reply.Unit (index_of new) = rw full refl in
       subst P unit (subst (λ o. P (put_value (table_of c) key f (index_of xs) o)) (index_none xs key none) (on_table c m entered (index_of xs) s v T (table.Put key f)))
 
-  pub enter_step : (value : ℕ) → Step c (enter_program c key value) m reply.Unit entered (index_of new) s (put v f value)
+  pub enter_step : (value : ℕ) → Step c (enter_program c key value) m (replied reply.Unit) entered (index_of new) s (put v f value)
   enter_step value =
       let h = push_step in
       let t = table_step h.left h.state in

@@ -1,22 +1,23 @@
 -- What stands in a cache's cells between the steps of an operation, and what each step makes of it.
 use Rattle.std.proofs.Common.{◌≡◌, ℕ, ◌-◌, ◌<◌, ◌≤◌, ◌==◌, Bool, true, false, cond, List, [], ◌∷◌, length, refl, sym, ap, ap₂, ◌∙◌, subst, arith}
 use Rattle.std.proofs.lemmas.Bool.{eqb-true, eqb-false}
+use Rattle.kc_xt.specs.Times.{times}
+use Rattle.kc_xt.proofs.Times.{has_here, has_rest}
 use Rattle.kc_model.specs.declared.reply.Reply.{Reply}
-use Rattle.kc_xt.specs.Meaning.{put}
+use Rattle.kc_xt.specs.Meaning.{Outcome, put}
 use Rattle.kc_xt.specs.Program.{Program, plain}
+use Rattle.kc_xt.specs.Structure.{goes_on}
 use Rattle.kc_hash.specs.declared.operation.HashAct.{HashAct}
 use Rattle.kc_hash.specs.Meaning.{hash_program}
 use Rattle.kc_hash.specs.Content.{hash_value, StandsFor as TableStandsFor}
-use Rattle.kc_hash.proofs.Values.{hash_runs}
+use Rattle.kc_hash.proofs.Values.{hash_inside}
 use Rattle.kc_hash.proofs.Kept.{same_cells}
 use Rattle.kc_dllist.specs.declared.operation.DllistAct.{DllistAct}
 use Rattle.kc_dllist.specs.Meaning.{dllist_program, IsNode}
-use Rattle.kc_dllist.specs.Content.{Listed, Content, numbers, times, dllist_value, NamesListed, below, above, StandsFor as ListStandsFor}
-use Rattle.kc_dllist.proofs.Times.{among_here, among_more}
+use Rattle.kc_dllist.specs.Content.{Listed, Content, numbers, dllist_value, NamesListed, StandsFor as ListStandsFor}
 use Rattle.kc_dllist.proofs.Rings.{put_here, put_else}
 use Rattle.kc_dllist.proofs.Standing.{listed_node}
-use Rattle.kc_dllist.proofs.Runs.{performs}
-use Rattle.kc_dllist.proofs.Values.{dllist_same}
+use Rattle.kc_dllist.proofs.Values.{dllist_same, dllist_inside}
 use Rattle.kc_cache.specs.declared.cache.Cache.{Cache}
 use Rattle.kc_cache.specs.Meaning.{table_of, order_of, space_cell, value_cell}
 use Rattle.kc_cache.specs.Content.{keys, index_of, StandsFor}
@@ -30,43 +31,43 @@ pub record State (c : Cache) (m : ℕ → ℕ) (l : Content) (t : List (ℕ × �
   pub value : (i : ℕ) → IsNode (order_of c) i → m (value_cell c i) ≡ v i
 
 -- a part of a program replies so and leaves such a state, whatever comes behind
-pub record Step (c : Cache) (f : (Reply → Program) → Program) (m : ℕ → ℕ) (a : Reply) (l : Content) (t : List (ℕ × ℕ)) (s : ℕ) (v : ℕ → ℕ) : Type 0 where
+pub record Step (c : Cache) (f : (Reply → Program) → Program) (m : ℕ → ℕ) (o : Outcome) (l : Content) (t : List (ℕ × ℕ)) (s : ℕ) (v : ℕ → ℕ) : Type 0 where
   pub left : ℕ → ℕ
-  pub runs : (k : Reply → Program) → plain (f k) m ≡ plain (k a) left
+  pub runs : (k : Reply → Program) → plain (f k) m ≡ goes_on o k left
   pub state : State c left l t s v
 
 module _ (c : Cache) (m : ℕ → ℕ) (l : Content) (t : List (ℕ × ℕ)) (s : ℕ) (v : ℕ → ℕ) (S : State c m l t s v) where
-  pub on_table : (a : HashAct) → Step c (hash_program (table_of c) a) m (hash_value (table_of c) a t).reply l (hash_value (table_of c) a t).pairs s v
+  pub on_table : (a : HashAct) → Step c (hash_program (table_of c) a) m (hash_value (table_of c) a t).outcome l (hash_value (table_of c) a t).content s v
   on_table a =
-      let r = hash_runs (table_of c) m t S.table a in
+      let r = hash_inside (record { hash = table_of c; act = a }) t m S.table in
       record {
-        left = r.map;
+        left = r.left;
         runs = r.runs;
         state = record {
-          list = dllist_same (order_of c) m r.map l (λ q lo hi. r.outside q (λ p plo phi e. omega (arith, lo, phi, e))) S.list;
-          table = r.stands;
+          list = dllist_same (order_of c) m r.left l (λ q lo hi. sym (r.outside q (λ p plo phi e. omega (arith, lo, phi, e)))) S.list;
+          table = r.stand;
           space = r.outside (space_cell c) (λ p plo phi e. omega (arith, plo, e)) ∙ S.space;
           value = λ i h. r.outside (value_cell c i) (λ p plo phi e. omega (arith, phi, h, e)) ∙ S.value i h;
         };
       }
 
-  pub on_list : (a : DllistAct) → NamesListed a l → Step c (dllist_program (order_of c) a) m (dllist_value a l).reply (dllist_value a l).content t s v
+  pub on_list : (a : DllistAct) → NamesListed a l → Step c (dllist_program (order_of c) a) m (dllist_value a l).outcome (dllist_value a l).content t s v
   on_list a on =
-      let r = performs (order_of c) a m l S.list on in
+      let r = dllist_inside (record { list = order_of c; act = a }) l on m S.list in
       record {
         left = r.left;
         runs = r.runs;
         state = record {
-          list = r.stands;
-          table = same_cells (table_of c) m t S.table r.left (λ q lo hi. sym (r.kept q (below (omega (arith, hi)))));
-          space = r.kept (space_cell c) (below (omega arith)) ∙ S.space;
-          value = λ i h. r.kept (value_cell c i) (above (omega (arith, h))) ∙ S.value i h;
+          list = r.stand;
+          table = same_cells (table_of c) m t S.table r.left (λ q lo hi. sym (r.outside q (λ p plo phi e. omega (arith, hi, plo, e))));
+          space = r.outside (space_cell c) (λ p plo phi e. omega (arith, plo, e)) ∙ S.space;
+          value = λ i h. r.outside (value_cell c i) (λ p plo phi e. omega (arith, phi, h, e)) ∙ S.value i h;
         };
       }
 
   pub on_space : (n : ℕ) → State c (put m (space_cell c) n) l t n v
   on_space n = record {
-    list = dllist_same (order_of c) m (put m (space_cell c) n) l (λ q lo hi. put_else m (space_cell c) n q (λ e. omega (arith, lo, e))) S.list;
+    list = dllist_same (order_of c) m (put m (space_cell c) n) l (λ q lo hi. sym (put_else m (space_cell c) n q (λ e. omega (arith, lo, e)))) S.list;
     table = same_cells (table_of c) m t S.table (put m (space_cell c) n) (λ q lo hi. sym (put_else m (space_cell c) n q (λ e. omega (arith, lo, e))));
     space = put_here m (space_cell c) n (space_cell c) refl;
     value = λ i h. put_else m (space_cell c) n (value_cell c i) (λ e. omega (arith, e)) ∙ S.value i h;
@@ -74,7 +75,7 @@ module _ (c : Cache) (m : ℕ → ℕ) (l : Content) (t : List (ℕ × ℕ)) (s 
 
   pub on_value : (i n : ℕ) → IsNode (order_of c) i → State c (put m (value_cell c i) n) l t s (put v i n)
   on_value i n node = record {
-    list = dllist_same (order_of c) m (put m (value_cell c i) n) l (λ q lo hi. put_else m (value_cell c i) n q (λ e. omega (arith, hi, node, e))) S.list;
+    list = dllist_same (order_of c) m (put m (value_cell c i) n) l (λ q lo hi. sym (put_else m (value_cell c i) n q (λ e. omega (arith, hi, node, e)))) S.list;
     table = same_cells (table_of c) m t S.table (put m (value_cell c i) n) (λ q lo hi. sym (put_else m (value_cell c i) n q (λ e. omega (arith, hi, e))));
     space = put_else m (value_cell c i) n (space_cell c) (λ e. omega (arith, e)) ∙ S.space;
     value = λ j h. by_test j h (i == j) refl;
@@ -87,7 +88,7 @@ module _ (c : Cache) (m : ℕ → ℕ) (l : Content) (t : List (ℕ × ℕ)) (s 
 -- the pairs, by values that agree at the listed nodes
 pub pairs_same : (v w : ℕ → ℕ) (xs : List Listed) → ((i : ℕ) → 0 < times i (numbers xs) → v i ≡ w i) → pairs_by v xs ≡ pairs_by w xs
 pairs_same v w [] f = refl
-pairs_same v w (x ∷ xs) f = ap₂ (λ n ps. (x.payload, n) ∷ ps) (f x.node (among_here x.node (numbers xs))) (pairs_same v w xs (λ i h. f i (among_more i x.node (numbers xs) h)))
+pairs_same v w (x ∷ xs) f = ap₂ (λ n ps. (x.payload, n) ∷ ps) (f x.node (has_here x.node (numbers xs))) (pairs_same v w xs (λ i h. f i (has_rest x.node i (numbers xs) h)))
 
 -- a state whose table is that of the list stands for its pairs
 pub stands : (c : Cache) (m : ℕ → ℕ) (l : Content) (t : List (ℕ × ℕ)) (s : ℕ) (v : ℕ → ℕ) → 1 ≤ c.cap → State c m l t s v → Differ (keys l.listed) → t ≡ index_of l.listed → s ≡ c.cap - length l.listed → StandsFor c m (pairs_by v l.listed)

@@ -7,7 +7,8 @@ use Rattle.kc_dllist.specs.Meaning.{IsNode}
 use Rattle.kc_dllist.specs.Content.{Listed, first_listed}
 use Rattle.kc_cache.specs.declared.cache.Cache.{Cache}
 use Rattle.kc_cache.specs.Meaning.{value_cell}
-use Rattle.kc_cache.specs.Content.{pairs_of, first_pair}
+use Rattle.kc_hash.specs.Content.{first_pair}
+use Rattle.kc_cache.specs.Content.{pairs_of}
 
 -- pairs that are equal have equal parts
 parts : (p q : ℕ × ℕ) → Some p ≡ Some q → (p.0 ≡ q.0) × (p.1 ≡ q.1)

@@ -1,13 +1,15 @@
 -- A cache as its keys and values, the most recently used pair first.
 use Rattle.std.specs.Prelude.{◌≡◌, ℕ, ◌+◌, ◌-◌, ◌<◌, ◌≤◌, ◌==◌, cond, List, [], ◌∷◌, length, map, Option, Some, None}
 use Rattle.kc_model.specs.declared.reply.Reply.TheVariants as reply
-use Rattle.kc_xt.specs.Meaning.{Outcome, replied, retried}
+use Rattle.kc_xt.specs.Meaning.{replied, retried}
+use Rattle.kc_xt.specs.Structure.{Value, comes_to}
 use Rattle.kc_hash.specs.Content.{with_pair, without_key, value_at, found_reply, StandsFor as TableStandsFor}
-use Rattle.kc_dllist.specs.Content.{Listed, Content, times, StandsFor as ListStandsFor}
+use Rattle.kc_xt.specs.Times.{times}
+use Rattle.kc_dllist.specs.Content.{Listed, Content, walked, StandsFor as ListStandsFor}
 use Rattle.kc_cache.specs.declared.cache.Cache.{Cache}
 use Rattle.kc_cache.specs.declared.operation.CacheAct.{CacheAct}
 use Rattle.kc_cache.specs.declared.operation.CacheAct.TheVariants as act
-use Rattle.kc_cache.specs.Meaning.{table_of, order_of, space_cell, value_cell, cache_cells, cache_opening}
+use Rattle.kc_cache.specs.Meaning.{table_of, order_of, space_cell, value_cell}
 
 -- ---- cells that stand for a content
 
@@ -24,10 +26,9 @@ index_of (x ∷ xs) = with_pair (index_of xs) x.payload x.node
 abbrev pub pairs_of : Cache → (ℕ → ℕ) → List Listed → List (ℕ × ℕ)
 pairs_of c m xs = map (λ x. (x.payload, m (value_cell c x.node))) xs
 
--- the first of some pairs, if there is one
-abbrev pub first_pair : List (ℕ × ℕ) → Option (ℕ × ℕ)
-first_pair [] = None
-first_pair (p ∷ ps) = Some p
+-- the pairs of the nodes that a walk over the list sees, whatever the cells hold
+abbrev pub shown : Cache → (ℕ → ℕ) → List (ℕ × ℕ)
+shown c m = pairs_of c m (walked (order_of c) m)
 
 -- There is a place. The list and the table are well formed; keys differ, and the table has the node of each key on the list and no other key; the free places are those without a pair.
 -- The pairs are those of the listed nodes, in order.
@@ -40,25 +41,7 @@ pub record StandsFor (c : Cache) (m : ℕ → ℕ) (pairs : List (ℕ × ℕ)) :
   pub space : m (space_cell c) ≡ c.cap - length order.listed
   pub holds : pairs ≡ pairs_of c m order.listed
 
--- the cells stand for some content
-abbrev pub IsWellFormed : Cache → (ℕ → ℕ) → Type 0
-IsWellFormed c m = (pairs : List (ℕ × ℕ)) × StandsFor c m pairs
-
--- there is a bucket and a place, and each cell has its opening value
-pub record IsOpened (c : Cache) (m : ℕ → ℕ) : Type 0 where
-  pub buckets : 1 ≤ c.buckets
-  pub some : 1 ≤ c.cap
-  pub opens : (i : ℕ) → i < cache_cells c → m (c.base.0 + i) ≡ cache_opening c i
-
 -- ---- values on contents
-
--- a reply or retry, and the pairs then
-pub record CacheValue : Type 0 where
-  pub outcome : Outcome
-  pub pairs : List (ℕ × ℕ)
-
-abbrev pub comes_to : Outcome → List (ℕ × ℕ) → CacheValue
-comes_to o pairs = record { outcome = o; pairs = pairs }
 
 -- the pair of a key, if it is there, as the most recent one, with its value
 abbrev pub used : ℕ → Option ℕ → List (ℕ × ℕ) → List (ℕ × ℕ)
@@ -72,15 +55,15 @@ without_last (p ∷ []) = []
 without_last (p ∷ q ∷ ps) = p ∷ without_last (q ∷ ps)
 
 -- a new pair, as the most recent one; where there is no place, it ends so
-abbrev pub added : Cache → ℕ → ℕ → List (ℕ × ℕ) → CacheValue → CacheValue
+abbrev pub added : Cache → ℕ → ℕ → List (ℕ × ℕ) → Value (List (ℕ × ℕ)) → Value (List (ℕ × ℕ))
 added c key value pairs full = cond (length pairs == c.cap) full (comes_to (replied reply.Unit) ((key, value) ∷ pairs))
 
 -- a key that is there gets the value, as the most recent one; a new one is added, or it ends so
-abbrev pub put_value : Cache → ℕ → ℕ → List (ℕ × ℕ) → Option ℕ → CacheValue → CacheValue
+abbrev pub put_value : Cache → ℕ → ℕ → List (ℕ × ℕ) → Option ℕ → Value (List (ℕ × ℕ)) → Value (List (ℕ × ℕ))
 put_value c key value pairs (Some v) full = comes_to (replied reply.Unit) (used key (Some value) pairs)
 put_value c key value pairs None full = added c key value pairs full
 
-abbrev pub cache_value : Cache → CacheAct → List (ℕ × ℕ) → CacheValue
+abbrev pub cache_value : Cache → CacheAct → List (ℕ × ℕ) → Value (List (ℕ × ℕ))
 cache_value c (act.CPut key value) pairs = put_value c key value pairs (value_at pairs key) (comes_to (replied reply.Unit) ((key, value) ∷ without_last pairs))
 cache_value c (act.CPutWait key value) pairs = put_value c key value pairs (value_at pairs key) (comes_to retried pairs)
 cache_value c (act.CGet key) pairs = comes_to (replied (found_reply (value_at pairs key))) (used key (value_at pairs key) pairs)

@@ -1,31 +1,42 @@
 //! What holds of the operations and of a cache's cells.
 
-ghost use Rattle.std.specs.Prelude.{◌≡◌, ◌≢◌, ◌<◌, ◌≤◌, ℕ, List, []};
+ghost use Rattle.std.specs.Prelude.{◌≡◌, ◌≤◌, ℕ, List, []};
+ghost use Rattle.kc_xt.specs.Structure.{MeansItsValue, KeepsWellFormed, TouchesItsOwnCells, RepliesOneItem, RunsInsideOthers, Opens, DependsOnItsCells, ContentIsOne};
 ghost use Rattle.kc_cache.specs.declared.cache.Cache.{Cache};
 ghost use Rattle.kc_cache.specs.declared.operation.CacheOp.{CacheOp};
-ghost use Rattle.kc_cache.specs.Meaning.{cache_meaning, cells_end};
-ghost use Rattle.kc_cache.specs.Content.{StandsFor, IsWellFormed, IsOpened, cache_value};
-ghost use Rattle.kc_xt.specs.Meaning.{too_large, map_after};
+ghost use Rattle.kc_cache.specs.Meaning.{cache_meaning, cache_program, cache_cells, cache_opening, cache_begin, cells_end, CacheIsFit};
+ghost use Rattle.kc_cache.specs.Content.{StandsFor, cache_value, shown};
 
 /// On cells that stand for pairs, and where an operation isn't too large, its meaning by cells is its value on the
 /// pairs: the same reply or retry, and the cells then stand for the pairs then.
 pub fn means_its_value()
-    ensures outcome { (o : CacheOp) (n : ℕ) (m : ℕ → ℕ) (ks : List ℕ) (pairs : List (ℕ × ℕ)) → StandsFor o.cache m pairs → (cache_meaning o n m ks).outcome ≢ too_large → (cache_meaning o n m ks).outcome ≡ (cache_value o.cache o.act pairs).outcome }
-    ensures contents { (o : CacheOp) (n : ℕ) (m : ℕ → ℕ) (ks : List ℕ) (pairs : List (ℕ × ℕ)) → StandsFor o.cache m pairs → (cache_meaning o n m ks).outcome ≢ too_large → StandsFor o.cache (map_after m (cache_meaning o n m ks).touches) (cache_value o.cache o.act pairs).pairs }
+    ensures { (o : CacheOp) (pairs : List (ℕ × ℕ)) → MeansItsValue (StandsFor o.cache) (cache_meaning o) pairs (cache_value o.cache o.act pairs) }
 {}
 
 /// Where an operation isn't too large, cells that are well formed stay so.
 pub fn keeps_well_formed()
-    ensures { (o : CacheOp) (n : ℕ) (m : ℕ → ℕ) (ks : List ℕ) → IsWellFormed o.cache m → (cache_meaning o n m ks).outcome ≢ too_large → IsWellFormed o.cache (map_after m (cache_meaning o n m ks).touches) }
+    ensures { (o : CacheOp) → KeepsWellFormed (StandsFor o.cache) (cache_meaning o) }
 {}
 
-/// Cells with their opening values stand for no pair.
+/// An operation touches the cache's own cells alone, whatever they hold, and its reply is one item.
+pub fn touches_its_own_cells()
+    ensures touches { (o : CacheOp) → CacheIsFit o → TouchesItsOwnCells (cache_begin o) (cells_end o.cache) (cache_meaning o) }
+    ensures one { (o : CacheOp) → CacheIsFit o → RepliesOneItem (cache_meaning o) }
+{}
+
+/// Inside a longer program an operation does to the pairs what it does alone, and leaves all else as it was.
+pub fn runs_inside_others()
+    ensures { (o : CacheOp) (pairs : List (ℕ × ℕ)) → RunsInsideOthers (StandsFor o.cache) (cache_begin o) (cells_end o.cache) (cache_program o.cache o.act) pairs (cache_value o.cache o.act pairs) }
+{}
+
+/// Cells with their opening values stand for no pair, where there is a bucket and a place.
 pub fn opens_empty()
-    ensures { (c : Cache) (m : ℕ → ℕ) → IsOpened c m → StandsFor c m [] }
+    ensures { (c : Cache) → 1 ≤ c.buckets → 1 ≤ c.cap → Opens (StandsFor c) c.base.0 (cache_cells c) (cache_opening c) [] }
 {}
 
-/// What the cells of a cache stand for depends on these cells alone, and is one list of pairs.
+/// What the cells of a cache stand for depends on these cells alone, and is one list of pairs, the one that they show.
 pub fn content_is_one()
-    ensures same { (c : Cache) (m w : ℕ → ℕ) (pairs : List (ℕ × ℕ)) → ((l : ℕ) → c.base.0 ≤ l → l < cells_end c → w l ≡ m l) → StandsFor c m pairs → StandsFor c w pairs }
-    ensures one { (c : Cache) (m : ℕ → ℕ) (a b : List (ℕ × ℕ)) → StandsFor c m a → StandsFor c m b → a ≡ b }
+    ensures own { (c : Cache) → DependsOnItsCells (StandsFor c) c.base.0 (cells_end c) }
+    ensures one { (c : Cache) → ContentIsOne (StandsFor c) }
+    ensures shown { (c : Cache) (m : ℕ → ℕ) (pairs : List (ℕ × ℕ)) → StandsFor c m pairs → shown c m ≡ pairs }
 {}

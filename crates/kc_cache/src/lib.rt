@@ -10,6 +10,9 @@ mod pairs;
 mod tests;
 
 pub use cache::Cache;
-pub use laws::{content_is_one, keeps_well_formed, means_its_value, opens_empty};
+pub use laws::{
+    content_is_one, keeps_well_formed, means_its_value, opens_empty, runs_inside_others,
+    touches_its_own_cells,
+};
 pub use operation::{CacheAct, CacheOp};
 pub use pairs::Pairs;

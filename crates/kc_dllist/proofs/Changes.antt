@@ -1,14 +1,14 @@
 -- What unlinking a node, and listing one first, do to the links and to all else.
 use Rattle.std.proofs.Common.{◌≡◌, ◌≢◌, ℕ, ◌<◌, ◌≤◌, ◌==◌, cond, List, ◌∷◌, refl, ap, ap₂, ◌∙◌, arith}
 use Rattle.std.proofs.lemmas.Bool.Decides.{nat_tests}
+use Rattle.kc_xt.specs.Times.{times}
 use Rattle.kc_xt.specs.Meaning.{put}
 use Rattle.kc_xt.specs.Program.{Program, plain}
 use Rattle.kc_dllist.specs.declared.dllist.Dllist.{Dllist}
-use Rattle.kc_dllist.specs.Meaning.{first_cell, free_cell, payload_cell, prev_cell, next_cell, after_cell, before_cell, node_in, unlink_program, lead_program, cells_end}
-use Rattle.kc_dllist.specs.Content.{times, IsOutside}
+use Rattle.kc_dllist.specs.Meaning.{first_cell, free_cell, payload_cell, prev_cell, next_cell, after_cell, before_cell, node_in, unlink_program, lead_program}
 use Rattle.kc_dllist.proofs.Times.{less}
 use Rattle.kc_dllist.proofs.Rings.{Ring, Apart, ring_same, ring_back, ring_less, ring_lead}
-use Rattle.kc_dllist.proofs.Cells.{nexts, prevs, next_is, prev_is, node_as_is, nexts-after, nexts-before, prevs-after, prevs-before, free-after, free-before, payload-after, payload-before, outside}
+use Rattle.kc_dllist.proofs.Cells.{nexts, prevs, next_is, prev_is, node_as_is, nexts-after, nexts-before, prevs-after, prevs-before, free-after, free-before, payload-after, payload-before}
 
 -- the map where the nodes a and b are each other's neighbours
 abbrev pub unlinked : Dllist → (ℕ → ℕ) → ℕ → ℕ → ℕ → ℕ
@@ -17,19 +17,6 @@ unlinked d m a b = put (put m (after_cell d a) b) (before_cell d b) a
 -- the map where a node is the first one, in front of h
 abbrev pub led : Dllist → (ℕ → ℕ) → ℕ → ℕ → ℕ → ℕ
 led d m i h = put (put (put (put m (before_cell d i) 0) (after_cell d i) h) (before_cell d h) i) (after_cell d 0) i
-
--- the cells beside a node are the list's
-after_lo : (d : Dllist) (a : ℕ) → d.base.0 ≤ after_cell d a
-after_lo d a = grind (arith, nat_tests)
-
-after_hi : (d : Dllist) (a : ℕ) → a ≤ d.cap → after_cell d a < cells_end d
-after_hi d a h = grind (arith, nat_tests)
-
-before_lo : (d : Dllist) (a : ℕ) → d.base.0 ≤ before_cell d a
-before_lo d a = grind (arith, nat_tests)
-
-before_hi : (d : Dllist) (a : ℕ) → a ≤ d.cap → before_cell d a < cells_end d
-before_hi d a h = grind (arith, nat_tests)
 
 module _ (d : Dllist) (m : ℕ → ℕ) where
   -- ---- a node is unlinked
@@ -52,9 +39,6 @@ module _ (d : Dllist) (m : ℕ → ℕ) where
 
     pub payload-unlinked : (i : ℕ) → 0 < i → unlinked d m a b (payload_cell d i) ≡ m (payload_cell d i)
     payload-unlinked i h = payload-before d (put m (after_cell d a) b) a b i h ∙ payload-after d m b a i h
-
-    pub outside-unlinked : (l : ℕ) → a ≤ d.cap → b ≤ d.cap → IsOutside d l → unlinked d m a b l ≡ m l
-    outside-unlinked l ha hb h = outside d (put m (after_cell d a) b) a (before_cell d b) l h (before_lo d b) (before_hi d b hb) ∙ outside d m b (after_cell d a) l h (after_lo d a) (after_hi d a ha)
 
   pub ring_unlinked : (i : ℕ) (ns : List ℕ) → 0 < times i ns → Apart 0 ns → Ring (nexts d m) (prevs d m) 0 ns → (let w = unlinked d m (prevs d m i) (nexts d m i) in Ring (nexts d w) (prevs d w) 0 (less i ns))
   ring_unlinked i ns h apart r =
@@ -90,13 +74,6 @@ module _ (d : Dllist) (m : ℕ → ℕ) where
 
     pub payload-led : (j : ℕ) → 0 < j → led d m i h (payload_cell d j) ≡ m (payload_cell d j)
     payload-led j g = payload-after d three i 0 j g ∙ payload-before d two i h j g ∙ payload-after d one h i j g ∙ payload-before d m 0 i j g
-
-    pub outside-led : (l : ℕ) → i ≤ d.cap → h ≤ d.cap → IsOutside d l → led d m i h l ≡ m l
-    outside-led l hi hh g =
-        outside d three i (after_cell d 0) l g (after_lo d 0) (after_hi d 0 (omega arith))
-        ∙ outside d two i (before_cell d h) l g (before_lo d h) (before_hi d h hh)
-        ∙ outside d one h (after_cell d i) l g (after_lo d i) (after_hi d i hi)
-        ∙ outside d m 0 (before_cell d i) l g (before_lo d i) (before_hi d i hi)
 
     pub ring_led : (ns : List ℕ) → i ≢ 0 → h ≡ nexts d m 0 → times i ns ≡ 0 → Apart 0 ns → Ring (nexts d m) (prevs d m) 0 ns → Ring (nexts d (led d m i h)) (prevs d (led d m i h)) 0 (i ∷ ns)
     ring_led ns ne e out apart r =

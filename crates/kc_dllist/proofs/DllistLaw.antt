@@ -1,5 +1,5 @@
--- Each operation's program keeps below its end, and touches a cell before it retries.
-use Rattle.std.proofs.Common.{◌≡◌, ◌≢◌, ℕ, ◌<◌, ◌≤◌, false, arith}
+-- Each operation's program keeps to the list's cells, and touches one before it retries, whatever comes behind it.
+use Rattle.std.proofs.Common.{◌≡◌, ◌≢◌, ℕ, ◌<◌, ◌≤◌, false, subst, arith}
 use Rattle.std.specs.Prelude.{Result, ◌==◌}
 use Rattle.std.proofs.lemmas.Bool.Decides.{nat_tests}
 use Rattle.kc_model.specs.declared.reply.Reply.{Reply}
@@ -11,11 +11,11 @@ use Rattle.kc_xt.specs.Peeks.{Gives}
 use Rattle.kc_xt.specs.Law.{Obeys}
 use Rattle.kc_xt.specs.Program.{Program, replies}
 use Rattle.kc_xt.specs.Meaning.{replied}
-use Rattle.kc_xt.specs.Single.{RepliesOne, EndsInOne}
-use Rattle.kc_xt.proofs.Singles.{one_if}
-use Rattle.kc_xt.proofs.Spared.{Spares, spares_if}
-use Rattle.kc_xt.proofs.Laws.{Below, TouchesFirst, below_if, below_test, law_of}
-use Rattle.kc_dllist.specs.Meaning.{dllist_program, dllist_meaning, dllist_end, DllistIsFit, NamesNode, IsNode, unlink_program, lead_program, take_program, release_program, bring_program, node_in, after_cell, before_cell, cells_end}
+use Rattle.kc_xt.specs.Single.{RepliesOne}
+use Rattle.kc_xt.specs.Stays.{Stays}
+use Rattle.kc_xt.proofs.Laws.{TouchesFirst}
+use Rattle.kc_xt.proofs.Stay.{stays_if, stays_test, stays_law}
+use Rattle.kc_dllist.specs.Meaning.{dllist_program, dllist_meaning, dllist_begin, dllist_end, DllistIsFit, NamesNode, IsNode, unlink_program, lead_program, take_program, release_program, bring_program, node_in, after_cell, before_cell, cells_end}
 use Rattle.kc_dllist.specs.declared.dllist.Dllist.{Dllist}
 use Rattle.kc_dllist.specs.declared.operation.DllistAct.{DllistAct}
 use Rattle.kc_dllist.specs.declared.operation.DllistAct.TheVariants as act
@@ -29,64 +29,39 @@ node_within d n = grind (arith, nat_tests)
 pub node_some : (d : Dllist) (n : ℕ) → (node_in d n == 0) ≡ false → IsNode d (node_in d n)
 node_some d n e = let w = node_within d n in (grind (arith, nat_tests), w)
 
--- the cells beside a node lie among the list's
-after_within : (d : Dllist) (i b : ℕ) → i ≤ d.cap → cells_end d ≤ b → after_cell d i < b
-after_within d i b h e = grind (arith, nat_tests)
+module _ (d : Dllist) (a b : ℕ) (begin : a ≤ d.base.0) (fits : cells_end d ≤ b) where
+  -- the cells beside a node lie among the list's
+  after_lo : (i : ℕ) → a ≤ after_cell d i
+  after_lo i = grind (arith, nat_tests)
 
-before_within : (d : Dllist) (i b : ℕ) → i ≤ d.cap → cells_end d ≤ b → before_cell d i < b
-before_within d i b h e = grind (arith, nat_tests)
+  after_hi : (i : ℕ) → i ≤ d.cap → after_cell d i < b
+  after_hi i h = grind (arith, nat_tests)
 
-module _ (d : Dllist) (b : ℕ) (fits : cells_end d ≤ b) where
-  -- ---- its locations are below its end
+  before_lo : (i : ℕ) → a ≤ before_cell d i
+  before_lo i = grind (arith, nat_tests)
 
-  unlink_below : (i : ℕ) (k : Unit {0} → Program) → IsNode d i → Below b (k tt) → Below b (unlink_program d i k)
-  unlink_below i k node h = (omega (arith, node, fits), λ p. (omega (arith, node, fits), λ n. (after_within d (node_in d p) b (node_within d p) fits, (before_within d (node_in d n) b (node_within d n) fits, h))))
+  before_hi : (i : ℕ) → i ≤ d.cap → before_cell d i < b
+  before_hi i h = grind (arith, nat_tests)
 
-  lead_below : (i h : ℕ) (k : Unit {0} → Program) → IsNode d i → h ≤ d.cap → Below b (k tt) → Below b (lead_program d i h k)
-  lead_below i h k node w g = (omega (arith, node, fits), (omega (arith, node, fits), (before_within d h b w fits, (omega (arith, fits), g))))
+  unlink_stays : (i : ℕ) (k : Unit {0} → Program) → IsNode d i → Stays a b (k tt) → Stays a b (unlink_program d i k)
+  unlink_stays i k node h = (omega (arith, begin), omega (arith, node, fits), λ p. (omega (arith, begin), omega (arith, node, fits), λ n. (after_lo (node_in d p), after_hi (node_in d p) (node_within d p), (before_lo (node_in d n), before_hi (node_in d n) (node_within d n), h))))
 
-  take_below : (v f : ℕ) (k : Reply → Program) → IsNode d f → ((r : Reply) → Below b (k r)) → Below b (take_program d v f k)
-  take_below v f k node h = (omega (arith, node, fits), λ n. (omega (arith, fits), (omega (arith, fits), λ g. (omega (arith, node, fits), lead_below f (node_in d g) (λ _. k (reply.Value f)) node (node_within d g) (h _)))))
+  lead_stays : (i h : ℕ) (k : Unit {0} → Program) → IsNode d i → h ≤ d.cap → Stays a b (k tt) → Stays a b (lead_program d i h k)
+  lead_stays i h k node w g = (omega (arith, begin), omega (arith, node, fits), (omega (arith, begin), omega (arith, node, fits), (before_lo h, before_hi h w, (begin, omega (arith, fits), g))))
 
-  act_below : (a : DllistAct) (k : Reply → Program) → NamesNode d a → ((r : Reply) → Below b (k r)) → Below b (dllist_program d a k)
-  unfolding dllist_program
-  act_below (act.PushFront v) k node h = (omega (arith, fits), λ f. below_test b (node_in d f == 0) _ _ (λ _. h _) (λ e. take_below v (node_in d f) k (node_some d f e) h))
-  act_below (act.Remove i) k node h = unlink_below i (λ _. release_program d i k) node (omega (arith, fits), λ f. (omega (arith, node, fits), (omega (arith, fits), (omega (arith, node, fits), λ v. h _))))
-  act_below (act.MoveFront i) k node h = (omega (arith, fits), λ f. below_if b (node_in d f == i) _ _ (h _) (unlink_below i (λ _. bring_program d i k) node (omega (arith, fits), λ g. lead_below i (node_in d g) (λ _. k reply.Unit) node (node_within d g) (h _))))
-  act_below act.Last k node h = (omega (arith, fits), λ l. below_test b (node_in d l == 0) _ _ (λ _. h _) (λ e. let s = node_some d l e in (omega (arith, s, fits), λ v. h _)))
+  module _ (k : Reply → Program) (rest : (r : Reply) → RepliesOne (replied r) → Stays a b (k r)) where
+    take_stays : (v f : ℕ) → IsNode d f → Stays a b (take_program d v f k)
+    take_stays v f node = (omega (arith, begin), omega (arith, node, fits), λ n. (omega (arith, begin), omega (arith, fits), (begin, omega (arith, fits), λ g. (omega (arith, begin), omega (arith, node, fits), lead_stays f (node_in d g) (λ _. k (reply.Value f)) node (node_within d g) (rest (reply.Value f) tt)))))
 
--- each program, whatever comes behind it
-pub dllist_below : (d : Dllist) (a : DllistAct) (b : ℕ) (k : Reply → Program) → NamesNode d a → cells_end d ≤ b → ((r : Reply) → Below b (k r)) → Below b (dllist_program d a k)
-dllist_below d a b k node fits h = act_below d b fits a k node h
+    -- each program, whatever comes behind it
+    pub dllist_stays : (x : DllistAct) → NamesNode d x → Stays a b (dllist_program d x k)
+    unfolding dllist_program
+    dllist_stays (act.PushFront v) node = (omega (arith, begin), omega (arith, fits), λ f. stays_test a b (node_in d f == 0) _ _ (λ _. rest reply.Full tt) (λ e. take_stays v (node_in d f) (node_some d f e)))
+    dllist_stays (act.Remove i) node = unlink_stays i (λ _. release_program d i k) node (omega (arith, begin), omega (arith, fits), λ f. (omega (arith, begin), omega (arith, node, fits), (omega (arith, begin), omega (arith, fits), (omega (arith, begin), omega (arith, node, fits), λ v. rest (reply.Value v) tt))))
+    dllist_stays (act.MoveFront i) node = (begin, omega (arith, fits), λ f. stays_if a b (node_in d f == i) _ _ (rest reply.Unit tt) (unlink_stays i (λ _. bring_program d i k) node (begin, omega (arith, fits), λ g. lead_stays i (node_in d g) (λ _. k reply.Unit) node (node_within d g) (rest reply.Unit tt))))
+    dllist_stays act.Last node = (omega (arith, begin), omega (arith, fits), λ l. stays_test a b (node_in d l == 0) _ _ (λ _. rest reply.Empty tt) (λ e. let s = node_some d l e in (omega (arith, begin), omega (arith, s, fits), λ v. rest (reply.Value v) tt)))
 
--- ---- it writes no location before its begin
-
-module _ (d : Dllist) (l : ℕ) (lower : l < d.base.0) where
-  after_spares : (i : ℕ) → after_cell d i ≢ l
-  after_spares i = λ e. absurd (grind (arith, nat_tests))
-
-  before_spares : (i : ℕ) → before_cell d i ≢ l
-  before_spares i = λ e. absurd (grind (arith, nat_tests))
-
-  unlink_spares : (i : ℕ) (k : Unit {0} → Program) → Spares l (k tt) → Spares l (unlink_program d i k)
-  unlink_spares i k h = λ p n. (after_spares (node_in d p), (before_spares (node_in d n), h))
-
-  lead_spares : (i h : ℕ) (k : Unit {0} → Program) → Spares l (k tt) → Spares l (lead_program d i h k)
-  lead_spares i h k g = (λ e. omega (arith, lower, e), (λ e. omega (arith, lower, e), (before_spares h, (λ e. omega (arith, lower, e), g))))
-
-  act_spares : (a : DllistAct) (k : Reply → Program) → ((r : Reply) → Spares l (k r)) → Spares l (dllist_program d a k)
-  unfolding dllist_program
-  act_spares (act.PushFront v) k h = λ f. spares_if l (node_in d f == 0) _ _ (h _) (λ n. (λ e. omega (arith, lower, e), λ g. (λ e. omega (arith, lower, e), lead_spares (node_in d f) (node_in d g) (λ _. k (reply.Value (node_in d f))) (h _))))
-  act_spares (act.Remove i) k h = unlink_spares i (λ _. release_program d i k) (λ f. (λ e. omega (arith, lower, e), (λ e. omega (arith, lower, e), λ v. h _)))
-  act_spares (act.MoveFront i) k h = λ f. spares_if l (node_in d f == i) _ _ (h _) (unlink_spares i (λ _. bring_program d i k) (λ g. lead_spares i (node_in d g) (λ _. k reply.Unit) (h _)))
-  act_spares act.Last k h = λ n. spares_if l (node_in d n == 0) _ _ (h _) (λ v. h _)
-
--- each program, whatever comes behind it
-pub dllist_spares : (d : Dllist) (a : DllistAct) (l : ℕ) (k : Reply → Program) → l < d.base.0 → ((r : Reply) → Spares l (k r)) → Spares l (dllist_program d a k)
-dllist_spares d a l k lower h = act_spares d l lower a k h
-
--- ---- it begins with a touch
-
+-- it begins with a touch
 pub dllist_first : (d : Dllist) (a : DllistAct) (k : Reply → Program) → TouchesFirst (dllist_program d a k)
 unfolding dllist_program
 dllist_first d (act.PushFront v) k = tt
@@ -94,22 +69,12 @@ dllist_first d (act.Remove i) k = tt
 dllist_first d (act.MoveFront i) k = tt
 dllist_first d act.Last k = tt
 
--- ---- it ends in one item
-
-abbrev EndsWell : (Reply → Program) → Type 0
-EndsWell k = (r : Reply) → RepliesOne (replied r) → EndsInOne (k r)
-
-take_single : (d : Dllist) (v f : ℕ) (k : Reply → Program) → EndsWell k → EndsInOne (take_program d v f k)
-take_single d v f k h = λ n g. h (reply.Value f) tt
-
--- each program, where what comes behind such a reply does
-pub dllist_single : (d : Dllist) (a : DllistAct) (k : Reply → Program) → ((r : Reply) → RepliesOne (replied r) → EndsInOne (k r)) → EndsInOne (dllist_program d a k)
-unfolding dllist_program
-dllist_single d (act.PushFront v) k h = λ f. one_if (node_in d f == 0) _ _ (h reply.Full tt) (take_single d v (node_in d f) k h)
-dllist_single d (act.Remove i) k h = λ p n f v. h (reply.Value v) tt
-dllist_single d (act.MoveFront i) k h = λ f. one_if (node_in d f == i) _ _ (h reply.Unit tt) (λ p n g. h reply.Unit tt)
-dllist_single d act.Last k h = λ l. one_if (node_in d l == 0) _ _ (h reply.Empty tt) (λ v. h (reply.Value v) tt)
+-- an operation keeps to the list's cells
+pub op_stays : (o : DllistOp) → NamesNode o.list o.act → Stays (dllist_begin o) (cells_end o.list) (dllist_program o.list o.act replies)
+op_stays o node = dllist_stays o.list (dllist_begin o) (cells_end o.list) (omega arith) (omega arith) replies (λ r one. one) o.act node
 
 -- what does its program obeys the law
 pub dllist_law : {P : Type 0} (gives : Gives P) (o : DllistOp) {x y : Log P} (r : Result Reply Stop) → DllistIsFit o → Does gives (dllist_program o.list o.act) x r y → Obeys gives (dllist_meaning o) (dllist_end o) x r y
-dllist_law gives o r fit d = law_of gives (dllist_program o.list o.act) (dllist_end o) (dllist_below o.list o.act (dllist_end o) replies fit.0 (omega arith) (λ _. tt)) (dllist_first o.list o.act replies) r d
+dllist_law gives o {x} {y} r fit d =
+    let whole : cells_end o.list ≡ dllist_end o = omega (arith, fit) in
+    subst (λ e. Obeys gives (dllist_meaning o) e x r y) whole (stays_law (dllist_begin o) (cells_end o.list) gives (dllist_program o.list o.act) (op_stays o fit.0) (dllist_first o.list o.act replies) r d)

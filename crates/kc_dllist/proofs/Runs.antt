@@ -1,20 +1,28 @@
 -- The plain run of each operation on cells that stand for a content, whatever comes behind it.
 use Rattle.std.proofs.Common.{◌≡◌, ◌≢◌, ℕ, ◌<◌, ◌≤◌, ◌==◌, Bool, true, false, cond, List, [], ◌∷◌, ◌++◌, refl, sym, ap, ap₂, ◌∙◌, subst, arith}
 use Rattle.std.proofs.lemmas.Bool.{eqb-true, eq-eqb, ne_eqb}
+use Rattle.kc_xt.specs.Times.{times}
+use Rattle.kc_xt.proofs.Times.{times-there, times-append, has_here, has_rest, apart}
 use Rattle.kc_model.specs.declared.reply.Reply.{Reply}
 use Rattle.kc_model.specs.declared.reply.Reply.TheVariants as reply
 use Rattle.kc_xt.specs.Meaning.{put}
 use Rattle.kc_xt.specs.Program.{Program, plain, read}
+use Rattle.kc_xt.specs.Structure.{Value}
+use Rattle.kc_xt.proofs.Inside.{GoesTo}
 use Rattle.kc_dllist.specs.declared.dllist.Dllist.{Dllist}
 use Rattle.kc_dllist.specs.declared.operation.DllistAct.{DllistAct}
 use Rattle.kc_dllist.specs.declared.operation.DllistAct.TheVariants as act
 use Rattle.kc_dllist.specs.Meaning.{dllist_program, unlink_program, take_program, release_program, bring_program, lead_program, first_cell, last_cell, free_cell, payload_cell, next_cell, after_cell, node_in, IsNode}
-use Rattle.kc_dllist.specs.Content.{Listed, Content, numbers, times, Chain, HasEachOnce, StandsFor, Performs, NamesListed, payload_of, without, last_reply, dllist_value, pushed, comes_to}
-use Rattle.kc_dllist.proofs.Times.{times-append, times-less, among_here, among_more, apart, less}
+use Rattle.kc_dllist.specs.Content.{Listed, Content, numbers, Chain, HasEachOnce, StandsFor, NamesListed, payload_of, without, last_reply, dllist_value, pushed, comes_to}
+use Rattle.kc_dllist.proofs.Times.{times-less, less}
 use Rattle.kc_dllist.proofs.Rings.{Ring, Apart, put_here, put_else, ring_same, ring_near, ring_first}
-use Rattle.kc_dllist.proofs.Cells.{nexts, prevs, next_is, node_as_is, nexts-after, prevs-after, nexts-free, prevs-free, nexts-payload, prevs-payload, free-payload, payload-after, payload-free, payload-payload, outside, payloads_same}
-use Rattle.kc_dllist.proofs.Changes.{unlinked, led, plain_unlink, nexts-unlinked, free-unlinked, payload-unlinked, outside-unlinked, ring_unlinked, plain_lead, nexts-led, free-led, payload-led, outside-led, ring_led}
+use Rattle.kc_dllist.proofs.Cells.{nexts, prevs, next_is, node_as_is, nexts-after, prevs-after, nexts-free, prevs-free, nexts-payload, prevs-payload, free-payload, payload-after, payload-free, payload-payload, payloads_same}
+use Rattle.kc_dllist.proofs.Changes.{unlinked, led, plain_unlink, nexts-unlinked, free-unlinked, payload-unlinked, ring_unlinked, plain_lead, nexts-led, free-led, payload-led, ring_led}
 use Rattle.kc_dllist.proofs.Standing.{each_same, apart_of, listed_node, free_node, listed_some, free_some, not_free, not_listed, listed_once, listed_zero, free_zero, listed_apart, chain_within, ring, stands, free_same, payload_at, payloads_without, numbers-without, last_is}
+
+-- an operation goes to a value
+abbrev pub Goes : Dllist → DllistAct → (ℕ → ℕ) → Value Content → Type 0
+Goes d a m v = GoesTo (StandsFor d) (dllist_program d a) m v
 
 -- ---- PushFront
 
@@ -32,20 +40,20 @@ module _ (d : Dllist) (m : ℕ → ℕ) (v : ℕ) (xs : List Listed) (f : ℕ) (
   two = put one (payload_cell d f) v
 
   push_node : IsNode d f
-  push_node = free_node d ns (f ∷ fs) s.each f (among_here f fs)
+  push_node = free_node d ns (f ∷ fs) s.each f (has_here f fs)
 
   push_some : f ≢ 0
-  push_some = free_some d ns (f ∷ fs) s.each f (among_here f fs)
+  push_some = free_some d ns (f ∷ fs) s.each f (has_here f fs)
 
   push_new : times f ns ≡ 0
-  push_new = not_listed d ns (f ∷ fs) s.each f (among_here f fs)
+  push_new = not_listed d ns (f ∷ fs) s.each f (has_here f fs)
 
   first_within : h ≤ d.cap
   first_within = ring_first (nexts d m) (prevs d m) (λ j. j ≤ d.cap) 0 ns (omega arith) (λ j g. (listed_node d ns (f ∷ fs) s.each j g).1) (ring d m _ s)
 
   take_runs : (k : Reply → Program) → plain (take_program d v f k) m ≡ plain (k (reply.Value f)) (led d two f h)
   take_runs k =
-      let n : node_in d (m (next_cell d f)) ≡ m (next_cell d f) = node_as_is d _ (chain_within d m (next_cell d f) fs (λ j g. free_node d ns (f ∷ fs) s.each j (among_more j f fs g)) s.free.1) in
+      let n : node_in d (m (next_cell d f)) ≡ m (next_cell d f) = node_as_is d _ (chain_within d m (next_cell d f) fs (λ j g. free_node d ns (f ∷ fs) s.each j (has_rest f j fs g)) s.free.1) in
       let g : node_in d (put m (free_cell d) (node_in d (m (next_cell d f))) (first_cell d)) ≡ h = ap (node_in d) (nexts-free d m (node_in d (m (next_cell d f))) 0) ∙ node_as_is d h first_within in
       ap₂ (λ x y. plain (lead_program d f y (λ _. k (reply.Value f))) (put (put m (free_cell d) x) (payload_cell d f) v)) n g
       ∙ plain_lead d two f h (λ _. k (reply.Value f)) push_some
@@ -75,9 +83,9 @@ module _ (d : Dllist) (m : ℕ → ℕ) (v : ℕ) (xs : List Listed) (f : ℕ) (
 
   push_free : Chain d (led d two f h) (free_cell d) fs
   push_free = free_same d m (led d two f h) (next_cell d f) (free_cell d) fs
-      (λ j g. free_some d ns (f ∷ fs) s.each j (among_more j f fs g))
+      (λ j g. free_some d ns (f ∷ fs) s.each j (has_rest f j fs g))
       (free-led d two f h ∙ free-payload d one v f push_node.0 ∙ put_here m (free_cell d) (m (next_cell d f)) (free_cell d) refl)
-      (λ j g. nexts-led d two f h j ∙ put_else (put (nexts d two) f h) 0 f j (λ e. free_some d ns (f ∷ fs) s.each j (among_more j f fs g) (sym e)) ∙ put_else (nexts d two) f h j (push_other j g) ∙ two_nexts j)
+      (λ j g. nexts-led d two f h j ∙ put_else (put (nexts d two) f h) 0 f j (λ e. free_some d ns (f ∷ fs) s.each j (has_rest f j fs g) (sym e)) ∙ put_else (nexts d two) f h j (push_other j g) ∙ two_nexts j)
       s.free.1
     where
       push_other : (j : ℕ) → 0 < times j fs → f ≢ j
@@ -85,7 +93,7 @@ module _ (d : Dllist) (m : ℕ → ℕ) (v : ℕ) (xs : List Listed) (f : ℕ) (
           let o = s.each.once f push_node in
           let u = times-append f ns (f ∷ fs) in
           let w = times-append f (f ∷ []) fs in
-          let x = among_here f [] in
+          let x = has_here f [] in
           let y = ap (λ i. times i fs) e in
           omega (arith, o, u, w, x, y, g)
 
@@ -97,17 +105,16 @@ module _ (d : Dllist) (m : ℕ → ℕ) (v : ℕ) (xs : List Listed) (f : ℕ) (
       let e = times-append j ns fs in
       omega (arith, a, b, c, e)) s.each
 
-  push_performs : Performs d (act.PushFront v) m (comes_to (reply.Value f) (record { node = f; payload = v } ∷ xs) fs)
+  push_performs : Goes d (act.PushFront v) m (comes_to (reply.Value f) (record { node = f; payload = v } ∷ xs) fs)
   push_performs = record {
     left = led d two f h;
     runs = push_runs;
-    stands = stands d (led d two f h) _ push_ring (payload-led d two f h f push_node.0 ∙ put_here one (payload_cell d f) v (payload_cell d f) refl, payloads_same d m (led d two f h) xs push_payload s.payloads) push_free push_each;
-    kept = λ l g. outside-led d two f h l push_node.1 first_within g ∙ outside d one v (payload_cell d f) l g (omega arith) (let w = push_node in omega (arith, w)) ∙ outside d m (m (next_cell d f)) (free_cell d) l g (omega arith) (omega arith);
+    stand = stands d (led d two f h) _ push_ring (payload-led d two f h f push_node.0 ∙ put_here one (payload_cell d f) v (payload_cell d f) refl, payloads_same d m (led d two f h) xs push_payload s.payloads) push_free push_each;
   }
 
-full_performs : (d : Dllist) (m : ℕ → ℕ) (v : ℕ) (xs : List Listed) → (let c : Content = record { listed = xs; free = [] } in StandsFor d m c) → Performs d (act.PushFront v) m (comes_to reply.Full xs [])
+full_performs : (d : Dllist) (m : ℕ → ℕ) (v : ℕ) (xs : List Listed) → (let c : Content = record { listed = xs; free = [] } in StandsFor d m c) → Goes d (act.PushFront v) m (comes_to reply.Full xs [])
 unfolding dllist_program
-full_performs d m v xs s = record { left = m; runs = full_runs; stands = s; kept = λ l g. refl }
+full_performs d m v xs s = record { left = m; runs = full_runs; stand = s }
   where
     full_runs : (k : Reply → Program) → plain (dllist_program d (act.PushFront v) k) m ≡ plain (k reply.Full) m
     full_runs k =
@@ -150,10 +157,10 @@ module _ (d : Dllist) (m : ℕ → ℕ) (i : ℕ) (xs : List Listed) (fs : List 
   cut_ring = ring_unlinked d m i is on (listed_apart d is fs s.each) (ring d m _ s)
 
   cut_out : times i (less i is) ≡ 0
-  cut_out = let o = listed_once d is fs s.each i in let e = times-less i i is on in let f = times-append i (i ∷ []) (less i is) in let g = among_here i [] in omega (arith, o, e, f, g)
+  cut_out = let o = listed_once d is fs s.each i in let e = times-less i i is on in let f = times-append i (i ∷ []) (less i is) in let g = has_here i [] in omega (arith, o, e, f, g)
 
   less_listed : (j : ℕ) → 0 < times j (less i is) → 0 < times j is
-  less_listed j g = let e = times-less i j is on in let f = among_more j i (less i is) g in omega (arith, e, f)
+  less_listed j g = let e = times-less i j is on in let f = has_rest i j (less i is) g in omega (arith, e, f)
 
   less_apart : Apart 0 (less i is)
   less_apart = apart_of 0 (less i is) (let e = times-less i 0 is on in let f = times-append 0 (i ∷ []) (less i is) in let z = listed_zero d is fs s.each in omega (arith, e, f, z)) (λ j g. listed_some d is fs s.each j (less_listed j g)) (λ j. let e = times-less i j is on in let f = times-append j (i ∷ []) (less i is) in let o = listed_once d is fs s.each j in omega (arith, e, f, o))
@@ -206,7 +213,7 @@ module _ (d : Dllist) (m : ℕ → ℕ) (i : ℕ) (xs : List Listed) (fs : List 
   gone_ring = ring_same (nexts d cut) (prevs d cut) (nexts d gone) (prevs d gone) 0 (less i is) (λ j g. gone_nexts j (apart i j (0 ∷ less i is) (let u = times-append i (0 ∷ []) (less i is) in let z = zero_out in omega (arith, u, z, cut_out)) g)) (λ j _. gone_prevs j) (gone_prevs 0) cut_ring
     where
       zero_out : times i (0 ∷ []) ≡ 0
-      zero_out = rw (ne_eqb i 0 cut_some) refl
+      zero_out = times-there 0 i [] (λ e. cut_some (sym e))
 
   gone_free : Chain d gone (free_cell d) (i ∷ fs)
   gone_free = (
@@ -226,14 +233,13 @@ module _ (d : Dllist) (m : ℕ → ℕ) (i : ℕ) (xs : List Listed) (fs : List 
       let x = times-append j (i ∷ []) fs in
       omega (arith, t, u, v, w, x)) s.each
 
-  remove_performs : Performs d (act.Remove i) m (comes_to (reply.Value (payload_of i xs)) (without i xs) (i ∷ fs))
+  remove_performs : Goes d (act.Remove i) m (comes_to (reply.Value (payload_of i xs)) (without i xs) (i ∷ fs))
   remove_performs =
       let e = sym (numbers-without i xs) in
       record {
         left = gone;
         runs = remove_runs;
-        stands = stands d gone _ (subst (λ (ns : List ℕ). Ring (nexts d gone) (prevs d gone) 0 ns) e gone_ring) (payloads_without d gone i xs (payloads_same d m gone xs (λ j g. gone_payload j (listed_node d is fs s.each j g).0) s.payloads)) gone_free (subst (λ (ns : List ℕ). HasEachOnce d (ns ++ i ∷ fs)) e gone_each);
-        kept = λ l g. outside d (put cut (after_cell d i) n) i (free_cell d) l g (omega arith) (omega arith) ∙ subst (λ c. put cut c n l ≡ cut l) (next_is d i cut_some) (outside d cut n (next_cell d i) l g (omega arith) (let w = cut_node in omega (arith, w))) ∙ outside-unlinked d m a b l beside_within.0 beside_within.1 g;
+        stand = stands d gone _ (subst (λ (ns : List ℕ). Ring (nexts d gone) (prevs d gone) 0 ns) e gone_ring) (payloads_without d gone i xs (payloads_same d m gone xs (λ j g. gone_payload j (listed_node d is fs s.each j g).0) s.payloads)) gone_free (subst (λ (ns : List ℕ). HasEachOnce d (ns ++ i ∷ fs)) e gone_each);
       }
 
   -- ---- MoveFront of a node that is not the first
@@ -259,14 +265,13 @@ module _ (d : Dllist) (m : ℕ → ℕ) (i : ℕ) (xs : List Listed) (fs : List 
       (λ j g. nexts-led d cut i (nexts d cut 0) j ∙ put_else (put (nexts d cut) i (nexts d cut 0)) 0 i j (λ e. free_some d is fs s.each j g (sym e)) ∙ put_else (nexts d cut) i (nexts d cut 0) j (free_other j g) ∙ cut_nexts j g)
       s.free
 
-  move_performs : (node_in d (m (first_cell d)) == i) ≡ false → Performs d (act.MoveFront i) m (comes_to reply.Unit (record { node = i; payload = payload_of i xs } ∷ without i xs) fs)
+  move_performs : (node_in d (m (first_cell d)) == i) ≡ false → Goes d (act.MoveFront i) m (comes_to reply.Unit (record { node = i; payload = payload_of i xs } ∷ without i xs) fs)
   move_performs e =
       let w = sym (numbers-without i xs) in
       record {
         left = moved;
         runs = move_runs e;
-        stands = stands d moved _ (subst (λ (ns : List ℕ). Ring (nexts d moved) (prevs d moved) 0 (i ∷ ns)) w (ring_led d cut i (nexts d cut 0) (less i is) cut_some refl cut_out less_apart cut_ring)) (moved_payload i cut_node.0 ∙ payload_at d m i xs on s.payloads, payloads_without d moved i xs (payloads_same d m moved xs (λ j g. moved_payload j (listed_node d is fs s.each j g).0) s.payloads)) moved_free (subst (λ (ns : List ℕ). HasEachOnce d ((i ∷ ns) ++ fs)) w (each_same d (is ++ fs) ((i ∷ less i is) ++ fs) cut_times s.each));
-        kept = λ l g. outside-led d cut i (nexts d cut 0) l cut_node.1 cut_first g ∙ outside-unlinked d m a b l beside_within.0 beside_within.1 g;
+        stand = stands d moved _ (subst (λ (ns : List ℕ). Ring (nexts d moved) (prevs d moved) 0 (i ∷ ns)) w (ring_led d cut i (nexts d cut 0) (less i is) cut_some refl cut_out less_apart cut_ring)) (moved_payload i cut_node.0 ∙ payload_at d m i xs on s.payloads, payloads_without d moved i xs (payloads_same d m moved xs (λ j g. moved_payload j (listed_node d is fs s.each j g).0) s.payloads)) moved_free (subst (λ (ns : List ℕ). HasEachOnce d ((i ∷ ns) ++ fs)) w (each_same d (is ++ fs) ((i ∷ less i is) ++ fs) cut_times s.each));
       }
 
 -- ---- MoveFront of the first node changes nothing
@@ -274,10 +279,10 @@ module _ (d : Dllist) (m : ℕ → ℕ) (i : ℕ) (xs : List Listed) (fs : List 
 first_again : (i : ℕ) (x : Listed) (xs : List Listed) → x.node ≡ i → (let y : Listed = record { node = i; payload = payload_of i (x ∷ xs) } in y ∷ without i (x ∷ xs)) ≡ x ∷ xs
 first_again i x xs e = rw (eq-eqb x.node i e) (ap (λ n. let y : Listed = record { node = n; payload = x.payload } in y ∷ xs) (sym e))
 
-stay_performs : (d : Dllist) (m : ℕ → ℕ) (i : ℕ) (xs : List Listed) (fs : List ℕ) → (let c : Content = record { listed = xs; free = fs } in StandsFor d m c) → 0 < times i (numbers xs) → (node_in d (m (first_cell d)) == i) ≡ true → Performs d (act.MoveFront i) m (comes_to reply.Unit (record { node = i; payload = payload_of i xs } ∷ without i xs) fs)
+stay_performs : (d : Dllist) (m : ℕ → ℕ) (i : ℕ) (xs : List Listed) (fs : List ℕ) → (let c : Content = record { listed = xs; free = fs } in StandsFor d m c) → 0 < times i (numbers xs) → (node_in d (m (first_cell d)) == i) ≡ true → Goes d (act.MoveFront i) m (comes_to reply.Unit (record { node = i; payload = payload_of i xs } ∷ without i xs) fs)
 unfolding dllist_program
 stay_performs d m i [] fs s on e = absurd (omega (arith, on))
-stay_performs d m i (x ∷ xs) fs s on e = record { left = m; runs = stay_runs; stands = subst (λ (ys : List Listed). let c : Content = record { listed = ys; free = fs } in StandsFor d m c) (sym (first_again i x xs first_is)) s; kept = λ l g. refl }
+stay_performs d m i (x ∷ xs) fs s on e = record { left = m; runs = stay_runs; stand = subst (λ (ys : List Listed). let c : Content = record { listed = ys; free = fs } in StandsFor d m c) (sym (first_again i x xs first_is)) s }
   where
     stay_runs : (k : Reply → Program) → plain (dllist_program d (act.MoveFront i) k) m ≡ plain (k reply.Unit) m
     stay_runs k =
@@ -285,24 +290,24 @@ stay_performs d m i (x ∷ xs) fs s on e = record { left = m; runs = stay_runs; 
         subst Q (sym e) refl
 
     first_is : x.node ≡ i
-    first_is = sym (ap (node_in d) s.forward.0 ∙ node_as_is d x.node (listed_node d (numbers (x ∷ xs)) fs s.each x.node (among_here x.node (numbers xs))).1) ∙ eqb-true (node_in d (m (first_cell d))) i e
+    first_is = sym (ap (node_in d) s.forward.0 ∙ node_as_is d x.node (listed_node d (numbers (x ∷ xs)) fs s.each x.node (has_here x.node (numbers xs))).1) ∙ eqb-true (node_in d (m (first_cell d))) i e
 
-front_performs : (d : Dllist) (m : ℕ → ℕ) (i : ℕ) (xs : List Listed) (fs : List ℕ) → (let c : Content = record { listed = xs; free = fs } in StandsFor d m c) → 0 < times i (numbers xs) → (t : Bool) → (node_in d (m (first_cell d)) == i) ≡ t → Performs d (act.MoveFront i) m (comes_to reply.Unit (record { node = i; payload = payload_of i xs } ∷ without i xs) fs)
+front_performs : (d : Dllist) (m : ℕ → ℕ) (i : ℕ) (xs : List Listed) (fs : List ℕ) → (let c : Content = record { listed = xs; free = fs } in StandsFor d m c) → 0 < times i (numbers xs) → (t : Bool) → (node_in d (m (first_cell d)) == i) ≡ t → Goes d (act.MoveFront i) m (comes_to reply.Unit (record { node = i; payload = payload_of i xs } ∷ without i xs) fs)
 front_performs d m i xs fs s on true e = stay_performs d m i xs fs s on e
 front_performs d m i xs fs s on false e = move_performs d m i xs fs s on e
 
 -- ---- Last
 
-last_performs : (d : Dllist) (m : ℕ → ℕ) (xs : List Listed) (fs : List ℕ) → (let c : Content = record { listed = xs; free = fs } in StandsFor d m c) → Performs d act.Last m (comes_to (last_reply xs) xs fs)
+last_performs : (d : Dllist) (m : ℕ → ℕ) (xs : List Listed) (fs : List ℕ) → (let c : Content = record { listed = xs; free = fs } in StandsFor d m c) → Goes d act.Last m (comes_to (last_reply xs) xs fs)
 unfolding dllist_program
-last_performs d m [] fs s = record { left = m; runs = none_runs; stands = s; kept = λ l g. refl }
+last_performs d m [] fs s = record { left = m; runs = none_runs; stand = s }
   where
     none_runs : (k : Reply → Program) → plain (dllist_program d act.Last k) m ≡ plain (k reply.Empty) m
     none_runs k =
         let e : node_in d (m (last_cell d)) ≡ 0 = ap (node_in d) s.backward ∙ node_as_is d 0 (omega arith) in
         let P : ℕ → Type 0 = λ i. plain (cond (i == 0) (k reply.Empty) (read (payload_cell d i) (λ v. k (reply.Value v)))) m ≡ plain (k reply.Empty) m in
         subst P (sym e) refl
-last_performs d m (x ∷ xs) fs s = record { left = m; runs = some_runs; stands = s; kept = λ l g. refl }
+last_performs d m (x ∷ xs) fs s = record { left = m; runs = some_runs; stand = s }
   where
     some_runs : (k : Reply → Program) → plain (dllist_program d act.Last k) m ≡ plain (k (last_reply (x ∷ xs))) m
     some_runs k =
@@ -315,12 +320,12 @@ last_performs d m (x ∷ xs) fs s = record { left = m; runs = some_runs; stands 
 
 -- ---- each operation
 
-push_value : (d : Dllist) (m : ℕ → ℕ) (v : ℕ) (xs : List Listed) (fs : List ℕ) → (let c : Content = record { listed = xs; free = fs } in StandsFor d m c) → Performs d (act.PushFront v) m (pushed v xs fs)
+push_value : (d : Dllist) (m : ℕ → ℕ) (v : ℕ) (xs : List Listed) (fs : List ℕ) → (let c : Content = record { listed = xs; free = fs } in StandsFor d m c) → Goes d (act.PushFront v) m (pushed v xs fs)
 push_value d m v xs [] s = full_performs d m v xs s
 push_value d m v xs (f ∷ fs) s = push_performs d m v xs f fs s
 
 -- The program of each operation, on cells that stand for a content, whatever comes behind it.
-pub performs : (d : Dllist) (a : DllistAct) (m : ℕ → ℕ) (c : Content) → StandsFor d m c → NamesListed a c → Performs d a m (dllist_value a c)
+pub performs : (d : Dllist) (a : DllistAct) (m : ℕ → ℕ) (c : Content) → StandsFor d m c → NamesListed a c → Goes d a m (dllist_value a c)
 performs d (act.PushFront v) m c s on = push_value d m v c.listed c.free s
 performs d (act.Remove i) m c s on = remove_performs d m i c.listed c.free s on
 performs d (act.MoveFront i) m c s on = front_performs d m i c.listed c.free s on (node_in d (m (first_cell d)) == i) refl

@@ -1,33 +1,42 @@
 -- Each operation's value; contents are one; what cells stand for depends on them alone; opening cells.
 use Rattle.std.proofs.Common.{◌≡◌, ◌≢◌, ℕ, zero, suc, ◌+◌, ◌*◌, ◌/◌, ◌%◌, ◌<◌, ◌≤◌, ◌==◌, Bool, true, false, cond, List, [], ◌∷◌, refl, sym, ap, ap₂, ◌∙◌, subst, arith, inl, inr}
-use Rattle.std.proofs.lemmas.Bool.{cases_lt, eqb-true, eqb-false}
+use Rattle.std.proofs.lemmas.Bool.{cases_lt, cases_eq}
 use Rattle.std.proofs.lemmas.Bool.Decides.{nat_tests}
-use Rattle.kc_xt.specs.Meaning.{too_large, replied, map_after}
-use Rattle.kc_xt.specs.Program.{Plain, replies}
-use Rattle.kc_xt.proofs.PlainRuns.{plain-meaning}
+use Rattle.kc_xt.specs.Times.{times}
+use Rattle.kc_xt.proofs.Times.{times-append, has_here}
+use Rattle.kc_xt.specs.Structure.{RunsInsideOthers, MeansItsValue, DependsOnItsCells, Opened}
+use Rattle.kc_xt.proofs.Inside.{runs_to}
+use Rattle.kc_xt.proofs.Structures.{runs_means}
 use Rattle.kc_dllist.specs.declared.dllist.Dllist.{Dllist}
 use Rattle.kc_dllist.specs.declared.operation.DllistOp.{DllistOp}
-use Rattle.kc_dllist.specs.Meaning.{dllist_program, dllist_meaning, first_cell, last_cell, free_cell, payload_cell, prev_cell, next_cell, node_in, IsNode, cells_end}
-use Rattle.kc_dllist.specs.Content.{Listed, Content, numbers, times, Chain, Payloads, StandsFor, NamesListed, dllist_value, rising, opening_content, IsOpened}
-use Rattle.kc_dllist.proofs.Times.{times-append, among_here}
+use Rattle.kc_dllist.specs.declared.operation.DllistAct.{DllistAct}
+use Rattle.kc_dllist.specs.declared.operation.DllistAct.TheVariants as act
+use Rattle.kc_dllist.specs.Meaning.{dllist_program, dllist_meaning, dllist_begin, dllist_cells, dllist_opening, NamesNode, first_cell, last_cell, free_cell, payload_cell, prev_cell, next_cell, node_in, IsNode, cells_end}
+use Rattle.kc_dllist.specs.Content.{Listed, Content, numbers, Chain, Payloads, StandsFor, NamesListed, dllist_value, rising, opening_content}
 use Rattle.kc_dllist.proofs.Cells.{chain_same, backward_same, payloads_same, node_as_is}
 use Rattle.kc_dllist.proofs.Standing.{listed_node, free_node, listed_some, free_some}
+use Rattle.kc_dllist.proofs.DllistLaw.{op_stays}
 use Rattle.kc_dllist.proofs.Runs.{performs}
 
--- where a meaning is not too large, it is the value on the content
-pub dllist_has_value : (o : DllistOp) (n : ℕ) (m : ℕ → ℕ) (ks : List ℕ) (c : Content) → StandsFor o.list m c → NamesListed o.act c → (dllist_meaning o n m ks).outcome ≢ too_large → ((dllist_meaning o n m ks).outcome ≡ replied (dllist_value o.act c).reply) × StandsFor o.list (map_after m (dllist_meaning o n m ks).touches) (dllist_value o.act c).content
-dllist_has_value o n m ks c s on ne =
-    let p = plain-meaning (dllist_program o.list o.act replies) n m ks ne in
-    let v = performs o.list o.act m c s on in
-    let e = v.runs replies in
-    (p.0 ∙ ap (λ (w : Plain). w.outcome) e, subst (λ (w : ℕ → ℕ). StandsFor o.list w (dllist_value o.act c).content) (sym (p.1 ∙ ap (λ (w : Plain). w.map) e)) v.stands)
+-- a node that is listed is a node
+names_node : (d : Dllist) (m : ℕ → ℕ) (a : DllistAct) (c : Content) → StandsFor d m c → NamesListed a c → NamesNode d a
+names_node d m (act.PushFront v) c s on = tt
+names_node d m (act.Remove i) c s on = listed_node d (numbers c.listed) c.free s.each i on
+names_node d m (act.MoveFront i) c s on = listed_node d (numbers c.listed) c.free s.each i on
+names_node d m act.Last c s on = tt
+
+pub dllist_inside : (o : DllistOp) (c : Content) → NamesListed o.act c → RunsInsideOthers (StandsFor o.list) (dllist_begin o) (cells_end o.list) (dllist_program o.list o.act) c (dllist_value o.act c)
+dllist_inside o c on m s = runs_to (op_stays o (names_node o.list m o.act c s on)) (performs o.list o.act m c s on)
+
+pub dllist_means : (o : DllistOp) (c : Content) → NamesListed o.act c → MeansItsValue (StandsFor o.list) (dllist_meaning o) c (dllist_value o.act c)
+dllist_means o c on = runs_means (dllist_program o.list o.act) c (dllist_value o.act c) (dllist_inside o c on)
 
 -- ---- contents are one
 
 chain_one : (d : Dllist) (m : ℕ → ℕ) (c : ℕ) (is js : List ℕ) → ((i : ℕ) → 0 < times i is → i ≢ 0) → ((j : ℕ) → 0 < times j js → j ≢ 0) → Chain d m c is → Chain d m c js → is ≡ js
 chain_one d m c [] [] f g h w = refl
-chain_one d m c [] (j ∷ js) f g h w = absurd (g j (among_here j js) (sym w.0 ∙ h))
-chain_one d m c (i ∷ is) [] f g h w = absurd (f i (among_here i is) (sym h.0 ∙ w))
+chain_one d m c [] (j ∷ js) f g h w = absurd (g j (has_here j js) (sym w.0 ∙ h))
+chain_one d m c (i ∷ is) [] f g h w = absurd (f i (has_here i is) (sym h.0 ∙ w))
 chain_one d m c (i ∷ is) (j ∷ js) f g h w =
     let e : i ≡ j = sym h.0 ∙ w.0 in
     ap₂ (λ x xs. x ∷ xs) e (chain_one d m (next_cell d i) is js (λ k q. f k (more k i is q)) (λ k q. g k (more k j js q)) h.1 (subst (λ x. Chain d m (next_cell d x) js) (sym e) w.1))
@@ -54,8 +63,9 @@ content_one d m a b s r =
 
 -- ---- what cells stand for depends on them alone
 
-pub dllist_same : (d : Dllist) (m w : ℕ → ℕ) (c : Content) → ((l : ℕ) → d.base.0 ≤ l → l < cells_end d → w l ≡ m l) → StandsFor d m c → StandsFor d w c
-dllist_same d m w c f s =
+pub dllist_same : (d : Dllist) → DependsOnItsCells (StandsFor d) d.base.0 (cells_end d)
+dllist_same d m w c same s =
+    let f : (l : ℕ) → d.base.0 ≤ l → l < cells_end d → w l ≡ m l = λ l lo hi. sym (same l lo hi) in
     let node = listed_node d (numbers c.listed) c.free s.each in
     let spare = free_node d (numbers c.listed) c.free s.each in
     record {
@@ -70,20 +80,17 @@ dllist_same d m w c f s =
 
 times_rising : (j i n : ℕ) → (j < i → times j (rising i n) ≡ 0) × (i ≤ j → j < i + n → times j (rising i n) ≡ 1) × (i + n ≤ j → times j (rising i n) ≡ 0)
 times_rising j i zero = (λ h. refl, λ h g. absurd (omega (arith, h, g)), λ h. refl)
-times_rising j i (suc n) = by_test (times_rising j (i + 1) n) (j == i) refl
-  where
-    by_test : (j < i + 1 → times j (rising (i + 1) n) ≡ 0) × (i + 1 ≤ j → j < i + 1 + n → times j (rising (i + 1) n) ≡ 1) × (i + 1 + n ≤ j → times j (rising (i + 1) n) ≡ 0) → (t : Bool) → (j == i) ≡ t → (j < i → cond t (suc (times j (rising (i + 1) n))) (times j (rising (i + 1) n)) ≡ 0) × (i ≤ j → j < i + suc n → cond t (suc (times j (rising (i + 1) n))) (times j (rising (i + 1) n)) ≡ 1) × (i + suc n ≤ j → cond t (suc (times j (rising (i + 1) n))) (times j (rising (i + 1) n)) ≡ 0)
-    by_test r true e =
-        let q = eqb-true j i e in
-        (λ h. absurd (omega (arith, h, q)), λ h g. ap suc (r.0 (omega (arith, q))), λ h. absurd (omega (arith, h, q)))
-    by_test r false e =
-        let q = eqb-false j i e in
-        (λ h. r.0 (omega (arith, h)), λ h g. r.1 (differs q h) (omega (arith, g)), λ h. r.2 (omega (arith, h)))
-      where
-        differs : (j ≡ i → ⊥) → i ≤ j → i + 1 ≤ j
-        differs ne h = elim (cases_lt i j) [ inl l ↦ omega (arith, l) | inr l ↦ absurd (ne (omega (arith, l, h))) ]
+times_rising j i (suc n) =
+    let r = times_rising j (i + 1) n in (
+      λ h. let a = r.0 (omega (arith, h)) in grind (arith, nat_tests, a, h),
+      λ h g. elim (cases_eq i j) [
+        | inl e ↦ let a = r.0 (omega (arith, e)) in grind (arith, nat_tests, a, e)
+        | inr ne ↦ let a = r.1 (omega (arith, h, ne)) (omega (arith, g)) in grind (arith, nat_tests, a, ne)
+      ],
+      λ h. let a = r.2 (omega (arith, h)) in grind (arith, nat_tests, a, h),
+    )
 
-opens_next : (d : Dllist) (m : ℕ → ℕ) (i : ℕ) → IsOpened d m → i ≤ d.cap → m (next_cell d i) ≡ node_in d (i + 1)
+opens_next : (d : Dllist) (m : ℕ → ℕ) (i : ℕ) → Opened d.base.0 (dllist_cells d) (dllist_opening d) m → i ≤ d.cap → m (next_cell d i) ≡ node_in d (i + 1)
 opens_next d m i o h =
     let c : ℕ = 3 * i + 2 in
     let at : d.base.0 + (3 * i + 2) ≡ next_cell d i = omega arith in
@@ -91,14 +98,14 @@ opens_next d m i o h =
     let part : (3 * i + 2) / 3 ≡ i = omega arith in
     sym (ap m at) ∙ o (3 * i + 2) (omega (arith, h)) ∙ ap₂ (λ x y. cond (x == 2) (node_in d (y + 1)) 0) rest part
 
-opens_chain : (d : Dllist) (m : ℕ → ℕ) (i n : ℕ) → IsOpened d m → i + n ≡ d.cap → Chain d m (next_cell d i) (rising (i + 1) n)
+opens_chain : (d : Dllist) (m : ℕ → ℕ) (i n : ℕ) → Opened d.base.0 (dllist_cells d) (dllist_opening d) m → i + n ≡ d.cap → Chain d m (next_cell d i) (rising (i + 1) n)
 opens_chain d m i zero o e = opens_next d m i o (omega (arith, e)) ∙ past
   where
     past : node_in d (i + 1) ≡ 0
     past = grind (arith, nat_tests)
 opens_chain d m i (suc n) o e = (opens_next d m i o (omega (arith, e)) ∙ node_as_is d (i + 1) (omega (arith, e)), opens_chain d m (i + 1) n o (omega (arith, e)))
 
-pub opened_empty : (d : Dllist) (m : ℕ → ℕ) → IsOpened d m → StandsFor d m (opening_content d)
+pub opened_empty : (d : Dllist) (m : ℕ → ℕ) → Opened d.base.0 (dllist_cells d) (dllist_opening d) m → StandsFor d m (opening_content d)
 opened_empty d m o =
     let first : d.base.0 + 0 ≡ first_cell d = omega arith in
     let free : next_cell d 0 ≡ free_cell d = omega arith in

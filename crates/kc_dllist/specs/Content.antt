@@ -3,11 +3,13 @@ use Rattle.std.specs.Prelude.{◌≡◌, ℕ, zero, suc, ◌+◌, ◌<◌, ◌�
 use Rattle.std.specs.Coded.{Coded, code_by, coded×, coded_ℕ}
 use Rattle.kc_model.specs.declared.reply.Reply.{Reply}
 use Rattle.kc_model.specs.declared.reply.Reply.TheVariants as reply
-use Rattle.kc_xt.specs.Program.{Program, plain}
+use Rattle.kc_xt.specs.Meaning.{replied}
+use Rattle.kc_xt.specs.Times.{times}
+use Rattle.kc_xt.specs.Structure.{Value}
 use Rattle.kc_dllist.specs.declared.dllist.Dllist.{Dllist}
 use Rattle.kc_dllist.specs.declared.operation.DllistAct.{DllistAct}
 use Rattle.kc_dllist.specs.declared.operation.DllistAct.TheVariants as act
-use Rattle.kc_dllist.specs.Meaning.{first_cell, last_cell, free_cell, payload_cell, prev_cell, next_cell, node_in, IsNode, dllist_cells, cells_end, dllist_opening, dllist_program}
+use Rattle.kc_dllist.specs.Meaning.{first_cell, last_cell, free_cell, payload_cell, prev_cell, next_cell, node_in, IsNode}
 
 -- a listed node: its number and its payload
 pub record Listed : Type 0 where
@@ -22,11 +24,6 @@ pub record Content : Type 0 where
 -- the numbers of listed nodes
 abbrev pub numbers : List Listed → List ℕ
 numbers xs = map (λ x. x.node) xs
-
--- how often a number stands among others
-abbrev pub times : ℕ → List ℕ → ℕ
-times i [] = 0
-times i (j ∷ js) = cond (i == j) (suc (times i js)) (times i js)
 
 -- ---- cells that stand for a content
 
@@ -58,10 +55,6 @@ pub record StandsFor (d : Dllist) (m : ℕ → ℕ) (c : Content) : Type 0 where
   pub free : Chain d m (free_cell d) c.free
   pub each : HasEachOnce d (numbers c.listed ++ c.free)
 
--- the cells stand for some content
-abbrev pub IsWellFormed : Dllist → (ℕ → ℕ) → Type 0
-IsWellFormed d m = (c : Content) × StandsFor d m c
-
 -- so many numbers, rising from one on
 abbrev pub rising : ℕ → ℕ → List ℕ
 rising i zero = []
@@ -70,10 +63,6 @@ rising i (suc n) = i ∷ rising (i + 1) n
 -- no node is listed, and all are free, in rising order
 abbrev pub opening_content : Dllist → Content
 opening_content d = record { listed = []; free = rising 1 d.cap }
-
--- each cell has its opening value
-abbrev pub IsOpened : Dllist → (ℕ → ℕ) → Type 0
-IsOpened d m = (i : ℕ) → i < dllist_cells d → m (d.base.0 + i) ≡ dllist_opening d i
 
 -- ---- values on contents
 
@@ -94,19 +83,15 @@ last_reply (x ∷ []) = reply.Value x.payload
 last_reply (x ∷ y ∷ xs) = last_reply (y ∷ xs)
 
 -- a reply, and the content then
-pub record DllistValue : Type 0 where
-  pub reply : Reply
-  pub content : Content
-
-abbrev pub comes_to : Reply → List Listed → List ℕ → DllistValue
-comes_to a listed free = record { reply = a; content = record { listed = listed; free = free } }
+abbrev pub comes_to : Reply → List Listed → List ℕ → Value Content
+comes_to a listed free = record { outcome = replied a; content = record { listed = listed; free = free } }
 
 -- the first free node is listed first
-abbrev pub pushed : ℕ → List Listed → List ℕ → DllistValue
+abbrev pub pushed : ℕ → List Listed → List ℕ → Value Content
 pushed v listed [] = comes_to reply.Full listed []
 pushed v listed (f ∷ free) = comes_to (reply.Value f) (record { node = f; payload = v } ∷ listed) free
 
-abbrev pub dllist_value : DllistAct → Content → DllistValue
+abbrev pub dllist_value : DllistAct → Content → Value Content
 dllist_value (act.PushFront v) c = pushed v c.listed c.free
 dllist_value (act.Remove i) c = comes_to (reply.Value (payload_of i c.listed)) (without i c.listed) (i ∷ c.free)
 dllist_value (act.MoveFront i) c = comes_to reply.Unit (record { node = i; payload = payload_of i c.listed } ∷ without i c.listed) c.free
@@ -142,17 +127,3 @@ first_listed (x ∷ xs) = Some (x.node, x.payload)
 -- a listed node, coded as its numbers
 abbrev pub listed_code : Coded Listed
 listed_code = code_by (ℕ × ℕ) (coded× coded_ℕ coded_ℕ) (λ x. (x.node, x.payload)) (λ p. record { node = p.0; payload = p.1 }) (λ _. refl)
-
--- ---- an operation inside a longer program
-
--- a location is none of the list's cells
-pub data IsOutside (d : Dllist) (l : ℕ) : Type 0 where
-  below : l < d.base.0 → IsOutside d l
-  above : cells_end d ≤ l → IsOutside d l
-
--- The operation's program replies so, whatever comes behind; the map that is left stands for the content, and is as before outside of the list's cells.
-pub record Performs (d : Dllist) (a : DllistAct) (m : ℕ → ℕ) (v : DllistValue) : Type 0 where
-  pub left : ℕ → ℕ
-  pub runs : (k : Reply → Program) → plain (dllist_program d a k) m ≡ plain (k v.reply) left
-  pub stands : StandsFor d left v.content
-  pub kept : (l : ℕ) → IsOutside d l → left l ≡ m l

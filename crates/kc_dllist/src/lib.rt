@@ -10,6 +10,9 @@ mod operation;
 mod tests;
 
 pub use dllist::Dllist;
-pub use laws::{content_is_one, has_each_node, keeps_well_formed, means_its_value, opens_empty};
+pub use laws::{
+    content_is_one, has_each_node, keeps_well_formed, means_its_value, opens_empty,
+    runs_inside_others, touches_its_own_cells,
+};
 pub use nodes::Nodes;
 pub use operation::{DllistAct, DllistOp};

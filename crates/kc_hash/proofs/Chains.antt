@@ -1,13 +1,13 @@
 -- Chains of nodes, and walks over them.
-use Rattle.std.proofs.Common.{◌≡◌, ◌≢◌, ◌⊎◌, ℕ, zero, suc, ◌<◌, ◌≤◌, Bool, true, false, cond, eqb, List, [], ◌∷◌, ◌++◌, length, Option, Some, None, refl, sym, ap, ◌∙◌, subst, inl, inr, arith, le-leb, eq-eqb, ne_eqb}
+use Rattle.std.proofs.Common.{◌≡◌, ◌≢◌, ◌⊎◌, ℕ, zero, suc, ◌<◌, ◌≤◌, Bool, true, false, cond, eqb, List, [], ◌∷◌, ◌++◌, length, Option, Some, None, refl, sym, ap, ◌∙◌, inl, inr, arith, le-leb, eq-eqb, ne_eqb}
 use Rattle.std.proofs.lemmas.Bool.{cases_eq}
+use Rattle.kc_xt.specs.Times.{times}
+use Rattle.kc_xt.proofs.Times.{times-there, has_here, has_rest, none_there}
 use Rattle.kc_xt.specs.Program.{Program, plain}
 use Rattle.kc_hash.specs.declared.hash.Hash.{Hash}
 use Rattle.kc_hash.specs.declared.walk.Place.{Place}
 use Rattle.kc_hash.specs.Meaning.{nodes_program, key_cell, next_cell, bucket_of, link_of}
-use Rattle.kc_hash.specs.Content.{times, keys_of, IsChain, AllInBucket}
-use Rattle.kc_hash.proofs.Lists.{times-there}
-use Rattle.kc_hash.proofs.Maps.{has_here, has_rest, none_there}
+use Rattle.kc_hash.specs.Content.{keys_of, IsChain, AllInBucket}
 
 -- a link to a node counts as it is
 pub link_is : (h : Hash) (n : ℕ) → n ≤ h.cap → link_of h n ≡ n
@@ -32,15 +32,6 @@ module _ (h : Hash) where
   pub chain_moved : (m w : ℕ → ℕ) (c d : ℕ) (ns : List ℕ) → IsChain h m c ns → w d ≡ m c → ((j : ℕ) → 1 ≤ times j ns → w (next_cell h j) ≡ m (next_cell h j)) → IsChain h w d ns
   chain_moved m w c d [] e same kept = same ∙ e
   chain_moved m w c d (i ∷ is) (e, lo, hi, rest) same kept = (same ∙ e, lo, hi, chain_moved m w (next_cell h i) (next_cell h i) is rest (kept i (has_here i is)) (λ j some. kept j (has_rest i j is some)))
-
-  -- a cell begins one chain
-  pub chain_one : (m : ℕ → ℕ) (c : ℕ) (ns os : List ℕ) → IsChain h m c ns → IsChain h m c os → ns ≡ os
-  chain_one m c [] [] a b = refl
-  chain_one m c [] (j ∷ js) a (e, lo, hi, rest) = absurd (omega (arith, a, e, lo))
-  chain_one m c (i ∷ is) [] (e, lo, hi, rest) b = absurd (omega (arith, b, e, lo))
-  chain_one m c (i ∷ is) (j ∷ js) (e, lo, hi, rest) (f, lo', hi', rest') =
-      let same : i ≡ j = sym e ∙ f in
-      ap (λ x. x ∷ is) same ∙ ap (λ xs. j ∷ xs) (chain_one m (next_cell h j) is js (subst (λ x. IsChain h m (next_cell h x) is) same rest) rest')
 
   -- the bucket of a chain's node
   pub in_bucket : (m : ℕ → ℕ) (b : ℕ) (ns : List ℕ) → AllInBucket h m b ns → (j : ℕ) → 1 ≤ times j ns → bucket_of h (m (key_cell h j)) ≡ b

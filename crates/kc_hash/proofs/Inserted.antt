@@ -1,16 +1,17 @@
 -- A new pair in a free node.
-use Rattle.std.proofs.Common.{◌≡◌, ◌≢◌, ◌⊎◌, ℕ, ◌+◌, ◌<◌, ◌≤◌, min, List, [], ◌∷◌, ◌++◌, length, refl, sym, ap, ◌∙◌, subst, inl, inr, arith, length-append}
+use Rattle.std.proofs.Common.{◌≡◌, ◌≢◌, ◌⊎◌, ℕ, ◌+◌, ◌<◌, ◌≤◌, List, [], ◌∷◌, ◌++◌, length, refl, sym, ap, ◌∙◌, subst, inl, inr, arith, length-append}
 use Rattle.std.proofs.lemmas.Bool.{cases_eq}
+use Rattle.std.proofs.lemmas.Bool.Decides.{nat_tests}
+use Rattle.kc_xt.specs.Times.{times}
+use Rattle.kc_xt.proofs.Times.{times-here, times-there, times-append, has_here}
 use Rattle.kc_xt.specs.Meaning.{put}
 use Rattle.kc_hash.specs.declared.hash.Hash.{Hash}
 use Rattle.kc_hash.specs.Meaning.{count_cell, free_cell, head_cell, key_cell, value_cell, next_cell, bucket_of, link_of, counted}
-use Rattle.kc_hash.specs.Content.{times, keys_of, nodes_of, map_of, with_pair, IsChain, StandsFor}
+use Rattle.kc_hash.specs.Content.{keys_of, nodes_of, map_of, with_pair, IsChain, StandsFor}
 use Rattle.kc_hash.proofs.HashLaw.{bucket_within}
-use Rattle.kc_hash.proofs.Lists.{times-here, times-there, times-append}
-use Rattle.kc_hash.proofs.Maps.{has_here, times_keys, keys_same, map_same, map_split}
-use Rattle.kc_hash.proofs.Chains.{link_is, chain_first, chain_moved, chain_nodes, in_bucket, bucket_from}
+use Rattle.kc_hash.proofs.Maps.{times_keys, keys_same, map_same, map_split}
+use Rattle.kc_hash.proofs.Chains.{chain_first, chain_moved, chain_nodes, in_bucket, bucket_from}
 use Rattle.kc_hash.proofs.Buckets.{with_chain, with_chain-here, with_chain-there}
-use Rattle.kc_hash.proofs.Cells.{put-here, put-other, key≢value, key≢next, value≢next, key≢key, value≢value, next≢next, head≢head, free≢head, count≢head, count≢free, IsLow, low-count, low-free, low-head, key≢low, value≢low, next≢low}
 use Rattle.kc_hash.proofs.Formed.{listed, room, listed_nodes, free_nodes, not_free, not_listed, in_listed, round, key_missing}
 
 -- ---- the writes, in order
@@ -38,72 +39,18 @@ pub record IsInserted (h : Hash) (m w : ℕ → ℕ) (key value i : ℕ) : Type 
   pub nexts : (j : ℕ) → 1 ≤ j → j ≢ i → w (next_cell h j) ≡ m (next_cell h j)
 
 module _ (h : Hash) (m : ℕ → ℕ) (key value i : ℕ) (some : 1 ≤ i) (home : bucket_of h key < h.buckets) (next : m (next_cell h i) ≤ h.cap) (head : m (head_cell h (bucket_of h key)) ≤ h.cap) (count : m (count_cell h) ≤ h.cap) where
-  -- none of the first three
-  past_filled : (l : ℕ) → free_cell h ≢ l → key_cell h i ≢ l → value_cell h i ≢ l → filled h m key value i l ≡ m l
-  past_filled l f k v =
-      put-other (put (put m (free_cell h) (link_of h (m (next_cell h i)))) (key_cell h i) key) (value_cell h i) value l v
-      ∙ put-other (put m (free_cell h) (link_of h (m (next_cell h i)))) (key_cell h i) key l k
-      ∙ put-other m (free_cell h) (link_of h (m (next_cell h i))) l f
-
-  -- none of the two links
-  past_linked : (l : ℕ) → next_cell h i ≢ l → head_cell h (bucket_of h key) ≢ l → linked_in h m key value i l ≡ filled h m key value i l
-  past_linked l n b =
-      put-other (put (filled h m key value i) (next_cell h i) (link_of h (filled h m key value i (head_cell h (bucket_of h key))))) (head_cell h (bucket_of h key)) i l b
-      ∙ put-other (filled h m key value i) (next_cell h i) (link_of h (filled h m key value i (head_cell h (bucket_of h key)))) l n
-
-  past_count : (l : ℕ) → count_cell h ≢ l → inserted h m key value i l ≡ linked_in h m key value i l
-  past_count l c = put-other (linked_in h m key value i) (count_cell h) (counted h (linked_in h m key value i (count_cell h)) + 1) l c
-
-  -- none of all
-  past : (l : ℕ) → count_cell h ≢ l → free_cell h ≢ l → head_cell h (bucket_of h key) ≢ l → key_cell h i ≢ l → value_cell h i ≢ l → next_cell h i ≢ l → inserted h m key value i l ≡ m l
-  past l c f b k v n = past_count l c ∙ past_linked l n b ∙ past_filled l f k v
-
-  low : IsLow h (head_cell h (bucket_of h key))
-  low = low-head h (bucket_of h key) home
-
-  head_read : filled h m key value i (head_cell h (bucket_of h key)) ≡ m (head_cell h (bucket_of h key))
-  head_read = past_filled _ (free≢head h _) (key≢low h i _ low) (value≢low h i _ low)
-
-  count_read : linked_in h m key value i (count_cell h) ≡ m (count_cell h)
-  count_read =
-      past_linked _ (next≢low h i _ (low-count h)) (λ e. count≢head h _ (sym e))
-      ∙ past_filled _ (λ e. count≢free h (sym e)) (key≢low h i _ (low-count h)) (value≢low h i _ (low-count h))
-
   pub is_inserted : IsInserted h m (inserted h m key value i) key value i
   is_inserted = record {
-    count =
-        put-here (linked_in h m key value i) (count_cell h) (counted h (linked_in h m key value i (count_cell h)) + 1) _ refl
-        ∙ ap (λ n. counted h n + 1) count_read
-        ∙ (let e : min (m (count_cell h)) h.cap ≡ m (count_cell h) = omega (arith, count) in ap (λ n. n + 1) e);
-    free =
-        past_count _ (count≢free h)
-        ∙ past_linked _ (next≢low h i _ (low-free h)) (λ e. free≢head h _ (sym e))
-        ∙ put-other (put (put m (free_cell h) (link_of h (m (next_cell h i)))) (key_cell h i) key) (value_cell h i) value _ (value≢low h i _ (low-free h))
-        ∙ put-other (put m (free_cell h) (link_of h (m (next_cell h i)))) (key_cell h i) key _ (key≢low h i _ (low-free h))
-        ∙ put-here m (free_cell h) (link_of h (m (next_cell h i))) _ refl
-        ∙ link_is h _ next;
-    head =
-        past_count _ (count≢head h _)
-        ∙ put-here (put (filled h m key value i) (next_cell h i) (link_of h (filled h m key value i (head_cell h (bucket_of h key))))) (head_cell h (bucket_of h key)) i _ refl;
-    key_in =
-        past_count _ (λ e. key≢low h i _ (low-count h) (sym e))
-        ∙ past_linked _ (λ e. key≢next h i i (sym e)) (λ e. key≢low h i _ low (sym e))
-        ∙ put-other (put (put m (free_cell h) (link_of h (m (next_cell h i)))) (key_cell h i) key) (value_cell h i) value _ (λ e. key≢value h i i (sym e))
-        ∙ put-here (put m (free_cell h) (link_of h (m (next_cell h i)))) (key_cell h i) key _ refl;
-    value_in =
-        past_count _ (λ e. value≢low h i _ (low-count h) (sym e))
-        ∙ past_linked _ (λ e. value≢next h i i (sym e)) (λ e. value≢low h i _ low (sym e))
-        ∙ put-here (put (put m (free_cell h) (link_of h (m (next_cell h i)))) (key_cell h i) key) (value_cell h i) value _ refl;
-    next =
-        past_count _ (λ e. next≢low h i _ (low-count h) (sym e))
-        ∙ put-other (put (filled h m key value i) (next_cell h i) (link_of h (filled h m key value i (head_cell h (bucket_of h key))))) (head_cell h (bucket_of h key)) i _ (λ e. next≢low h i _ low (sym e))
-        ∙ put-here (filled h m key value i) (next_cell h i) (link_of h (filled h m key value i (head_cell h (bucket_of h key)))) _ refl
-        ∙ ap (link_of h) head_read
-        ∙ link_is h _ head;
-    heads = λ b lt ne. past _ (count≢head h b) (free≢head h b) (head≢head h _ _ (λ e. ne (sym e))) (key≢low h i _ (low-head h b lt)) (value≢low h i _ (low-head h b lt)) (next≢low h i _ (low-head h b lt));
-    keys = λ j lo ne. past _ (λ e. key≢low h j _ (low-count h) (sym e)) (λ e. key≢low h j _ (low-free h) (sym e)) (λ e. key≢low h j _ low (sym e)) (key≢key h i j some lo (λ e. ne (sym e))) (λ e. key≢value h j i (sym e)) (λ e. key≢next h j i (sym e));
-    values = λ j lo ne. past _ (λ e. value≢low h j _ (low-count h) (sym e)) (λ e. value≢low h j _ (low-free h) (sym e)) (λ e. value≢low h j _ low (sym e)) (key≢value h i j) (value≢value h i j some lo (λ e. ne (sym e))) (λ e. value≢next h j i (sym e));
-    nexts = λ j lo ne. past _ (λ e. next≢low h j _ (low-count h) (sym e)) (λ e. next≢low h j _ (low-free h) (sym e)) (λ e. next≢low h j _ low (sym e)) (key≢next h i j) (value≢next h i j) (next≢next h i j some lo (λ e. ne (sym e)));
+    count = grind (arith, nat_tests, home);
+    free = grind (arith, nat_tests, home);
+    head = grind (arith, nat_tests, home);
+    key_in = grind (arith, nat_tests, home);
+    value_in = grind (arith, nat_tests, home);
+    next = grind (arith, nat_tests, home);
+    heads = λ b lt ne. grind (arith, nat_tests, lt, ne);
+    keys = λ j lo ne. grind (arith, nat_tests, home, ne);
+    values = λ j lo ne. grind (arith, nat_tests, home, ne);
+    nexts = λ j lo ne. grind (arith, nat_tests, home, ne);
   }
 
 -- ---- what the cells stand for then

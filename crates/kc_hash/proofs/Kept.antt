@@ -1,13 +1,15 @@
 -- What the operations that link no node leave.
-use Rattle.std.proofs.Common.{◌≡◌, ◌≢◌, ℕ, zero, suc, ◌+◌, ◌<◌, ◌≤◌, List, ◌++◌, refl, sym, ap, ◌∙◌, subst, arith}
+use Rattle.std.proofs.Common.{◌≡◌, ◌≢◌, ℕ, ◌<◌, ◌≤◌, List, ◌++◌, sym, ap, ◌∙◌, subst, arith}
+use Rattle.std.proofs.lemmas.Bool.Decides.{nat_tests}
+use Rattle.kc_xt.specs.Times.{times}
 use Rattle.kc_xt.specs.Meaning.{put}
+use Rattle.kc_xt.specs.Structure.{SameCells}
 use Rattle.kc_hash.specs.declared.hash.Hash.{Hash}
-use Rattle.kc_hash.specs.Meaning.{count_cell, free_cell, head_cell, key_cell, value_cell, next_cell, bucket_of}
-use Rattle.kc_hash.specs.Content.{times, keys_of, nodes_of, map_of, with_pair, StandsFor, SameCells}
-use Rattle.kc_hash.proofs.Pairs.{with_pair-twice}
+use Rattle.kc_hash.specs.Meaning.{count_cell, free_cell, head_cell, key_cell, value_cell, next_cell, bucket_of, cells_end}
+use Rattle.kc_hash.specs.Content.{keys_of, map_of, with_pair, StandsFor}
+use Rattle.kc_hash.proofs.FiniteMaps.{with_pair-twice}
 use Rattle.kc_hash.proofs.Maps.{keys_same, map_same, map_split}
-use Rattle.kc_hash.proofs.Chains.{chain_moved, chain_one, chain_nodes, in_bucket, bucket_from, Found}
-use Rattle.kc_hash.proofs.Cells.{put-here, put-other, key≢value, value≢next, value≢value, value≢low, low-count, low-free, low-head}
+use Rattle.kc_hash.proofs.Chains.{chain_moved, chain_nodes, in_bucket, bucket_from, Found}
 use Rattle.kc_hash.proofs.Formed.{listed, listed_nodes, free_nodes, found_node, alone, key_left, pairs_parts, parts, left, right, times_parts}
 
 module _ (h : Hash) (m : ℕ → ℕ) (pairs : List (ℕ × ℕ)) (S : StandsFor h m pairs) where
@@ -30,7 +32,7 @@ module _ (h : Hash) (m : ℕ → ℕ) (pairs : List (ℕ × ℕ)) (S : StandsFor
   }
 
   -- what the cells stand for depends on the table's cells alone
-  pub same_cells : (w : ℕ → ℕ) → SameCells h m w → StandsFor h w pairs
+  pub same_cells : (w : ℕ → ℕ) → SameCells h.base.0 (cells_end h) m w → StandsFor h w pairs
   same_cells w same = keeps_chains w pairs
       (sym (same (count_cell h) (omega arith) (omega arith)))
       (sym (same (free_cell h) (omega arith) (omega arith)))
@@ -46,9 +48,8 @@ module _ (h : Hash) (m : ℕ → ℕ) (pairs : List (ℕ × ℕ)) (S : StandsFor
     pub stands_valued : StandsFor h (put m (value_cell h F.node) value) (with_pair pairs key value)
     stands_valued =
         let w : ℕ → ℕ = put m (value_cell h F.node) value in
-        let other : (l : ℕ) → value_cell h F.node ≢ l → w l ≡ m l = λ l ne. put-other m (value_cell h F.node) value l ne in
         let i = F.node in
-        let keys : (j : ℕ) → w (key_cell h j) ≡ m (key_cell h j) = λ j. other (key_cell h j) (λ e. key≢value h j i (sym e)) in
+        let keys : (j : ℕ) → w (key_cell h j) ≡ m (key_cell h j) = λ j. grind (arith, nat_tests) in
         let nodes : (j : ℕ) → 1 ≤ times j (left h m pairs S key F ++ right h m pairs S key F) → (1 ≤ j) × (i ≢ j) = λ j some. (
           let t = times_parts h m pairs S key F j in (listed_nodes h m pairs S j (omega (arith, t, some))).0,
           λ e. let a = alone h m pairs S key F in
@@ -56,32 +57,19 @@ module _ (h : Hash) (m : ℕ → ℕ) (pairs : List (ℕ × ℕ)) (S : StandsFor
               omega (arith, f, some),
         ) in
         let values : (j : ℕ) → 1 ≤ times j (left h m pairs S key F ++ right h m pairs S key F) → w (value_cell h j) ≡ m (value_cell h j) = λ j some.
-        let n = nodes j some in other (value_cell h j) (value≢value h i j (found_node h m pairs S key F).0 n.0 n.1) in
+        let n = nodes j some in let k = found_node h m pairs S key F in grind (arith, nat_tests, n.0, n.1, k.0) in
         keeps_chains w (with_pair pairs key value)
-        (other (count_cell h) (value≢low h i _ (low-count h)))
-        (other (free_cell h) (value≢low h i _ (low-free h)))
-        (λ b lt. other (head_cell h b) (value≢low h i _ (low-head h b lt)))
+        (grind (arith, nat_tests))
+        (grind (arith, nat_tests))
+        (λ b lt. grind (arith, nat_tests, lt))
         (λ j lo hi. keys j)
-        (λ j lo hi. other (next_cell h j) (value≢next h i j))
+        (λ j lo hi. grind (arith, nat_tests))
         (ap (λ ps. with_pair ps key value) (pairs_parts h m pairs S key F)
         ∙ with_pair-twice (map_of h m (left h m pairs S key F ++ right h m pairs S key F)) key (m (value_cell h i)) value
         ∙ ap (λ ps. with_pair ps key value) (sym (map_same h m w (left h m pairs S key F ++ right h m pairs S key F) (λ j some. keys j) values))
         ∙ ap (λ k. with_pair (map_of h w (left h m pairs S key F ++ right h m pairs S key F)) k value) (sym (keys i ∙ F.here))
-        ∙ ap (λ v. with_pair (map_of h w (left h m pairs S key F ++ right h m pairs S key F)) (w (key_cell h i)) v) (sym (put-here m (value_cell h i) value (value_cell h i) refl))
+        ∙ ap (λ v. with_pair (map_of h w (left h m pairs S key F ++ right h m pairs S key F)) (w (key_cell h i)) v) (let here : value ≡ w (value_cell h i) = grind (arith, nat_tests) in here)
         ∙ sym (map_split h w (left h m pairs S key F) (right h m pairs S key F) i
         (subst (λ ks. times (w (key_cell h i)) ks ≡ 0) (sym (keys_same h m w (left h m pairs S key F) (λ j some. keys j)))
         (subst (λ k. times k (keys_of h m (left h m pairs S key F)) ≡ 0) (sym (keys i)) (key_left h m pairs S key F))))
         ∙ ap (map_of h w) (sym (parts h m pairs S key F)))
-
--- the same chains have the same nodes
-nodes_same : (f g : ℕ → List ℕ) (b n : ℕ) → ((c : ℕ) → b ≤ c → c < b + n → f c ≡ g c) → nodes_of f b n ≡ nodes_of g b n
-nodes_same f g b zero same = refl
-nodes_same f g b (suc n) same =
-    ap (λ xs. xs ++ nodes_of f (b + 1) n) (same b (omega arith) (omega arith))
-    ∙ ap (λ xs. g b ++ xs) (nodes_same f g (b + 1) n (λ c lo hi. same c (omega (arith, lo)) (omega (arith, hi))))
-
--- cells stand for one content
-pub one_content : (h : Hash) (m : ℕ → ℕ) (pairs others : List (ℕ × ℕ)) → StandsFor h m pairs → StandsFor h m others → pairs ≡ others
-one_content h m pairs others S T =
-    let same : nodes_of S.chains 0 h.buckets ≡ nodes_of T.chains 0 h.buckets = nodes_same S.chains T.chains 0 h.buckets (λ c lo hi. chain_one h m (head_cell h c) (S.chains c) (T.chains c) (S.linked c (omega (arith, hi))) (T.linked c (omega (arith, hi)))) in
-    S.holds ∙ ap (map_of h m) same ∙ sym T.holds

@@ -1,11 +1,9 @@
 pub mod WalkSteps
 pub mod HashLaw
-pub mod Pairs
-pub mod Lists
+pub mod FiniteMaps
 pub mod Maps
 pub mod Chains
 pub mod Buckets
-pub mod Cells
 pub mod Formed
 pub mod Kept
 pub mod Inserted

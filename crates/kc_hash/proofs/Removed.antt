@@ -1,16 +1,17 @@
 -- A pair that is taken out, and its node is free.
-use Rattle.std.proofs.Common.{◌≡◌, ◌≢◌, ◌⊎◌, ℕ, ◌+◌, ◌-◌, ◌<◌, ◌≤◌, min, List, [], ◌∷◌, ◌++◌, length, refl, sym, ap, ◌∙◌, subst, inl, inr, arith, length-append}
+use Rattle.std.proofs.Common.{◌≡◌, ◌≢◌, ◌⊎◌, ℕ, ◌+◌, ◌-◌, ◌<◌, ◌≤◌, List, [], ◌∷◌, ◌++◌, length, refl, sym, ap, ◌∙◌, subst, inl, inr, arith, length-append}
 use Rattle.std.proofs.lemmas.Bool.{cases_eq}
+use Rattle.std.proofs.lemmas.Bool.Decides.{nat_tests}
+use Rattle.kc_xt.specs.Times.{times}
+use Rattle.kc_xt.proofs.Times.{times-here, times-rest, times-append, has_here, has_rest}
 use Rattle.kc_xt.specs.Meaning.{put}
 use Rattle.kc_hash.specs.declared.hash.Hash.{Hash}
 use Rattle.kc_hash.specs.Meaning.{count_cell, free_cell, head_cell, key_cell, value_cell, next_cell, bucket_of, link_of, counted}
-use Rattle.kc_hash.specs.Content.{times, keys_of, nodes_of, map_of, without_key, IsChain, StandsFor}
-use Rattle.kc_hash.proofs.Pairs.{without-with}
-use Rattle.kc_hash.proofs.Lists.{times-here, times-rest, times-append}
-use Rattle.kc_hash.proofs.Maps.{has_here, has_rest, times_keys, keys_same, map_same, map_none}
-use Rattle.kc_hash.proofs.Chains.{link_is, link_behind, chain_first, chain_moved, chain_nodes, in_bucket, bucket_from, Found}
+use Rattle.kc_hash.specs.Content.{keys_of, nodes_of, map_of, without_key, IsChain, StandsFor}
+use Rattle.kc_hash.proofs.FiniteMaps.{without-with}
+use Rattle.kc_hash.proofs.Maps.{times_keys, keys_same, map_same, map_none}
+use Rattle.kc_hash.proofs.Chains.{link_behind, chain_first, chain_moved, chain_nodes, in_bucket, bucket_from, Found}
 use Rattle.kc_hash.proofs.Buckets.{with_chain, with_chain-here, with_chain-there}
-use Rattle.kc_hash.proofs.Cells.{put-here, put-other, key≢next, value≢next, next≢next, head≢head, free≢head, count≢head, count≢free, IsLow, low-count, low-free, low-head, key≢low, value≢low, next≢low}
 use Rattle.kc_hash.proofs.Formed.{listed, room, free_nodes, not_free, at_most_once, in_listed, one_bucket, at_home, left, right, parts, parts_without, found_in_chain, found_listed, found_node, times_parts, key_others, pairs_parts}
 
 -- ---- the cell of a link
@@ -41,11 +42,11 @@ chain_past h m w i ys [] c (e, lo, hi, rest) once apart link first kept later = 
 chain_past h m w i ys (x ∷ xs) c (e, lo, hi, rest) once apart link first kept later =
     let others : (y : ℕ) → 1 ≤ times y xs → next_cell h y ≢ next_cell h x = λ y some.
     let n = chain_nodes h m (next_cell h x) (xs ++ i ∷ ys) rest y (let s = times-append y xs (i ∷ ys) in omega (arith, s, some)) in
-    next≢next h y x n.0 lo (λ f.
-    let here : 1 ≤ times x xs = subst (λ z. 1 ≤ times z xs) f some in
+    λ e.
+    let here : 1 ≤ times x xs = subst (λ z. 1 ≤ times z xs) (let same : y ≡ x = omega (arith, e, n, lo) in same) some in
     let s = times-here x x xs refl in
     let o = once x in
-    omega (arith, here, s, o)) in (
+    omega (arith, here, s, o) in (
       first (link_not h (next_cell h x) xs c (apart x (has_here x xs)) (λ y some. apart y (has_rest x y xs some))) ∙ e,
       lo,
       hi,
@@ -77,44 +78,16 @@ pub record IsRemoved (h : Hash) (m w : ℕ → ℕ) (i from : ℕ) : Type 0 wher
   pub nexts : (j : ℕ) → 1 ≤ j → j ≢ i → from ≢ next_cell h j → w (next_cell h j) ≡ m (next_cell h j)
 
 module _ (h : Hash) (m : ℕ → ℕ) (i from : ℕ) (some : 1 ≤ i) (next : m (next_cell h i) ≤ h.cap) (free : m (free_cell h) ≤ h.cap) (count : m (count_cell h) ≤ h.cap) (not_count : from ≢ count_cell h) (not_free : from ≢ free_cell h) (not_next : from ≢ next_cell h i) (not_key : (j : ℕ) → from ≢ key_cell h j) (not_value : (j : ℕ) → from ≢ value_cell h j) where
-  -- none of the first three
-  past_freed : (l : ℕ) → from ≢ l → next_cell h i ≢ l → free_cell h ≢ l → freed h m i from l ≡ m l
-  past_freed l a b c =
-      put-other (put (put m from (link_of h (m (next_cell h i)))) (next_cell h i) (link_of h (put m from (link_of h (m (next_cell h i))) (free_cell h)))) (free_cell h) i l c
-      ∙ put-other (put m from (link_of h (m (next_cell h i)))) (next_cell h i) (link_of h (put m from (link_of h (m (next_cell h i))) (free_cell h))) l b
-      ∙ put-other m from (link_of h (m (next_cell h i))) l a
-
-  past_count : (l : ℕ) → count_cell h ≢ l → removed h m i from l ≡ freed h m i from l
-  past_count l c = put-other (freed h m i from) (count_cell h) (counted h (freed h m i from (count_cell h)) - 1) l c
-
-  past : (l : ℕ) → count_cell h ≢ l → from ≢ l → next_cell h i ≢ l → free_cell h ≢ l → removed h m i from l ≡ m l
-  past l d a b c = past_count l d ∙ past_freed l a b c
-
   pub is_removed : IsRemoved h m (removed h m i from) i from
   is_removed = record {
-    count =
-        put-here (freed h m i from) (count_cell h) (counted h (freed h m i from (count_cell h)) - 1) _ refl
-        ∙ ap (λ n. counted h n - 1) (past_freed _ not_count (next≢low h i _ (low-count h)) (λ e. count≢free h (sym e)))
-        ∙ (let e : min (m (count_cell h)) h.cap ≡ m (count_cell h) = omega (arith, count) in ap (λ n. n - 1) e);
-    free =
-        past_count _ (count≢free h)
-        ∙ put-here (put (put m from (link_of h (m (next_cell h i)))) (next_cell h i) (link_of h (put m from (link_of h (m (next_cell h i))) (free_cell h)))) (free_cell h) i _ refl;
-    link =
-        past_count _ (λ e. not_count (sym e))
-        ∙ put-other (put (put m from (link_of h (m (next_cell h i)))) (next_cell h i) (link_of h (put m from (link_of h (m (next_cell h i))) (free_cell h)))) (free_cell h) i from (λ e. not_free (sym e))
-        ∙ put-other (put m from (link_of h (m (next_cell h i)))) (next_cell h i) (link_of h (put m from (link_of h (m (next_cell h i))) (free_cell h))) from (λ e. not_next (sym e))
-        ∙ put-here m from (link_of h (m (next_cell h i))) from refl
-        ∙ link_is h _ next;
-    next =
-        past_count _ (λ e. next≢low h i _ (low-count h) (sym e))
-        ∙ put-other (put (put m from (link_of h (m (next_cell h i)))) (next_cell h i) (link_of h (put m from (link_of h (m (next_cell h i))) (free_cell h)))) (free_cell h) i _ (λ e. next≢low h i _ (low-free h) (sym e))
-        ∙ put-here (put m from (link_of h (m (next_cell h i)))) (next_cell h i) (link_of h (put m from (link_of h (m (next_cell h i))) (free_cell h))) _ refl
-        ∙ ap (link_of h) (put-other m from (link_of h (m (next_cell h i))) (free_cell h) not_free)
-        ∙ link_is h _ free;
-    heads = λ b lt ne. past _ (count≢head h b) ne (next≢low h i _ (low-head h b lt)) (free≢head h b);
-    keys = λ j. past _ (λ e. key≢low h j _ (low-count h) (sym e)) (not_key j) (λ e. key≢next h j i (sym e)) (λ e. key≢low h j _ (low-free h) (sym e));
-    values = λ j. past _ (λ e. value≢low h j _ (low-count h) (sym e)) (not_value j) (λ e. value≢next h j i (sym e)) (λ e. value≢low h j _ (low-free h) (sym e));
-    nexts = λ j lo ne other. past _ (λ e. next≢low h j _ (low-count h) (sym e)) other (next≢next h i j some lo (λ e. ne (sym e))) (λ e. next≢low h j _ (low-free h) (sym e));
+    count = grind (arith, nat_tests, not_count);
+    free = grind (arith, nat_tests);
+    link = grind (arith, nat_tests, not_count, not_free, not_next);
+    next = grind (arith, nat_tests, not_free);
+    heads = λ b lt ne. grind (arith, nat_tests, lt, ne);
+    keys = λ j. let ne = not_key j in grind (arith, nat_tests, ne);
+    values = λ j. let ne = not_value j in grind (arith, nat_tests, ne);
+    nexts = λ j lo ne other. grind (arith, nat_tests, ne, other);
   }
 
 -- ---- what the cells stand for then
@@ -175,30 +148,30 @@ module _ (h : Hash) (m : ℕ → ℕ) (pairs : List (ℕ × ℕ)) (S : StandsFor
       omega (arith, n.1, f)
 
   -- the link's cell is none of these
-  from_low : (l : ℕ) → IsLow h l → head_cell h (bucket_of h key) ≢ l → from ≢ l
-  from_low l low ne = link_not h (head_cell h (bucket_of h key)) F.front l ne (λ x some. next≢low h x l low)
+  from_low : (l : ℕ) → l < h.base.0 + 2 + h.buckets → head_cell h (bucket_of h key) ≢ l → from ≢ l
+  from_low l low ne = link_not h (head_cell h (bucket_of h key)) F.front l ne (λ x some e. omega (arith, low, e))
 
   from_next : (j : ℕ) → 1 ≤ j → ((x : ℕ) → 1 ≤ times x F.front → x ≢ j) → from ≢ next_cell h j
   from_next j lo ne = link_not h (head_cell h (bucket_of h key)) F.front (next_cell h j)
-      (λ e. next≢low h j _ (low-head h (bucket_of h key) home) (sym e))
-      (λ x some. next≢next h x j (front_node x some).0 lo (ne x some))
+      (λ e. let lt = home in omega (arith, e, lt))
+      (λ x some e. let n = front_node x some in ne x some (omega (arith, e, n, lo)))
 
   from_key : (j : ℕ) → from ≢ key_cell h j
   from_key j = link_not h (head_cell h (bucket_of h key)) F.front (key_cell h j)
-      (λ e. key≢low h j _ (low-head h (bucket_of h key) home) (sym e))
-      (λ x some e. key≢next h j x (sym e))
+      (λ e. let lt = home in omega (arith, e, lt))
+      (λ x some e. omega (arith, e))
 
   from_value : (j : ℕ) → from ≢ value_cell h j
   from_value j = link_not h (head_cell h (bucket_of h key)) F.front (value_cell h j)
-      (λ e. value≢low h j _ (low-head h (bucket_of h key) home) (sym e))
-      (λ x some e. value≢next h j x (sym e))
+      (λ e. let lt = home in omega (arith, e, lt))
+      (λ x some e. omega (arith, e))
 
   module _ (w : ℕ → ℕ) (I : IsRemoved h m w F.node from) where
     -- the chain of its bucket
     own_past : IsChain h w (head_cell h (bucket_of h key)) (F.front ++ F.rest)
     own_past = chain_past h m w F.node F.rest F.front (head_cell h (bucket_of h key)) own
         (λ j. let o = own_once j in omega (arith, o))
-        (λ x some. next≢low h x _ (low-head h (bucket_of h key) home))
+        (λ x some e. let lt = home in omega (arith, e, lt))
         I.link
         (I.heads (bucket_of h key) home)
         (λ j some ne.
@@ -223,7 +196,7 @@ module _ (h : Hash) (m : ℕ → ℕ) (pairs : List (ℕ × ℕ)) (S : StandsFor
     -- that of another one
     other_same : (b : ℕ) → b < h.buckets → b ≢ bucket_of h key → IsChain h w (head_cell h b) (S.chains b)
     other_same b lt ne = chain_moved h m w (head_cell h b) (head_cell h b) (S.chains b) (S.linked b lt)
-        (I.heads b lt (from_low (head_cell h b) (low-head h b lt) (head≢head h _ _ (λ e. ne (sym e)))))
+        (I.heads b lt (from_low (head_cell h b) (omega (arith, lt)) (λ e. ne (omega (arith, e)))))
         (λ j some.
         let n = chain_nodes h m (head_cell h b) (S.chains b) (S.linked b lt) j some in
         I.nexts j n.0
@@ -326,8 +299,8 @@ module _ (h : Hash) (m : ℕ → ℕ) (pairs : List (ℕ × ℕ)) (S : StandsFor
       (chain_first h m (next_cell h F.node) F.rest (behind (head_cell h (bucket_of h key)) F.front own))
       (chain_first h m (free_cell h) S.free S.spare)
       (let e = S.count in omega (arith, e, r))
-      (from_low (count_cell h) (low-count h) (λ e. count≢head h _ (sym e)))
-      (from_low (free_cell h) (low-free h) (λ e. free≢head h _ (sym e)))
+      (from_low (count_cell h) (omega arith) (λ e. omega (arith, e)))
+      (from_low (free_cell h) (omega arith) (λ e. omega (arith, e)))
       (from_next F.node n.0 (λ x some. front_other x F.node some (has_here F.node F.rest)))
       from_key
       from_value

@@ -1,11 +1,15 @@
 -- A table as a finite map: the list of its keys and values, in rising order of key.
-use Rattle.std.specs.Prelude.{◌≡◌, ℕ, zero, suc, ◌+◌, ◌-◌, ◌*◌, ◌/◌, ◌%◌, ◌<◌, ◌≤◌, ◌==◌, nat_lt, Bool, true, ◌&&◌, cond, List, [], ◌∷◌, ◌++◌, length, map, find, Option, Some, None}
+use Rattle.std.specs.Prelude.{◌≡◌, ℕ, zero, suc, ◌+◌, ◌-◌, ◌/◌, ◌%◌, ◌<◌, ◌≤◌, ◌==◌, nat_lt, Bool, true, ◌&&◌, cond, List, [], ◌∷◌, ◌++◌, length, map, Option, Some, None}
+use Rattle.std.specs.List.{filter}
 use Rattle.kc_model.specs.declared.reply.Reply.{Reply}
 use Rattle.kc_model.specs.declared.reply.Reply.TheVariants as reply
+use Rattle.kc_xt.specs.Meaning.{replied}
+use Rattle.kc_xt.specs.Times.{times}
+use Rattle.kc_xt.specs.Structure.{Value, comes_to}
 use Rattle.kc_hash.specs.declared.hash.Hash.{Hash}
 use Rattle.kc_hash.specs.declared.operation.HashAct.{HashAct}
 use Rattle.kc_hash.specs.declared.operation.HashAct.TheVariants as act
-use Rattle.kc_hash.specs.Meaning.{count_cell, free_cell, head_cell, key_cell, value_cell, next_cell, bucket_of}
+use Rattle.kc_hash.specs.Meaning.{count_cell, free_cell, head_cell, key_cell, value_cell, next_cell, bucket_of, link_of}
 
 -- ---- finite maps
 
@@ -29,9 +33,18 @@ abbrev pub is_above : Option ℕ → ℕ → Bool
 is_above None key = true
 is_above (Some k) key = nat_lt k key
 
+-- the pairs whose keys are above this one
+abbrev pub above : Option ℕ → List (ℕ × ℕ) → List (ℕ × ℕ)
+above key pairs = filter (λ p. is_above key p.0) pairs
+
+-- the first of some pairs, if there is one
+abbrev pub first_pair : List (ℕ × ℕ) → Option (ℕ × ℕ)
+first_pair [] = None
+first_pair (p ∷ ps) = Some p
+
 -- the first pair whose key is above this one
 abbrev pub first_above : Option ℕ → List (ℕ × ℕ) → Option (ℕ × ℕ)
-first_above after pairs = find (λ p. is_above after p.0) pairs
+first_above key pairs = first_pair (above key pairs)
 
 -- whether a key is below that of a pair; all are below None
 abbrev pub is_below : ℕ → Option (ℕ × ℕ) → Bool
@@ -43,11 +56,6 @@ abbrev pub nearer : Option ℕ → Option (ℕ × ℕ) → ℕ × ℕ → Option
 nearer after best p = cond (is_above after p.0 && is_below p.0 best) (Some p) best
 
 -- ---- cells that stand for a map
-
--- how often a number stands in a list
-abbrev pub times : ℕ → List ℕ → ℕ
-times n [] = 0
-times n (x ∷ xs) = cond (x == n) 1 0 + times n xs
 
 -- From this link on, the chain has these nodes, and ends at 0.
 abbrev pub IsChain : Hash → (ℕ → ℕ) → ℕ → List ℕ → Type 0
@@ -87,13 +95,18 @@ pub record StandsFor (h : Hash) (m : ℕ → ℕ) (pairs : List (ℕ × ℕ)) : 
   pub count : m (count_cell h) ≡ length (nodes_of chains 0 h.buckets)
   pub holds : pairs ≡ map_of h m (nodes_of chains 0 h.buckets)
 
--- the cells stand for some pairs
-abbrev pub IsWellFormed : Hash → (ℕ → ℕ) → Type 0
-IsWellFormed h m = (pairs : List (ℕ × ℕ)) × StandsFor h m pairs
+-- ---- what the cells show
 
--- Two maps have the same in each cell of the table.
-abbrev pub SameCells : Hash → (ℕ → ℕ) → (ℕ → ℕ) → Type 0
-SameCells h m w = (l : ℕ) → h.base.0 ≤ l → l < h.base.0 + 2 + h.buckets + 3 * h.cap → m l ≡ w l
+-- the nodes that a pass over the chains sees: from this node on, and then in the chains from this bucket on; each node and each bucket takes one of so many steps
+unfoldable pub seen_from : Hash → (ℕ → ℕ) → ℕ → ℕ → ℕ → List ℕ
+seen_from h m bucket node zero = []
+seen_from h m bucket node (suc n) = cond (node == 0)
+    (cond (bucket == h.buckets) [] (seen_from h m (bucket + 1) (link_of h (m (head_cell h bucket))) n))
+    (node ∷ seen_from h m bucket (link_of h (m (next_cell h node))) n)
+
+-- the pairs of the nodes that a pass with a step for each bucket and node sees, whatever the cells hold
+abbrev pub shown : Hash → (ℕ → ℕ) → List (ℕ × ℕ)
+shown h m = map_of h m (seen_from h m 0 0 (h.buckets + h.cap))
 
 -- ---- the opening
 
@@ -108,12 +121,8 @@ hash_opening h i = cond (i == 1) 1 (cond (nat_lt i (2 + h.buckets)) 0 (node_open
 -- ---- values
 
 -- a reply, and the pairs then
-pub record HashValue : Type 0 where
-  pub reply : Reply
-  pub pairs : List (ℕ × ℕ)
-
-abbrev pub after : Reply → List (ℕ × ℕ) → HashValue
-after r pairs = record { reply = r; pairs = pairs }
+abbrev pub after : Reply → List (ℕ × ℕ) → Value (List (ℕ × ℕ))
+after r pairs = comes_to (replied r) pairs
 
 -- the reply of what stands at a key
 abbrev pub found_reply : Option ℕ → Reply
@@ -121,11 +130,11 @@ found_reply None = reply.Empty
 found_reply (Some v) = reply.Value v
 
 -- Full where the key is new and there are as many as the capacity
-abbrev pub put_value : Hash → ℕ → ℕ → List (ℕ × ℕ) → Option ℕ → HashValue
+abbrev pub put_value : Hash → ℕ → ℕ → List (ℕ × ℕ) → Option ℕ → Value (List (ℕ × ℕ))
 put_value h key value pairs None = cond (length pairs == h.cap) (after reply.Full pairs) (after reply.Unit (with_pair pairs key value))
 put_value h key value pairs (Some v) = after reply.Unit (with_pair pairs key value)
 
-abbrev pub hash_value : Hash → HashAct → List (ℕ × ℕ) → HashValue
+abbrev pub hash_value : Hash → HashAct → List (ℕ × ℕ) → Value (List (ℕ × ℕ))
 hash_value h (act.Put key value) pairs = put_value h key value pairs (value_at pairs key)
 hash_value h (act.Find key) pairs = after (found_reply (value_at pairs key)) pairs
 hash_value h (act.Del key) pairs = after (found_reply (value_at pairs key)) (without_key pairs key)

@@ -1,33 +1,46 @@
-//! What holds of the operations.
+//! What holds of the operations and of a table's cells.
 
-ghost use Rattle.std.specs.Prelude.{◌≡◌, ◌≢◌, ◌<◌, ◌≤◌, ◌+◌, ℕ, List, [], length, map};
+ghost use Rattle.std.specs.Prelude.{◌≡◌, ◌≤◌, ℕ, List, [], length, map};
 ghost use Rattle.kc_model.specs.Rising.{IsRising};
+ghost use Rattle.kc_xt.specs.Structure.{MeansItsValue, KeepsWellFormed, TouchesItsOwnCells, RepliesOneItem, RunsInsideOthers, Opens, DependsOnItsCells, ContentIsOne};
 ghost use Rattle.kc_hash.specs.declared.hash.Hash.{Hash};
 ghost use Rattle.kc_hash.specs.declared.operation.HashOp.{HashOp};
-ghost use Rattle.kc_hash.specs.Meaning.{hash_meaning, hash_cells};
-ghost use Rattle.kc_hash.specs.Content.{StandsFor, IsWellFormed, SameCells, hash_value, hash_opening};
-ghost use Rattle.kc_xt.specs.Meaning.{too_large, replied, map_after};
+ghost use Rattle.kc_hash.specs.Meaning.{hash_meaning, hash_program, hash_cells, hash_begin, cells_end, HashIsFit};
+ghost use Rattle.kc_hash.specs.Content.{StandsFor, hash_value, hash_opening, shown};
 
-/// On cells that stand for a finite map, an operation that isn't too large means what it does to the map: the same reply, and the cells then stand for the map then.
+/// On cells that stand for a finite map, an operation that isn't too large means what it does to the map: the same reply,
+/// and the cells then stand for the map then.
 pub fn means_its_value()
-    ensures outcome { (o : HashOp) (n : ℕ) (m : ℕ → ℕ) (ks : List ℕ) (pairs : List (ℕ × ℕ)) → StandsFor o.hash m pairs → (hash_meaning o n m ks).outcome ≢ too_large → (hash_meaning o n m ks).outcome ≡ replied (hash_value o.hash o.act pairs).reply }
-    ensures contents { (o : HashOp) (n : ℕ) (m : ℕ → ℕ) (ks : List ℕ) (pairs : List (ℕ × ℕ)) → StandsFor o.hash m pairs → (hash_meaning o n m ks).outcome ≢ too_large → StandsFor o.hash (map_after m (hash_meaning o n m ks).touches) (hash_value o.hash o.act pairs).pairs }
+    ensures { (o : HashOp) (pairs : List (ℕ × ℕ)) → MeansItsValue (StandsFor o.hash) (hash_meaning o) pairs (hash_value o.hash o.act pairs) }
 {}
 
 /// An operation that isn't too large keeps the cells well formed.
 pub fn keeps_well_formed()
-    ensures { (o : HashOp) (n : ℕ) (m : ℕ → ℕ) (ks : List ℕ) → IsWellFormed o.hash m → (hash_meaning o n m ks).outcome ≢ too_large → IsWellFormed o.hash (map_after m (hash_meaning o n m ks).touches) }
+    ensures { (o : HashOp) → KeepsWellFormed (StandsFor o.hash) (hash_meaning o) }
+{}
+
+/// An operation touches the table's own cells alone, whatever they hold, and its reply is one item.
+pub fn touches_its_own_cells()
+    ensures touches { (o : HashOp) → HashIsFit o → TouchesItsOwnCells (hash_begin o) (cells_end o.hash) (hash_meaning o) }
+    ensures one { (o : HashOp) → HashIsFit o → RepliesOneItem (hash_meaning o) }
+{}
+
+/// Inside a longer program an operation does to the map what it does alone, and leaves all else as it was.
+pub fn runs_inside_others()
+    ensures { (o : HashOp) (pairs : List (ℕ × ℕ)) → RunsInsideOthers (StandsFor o.hash) (hash_begin o) (cells_end o.hash) (hash_program o.hash o.act) pairs (hash_value o.hash o.act pairs) }
 {}
 
 /// Cells with their opening values stand for no pairs, where there is a bucket and a node.
 pub fn opens_empty()
-    ensures { (h : Hash) (m : ℕ → ℕ) → 1 ≤ h.buckets → 1 ≤ h.cap → ((i : ℕ) → i < hash_cells h → m (h.base.0 + i) ≡ hash_opening h i) → StandsFor h m [] }
+    ensures { (h : Hash) → 1 ≤ h.buckets → 1 ≤ h.cap → Opens (StandsFor h) h.base.0 (hash_cells h) (hash_opening h) [] }
 {}
 
-/// What the cells of a table stand for depends on these cells alone, and is one map: at most as many pairs as the capacity, in rising order of key.
+/// What the cells of a table stand for depends on these cells alone, and is one map, the one that they show: at most as
+/// many pairs as the capacity, in rising order of key.
 pub fn content_is_one()
-    ensures same { (h : Hash) (m w : ℕ → ℕ) (pairs : List (ℕ × ℕ)) → StandsFor h m pairs → SameCells h m w → StandsFor h w pairs }
+    ensures own { (h : Hash) → DependsOnItsCells (StandsFor h) h.base.0 (cells_end h) }
+    ensures one { (h : Hash) → ContentIsOne (StandsFor h) }
+    ensures shown { (h : Hash) (m : ℕ → ℕ) (pairs : List (ℕ × ℕ)) → StandsFor h m pairs → shown h m ≡ pairs }
     ensures rising { (h : Hash) (m : ℕ → ℕ) (pairs : List (ℕ × ℕ)) → StandsFor h m pairs → IsRising (map (λ p. p.0) pairs) }
     ensures within { (h : Hash) (m : ℕ → ℕ) (pairs : List (ℕ × ℕ)) → StandsFor h m pairs → length pairs ≤ h.cap }
-    ensures one { (h : Hash) (m : ℕ → ℕ) (pairs others : List (ℕ × ℕ)) → StandsFor h m pairs → StandsFor h m others → pairs ≡ others }
 {}

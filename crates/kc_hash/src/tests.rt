@@ -65,9 +65,10 @@ fn pairs_come_in_rising_order_of_key_from_all_chains(rt: HostRuntime) -> Result<
         return Err(Fail::from("no memory"));
     };
     let hash = Hash::layout(Loc(0), 2, 3);
-    assert_eq!(rt; hash.pair_above(&store, None), Some((1, 11)));
-    assert_eq!(rt; hash.pair_above(&store, Some(1)), Some((4, 44)));
-    assert_eq!(rt; hash.pair_above(&store, Some(4)), Some((9, 90)));
-    assert_eq!(rt; hash.pair_above(&store, Some(9)), None);
+    let mut pairs = hash.pairs(&store);
+    assert_eq!(rt; pairs.next(), Some((1, 11)));
+    assert_eq!(rt; pairs.next(), Some((4, 44)));
+    assert_eq!(rt; pairs.next(), Some((9, 90)));
+    assert_eq!(rt; pairs.next(), None);
     Ok(())
 }

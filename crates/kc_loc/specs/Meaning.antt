@@ -1,5 +1,5 @@
 -- What the operations on locations mean, by cells and on contents.
-use Rattle.std.specs.Prelude.{ℕ, ◌+◌, ◌-◌, ◌≤◌, ◌^◌, ◌==◌, max, min, true, false, cond}
+use Rattle.std.specs.Prelude.{ℕ, ◌+◌, ◌-◌, ◌<◌, ◌^◌, ◌==◌, max, min, true, false, cond}
 use Rattle.kc_model.specs.declared.footprint.Loc.{Loc}
 use Rattle.kc_model.specs.declared.reply.Reply.{Reply}
 use Rattle.kc_model.specs.declared.reply.Reply.TheVariants as reply
@@ -38,19 +38,23 @@ loc_program (op.Check l r n) k = read l.0 (λ v. cond (holds r v n) (k reply.Uni
 abbrev pub loc_meaning : LocOp → Meaning
 loc_meaning o = meaning (loc_program o replies)
 
--- a number above its locations
+-- the greatest location of it
+abbrev pub loc_last : LocOp → ℕ
+loc_last (op.Get l) = l.0
+loc_last (op.Set l v) = l.0
+loc_last (op.Exchange l v) = l.0
+loc_last (op.Swap a b) = max a.0 b.0
+loc_last (op.Cas l before after) = l.0
+loc_last (op.FetchAdd l n) = l.0
+loc_last (op.Incr l) = l.0
+loc_last (op.Decr l) = l.0
+loc_last (op.Update l f) = l.0
+loc_last (op.Modify l f) = l.0
+loc_last (op.Check l r n) = l.0
+
+-- a number above its locations, where a number of its type is
 abbrev pub loc_end : LocOp → ℕ
-loc_end (op.Get l) = l.0 + 1
-loc_end (op.Set l v) = l.0 + 1
-loc_end (op.Exchange l v) = l.0 + 1
-loc_end (op.Swap a b) = max a.0 b.0 + 1
-loc_end (op.Cas l before after) = l.0 + 1
-loc_end (op.FetchAdd l n) = l.0 + 1
-loc_end (op.Incr l) = l.0 + 1
-loc_end (op.Decr l) = l.0 + 1
-loc_end (op.Update l f) = l.0 + 1
-loc_end (op.Modify l f) = l.0 + 1
-loc_end (op.Check l r n) = l.0 + 1
+loc_end o = min (loc_last o + 1) (2 ^ 32 - 1)
 
 -- no location of it is below this one
 abbrev pub loc_begin : LocOp → ℕ
@@ -68,7 +72,7 @@ loc_begin (op.Check l r n) = l.0
 
 -- its locations are locations of a store
 abbrev pub LocIsFit : LocOp → Type 0
-LocIsFit o = loc_end o ≤ 65536
+LocIsFit o = loc_last o < 65536
 
 -- ---- on contents: the content of a location is its value
 

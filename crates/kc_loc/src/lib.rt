@@ -9,5 +9,5 @@ mod operation;
 mod tests;
 
 pub use kinds::{Fun, Rel};
-pub use laws::means_its_value;
+pub use laws::{means_its_value, runs_inside_others, touches_its_own_cells};
 pub use operation::LocOp;

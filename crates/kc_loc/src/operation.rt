@@ -1,6 +1,7 @@
 //! The operations.
 
-ghost use Rattle.kc_loc.specs.Meaning.{loc_meaning, LocIsFit, loc_end};
+ghost use Rattle.std.specs.Prelude.{◌≡◌};
+ghost use Rattle.kc_loc.specs.Meaning.{loc_meaning, loc_last, loc_end, LocIsFit};
 
 use crate::acts;
 use crate::kinds::{Fun, Rel};
@@ -33,6 +34,27 @@ pub enum LocOp {
     Check(Loc, Rel, u32),
 }
 
+impl LocOp {
+    // The greatest location of it.
+    fn last(&self) -> u32
+        ensures { result ≡ loc_last self.now }
+    {
+        match *self {
+            LocOp::Swap(a, b) => a.0.max(b.0),
+            LocOp::Get(loc)
+            | LocOp::Set(loc, _)
+            | LocOp::Exchange(loc, _)
+            | LocOp::Cas(loc, _, _)
+            | LocOp::FetchAdd(loc, _)
+            | LocOp::Incr(loc)
+            | LocOp::Decr(loc)
+            | LocOp::Update(loc, _)
+            | LocOp::Modify(loc, _)
+            | LocOp::Check(loc, _, _) => loc.0,
+        }
+    }
+}
+
 impl Transact for LocOp {
     ghost meaning = { loc_meaning };
 
@@ -41,19 +63,7 @@ impl Transact for LocOp {
     ghost end = { loc_end };
 
     fn bound(&self) -> u32 {
-        match self {
-            LocOp::Get(loc) => loc.0 + 1,
-            LocOp::Set(loc, _) => loc.0 + 1,
-            LocOp::Exchange(loc, _) => loc.0 + 1,
-            LocOp::Swap(a, b) => a.0.max(b.0) + 1,
-            LocOp::Cas(loc, _, _) => loc.0 + 1,
-            LocOp::FetchAdd(loc, _) => loc.0 + 1,
-            LocOp::Incr(loc) => loc.0 + 1,
-            LocOp::Decr(loc) => loc.0 + 1,
-            LocOp::Update(loc, _) => loc.0 + 1,
-            LocOp::Modify(loc, _) => loc.0 + 1,
-            LocOp::Check(loc, _, _) => loc.0 + 1,
-        }
+        self.last().saturating_add(1)
     }
 
     fn run<P: Peek>(&self, xt: &mut Xt<P>) -> Result<Reply, Stop> {

@@ -23,7 +23,7 @@ use Rattle.kc_xt.proofs.Outcomes.{is_replied}
 use Rattle.kc_term.specs.Tree.{Tree, Trees, none, more}
 use Rattle.kc_term.specs.Meaning.{items_of, term_meaning, parts_meaning}
 use Rattle.kc_xt.specs.Single.{RepliesOne}
-use Rattle.kc_term.specs.Fit.{MeansOne}
+use Rattle.kc_xt.specs.Structure.{RepliesOneItem}
 
 replied≢retried : (a : Reply) → replied a ≡ retried → ⊥
 replied≢retried a e = cc
@@ -70,16 +70,12 @@ one_item reply.Full h = omega arith
 one_item reply.Stranded h = absurd h
 one_item (reply.Many items) h = absurd h
 
-ok≢busy : (a : Reply) → (let r : Result Reply Stop = Ok a in r) ≡ Err Busy → ⊥
-ok≢busy a h = cc
-
 -- what means a reply of one item answers one
-pub answers_one : {P : Type 0} {gives : Gives P} (m : Meaning) (bound : ℕ) (x : Log P) (r : Result Reply Stop) (y : Log P) → MeansOne m → Obeys gives m bound x r y → IfOk r (λ a. length (items_of a) ≤ 1)
+pub answers_one : {P : Type 0} {gives : Gives P} (m : Meaning) (bound : ℕ) (x : Log P) (r : Result Reply Stop) (y : Log P) → RepliesOneItem m → Obeys gives m bound x r y → IfOk r (λ a. length (items_of a) ≤ 1)
 answers_one m bound x (Ok a) y one h =
     let s = store_seen y.lines in
-    let run = h.law s (agrees-store_seen y.lines) (ok≢busy a) in
-    let o = (m x.limit (overlaid s x.lines) (locations x.lines)).outcome in
-    one_item a (subst RepliesOne (is_replied o a (sym run.answer)) (one x.limit (overlaid s x.lines) (locations x.lines)))
+    let run = h.law x.limit h.room s (agrees-store_seen y.lines) in
+    one_item a (subst RepliesOne run.answer (one x.limit (overlaid s x.lines) (locations x.lines)))
 answers_one m bound x (Err e) y one h = tt
 
 pub items_wider : (r : Result Reply Stop) (m n : ℕ) → m ≤ n → IfOk r (λ a. length (items_of a) ≤ m) → IfOk r (λ a. length (items_of a) ≤ n)

@@ -9,7 +9,7 @@ use Rattle.kc_xt.specs.Peeks.{Gives}
 use Rattle.kc_xt.specs.Program.{replies, meaning}
 use Rattle.kc_xt.specs.Steps.{Does}
 use Rattle.kc_xt.proofs.Laws.{below_if, law_of}
-use Rattle.kc_term.specs.Fit.{MeansOne}
+use Rattle.kc_xt.specs.Structure.{RepliesOneItem}
 use Rattle.kc_term.specs.Worked.{add_program}
 use Rattle.kc_xt.proofs.Singles.{one_if}
 use Rattle.kc_term.proofs.Ones.{means_one}
@@ -17,5 +17,5 @@ use Rattle.kc_term.proofs.Ones.{means_one}
 pub add_law : {P : Type 0} (gives : Gives P) (l least n : ℕ) {x y : Log P} (r : Result Reply Stop) → Does gives (add_program l least n) x r y → Obeys gives (meaning (add_program l least n replies)) (l + 1) x r y
 add_law gives l least n r d = law_of gives (add_program l least n) (l + 1) (omega arith, λ v. below_if _ (nat_lt v least) _ _ tt (omega arith, tt)) tt r d
 
-pub add_one_item : (l least n : ℕ) → MeansOne (meaning (add_program l least n replies))
+pub add_one_item : (l least n : ℕ) → RepliesOneItem (meaning (add_program l least n replies))
 add_one_item l least n = means_one (add_program l least n replies) (λ v. one_if (nat_lt v least) _ _ tt tt)

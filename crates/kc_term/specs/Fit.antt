@@ -1,7 +1,7 @@
 -- Which terms may be run.
-use Rattle.std.specs.Prelude.{ℕ, ◌≤◌, List, [], ◌∷◌, length}
+use Rattle.std.specs.Prelude.{◌≤◌, List, [], ◌∷◌, length}
 use Rattle.kc_xt.specs.Meaning.{Meaning}
-use Rattle.kc_xt.specs.Single.{RepliesOne}
+use Rattle.kc_xt.specs.Structure.{RepliesOneItem}
 use Rattle.kc_term.specs.declared.term.TheConstants.{MOST_OPERATIONS}
 
 -- each of the list
@@ -9,12 +9,8 @@ abbrev pub Each : {X : Type 0} → (X → Type 0) → List X → Type 0
 Each P [] = Unit {0}
 Each P (x ∷ xs) = P x × Each P xs
 
--- On each map a reply, if there is one, has one item.
-abbrev pub MeansOne : Meaning → Type 0
-MeansOne mean = (n : ℕ) (m : ℕ → ℕ) (ks : List ℕ) → RepliesOne (mean n m ks).outcome
-
 -- the operations of a term that may be run: not too many, each fit, and each with one item to reply
 pub record AreFit {O : Type 0} (fit : O → Type 0) (mean : O → Meaning) (os : List O) : Type 0 where
   pub few : length os ≤ MOST_OPERATIONS
   pub each : Each fit os
-  pub single : Each (λ o. MeansOne (mean o)) os
+  pub single : Each (λ o. RepliesOneItem (mean o)) os

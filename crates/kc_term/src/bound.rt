@@ -3,7 +3,6 @@
 ghost use Rattle.std.specs.Prelude.{◌≡◌};
 ghost use Rattle.kc_term.specs.Tree.{trees, operations, all_operations};
 ghost use Rattle.kc_term.specs.Meaning.{greatest_end};
-ghost use Rattle.kc_term.specs.Fit.{AreFit};
 
 use crate::term::{Node, Term};
 use kc_xt::Transact;
@@ -11,7 +10,6 @@ use kc_xt::Transact;
 // The greatest bound of its operations.
 #[cycle(bound)]
 pub(crate) fn term_bound<O: Transact>(term: &Term<O>) -> u32
-    requires { AreFit O.is_fit O.meaning (operations term.now) }
     ensures { result ≡ greatest_end O.end (operations term.now) }
 {
     match &term.node {
@@ -23,7 +21,6 @@ pub(crate) fn term_bound<O: Transact>(term: &Term<O>) -> u32
 
 #[cycle(bound)]
 fn parts_bound<O: Transact>(parts: &[Term<O>]) -> u32
-    requires { AreFit O.is_fit O.meaning (all_operations (trees parts.now)) }
     ensures { result ≡ greatest_end O.end (all_operations (trees parts.now)) }
 {
     let mut most = 0;

@@ -4,9 +4,10 @@ ghost use Rattle.std.specs.Prelude.{◌≡◌, ◌≤◌, ◌++◌, List, length
 ghost use Rattle.kc_model.specs.Pen.{Puts, Prints};
 ghost use Rattle.kc_model.specs.Store.{store_of, opened};
 ghost use Rattle.kc_bundle.specs.Script.{script_of, names_of, CellsWithin};
-ghost use Rattle.kc_bundle.specs.State.{Content, AllStand, AreWellFormed, opening_values};
+ghost use Rattle.kc_bundle.specs.State.{Content, AllStand, AreWellFormed, opening_values, state_text};
 ghost use Rattle.kc_xt.specs.Meaning.{values};
 ghost use Rattle.kc_history.specs.Records.{lists_of, NamesRecords};
+ghost use Rattle.kc_history.specs.Text.{records_text};
 ghost use Rattle.kc_top.specs.Run.{IsRun, IsText, run_text};
 ghost use Rattle.kc_top.specs.Thread.{CanRun, CanRunOn, RunsOne};
 ghost use Rattle.kc_top.specs.Statuses.{Performs};
@@ -87,7 +88,8 @@ fn run_one(alloc: Global, commands: &[Command], store: PlainStore) -> Result<Ran
 fn write_run<K: Sink>(bundle: &Bundle, ran: &Ran, sink: &mut K) -> Result<(), Failed>
     requires cells { CellsWithin (length ran.now.store) (names_of bundle.now.objects) }
     requires named { NamesRecords (lists_of ran.now.records.items) ran.now.order.items }
-    ensures { (contents : List Content) → AllStand (names_of bundle.now.objects) (values (store_of ran.now.store)) contents → Prints K.written K.faults K.write_gives sink.old sink.new result (run_text (script_of bundle.now) (lists_of ran.now.records.items) ran.now.order.items contents) }
+    ensures shown { Prints K.written K.faults K.write_gives sink.old sink.new result (records_text (lists_of ran.now.records.items) ran.now.order.items ++ codes "state\n" ++ state_text (names_of bundle.now.objects) (values (store_of ran.now.store))) }
+    ensures contents { (contents : List Content) → AllStand (names_of bundle.now.objects) (values (store_of ran.now.store)) contents → Prints K.written K.faults K.write_gives sink.old sink.new result (run_text (script_of bundle.now) (lists_of ran.now.records.items) ran.now.order.items contents) }
 {
     let mut pen = Pen::new(sink);
     put_run(&mut pen, bundle, ran);
@@ -97,7 +99,7 @@ fn write_run<K: Sink>(bundle: &Bundle, ran: &Ran, sink: &mut K) -> Result<(), Fa
 fn put_run<K: Sink>(pen: &mut Pen<K>, bundle: &Bundle, ran: &Ran)
     requires cells { CellsWithin (length ran.now.store) (names_of bundle.now.objects) }
     requires named { NamesRecords (lists_of ran.now.records.items) ran.now.order.items }
-    ensures { (contents : List Content) → AllStand (names_of bundle.now.objects) (values (store_of ran.now.store)) contents → Puts K.written K.faults K.write_gives pen.old pen.new (run_text (script_of bundle.now) (lists_of ran.now.records.items) ran.now.order.items contents) }
+    ensures { Puts K.written K.faults K.write_gives pen.old pen.new (records_text (lists_of ran.now.records.items) ran.now.order.items ++ codes "state\n" ++ state_text (names_of bundle.now.objects) (values (store_of ran.now.store))) }
 {
     put_text(pen, &ran.records, &ran.order);
     pen.put(b"state\n");

@@ -1,5 +1,5 @@
 -- What the calls of a log do, as steps of a program.
-use Rattle.std.proofs.Common.{◌≡◌, ℕ, ◌≤◌, ◌+◌, Bool, true, false, cond, List, [], ◌∷◌, length, refl, sym, ap, ◌∙◌, subst, arith, eq-eqb, ne_eqb, ◌≢◌}
+use Rattle.std.proofs.Common.{◌≡◌, ℕ, ◌<◌, ◌≤◌, ◌+◌, Bool, true, false, cond, List, [], ◌∷◌, length, refl, sym, ap, ◌∙◌, subst, arith, eq-eqb, ne_eqb, ◌≢◌}
 use Rattle.std.specs.Prelude.{◌==◌, Option, Some, None, option_map, Result, Ok, Err, IfOk, OnErr, IsErrAnd, MatchResult, if◌then◌else◌}
 use Rattle.std.proofs.Math.Path.{fun_ext}
 use Rattle.std.proofs.lemmas.Result.{err_from_is_err_and}
@@ -11,15 +11,14 @@ use Rattle.kc_xt.specs.declared.line.Line.{Line}
 use Rattle.kc_xt.specs.declared.stop.Stop.{Stop}
 use Rattle.kc_xt.specs.declared.stop.Stop.TheVariants.{TooLarge, Busy}
 use Rattle.kc_xt.specs.Lines.{look, line_at, seen_at, after_at, with_line, seen_line, with_after, Agrees, Keeps, SetsNothing, current, bare, ReadsAs}
-use Rattle.kc_xt.specs.Program.{Program, ends, read, write, writes, retries, exchanges, swaps, compares_and_sets, fetches_and_adds, wrapped}
+use Rattle.kc_xt.specs.Program.{Program, read, write, writes, retries, exchanges, swaps, compares_and_sets, fetches_and_adds, wrapped}
 use Rattle.kc_xt.specs.Peeks.{Gives}
 use Rattle.kc_xt.specs.Log.{Log}
 use Rattle.kc_xt.specs.Calls.{Touches, LooksAt, there, looked, no_room, no_answer, HasLine, having_set, having_set_some, Updates, Swaps, stops_at_first, stops_at_second, swaps_both, stop_of}
-use Rattle.kc_xt.specs.Steps.{on_log, Comes, Stops, Does}
-use Rattle.kc_xt.proofs.Outcomes.{is_too_large, not_busy}
+use Rattle.kc_xt.specs.Steps.{Comes, Stops, Does}
 use Rattle.kc_xt.proofs.Options.{some_is, none≢some}
-use Rattle.kc_xt.proofs.Lines.{seen_at-line_at, seen_at-with_line, seen_at-with_after, after_at-with_line, bare-with_line, bare-with_after}
-use Rattle.kc_xt.proofs.Places.{line_at-with_line}
+use Rattle.kc_xt.proofs.Lines.{seen_at-line_at, seen_at-with_line, seen_at-with_after, after_at-with_line, bare-with_line, bare-with_after, length-with_after}
+use Rattle.kc_xt.proofs.Places.{line_at-with_line, length-with_line}
 use Rattle.kc_xt.proofs.LogSteps.{on_log-read_some, on_log-read_none, on_log-read_full, on_log-write_some, on_log-write}
 use Rattle.kc_xt.proofs.Chain.{stay, after, stops, follows}
 
@@ -57,12 +56,13 @@ module _ {P : Type 0} (gives : Gives P) where
 
   -- a location with a line is read on with that line
   touched_there : (l : ℕ) (x : Log P) (b : Line) → line_at x.lines l ≡ Some b → Touched l x x
-  touched_there l x b h = record { line = b; at = h; comes = λ k. record { limit = refl; keeps = λ l e h. h; looks = []; looked = refl; grown = refl; same = λ s a. on_log-read_some x.limit s x.lines l k b a h } }
+  touched_there l x b h = record { line = b; at = h; comes = λ k. record { limit = refl; keeps = λ l e h. h; looks = []; looked = refl; grown = refl; room = λ lt. absurd (omega (arith, lt)); same = λ n room s a. on_log-read_some n s x.lines l k b a h } }
 
   -- a location that was looked at is read on with the new line
   touched_looked : (l : ℕ) (x y : Log P) (e : Seen) → LooksAt gives l x (Ok e) y → e.loc.0 ≡ l → y.lines ≡ with_line x.lines (seen_line e) → Touched l x y
   touched_looked l x y e g el q =
       let h2 : line_at x.lines e.loc.0 ≡ None = ap (line_at x.lines) el ∙ g.missing in
+      let one = length-with_line x.lines (seen_line e) in
       record {
         line = seen_line e;
         at = ap (λ ls. line_at ls l) q ∙ ap (line_at (with_line x.lines (seen_line e))) (sym el) ∙ line_at-with_line x.lines (seen_line e);
@@ -72,10 +72,12 @@ module _ {P : Type 0} (gives : Gives P) where
           looks = e ∷ [];
           looked = (y.peek, (let Q : ℕ → Type 0 = λ j. gives x.peek j (Ok e) y.peek in subst Q (sym el) g.look), refl);
           grown = ap bare q ∙ bare-with_line x.lines e;
-          same = λ s a.
+          room = λ lt. rw q (let room = g.room in omega (arith, room, one));
+          same = λ n room s a.
               let a2 = rw q at a in
               let le : look s l ≡ e = ap (look s) (sym el) ∙ agrees-with_line s x.lines e a2 in
-              rw q (on_log-read_none x.limit s x.lines l k e g.missing g.room le);
+              let fits : length x.lines < n = let more = rw q at room in omega (arith, one, more (omega (arith, one))) in
+              rw q (on_log-read_none n s x.lines l k e g.missing fits le);
         };
       }
 
@@ -113,7 +115,8 @@ module _ {P : Type 0} (gives : Gives P) where
     looks = [];
     looked = refl;
     grown = refl;
-    same = λ s a o w. on_log-read_full x.limit s x.lines l k h room ∙ ap (λ p. on_log x.limit s x.lines (ends p)) (sym (is_too_large o w));
+    room = λ lt. absurd (omega (arith, lt));
+    same = λ n own s a. on_log-read_full n s x.lines l k h (omega (arith, room, own));
   }
 
   -- a read whose look was given up stops with Busy
@@ -124,7 +127,8 @@ module _ {P : Type 0} (gives : Gives P) where
     looks = [];
     looked = (x.peek, refl, record { loc = l; missing = ap (λ ls. line_at ls l) q ∙ g.missing; busy = b; fails = g.look });
     grown = ap bare q;
-    same = λ s a o w. absurd (not_busy o w);
+    room = λ lt. absurd (let same = ap length q in omega (arith, lt, same));
+    same = λ n all s a. rw q (on_log-read_full n s x.lines l k g.missing (let same = ap length q in omega (arith, all, same)));
   }
 
   -- what could not be touched stops
@@ -160,12 +164,13 @@ module _ {P : Type 0} (gives : Gives P) where
     looks = [];
     looked = refl;
     grown = bare-with_after x.lines l v;
-    same = λ s a. on_log-write_some x.limit s x.lines l v p b h;
+    room = λ lt. absurd (omega (arith, lt, length-with_after x.lines l v));
+    same = λ n room s a. on_log-write_some n s x.lines l v p b h;
   }
 
   -- to write is to read first
   reads_first : (l v : ℕ) (x : Log P) (p : Program) → Comes gives (write l v p) x (read l (λ _. write l v p)) x
-  reads_first l v x p = record { limit = refl; keeps = λ l e h. h; looks = []; looked = refl; grown = refl; same = λ s a. on_log-write x.limit s x.lines l v p }
+  reads_first l v x p = record { limit = refl; keeps = λ l e h. h; looks = []; looked = refl; grown = refl; room = λ lt. absurd (omega (arith, lt)); same = λ n room s a. on_log-write n s x.lines l v p }
 
   -- a new value, if there is one, and what comes behind it
   abbrev wrote : ℕ → Option ℕ → Program → Program

@@ -1,18 +1,18 @@
 -- How steps of a log follow one another.
-use Rattle.std.proofs.Common.{◌≡◌, ℕ, ◌+◌, Bool, true, false, cond, List, [], ◌∷◌, ◌++◌, refl, sym, ap, ◌∙◌, subst, append_assoc}
+use Rattle.std.proofs.Common.{◌≡◌, ℕ, ◌+◌, Bool, true, false, cond, List, [], ◌∷◌, ◌++◌, refl, sym, ap, ◌∙◌, subst, append_assoc, arith}
 use Rattle.std.specs.Prelude.{Result, Ok, Err, MatchResult, IsErrAnd}
 use Rattle.std.proofs.lemmas.Result.{err_from_is_err_and}
 use Rattle.kc_model.specs.declared.footprint.Seen.{Seen}
 use Rattle.kc_xt.specs.declared.stop.Stop.{Stop}
 use Rattle.kc_xt.specs.declared.stop.Stop.TheVariants.{Retry, TooLarge, Busy}
 use Rattle.kc_xt.specs.declared.line.Line.{Line}
-use Rattle.kc_xt.proofs.Outcomes.{is_retried}
+use Rattle.kc_xt.proofs.Rooms.{more, room_both, room_first, room_then, stops_first, stops_then}
 use Rattle.kc_xt.proofs.Lines.{grown-append}
 use Rattle.kc_xt.specs.Program.{Program, ends, read, write, writes, retries, exchanges, swaps, fetches_and_adds, wrapped}
 use Rattle.kc_xt.specs.Peeks.{Looks, Gives}
 use Rattle.kc_xt.specs.Lines.{Keeps}
 use Rattle.kc_xt.specs.Log.{Log}
-use Rattle.kc_xt.specs.Steps.{Ended, on_log, having_looked, LooksStop, Comes, Stops, Does, Goes}
+use Rattle.kc_xt.specs.Steps.{Ended, on_log, having_looked, LooksStop, stopping, Comes, Stops, Does, Goes}
 
 module _ {P : Type 0} (gives : Gives P) where
   -- looks, and then further ones
@@ -33,41 +33,47 @@ having_looked-append es fs e = ap (λ (l : List Seen). let r : Ended = record { 
 module _ {P : Type 0} {gives : Gives P} where
   -- nothing was done
   pub stay : (p : Program) (x : Log P) → Comes gives p x p x
-  stay p x = record { limit = refl; keeps = λ l e h. h; looks = []; looked = refl; grown = refl; same = λ s a. refl }
+  stay p x = record { limit = refl; keeps = λ l e h. h; looks = []; looked = refl; grown = refl; room = λ lt. absurd (omega (arith, lt)); same = λ n room s a. refl }
 
   -- one part after another
   pub after : {p q r : Program} {x y z : Log P} → Comes gives p x q y → Comes gives q y r z → Comes gives p x r z
   after {p} {q} {r} {x} {y} {z} h g =
-      let lim : z.limit ≡ x.limit = g.limit ∙ h.limit in
+      let a = more x.lines y.lines h.looks h.grown in
+      let b = more y.lines z.lines g.looks g.grown in
       record {
-        limit = lim;
+        limit = g.limit ∙ h.limit;
         keeps = λ l e k. g.keeps l e (h.keeps l e k);
         looks = h.looks ++ g.looks;
         looked = Looks-append gives x.peek y.peek h.looks g.looks z.peek h.looked g.looked;
         grown = grown-append x.lines y.lines z.lines h.looks g.looks h.grown g.grown;
-        same = λ s a.
-            let gs : on_log x.limit s y.lines q ≡ having_looked g.looks (on_log x.limit s z.lines r) = let Q : ℕ → Type 0 = λ n. on_log n s y.lines q ≡ having_looked g.looks (on_log n s z.lines r) in subst Q h.limit (g.same s a) in
-            h.same s (λ l e k. a l e (g.keeps l e k)) ∙ ap (having_looked h.looks) gs ∙ sym (having_looked-append h.looks g.looks (on_log x.limit s z.lines r));
+        room = room_both x.lines y.lines z.lines a b x.limit h.room (rw h.limit at g.room);
+        same = λ n room s agrees.
+            h.same n (room_first x.lines y.lines z.lines a b n room) s (λ l e k. agrees l e (g.keeps l e k))
+            ∙ ap (having_looked h.looks) (g.same n (room_then x.lines y.lines z.lines a b n room) s agrees)
+            ∙ sym (having_looked-append h.looks g.looks (on_log n s z.lines r));
       }
 
   -- a stop after a part
   pub stops : {p q : Program} {e : Stop} {x y z : Log P} → Comes gives p x q y → Stops gives q y e z → Stops gives p x e z
   stops {p} {q} {e} {x} {y} {z} h g =
-      let lim : z.limit ≡ x.limit = g.limit ∙ h.limit in
+      let a = more x.lines y.lines h.looks h.grown in
+      let b = more y.lines z.lines g.looks g.grown in
       record {
-        limit = lim;
+        limit = g.limit ∙ h.limit;
         keeps = λ l e k. g.keeps l e (h.keeps l e k);
         looks = h.looks ++ g.looks;
         looked = LooksStop-append gives e z.lines x.peek y.peek h.looks g.looks z.peek h.looked g.looked;
         grown = grown-append x.lines y.lines z.lines h.looks g.looks h.grown g.grown;
-        same = λ s a o w.
-            let gs : on_log x.limit s y.lines q ≡ having_looked g.looks (on_log x.limit s z.lines (ends o)) = let Q : ℕ → Type 0 = λ n. on_log n s y.lines q ≡ having_looked g.looks (on_log n s z.lines (ends o)) in subst Q h.limit (g.same s a o w) in
-            h.same s (λ l e k. a l e (g.keeps l e k)) ∙ ap (having_looked h.looks) gs ∙ sym (having_looked-append h.looks g.looks (on_log x.limit s z.lines (ends o)));
+        room = room_both x.lines y.lines z.lines a b x.limit h.room (rw h.limit at g.room);
+        same = λ n under s agrees.
+            h.same n (stops_first x.lines y.lines z.lines a b e x.limit n h.room under) s (λ l e k. agrees l e (g.keeps l e k))
+            ∙ ap (having_looked h.looks) (g.same n (stops_then x.lines y.lines z.lines a b e x.limit y.limit n h.limit under) s agrees)
+            ∙ sym (having_looked-append h.looks g.looks (on_log n s z.lines (ends (stopping e))));
       }
 
   -- a retry touches nothing
   retry_stays : (x : Log P) → Stops gives retries x Retry x
-  retry_stays x = record { limit = refl; keeps = λ l e h. h; looks = []; looked = refl; grown = refl; same = λ s a o w. ap (λ p. on_log x.limit s x.lines (ends p)) (sym (is_retried o w)) }
+  retry_stays x = record { limit = refl; keeps = λ l e h. h; looks = []; looked = refl; grown = refl; room = λ lt. absurd (omega (arith, lt)); same = λ n room s a. refl }
 
   -- what comes behind a part
   pub follows : {B : Type 0} {p q : Program} {x y : Log P} (z : Log P) → Comes gives p x q y → (r : Result B Stop) (k : B → Program) → MatchResult r (λ b. Comes gives q y (k b) z) (λ e. Stops gives q y e z) → MatchResult r (λ b. Comes gives p x (k b) z) (λ e. Stops gives p x e z)

@@ -16,15 +16,17 @@ use Rattle.kc_xt.specs.declared.line.Line.{Line}
 use Rattle.kc_xt.specs.declared.peek.PeekBusy.{PeekBusy}
 use Rattle.kc_xt.specs.declared.stop.Stop.{Stop}
 use Rattle.kc_xt.specs.declared.stop.Stop.TheVariants.{Retry, TooLarge, Busy}
-use Rattle.kc_xt.specs.Meaning.{Touch, Meaning, AllBelow, is_touched, last_written, values, Makes, CanMake}
+use Rattle.kc_xt.specs.Meaning.{Touch, Meaning, AllBelow, is_touched, last_written, values, Makes, CanMake, answers}
 use Rattle.kc_xt.specs.Lines.{look, locations, line_at, seen_at, after_at, with_line, seen_line, with_after, bare, with_looks, looked_at, with_wrote, with_touches, seens, puts, put_line, CanPut}
 use Rattle.kc_xt.specs.Log.{Log, empty_log}
 use Rattle.kc_xt.specs.Peeks.{Gives, Looks, PlainLooks}
-use Rattle.kc_xt.specs.Law.{Obeys, LooksTo, Commits}
+use Rattle.kc_xt.specs.Commit.{Shows}
+use Rattle.kc_xt.specs.Law.{Obeys, LooksTo, Commits, ending}
 use Rattle.kc_xt.proofs.Options.{some_is, none≢some, or_assoc, or_test, or_none, or_nothing}
 use Rattle.kc_xt.proofs.Lines.{seen_at-line_at, seen_at-with_line, seen_at-with_after, after_at-with_line, after_at-with_after, locations-with_after}
 use Rattle.kc_xt.proofs.Places.{rising-with_line, rising-tail}
 use Rattle.kc_xt.proofs.Footprints.{puts_rise, first_put}
+use Rattle.kc_xt.proofs.Rooms.{ends_under_own}
 use Rattle.kc_xt.proofs.Touching.{missing, line_at-looked_at, by_line, there_is}
 
 -- each line saw what the store shows
@@ -32,13 +34,8 @@ abbrev pub AllShown : Store → List Line → Type 0
 AllShown s [] = Unit {0}
 AllShown s (b ∷ bs) = (b.seen ≡ look s b.seen.loc.0) × AllShown s bs
 
--- each look showed what the store shows
-abbrev AllLooked : Store → List Seen → Type 0
-AllLooked s [] = Unit {0}
-AllLooked s (e ∷ es) = (e ≡ look s e.loc.0) × AllLooked s es
-
 -- each line is at a location below b
-abbrev LinesBelow : ℕ → List Line → Type 0
+abbrev pub LinesBelow : ℕ → List Line → Type 0
 LinesBelow b [] = Unit {0}
 LinesBelow b (l ∷ ls) = (l.seen.loc.0 < b) × LinesBelow b ls
 
@@ -68,7 +65,7 @@ module _ (s : Store) where
   seen_at-with_wrote ls c l (Some v) = seen_at-with_after ls c v l
 
   -- behind touches: what was seen before, else what the store shows at the locations touched
-  seen_at-with_touches : (ls : List Line) (ts : List Touch) (l : ℕ) → seen_at (with_touches s ls ts) l ≡ option_or (seen_at ls l) (if is_touched ts l then Some (look s l) else None)
+  pub seen_at-with_touches : (ls : List Line) (ts : List Touch) (l : ℕ) → seen_at (with_touches s ls ts) l ≡ option_or (seen_at ls l) (if is_touched ts l then Some (look s l) else None)
   seen_at-with_touches ls [] l = sym (or_nothing (seen_at ls l))
   seen_at-with_touches ls (t ∷ ts) l =
       seen_at-with_touches (with_wrote (looked_at s ls t.cell) t.cell t.wrote) ts l
@@ -92,7 +89,7 @@ module _ (s : Store) where
       after_at-with_after (looked_at s ls c) c v l b.0 b.1 ∙ ap (cond (c == l) (Some v)) (after_at-looked_at ls c l) ∙ or_written (c == l) v (after_at ls l)
 
   -- behind touches: the last value written, else the new value before
-  after_at-with_touches : (ls : List Line) (ts : List Touch) (l : ℕ) → after_at (with_touches s ls ts) l ≡ option_or (last_written ts l) (after_at ls l)
+  pub after_at-with_touches : (ls : List Line) (ts : List Touch) (l : ℕ) → after_at (with_touches s ls ts) l ≡ option_or (last_written ts l) (after_at ls l)
   after_at-with_touches ls [] l = refl
   after_at-with_touches ls (t ∷ ts) l =
       after_at-with_touches (with_wrote (looked_at s ls t.cell) t.cell t.wrote) ts l
@@ -108,7 +105,7 @@ module _ (s : Store) where
       by_value (Some v) h = rw (locations-with_after (looked_at s ls c) c v) h
 
   -- the lines still rise behind touches
-  rising-with_touches : (ls : List Line) (ts : List Touch) → IsRising (locations ls) → IsRising (locations (with_touches s ls ts))
+  pub rising-with_touches : (ls : List Line) (ts : List Touch) → IsRising (locations ls) → IsRising (locations (with_touches s ls ts))
   rising-with_touches ls [] h = h
   rising-with_touches ls (t ∷ ts) h = rising-with_touches (with_wrote (looked_at s ls t.cell) t.cell t.wrote) ts (rising-with_wrote ls t.cell t.wrote h)
 
@@ -122,29 +119,29 @@ module _ (s : Store) where
       go false ih = (q, (h, hs))
 
   -- lines of such looks saw what the store shows
-  shown-with_looks : (ls : List Line) (es : List Seen) → AllLooked s es → AllShown s ls → AllShown s (with_looks ls es)
+  pub shown-with_looks : (ls : List Line) (es : List Seen) → Shows s es → AllShown s ls → AllShown s (with_looks ls es)
   shown-with_looks ls [] q h = h
   shown-with_looks ls (e ∷ es) (q, qs) h = shown-with_looks (with_line ls (seen_line e)) es qs (shown-with_line ls e q h)
 
   -- new values change nothing of what was seen
-  shown-bare : (ls : List Line) → AllShown s (bare ls) → AllShown s ls
+  pub shown-bare : (ls : List Line) → AllShown s (bare ls) → AllShown s ls
   shown-bare [] h = tt
   shown-bare (b ∷ bs) (h, hs) = (h, shown-bare bs hs)
 
   -- what such lines saw at a location the store shows
-  shown_at : (ls : List Line) (l : ℕ) (e : Seen) → AllShown s ls → seen_at ls l ≡ Some e → look s l ≡ e
+  pub shown_at : (ls : List Line) (l : ℕ) (e : Seen) → AllShown s ls → seen_at ls l ≡ Some e → look s l ≡ e
   shown_at [] l e h q = cc
   shown_at (b ∷ bs) l e (h, hs) q = grind (arith, nat_tests, shown_at bs l e hs)
 
   -- ---- the footprint of such lines
 
   -- the read of a location is what its line saw
-  read_at-seens : (ls : List Line) (l : ℕ) → read_at (seens ls) l ≡ seen_at ls l
+  pub read_at-seens : (ls : List Line) (l : ℕ) → read_at (seens ls) l ≡ seen_at ls l
   read_at-seens [] l = refl
   read_at-seens (b ∷ bs) l = ap (cond (b.seen.loc.0 == l) (Some b.seen)) (read_at-seens bs l)
 
   -- the put of a value at a location
-  abbrev put_of : ℕ → ℕ → Put
+  abbrev pub put_of : ℕ → ℕ → Put
   put_of l v = record { loc = record { 0 = l }; version = (s l).version; after = v }
 
   -- there is no put below the lines
@@ -161,7 +158,7 @@ module _ (s : Store) where
   put_is e l v h q = ap (λ (e : Seen). let p : Put = record { loc = e.loc; version = e.version; after = v } in p) h ∙ ap (λ k. put_of k v) q
 
   -- the put of a location is that of its new value
-  put_at-puts : (ls : List Line) (l : ℕ) → IsRising (locations ls) → AllShown s ls → put_at (puts ls) l ≡ option_map (put_of l) (after_at ls l)
+  pub put_at-puts : (ls : List Line) (l : ℕ) → IsRising (locations ls) → AllShown s ls → put_at (puts ls) l ≡ option_map (put_of l) (after_at ls l)
   put_at-puts [] l r h = refl
   put_at-puts (b ∷ bs) l r (h, hs) = go (b.seen.loc.0 == l) refl b.after (put_at-puts bs l (rising-tail b.seen.loc.0 (locations bs) r) hs)
     where
@@ -199,12 +196,12 @@ module _ (s : Store) where
   below-with_wrote b ls c (Some v) h = below-with_after b ls c v h
 
   -- lines stay below b where touches are
-  below-with_touches : (b : ℕ) (ls : List Line) (ts : List Touch) → AllBelow b ts → LinesBelow b ls → LinesBelow b (with_touches s ls ts)
+  pub below-with_touches : (b : ℕ) (ls : List Line) (ts : List Touch) → AllBelow b ts → LinesBelow b ls → LinesBelow b (with_touches s ls ts)
   below-with_touches b ls [] q h = h
   below-with_touches b ls (t ∷ ts) (q, qs) h = below-with_touches b (with_wrote (looked_at s ls t.cell) t.cell t.wrote) ts qs (below-with_wrote b (looked_at s ls t.cell) t.cell t.wrote (by_line s ls t.cell (λ zs. LinesBelow b zs) (λ _. h) (λ _. below-with_line b ls (look s t.cell) q h) _ refl))
 
   -- and so do the reads
-  reads_below : (b : ℕ) (ls : List Line) (r : Seen) → LinesBelow b ls → Contains (seens ls) r → r.loc.0 < b
+  pub reads_below : (b : ℕ) (ls : List Line) (r : Seen) → LinesBelow b ls → Contains (seens ls) r → r.loc.0 < b
   reads_below b [] r h (k, lt, e) = absurd (omega arith)
   reads_below b (c ∷ cs) r (h, hs) (zero, lt, e) = subst (λ (t : Seen). t.loc.0 < b) e h
   reads_below b (c ∷ cs) r (h, hs) (suc k, lt, e) = reads_below b cs r hs (k, omega arith, e)
@@ -213,11 +210,11 @@ ok_is : (a b : Seen) → (let r : Result Seen PeekBusy = Ok a in r) ≡ Ok b →
 ok_is a b h = cc
 
 -- a look was not both given up and answered
-err≢ok : (e : PeekBusy) (a : Seen) → (let r : Result Seen PeekBusy = Err e in r) ≡ Ok a → ⊥
+pub err≢ok : (e : PeekBusy) (a : Seen) → (let r : Result Seen PeekBusy = Err e in r) ≡ Ok a → ⊥
 err≢ok e a h = cc
 
 -- looks at a plain store show what stands
-all_looked : (cells a : List Cell) (es : List Seen) (z : List Cell) → a ≡ cells → Looks PlainLooks a es z → AllLooked (store_of cells) es
+pub all_looked : (cells a : List Cell) (es : List Seen) (z : List Cell) → a ≡ cells → Looks PlainLooks a es z → Shows (store_of cells) es
 all_looked cells a [] z q h = tt
 all_looked cells a (e ∷ es) z q (b, (same, gave), rest) = (ok_is e (look (store_of a) e.loc.0) gave ∙ ap (λ cs. look (store_of cs) e.loc.0) q, all_looked cells b es z (same ∙ q) rest)
 
@@ -248,6 +245,13 @@ makes s ts ls f all left er ep made can =
       puts = λ l. ap (λ ps. put_at ps l) ep ∙ at l;
     }
 
+-- what ends by itself is answered as it ends
+as_answered : (r : Result Reply Stop) → r ≢ Err Busy → r ≡ answers (ending r)
+as_answered (Ok a) ne = refl
+as_answered (Err Retry) ne = refl
+as_answered (Err TooLarge) ne = refl
+as_answered (Err Busy) ne = absurd (ne refl)
+
 -- a run on the empty log over a plain store never stops with Busy
 pub plain_not_busy : {m : Meaning} {bound : ℕ} {r : Result Reply Stop} {y : Log (List Cell)} (cells : List Cell) → Obeys PlainLooks m bound (empty_log cells) r y → r ≢ Err Busy
 plain_not_busy {y = y} cells o e = go (rw e at o.looked)
@@ -261,10 +265,10 @@ commits {m} {bound} {r} {y} cells o f er ep made =
     let s = store_of cells in
     let looks = looks_in PlainLooks r y.lines cells o.looks y.peek o.looked in
     let all : AllShown s y.lines = shown-bare s y.lines (rw o.grown (shown-with_looks s [] o.looks (all_looked cells cells o.looks looks.0 refl looks.1) tt)) in
-    let run = o.law s (λ l e h. shown_at s y.lines l e all h) (plain_not_busy cells o) in
+    let run = o.law MOST (ends_under_own r MOST [] y.lines (plain_not_busy cells o) o.room) s (λ l e h. shown_at s y.lines l e all h) in
     let below : LinesBelow bound y.lines = rw run.lines (below-with_touches s bound [] (m MOST (values s) []).touches run.below tt) in
     record {
-      answer = run.answer;
+      answer = as_answered r (plain_not_busy cells o) ∙ ap answers (sym run.answer);
       makes = makes s (m MOST (values s) []).touches y.lines f all run.lines er ep made;
       within = λ e h. reads_below s bound y.lines e below (rw er at h);
     }

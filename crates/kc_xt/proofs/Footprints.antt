@@ -1,6 +1,6 @@
 -- The footprint of a log.
 use Rattle.std.proofs.Common.{◌≡◌, ℕ, zero, suc, ◌<◌, ◌≤◌, List, [], ◌∷◌, map, refl, ap, subst, arith}
-use Rattle.std.specs.Prelude.{Option, Some, None, Contains}
+use Rattle.std.specs.Prelude.{Option, Some, None, is_some, Contains, ◌==◌, ◌&&◌, Bool, true, false, cond}
 use Rattle.std.proofs.lemmas.Bool.Decides.{nat_tests}
 use Rattle.kc_model.specs.declared.footprint.TheConstants.{LAST_VERSION}
 use Rattle.kc_model.specs.declared.footprint.Seen.{Seen}
@@ -10,7 +10,7 @@ use Rattle.kc_model.specs.Rising.{IsRising, IsRisingAbove}
 use Rattle.kc_model.specs.Footprint.{IsWellMade, read_location, put_location, put_at}
 use Rattle.kc_model.proofs.Stores.{Contains-first, Contains-later}
 use Rattle.kc_xt.specs.declared.line.Line.{Line}
-use Rattle.kc_xt.specs.Lines.{locations, seens, puts, put_line, VersionsFit, CanPut}
+use Rattle.kc_xt.specs.Lines.{locations, seens, puts, put_line, VersionsFit, CanPut, worn_of}
 
 -- the locations of the reads are those of the lines
 locations-seens : (ls : List Line) → map read_location (seens ls) ≡ locations ls
@@ -70,6 +70,33 @@ well_made ls f rising fit er ep can = record {
   puts_read = λ p h. rw er (puts_read ls p (rw ep at h));
   versions_put = λ p h. can p (rw ep at h);
 }
+
+-- so is that of no puts
+pub reads_made : (ls : List Line) (f : Footprint) → IsRising (locations ls) → VersionsFit ls → f.reads.items ≡ seens ls → f.puts.items ≡ [] → IsWellMade f
+reads_made ls f rising fit er ep = record {
+  reads_rise = rw (er, locations-seens ls) rising;
+  puts_rise = rw ep tt;
+  versions = λ r h. versions_seen ls r fit (rw er at h);
+  puts_read = λ p h. absurd (no_put p (rw ep at h));
+  versions_put = λ p h. absurd (no_put p (rw ep at h));
+}
+  where
+    no_put : (p : Put) → Contains [] p → ⊥
+    no_put p (k, lt, e) = omega arith
+
+-- where no line is worn, all puts leave a version
+pub none_worn : (ls : List Line) → VersionsFit ls → worn_of ls ≡ None → CanPut ls
+none_worn [] fit h p (k, lt, e) = absurd (omega arith)
+none_worn (b ∷ bs) (fit, fits) h p c = by_test (is_some b.after && b.seen.version == LAST_VERSION) refl h (λ n k. none_worn bs fits n p k)
+  where
+    here : (o : Option ℕ) → (is_some o && b.seen.version == LAST_VERSION) ≡ false → (Contains (puts bs) p → p.version < LAST_VERSION) → Contains (put_line b.seen o (puts bs)) p → p.version < LAST_VERSION
+    here None t later k = later k
+    here (Some v) t later (zero, lt, e) = let below : b.seen.version < LAST_VERSION = grind (arith, nat_tests, t, fit) in subst (λ (q : Put). q.version < LAST_VERSION) e below
+    here (Some v) t later (suc k, lt, e) = later (k, omega arith, e)
+
+    by_test : (t : Bool) → (is_some b.after && b.seen.version == LAST_VERSION) ≡ t → cond t (Some b.seen.loc) (worn_of bs) ≡ None → (worn_of bs ≡ None → Contains (puts bs) p → p.version < LAST_VERSION) → p.version < LAST_VERSION
+    by_test true e n later = absurd cc
+    by_test false e n later = here b.after e (later n) c
 
 -- among rising puts each is the one of its location
 later_put : (q : Put) (ps : List Put) (p : Put) → IsRisingAbove q.loc.0 (map put_location ps) → Contains ps p → q.loc.0 < p.loc.0

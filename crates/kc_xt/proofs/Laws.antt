@@ -5,10 +5,9 @@ use Rattle.kc_model.specs.declared.reply.Reply.{Reply}
 use Rattle.kc_model.specs.declared.footprint.Seen.{Seen}
 use Rattle.kc_xt.specs.declared.line.Line.{Line}
 use Rattle.kc_xt.specs.declared.stop.Stop.{Stop}
-use Rattle.kc_xt.proofs.Outcomes.{answered}
-use Rattle.kc_xt.specs.Law.{Obeys, IsRun}
+use Rattle.kc_xt.specs.Law.{Obeys, IsRun, ending}
 use Rattle.kc_model.specs.Store.{Store}
-use Rattle.kc_xt.specs.Meaning.{Outcome, replied, retried, answers, Touch, Run, AllBelow}
+use Rattle.kc_xt.specs.Meaning.{replied, retried, Touch, Run, AllBelow}
 use Rattle.kc_xt.specs.Lines.{overlaid, locations}
 use Rattle.kc_xt.specs.Program.{Program, ends, replies, read, write, meaning, full, touching, has_room}
 use Rattle.kc_xt.specs.Peeks.{Gives}
@@ -59,22 +58,20 @@ waits-meaning (write l v p) n m ks h = waits-touching (has_room n ks l) _ _
 
 module _ {P : Type 0} (gives : Gives P) (p : Program) (bound : ℕ) (below : Below bound p) (first : TouchesFirst p) where
   -- what a program came to on a store is its meaning
-  is_run : (n : ℕ) (s : Store) (before : List Line) (r : Result Reply Stop) (o : Outcome) (after : List Line) (es : List Seen) → answers o ≡ r → on_log n s before p ≡ having_looked es (on_log n s after (ends o)) → IsRun (meaning p n (overlaid s before) (locations before)) bound s before r after es
+  is_run : (n : ℕ) (s : Store) (before : List Line) (r : Result Reply Stop) (after : List Line) (es : List Seen) → on_log n s before p ≡ having_looked es (on_log n s after (ends (ending r))) → IsRun (meaning p n (overlaid s before) (locations before)) bound s before r after es
   unfolding on_log
-  is_run n s before r o after es e h =
-      let ho : o ≡ (meaning p n (overlaid s before) (locations before)).outcome = sym (ap (λ (e : Ended). e.outcome) h) in
-      record {
-        answer = sym e ∙ ap answers ho;
-        lines = sym (ap (λ (e : Ended). e.lines) h);
-        looked = sym (append-nil es) ∙ sym (ap (λ (e : Ended). e.looks) h);
-        below = below-meaning bound p n _ _ below;
-        waits = waits-meaning p n (overlaid s before) (locations before) first;
-      }
+  is_run n s before r after es h = record {
+    answer = ap (λ (e : Ended). e.outcome) h;
+    lines = sym (ap (λ (e : Ended). e.lines) h);
+    looked = sym (append-nil es) ∙ sym (ap (λ (e : Ended). e.looks) h);
+    below = below-meaning bound p n _ _ below;
+    waits = waits-meaning p n (overlaid s before) (locations before) first;
+  }
 
   -- a program that came to its end, or stopped, obeyed its meaning
   pub obeys : (x : Log P) (r : Result Reply Stop) (y : Log P) → MatchResult r (λ a. Comes gives p x (ends (replied a)) y) (λ e. Stops gives p x e y) → Obeys gives (meaning p) bound x r y
-  obeys x (Ok a) y h = record { limit = h.limit; keeps = h.keeps; looks = h.looks; looked = h.looked; grown = h.grown; law = λ s g _. is_run x.limit s x.lines (Ok a) (replied a) y.lines h.looks refl (h.same s g) }
-  obeys x (Err e) y h = record { limit = h.limit; keeps = h.keeps; looks = h.looks; looked = h.looked; grown = h.grown; law = λ s g n. let o = answered (Err e) n in is_run x.limit s x.lines (Err e) o.0 y.lines h.looks o.1 (h.same s g o.0 o.1) }
+  obeys x (Ok a) y h = record { limit = h.limit; keeps = h.keeps; looks = h.looks; looked = h.looked; grown = h.grown; room = h.room; law = λ n under s g. is_run n s x.lines (Ok a) y.lines h.looks (h.same n under s g) }
+  obeys x (Err e) y h = record { limit = h.limit; keeps = h.keeps; looks = h.looks; looked = h.looked; grown = h.grown; room = h.room; law = λ n under s g. is_run n s x.lines (Err e) y.lines h.looks (h.same n under s g) }
 
 -- both sides of a test keep below b
 pub below_if : (b : ℕ) (t : Bool) (p q : Program) → Below b p → Below b q → Below b (cond t p q)

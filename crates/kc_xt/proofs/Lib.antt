@@ -2,6 +2,7 @@ pub mod Options
 pub mod Outcomes
 pub mod Lines
 pub mod Places
+pub mod Rooms
 pub mod LogSteps
 pub mod Chain
 pub mod Calls
@@ -11,6 +12,11 @@ pub mod Touching
 pub mod Composed
 pub mod Footprints
 pub mod Commits
+pub mod Tries
 pub mod Spared
 pub mod Singles
 pub mod Written
+pub mod Stay
+pub mod Structures
+pub mod Inside
+pub mod Times

@@ -6,5 +6,9 @@ pub mod Log
 pub mod Calls
 pub mod Steps
 pub mod Law
+pub mod Commit
 pub mod Single
+pub mod Stays
+pub mod Structure
 pub mod Worked
+pub mod Times

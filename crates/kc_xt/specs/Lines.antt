@@ -1,6 +1,7 @@
 -- The lines of a log, as contracts see them.
-use Rattle.std.specs.Prelude.{◌≡◌, ℕ, ◌==◌, ◌≤◌, ◌<◌, nat_lt, cond, List, [], ◌∷◌, map, Option, Some, None, unwrap_or, Contains}
+use Rattle.std.specs.Prelude.{◌≡◌, ℕ, ◌==◌, ◌≤◌, ◌<◌, nat_lt, cond, List, [], ◌∷◌, map, Option, Some, None, is_some, ◌&&◌, unwrap_or, Contains}
 use Rattle.kc_model.specs.declared.footprint.TheConstants.{LAST_VERSION}
+use Rattle.kc_model.specs.declared.footprint.Loc.{Loc}
 use Rattle.kc_model.specs.declared.footprint.Seen.{Seen}
 use Rattle.kc_model.specs.declared.footprint.Put.{Put}
 use Rattle.kc_model.specs.Store.{Store}
@@ -124,6 +125,11 @@ put_line e (Some v) ps = record { loc = e.loc; version = e.version; after = v } 
 abbrev pub puts : List Line → List Put
 puts [] = []
 puts (b ∷ bs) = put_line b.seen b.after (puts bs)
+
+-- the location of the first line with a new value that was seen at the last version
+abbrev pub worn_of : List Line → Option Loc
+worn_of [] = None
+worn_of (b ∷ bs) = cond (is_some b.after && b.seen.version == LAST_VERSION) (Some b.seen.loc) (worn_of bs)
 
 -- no line was seen past the last version
 abbrev pub VersionsFit : List Line → Type 0

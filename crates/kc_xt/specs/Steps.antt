@@ -1,11 +1,11 @@
 -- How a log comes from another while a program runs.
-use Rattle.std.specs.Prelude.{◌≡◌, ℕ, List, ◌++◌, Result, Err, MatchResult}
+use Rattle.std.specs.Prelude.{◌≡◌, ℕ, ◌<◌, ◌≤◌, List, ◌++◌, length, Result, MatchResult}
 use Rattle.kc_model.specs.declared.footprint.Seen.{Seen}
 use Rattle.kc_model.specs.Store.{Store}
 use Rattle.kc_xt.specs.declared.line.Line.{Line}
 use Rattle.kc_xt.specs.declared.stop.Stop.{Stop}
 use Rattle.kc_xt.specs.declared.stop.Stop.TheVariants.{Retry, TooLarge, Busy}
-use Rattle.kc_xt.specs.Meaning.{Outcome, answers, Run}
+use Rattle.kc_xt.specs.Meaning.{Outcome, retried, too_large, Run}
 use Rattle.kc_xt.specs.Lines.{locations, overlaid, Agrees, Keeps, bare, with_looks, with_touches, looks_of}
 use Rattle.kc_xt.specs.Program.{Program, ends, meaning}
 use Rattle.kc_xt.specs.Peeks.{Gives, Looks, LookFails}
@@ -29,6 +29,10 @@ on_log n s ls p = ended s ls (meaning p n (overlaid s ls) (locations ls))
 abbrev pub having_looked : List Seen → Ended → Ended
 having_looked es e = record { outcome = e.outcome; lines = e.lines; looks = es ++ e.looks }
 
+-- a limit has room for what was added: where lines were, all are within it
+abbrev pub HasRoom : ℕ → List Line → List Line → Type 0
+HasRoom n before after = length before < length after → length after ≤ n
+
 -- the program p on the log x has come to q on the log y
 pub record Comes {P : Type 0} (gives : Gives P) (p : Program) (x : Log P) (q : Program) (y : Log P) : Type 0 where
   pub limit : y.limit ≡ x.limit
@@ -36,7 +40,20 @@ pub record Comes {P : Type 0} (gives : Gives P) (p : Program) (x : Log P) (q : P
   pub looks : List Seen
   pub looked : Looks gives x.peek looks y.peek
   pub grown : bare y.lines ≡ with_looks (bare x.lines) looks
-  pub same : (s : Store) → Agrees s y.lines → on_log x.limit s x.lines p ≡ having_looked looks (on_log x.limit s y.lines q)
+  pub room : HasRoom x.limit x.lines y.lines
+  pub same : (n : ℕ) → HasRoom n x.lines y.lines → (s : Store) → Agrees s y.lines → on_log n s x.lines p ≡ having_looked looks (on_log n s y.lines q)
+
+-- Under which limits a program stops so, which stopped on a log of this limit: a retry under each that has room for its lines, one location too many under the log's own. A look that was given up is one location too many under the number of the lines.
+abbrev pub StopsUnder : Stop → ℕ → List Line → List Line → ℕ → Type 0
+StopsUnder Retry limit before after n = HasRoom n before after
+StopsUnder TooLarge limit before after n = n ≡ limit
+StopsUnder Busy limit before after n = n ≡ length after
+
+-- how it ends under these
+abbrev pub stopping : Stop → Outcome
+stopping Retry = retried
+stopping TooLarge = too_large
+stopping Busy = too_large
 
 -- the looks before a stop, after which these lines stand: at a Busy one more was made, which was given up
 abbrev pub LooksStop : {P : Type 0} → Gives P → Stop → List Line → P → List Seen → P → Type 0
@@ -51,7 +68,8 @@ pub record Stops {P : Type 0} (gives : Gives P) (p : Program) (x : Log P) (e : S
   pub looks : List Seen
   pub looked : LooksStop gives e y.lines x.peek looks y.peek
   pub grown : bare y.lines ≡ with_looks (bare x.lines) looks
-  pub same : (s : Store) → Agrees s y.lines → (o : Outcome) → answers o ≡ Err e → on_log x.limit s x.lines p ≡ having_looked looks (on_log x.limit s y.lines (ends o))
+  pub room : HasRoom x.limit x.lines y.lines
+  pub same : (n : ℕ) → StopsUnder e x.limit x.lines y.lines n → (s : Store) → Agrees s y.lines → on_log n s x.lines p ≡ having_looked looks (on_log n s y.lines (ends (stopping e)))
 
 -- a call does the first part of a program, whatever comes behind it
 pub record Does {P A : Type 0} (gives : Gives P) (f : (A → Program) → Program) (x : Log P) (r : Result A Stop) (y : Log P) : Type 0 where

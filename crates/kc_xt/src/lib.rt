@@ -1,18 +1,22 @@
 //! The log of a transaction, and the law that a transaction keeps.
 #![tactic(auto)]
 
+mod attempts;
 mod line;
 mod peek;
 mod place;
 mod plain_peek;
 mod stop;
+mod structure;
 #[cfg(test)]
 mod tests;
 mod transact;
 mod xt;
 
+pub use attempts::{Tried, attempt, is_found_somewhere, plain_attempts};
 pub use peek::{Peek, PeekBusy};
 pub use plain_peek::PlainPeek;
 pub use stop::Stop;
+pub use structure::{counter_keeps_the_laws, keeps_to_its_cells};
 pub use transact::Transact;
 pub use xt::{Snapshot, Xt};

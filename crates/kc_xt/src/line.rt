@@ -2,10 +2,10 @@
 
 ghost use Rattle.std.specs.Prelude.{◌≡◌, ◌≤◌, ◌<◌, length, slice_set, slice_index_or};
 ghost use Rattle.kc_xt.specs.Calls.{zero_line, with_value};
-ghost use Rattle.kc_xt.specs.Lines.{after_at, rolled_back, seens, puts};
+ghost use Rattle.kc_xt.specs.Lines.{after_at, rolled_back, seens, puts, worn_of};
 
 use arrayvec::ArrayVec;
-use kc_model::{Loc, MOST, Put, Seen};
+use kc_model::{LAST_VERSION, Loc, MOST, Put, Seen};
 
 // What was seen at a location, and its new value where one was set.
 #[derive(Clone, Copy, Debug, Default)]
@@ -60,6 +60,18 @@ pub(crate) fn copy_of(from: &[Line]) -> ArrayVec<Line, MOST>
         lines.push(*line);
     }
     lines
+}
+
+// The first location with a new value that was seen at the last version.
+pub(crate) fn worn_of(lines: &[Line]) -> Option<Loc>
+    ensures { result ≡ worn_of lines.now }
+{
+    for line in lines {
+        if line.after.is_some() && line.seen.version == LAST_VERSION {
+            return Some(line.seen.loc);
+        }
+    }
+    None
 }
 
 // Reads what all lines saw.

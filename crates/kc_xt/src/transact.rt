@@ -17,12 +17,11 @@ pub trait Transact {
     /// Which values may be run.
     ghost is_fit: { Self → Type 0 };
 
-    /// A number above each location that it touches.
+    /// A number above each location that it touches, where it is fit.
     ghost end: { Self → ℕ };
 
-    /// A number above each location that it touches.
+    /// A number above each location that it touches, where it is fit.
     fn bound(&self) -> u32
-        requires { is_fit self.now }
         ensures { result ≡ end self.now };
 
     /// Runs it on a log, behind what ran there before.

@@ -1,15 +1,16 @@
 //! The log of a transaction.
 
-ghost use Rattle.std.specs.Prelude.{◌≡◌, ◌==◌, ◌+◌, ◌<◌, ◌≤◌, Some, None, if◌then◌else◌, length, IfOk, OnErr};
+ghost use Rattle.std.specs.Prelude.{◌≡◌, ◌==◌, ◌+◌, ◌<◌, ◌≤◌, Some, None, [], if◌then◌else◌, length, IfOk, OnErr};
 ghost use Rattle.kc_model.specs.Rising.{IsRising};
 ghost use Rattle.kc_model.specs.Footprint.{IsWellMade};
 ghost use Rattle.kc_xt.specs.Calls.{Touches, Updates, Swaps, IsPlace, HasLine, having_set, stop_of};
-ghost use Rattle.kc_xt.specs.Lines.{locations, Keeps, SetsNothing, ReadsAs, rolled_back, seens, puts, CanPut};
+ghost use Rattle.kc_xt.specs.Lines.{locations, Keeps, SetsNothing, ReadsAs, rolled_back, seens, puts, CanPut, worn_of};
+ghost use Rattle.kc_xt.specs.Commit.{Filled};
 ghost use Rattle.kc_xt.specs.Log.{empty_log};
 ghost use Rattle.kc_xt.specs.Steps.{Does};
 ghost use Rattle.kc_xt.specs.Program.{read, writes, exchanges, swaps, compares_and_sets, fetches_and_adds, wrapped};
 
-use crate::line::{Line, copy_of, fill_puts, fill_reads, put_after, take_back};
+use crate::line::{Line, copy_of, fill_puts, fill_reads, put_after, take_back, worn_of};
 use crate::peek::Peek;
 use crate::place::find;
 use crate::stop::Stop;
@@ -235,6 +236,34 @@ impl<P: Peek> Xt<P> {
     {
         fill_reads(&mut footprint.reads, self.lines.as_slice());
         fill_puts(&mut footprint.puts, self.lines.as_slice());
+    }
+
+    /// Makes the footprint one of what all lines saw, and of no new value.
+    pub fn fill_reads(&self, footprint: &mut Footprint)
+        ensures { Filled self.now.lines [] footprint.new }
+    {
+        fill_reads(&mut footprint.reads, self.lines.as_slice());
+        footprint.puts.clear();
+    }
+
+    /// The lowest location with a new value that was seen at the last version.
+    pub fn worn(&self) -> Option<Loc>
+        ensures is { result ≡ worn_of self.now.lines }
+        ensures none { result ≡ None → CanPut self.now.lines }
+    {
+        worn_of(self.lines.as_slice())
+    }
+
+    /// Its peek.
+    pub fn into_peek(self) -> P
+        ensures { result ≡ self.peek }
+    {
+        let Xt {
+            peek,
+            limit: _,
+            lines: _,
+        } = self;
+        peek
     }
 
     /// Its peek, and the footprint of what all lines saw and of the new values.

@@ -1,28 +1,21 @@
-use Rattle.std.proofs.Common.{◌∙◌, ◌<◌, ◌≤◌, length, refl, arith}
-use Rattle.std.specs.Prelude.{reverse}
-use Rattle.std.proofs.lemmas.List.{length-reverse}
-use Rattle.kc_model.proofs.Pens.{owes_all, owes_next, owes_last}
-use Rattle.kc_bundle.specs.State.{number_text}
+use Rattle.std.proofs.Common.{◌∙◌, refl, arith}
+use Rattle.kc_model.specs.Store.{store_of}
+use Rattle.kc_xt.specs.Meaning.{values}
+use Rattle.kc_bundle.specs.State.{from_top}
+use Rattle.kc_bundle.proofs.Listed.{items_first, item_next, items_last}
 use Rattle.kc_bundle.proofs.content.put_stack.Goals as goal
 
 pub loop-i-init : goal.loop-i-init
-loop-i-init g c = (refl, λ xs h. owes_all _ _)
+loop-i-init g c = record { same_sink = refl; owes = items_first (from_top c.args.stack (values (store_of c.args.store.now))) _ }
 
 pub loop-i-preserved : goal.loop-i-preserved
-loop-i-preserved g c = (
-  c.put_number.ensures.same_sink ∙ c.loop-i.invariant.0,
-  λ xs h.
-      let n = c.count-i-end.ensures.content xs h in
-      let lt : c.loop-i.i < length (reverse xs) = omega (arith, n, length-reverse xs) in
-      let asks = c.put_number.ensures.asks in
-      owes_next number_text (reverse xs) c.loop-i.i 0 lt (rw (c.item.ensures.content xs h) at asks) (c.loop-i.invariant.1 xs h),
-)
+loop-i-preserved g c = record {
+  same_sink = c.put_number.ensures.same_sink ∙ c.loop-i.invariant.same_sink;
+  owes = item_next (from_top c.args.stack (values (store_of c.args.store.now))) c.loop-i.i _ _ (omega (arith, c.count-i-end.ensures.is)) c.item.ensures.is c.put_number.ensures.asks c.loop-i.invariant.owes;
+}
 
-pub returns-clause-same_sink : goal.returns-clause-same_sink
-returns-clause-same_sink g c = c.loop-i.invariant.0
-
-pub returns-clause-shows : goal.returns-clause-shows
-returns-clause-shows g c = λ xs h.
-    let n = c.count-i-end.ensures.content xs h in
-    let le : length (reverse xs) ≤ c.loop-i.i = omega (arith, n, length-reverse xs) in
-    record { same_sink = c.loop-i.invariant.0; asks = owes_last number_text (reverse xs) c.loop-i.i le (c.loop-i.invariant.1 xs h) }
+pub returns : goal.returns
+returns g c = record {
+  same_sink = c.loop-i.invariant.same_sink;
+  asks = items_last (from_top c.args.stack (values (store_of c.args.store.now))) c.loop-i.i _ (omega (arith, c.count-i-end.ensures.is)) c.loop-i.invariant.owes;
+}

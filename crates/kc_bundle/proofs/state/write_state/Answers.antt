@@ -3,4 +3,4 @@ use Rattle.kc_model.proofs.Pens.{prints_sink}
 use Rattle.kc_bundle.proofs.state.write_state.Goals as goal
 
 pub returns : goal.returns
-returns g c = λ contents h. prints_sink c.new-pen.ensures.fresh (c.put_state.ensures.shows contents h) c.end.ensures.puts c.end.ensures.ok c.end.ensures.err (search rules)
+returns g c = prints_sink c.new-pen.ensures.fresh c.put_state.ensures c.end.ensures.puts c.end.ensures.ok c.end.ensures.err (search rules)

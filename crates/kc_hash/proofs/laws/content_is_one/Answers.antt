@@ -1,15 +1,20 @@
+use Rattle.std.proofs.Common.{sym, ◌∙◌}
 use Rattle.kc_hash.proofs.Formed.{pairs_within, pairs_rise}
-use Rattle.kc_hash.proofs.Kept.{same_cells, one_content}
+use Rattle.kc_hash.proofs.Kept.{same_cells}
+use Rattle.kc_hash.proofs.Sweeps.{shows}
 use Rattle.kc_hash.proofs.laws.content_is_one.Goals as goal
 
-pub returns-clause-same : goal.returns-clause-same
-returns-clause-same c = λ h m w pairs stands same. same_cells h m pairs stands w same
+pub returns-clause-own : goal.returns-clause-own
+returns-clause-own c = λ h m w pairs same stands. same_cells h m pairs stands w same
+
+pub returns-clause-one : goal.returns-clause-one
+returns-clause-one c = λ h m a b S T. sym (shows h m a S) ∙ shows h m b T
+
+pub returns-clause-shown : goal.returns-clause-shown
+returns-clause-shown c = shows
 
 pub returns-clause-rising : goal.returns-clause-rising
 returns-clause-rising c = pairs_rise
 
 pub returns-clause-within : goal.returns-clause-within
 returns-clause-within c = pairs_within
-
-pub returns-clause-one : goal.returns-clause-one
-returns-clause-one c = one_content

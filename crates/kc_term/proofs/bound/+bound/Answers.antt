@@ -1,12 +1,10 @@
 use Rattle.std.proofs.Common.{arith}
-use Rattle.kc_term.specs.Tree.{operations}
-use Rattle.kc_term.proofs.Parts.{fit-left, fit-right, fit_at, end-cons, size_at, is_seq, is_first}
+use Rattle.kc_term.proofs.Parts.{end-cons, size_at, is_seq, is_first}
 use Rattle.kc_term.proofs.bound.+bound.Goals as goal
 
 pub parts_bound-term_bound-requires : goal.parts_bound-term_bound-requires
 parts_bound-term_bound-requires g t c κs within =
-    let fit = fit_at g.O.Transact.is_fit g.O.Transact.meaning c.args.parts.now c.loop-part.part-index c.part-item.result c.loop-part-test.true c.part-item.is c.requires in
-    (omega (arith, c.decreases, size_at c.args.parts.now c.loop-part.part-index c.part-item.result c.loop-part-test.true c.part-item.is), (within, fit))
+    (omega (arith, c.decreases, size_at c.args.parts.now c.loop-part.part-index c.part-item.result c.loop-part-test.true c.part-item.is), within)
 
 pub parts_bound-loop-part-preserved : goal.parts_bound-loop-part-preserved
 parts_bound-loop-part-preserved g t c =
@@ -16,14 +14,14 @@ parts_bound-loop-part-preserved g t c =
 pub term_bound-parts_bound-requires : goal.term_bound-parts_bound-requires
 term_bound-parts_bound-requires g t c κs within =
     let is = is_seq c.term.view_is c.in-Seq.is in
-    rw c.as_slice.ensures.value (omega (arith, rw is at c.decreases), (within, rw is at c.requires))
+    rw c.as_slice.ensures.value (omega (arith, rw is at c.decreases), within)
 
 pub term_bound-term_bound-requires : goal.term_bound-term_bound-requires
 term_bound-term_bound-requires g t c κs within =
     let is = is_first c.term.view_is c.in-First.is in
-    rw c.deref.ensures (omega (arith, rw is at c.decreases), (within, fit-left _ _ _ _ (rw is at c.requires)))
+    rw c.deref.ensures (omega (arith, rw is at c.decreases), within)
 
 pub term_bound-term_bound-requires-in-First : goal.term_bound-term_bound-requires-in-First
 term_bound-term_bound-requires-in-First g t c κs within =
     let is = is_first c.term.view_is c.in-First.is in
-    rw c.deref-in-First.ensures (omega (arith, rw is at c.decreases), (within, fit-right _ _ (operations c.in-First.a.value) _ (rw is at c.requires)))
+    rw c.deref-in-First.ensures (omega (arith, rw is at c.decreases), within)
