@@ -1,4 +1,8 @@
+pub mod Waits
 pub mod Hangs
+pub mod Works
+pub mod SeatValue
+pub mod SeatView
 pub mod Seats
 pub mod Words
 pub mod Lists

@@ -8,10 +8,10 @@ mod seat;
 mod tests;
 mod words;
 
-pub use hang::{Hang, HangStep, Leave, LeaveStep};
+pub use hang::{HangStep, LeaveStep};
 pub use kc_steps::{
     AfterCheck, AidStep, Aided, Commit, Event, Intent, Line, Look, LookStep, OwnStep, PassStep,
     Stage, Task, Told,
 };
 pub use machine::Machine;
-pub use seat::{Seat, Work};
+pub use seat::Seat;

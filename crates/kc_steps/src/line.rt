@@ -181,27 +181,25 @@ fn put_of(puts: &[Put], loc: Loc) -> Option<u32>
     None
 }
 
-/// The lines of a footprint: each read, with its put where there is one.
-pub fn lines_of(footprint: &Footprint) -> ArrayVec<Line, MOST>
-    ensures { result.items ≡ lines_of footprint.now }
+/// Writes the lines of a footprint: each read, with its put where there is one.
+pub fn fill_lines(lines: &mut ArrayVec<Line, MOST>, footprint: &Footprint)
+    ensures { lines.new.items ≡ lines_of footprint.now }
 {
-    let mut lines = ArrayVec::new();
+    lines.clear();
     for read in footprint.reads.as_slice() {
         lines.push(Line {
             seen: *read,
             put: put_of(footprint.puts.as_slice(), read.loc),
         });
     }
-    lines
 }
 
-/// A copy of the reads.
-pub fn copied(reads: &ArrayVec<Seen, MOST>) -> ArrayVec<Seen, MOST>
-    ensures { result.items ≡ reads.now.items }
+/// Writes a copy of the reads.
+pub fn copy_reads(copy: &mut ArrayVec<Seen, MOST>, reads: &ArrayVec<Seen, MOST>)
+    ensures { copy.new.items ≡ reads.now.items }
 {
-    let mut copy = ArrayVec::new();
+    copy.clear();
     for read in reads.as_slice() {
         copy.push(*read);
     }
-    copy
 }
