@@ -4,6 +4,7 @@ pub mod Works
 pub mod SeatValue
 pub mod SeatView
 pub mod Seats
+pub mod Points
 pub mod Words
 pub mod Lists
 pub mod Machine

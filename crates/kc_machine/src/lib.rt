@@ -3,6 +3,7 @@
 
 mod hang;
 mod machine;
+mod point;
 mod seat;
 #[cfg(test)]
 mod tests;
@@ -14,4 +15,5 @@ pub use kc_steps::{
     Stage, Task, Told,
 };
 pub use machine::Machine;
+pub use point::Point;
 pub use seat::Seat;

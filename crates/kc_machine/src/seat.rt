@@ -1,13 +1,14 @@
 //! A seat: which word it touches next and how, and what it makes of what it finds.
 
-ghost use Rattle.std.specs.Prelude.{◌≡◌};
+ghost use Rattle.std.specs.Prelude.{◌≡◌, ◌≤◌, length};
 ghost use Rattle.kc_machine.specs.Seats.{fresh, access_of, answer_of, begun, halted, told_of, own_of, steps_of, is_idle, after};
 
 use crate::hang::{HangStep, LeaveStep};
+use crate::point::Point;
 use arrayvec::ArrayVec;
 use kc_model::{Loc, MOST, Seen};
-use kc_steps::{Commit, Look, LookStep, Onward, Task, Told, copy_reads, one_more};
-use kc_words::{Access, Found};
+use kc_steps::{Commit, Line, Look, LookStep, Onward, Task, Told, copy_reads, one_more};
+use kc_words::{Access, Found, Mode};
 use std::marker::Model;
 
 /// Which task runs.
@@ -54,6 +55,8 @@ impl Model for Seat {
 }
 
 impl Seat {
+    ghost use Rattle.kc_machine.specs.Points.{seat_at, seat_told};
+
     /// A seat that was never asked to do anything.
     pub fn new(caller: u32, descriptors: u32, first: u32) -> Seat
         ensures { result ≡ fresh caller descriptors first }
@@ -77,6 +80,34 @@ impl Seat {
             hang: HangStep::Set { read: 0 },
             leave: LeaveStep::Unsignal,
         }
+    }
+
+    /// The number of its caller.
+    pub fn caller(&self) -> u32
+        ensures { result ≡ self.now.caller }
+    {
+        self.caller
+    }
+
+    /// How many descriptors there are.
+    pub fn descriptors(&self) -> u32
+        ensures { result ≡ self.now.descriptors }
+    {
+        self.descriptors
+    }
+
+    /// Where its scans begin.
+    pub fn first(&self) -> u32
+        ensures { result ≡ self.now.first }
+    {
+        self.first
+    }
+
+    /// How many descriptors it has taken, up to 2^64 - 1.
+    pub fn calls(&self) -> u64
+        ensures { result ≡ self.now.calls }
+    {
+        self.calls
     }
 
     /// What it was told; None exactly while a task runs or none was begun.
@@ -145,15 +176,19 @@ impl Seat {
             Onward::Goes => {}
             Onward::Takes => self.calls = one_more(self.calls),
             Onward::Unblocks => self.blocked = false,
-            Onward::Tells(told) => {
-                self.kind = Kind::Idle;
-                self.told = Some(told);
-                match told {
-                    Told::Hung => self.blocked = true,
-                    Told::Free => self.blocked = false,
-                    _ => {}
-                }
-            }
+            Onward::Tells(told) => self.tell(told),
+        }
+    }
+
+    fn tell(&mut self, told: Told)
+        ensures { self.new ≡ seat_told self.old self.old.made self.old.calls told }
+    {
+        self.kind = Kind::Idle;
+        self.told = Some(told);
+        match told {
+            Told::Hung => self.blocked = true,
+            Told::Free => self.blocked = false,
+            _ => {}
         }
     }
 
@@ -192,6 +227,27 @@ impl Seat {
             }
         }
         self.told = None;
+    }
+
+    /// Written by who carried a commit of these lines to this point outside of the seat.
+    pub fn stand_at(&mut self, mode: Mode, lines: &[Line], point: Point)
+        requires { length lines.now ≤ MOST }
+        ensures { self.new ≡ seat_at self.old mode lines.now point }
+    {
+        self.commit.stand_at(mode, lines, point.stage);
+        self.kind = Kind::Commit;
+        self.made = point.made;
+        self.calls = point.calls;
+        self.told = None;
+    }
+
+    /// Written by who carried a task to its end outside of the seat: what it is told, so many steps and calls made.
+    pub fn end_with(&mut self, made: u64, calls: u64, told: Told)
+        ensures { self.new ≡ seat_told self.old made calls told }
+    {
+        self.made = made;
+        self.calls = calls;
+        self.tell(told);
     }
 
     /// Halts its task. What is held is dropped first, and what is decided is carried out.

@@ -220,6 +220,14 @@ intent_of m xs = record { mode = m; lines = record { items = xs } }
 abbrev pub commit_at : Mode → List Line → Stage → Commit
 commit_at m xs stage = record { intent = intent_of m xs; halted = false; copy = no_copy; stage = stage }
 
+abbrev pub aids_at : OwnStep → Bool
+aids_at (own.Aid k r step) = true
+aids_at _ = false
+
+abbrev pub aids : Stage → Bool
+aids (Own h step) = aids_at step
+aids _ = false
+
 -- ---- what a step changes in place
 
 abbrev pub owned : Stage → Bool

@@ -169,7 +169,7 @@ impl Commit {
         self.at = At::Decide;
     }
 
-    fn to_aid(&mut self, line: u32, met: Reference)
+    pub(crate) fn to_aid(&mut self, line: u32, met: Reference)
         requires { owned self.old.stage ≡ true }
         ensures { self.new ≡ stepped self.old (own.Aid line met aid.Hold) }
     {
@@ -179,7 +179,7 @@ impl Commit {
         self.at = At::Aid;
     }
 
-    fn to_pass(&mut self, step: PassStep)
+    pub(crate) fn to_pass(&mut self, step: PassStep)
         requires { owned self.old.stage ≡ true }
         ensures { self.new ≡ stepped self.old (own.Pass step) }
     {
@@ -275,13 +275,6 @@ impl Commit {
         if let Found::Status(status) = found {
             self.to_release(0, decided_as(phase, status.phase));
         }
-    }
-
-    fn released(&mut self, handle: Handle, line: u32, phase: Phase)
-        requires { self.old.stage ≡ Own handle (own.Pass (Release line phase)) }
-        ensures { self.new ≡ stepped self.old (after_own_pass self.old.intent (from_release self.old.intent.mode self.old.intent.lines.items (after_line line) phase)) }
-    {
-        self.to_release(after_line(line), phase);
     }
 
     #[inline(never)]
@@ -433,7 +426,7 @@ impl Commit {
                 self.probed(handle, probe, found);
             }
             At::Decide => self.decided(handle, phase, found),
-            At::Release => self.released(handle, line, phase),
+            At::Release => self.to_release(after_line(line), phase),
             At::Aid => {
                 let met = self.met;
                 let aid = self.aid;

@@ -8,11 +8,14 @@ mod halt;
 mod line;
 mod look;
 mod pass;
+mod stand;
 mod task;
 
 pub use aid::{AidStep, Aided};
 pub use commit::{Commit, OwnStep, Stage};
-pub use line::{Intent, Line, after_line, copy_reads, fill_lines, one_more};
+pub use line::{
+    Intent, Line, Pick, after_line, copy_reads, first_of, next_line, one_more, second_of,
+};
 pub use look::{Look, LookNext, LookStep, look_access, look_next};
-pub use pass::{AfterCheck, PassStep};
+pub use pass::{AfterCheck, PassNext, PassStep, from_install};
 pub use task::{Event, Onward, Task, Told};

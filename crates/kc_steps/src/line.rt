@@ -1,6 +1,6 @@
 //! The lines of a commit.
 
-ghost use Rattle.std.specs.Prelude.{◌≡◌, slice_get, true};
+ghost use Rattle.std.specs.Prelude.{◌≡◌, ◌≤◌, slice_get, length, true};
 ghost use Rattle.kc_steps.specs.Lines.{after_line, first_of, second_of, joined, resolved, resolved_version, next_version, picks, next_line, put_of, rises_from, follows, lines_of, one_more, word_of};
 
 use arrayvec::ArrayVec;
@@ -257,12 +257,19 @@ pub fn fill_lines(lines: &mut ArrayVec<Line, MOST>, footprint: &Footprint)
     }
 }
 
+/// Writes a copy of the lines.
+pub fn copy_lines(copy: &mut ArrayVec<Line, MOST>, lines: &[Line])
+    requires { length lines.now ≤ MOST }
+    ensures { copy.new.items ≡ lines.now }
+{
+    copy.clear();
+    let _ = copy.try_extend_from_slice(lines);
+}
+
 /// Writes a copy of the reads.
 pub fn copy_reads(copy: &mut ArrayVec<Seen, MOST>, reads: &ArrayVec<Seen, MOST>)
     ensures { copy.new.items ≡ reads.now.items }
 {
     copy.clear();
-    for read in reads.as_slice() {
-        copy.push(*read);
-    }
+    let _ = copy.try_extend_from_slice(reads.as_slice());
 }
