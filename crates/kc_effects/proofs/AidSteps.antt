@@ -48,7 +48,7 @@ module _ (k : ℕ) (m : State) (t : Stand) (r : Reference) where
   -- a pass over the aided descriptor ends, or goes on
   turned : (c : Aided) (v : World) (p : PassStep) (n : PassNext) → Path k v (record s { aid = Passes r c; pass = Over r.handle c.owner.mode c.lines.items (turn p n) }) v (aids s r c (after_pass n))
   turned c v p (pass.Goes q) = stay
-  turned c v p (pass.Met x) = one (Effects.aid_meets s {xs = c.lines.items})
+  turned c v p (pass.Met j x) = one (Effects.aid_meets s {xs = c.lines.items})
   turned c v p pass.Left = one (Effects.aid_leaves s {xs = c.lines.items})
   turned c v p (pass.Finished q) = one (Effects.aid_ends s {xs = c.lines.items})
 

@@ -12,14 +12,14 @@ use Rattle.kc_steps.specs.declared.look.LookNext.TheVariants as looking
 use Rattle.kc_steps.specs.declared.commit.Commit.{Commit}
 use Rattle.kc_steps.specs.declared.commit.Stage.{Stage}
 use Rattle.kc_steps.specs.declared.commit.Stage.TheVariants.{Scan, Take, Own}
-use Rattle.kc_steps.specs.declared.commit.Next.{Next}
-use Rattle.kc_steps.specs.declared.commit.Next.TheVariants as next
-use Rattle.kc_machine.specs.declared.hang.Hang.{Hang}
+use Rattle.kc_steps.specs.Nexts.{Next}
+use Rattle.kc_steps.specs.Nexts as next
+use Rattle.kc_machine.specs.Waits.{Hang}
 use Rattle.kc_machine.specs.declared.hang.HangNext.{HangNext}
 use Rattle.kc_machine.specs.declared.hang.HangNext.TheVariants as hanging
-use Rattle.kc_machine.specs.declared.hang.Leave.{Leave}
-use Rattle.kc_machine.specs.declared.seat.Work.{Work}
-use Rattle.kc_machine.specs.declared.seat.Work.TheVariants as work
+use Rattle.kc_machine.specs.Waits.{Leave}
+use Rattle.kc_machine.specs.Works.{Work}
+use Rattle.kc_machine.specs.Works as work
 use Rattle.kc_machine.specs.declared.seat.Seat.{Seat}
 use Rattle.kc_steps.specs.Looks.{look_next, looks_on, told_by, halts_at_once, look_halted_at}
 use Rattle.kc_steps.specs.Commits.{gone_on, onward_by}

@@ -17,8 +17,8 @@ use Rattle.kc_steps.specs.declared.commit.Stage.TheVariants.{Scan, Take, Own}
 use Rattle.kc_steps.specs.declared.commit.OwnStep.{OwnStep}
 use Rattle.kc_steps.specs.declared.commit.OwnStep.TheVariants as own
 use Rattle.kc_steps.specs.declared.commit.Commit.{Commit}
-use Rattle.kc_machine.specs.declared.seat.Work.{Work}
-use Rattle.kc_machine.specs.declared.seat.Work.TheVariants as work
+use Rattle.kc_machine.specs.Works.{Work}
+use Rattle.kc_machine.specs.Works as work
 use Rattle.kc_machine.specs.declared.seat.Seat.{Seat}
 use Rattle.kc_steps.specs.Looks.{halts_at_once, look_halted_at}
 use Rattle.kc_steps.specs.Halts.{unowned, halted_at, halted_own}

@@ -23,8 +23,8 @@ use Rattle.kc_steps.specs.declared.commit.Stage.TheVariants.{Scan, Take, Own}
 use Rattle.kc_steps.specs.declared.commit.OwnStep.{OwnStep}
 use Rattle.kc_steps.specs.declared.commit.OwnStep.TheVariants as own
 use Rattle.kc_steps.specs.declared.commit.Commit.{Commit}
-use Rattle.kc_steps.specs.declared.commit.Next.{Next}
-use Rattle.kc_steps.specs.declared.commit.Next.TheVariants.{Goes, Takes, Tells}
+use Rattle.kc_steps.specs.Nexts.{Next}
+use Rattle.kc_steps.specs.Nexts.{Goes, Takes, Tells}
 use Rattle.kc_steps.specs.declared.line.Pick.TheVariants.{Put}
 use Rattle.kc_steps.specs.Lines.{one_more, after_line, next_line}
 use Rattle.kc_machine.specs.Words.{control}
@@ -108,9 +108,9 @@ module _ (k : ℕ) (m : State) (s : Stand) (c : Commit) (h : Handle) where
   one e = onward e stay
 
   -- the own pass ends, or goes on
-  turned : (v : World) (p : PassStep) (n : PassNext) → Path k v (record t { own = Runs h c.intent; pass = Over h c.intent.mode c.intent.lines.items (turn p n) }) v (at c.copy (after_own_pass c.intent p n))
+  turned : (v : World) (p : PassStep) (n : PassNext) → Path k v (record t { own = Runs h c.intent; pass = Over h c.intent.mode c.intent.lines.items (turn p n) }) v (at c.copy (after_own_pass c.intent n))
   turned v p (pass.Goes q) = stay
-  turned v p (pass.Met x) = one (Effects.own_meets t {xs = c.intent.lines.items} c.copy)
+  turned v p (pass.Met j x) = one (Effects.own_meets t {xs = c.intent.lines.items} c.copy)
   turned v p pass.Left = one (Effects.own_leaves t {xs = c.intent.lines.items})
   turned v p (pass.Finished q) = to k (finished_kept t c.intent c.copy h q) (Effects.own_ends t {xs = c.intent.lines.items} {i = c.intent} {p = q})
 

@@ -42,7 +42,7 @@ module _ (k : ℕ) (m : State) (s : Stand) (h : Handle) (md : Mode) (xs : List L
       go false z = Effects.unfit s {xs = xs} x e q z
   installs_at j x e (Ref g d i) q = go (refers_to h j (reference_of g d i)) refl
     where
-      go : (t : Bool) → refers_to h j (reference_of g d i) ≡ t → To (Install j) m.world (if t then pass.Goes (from_install md xs (after_line j)) else pass.Met (reference_of g d i))
+      go : (t : Bool) → refers_to h j (reference_of g d i) ≡ t → To (Install j) m.world (if t then pass.Goes (from_install md xs (after_line j)) else pass.Met j (reference_of g d i))
       go true z = Effects.installed s {xs = xs} x (from_install md xs (after_line j)) e (q ∙ refers g d i j h z) refl (install_unheld md xs (after_line j))
       go false z = Effects.meets s {xs = xs} x e q z
 

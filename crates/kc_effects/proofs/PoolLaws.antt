@@ -2,8 +2,8 @@
 use Rattle.std.proofs.Common.{◌≡◌, refl, ap, subst, ◌∙◌, arith, List, ⊎_elim}
 use Rattle.kc_steps.specs.declared.task.Event.{Event}
 use Rattle.kc_machine.specs.declared.seat.Seat.{Seat}
-use Rattle.kc_machine.specs.declared.seat.Work.{Work}
-use Rattle.kc_machine.specs.declared.seat.Work.TheVariants as work
+use Rattle.kc_machine.specs.Works.{Work}
+use Rattle.kc_machine.specs.Works as work
 use Rattle.kc_steps.specs.declared.commit.Commit.{Commit}
 use Rattle.kc_steps.specs.declared.commit.Stage.{Stage}
 use Rattle.kc_steps.specs.declared.commit.Stage.TheVariants.{Scan, Take, Own}
@@ -12,7 +12,7 @@ use Rattle.kc_steps.specs.declared.commit.OwnStep.TheVariants as own
 use Rattle.kc_steps.specs.declared.aid.Aided.{Aided}
 use Rattle.kc_steps.specs.declared.aid.AidStep.{AidStep}
 use Rattle.kc_steps.specs.declared.aid.AidStep.TheVariants as aid
-use Rattle.kc_machine.specs.declared.hang.Hang.{Hang}
+use Rattle.kc_machine.specs.Waits.{Hang}
 use Rattle.kc_machine.specs.declared.hang.HangStep.{HangStep}
 use Rattle.kc_machine.specs.declared.hang.HangStep.TheVariants as hang
 use Rattle.kc_words.specs.declared.words.Handle.{Handle}

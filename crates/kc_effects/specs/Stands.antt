@@ -26,10 +26,9 @@ use Rattle.kc_steps.specs.declared.commit.OwnStep.TheVariants as own
 use Rattle.kc_machine.specs.declared.hang.HangStep.{HangStep}
 use Rattle.kc_machine.specs.declared.hang.HangStep.TheVariants as hang
 use Rattle.kc_machine.specs.declared.hang.LeaveStep.{LeaveStep}
-use Rattle.kc_machine.specs.declared.seat.Work.{Work}
-use Rattle.kc_machine.specs.declared.seat.Work.TheVariants as work
+use Rattle.kc_machine.specs.Works.{Work}
+use Rattle.kc_machine.specs.Works as work
 use Rattle.kc_machine.specs.declared.seat.Seat.{Seat}
-use Rattle.kc_steps.specs.Commits.{met_at}
 
 -- the seat's own descriptor: it is filled, woken for or dropped; its pass runs; its pass waits at a line while another's is aided
 pub data Own : Type 0 where
@@ -113,7 +112,7 @@ resting s = record {
 
 abbrev pub turn : PassStep → PassNext → Turn
 turn p (pass.Goes q) = At q
-turn p (pass.Met r) = Meets (met_at p) r
+turn p (pass.Met j r) = Meets j r
 turn p (pass.Finished q) = Ends q
 turn p pass.Left = Leaves
 

@@ -11,14 +11,13 @@ use Rattle.kc_steps.specs.declared.look.LookStep.{LookStep}
 use Rattle.kc_steps.specs.declared.look.LookStep.TheVariants as look
 use Rattle.kc_steps.specs.declared.look.LookNext.{LookNext}
 use Rattle.kc_steps.specs.declared.look.LookNext.TheVariants as looking
-use Rattle.kc_steps.specs.declared.commit.Onward.{Onward}
-use Rattle.kc_steps.specs.declared.commit.Onward.TheVariants as onward
-use Rattle.kc_machine.specs.declared.hang.Hang.{Hang}
+use Rattle.kc_steps.specs.declared.task.Onward.{Onward}
+use Rattle.kc_steps.specs.declared.task.Onward.TheVariants as onward
+use Rattle.kc_machine.specs.Waits.{Hang, Leave}
 use Rattle.kc_machine.specs.declared.hang.HangStep.{HangStep}
 use Rattle.kc_machine.specs.declared.hang.HangStep.TheVariants as hang
 use Rattle.kc_machine.specs.declared.hang.HangNext.{HangNext}
 use Rattle.kc_machine.specs.declared.hang.HangNext.TheVariants.{Goes, Tells}
-use Rattle.kc_machine.specs.declared.hang.Leave.{Leave}
 use Rattle.kc_machine.specs.declared.hang.LeaveStep.{LeaveStep}
 use Rattle.kc_machine.specs.declared.hang.LeaveStep.TheVariants as leave
 use Rattle.kc_steps.specs.Lines.{after_line}

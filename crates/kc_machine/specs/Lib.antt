@@ -1,5 +1,10 @@
+pub mod Waits
 pub mod Hangs
+pub mod Works
+pub mod SeatValue
+pub mod SeatView
 pub mod Seats
+pub mod Points
 pub mod Words
 pub mod Lists
 pub mod Machine

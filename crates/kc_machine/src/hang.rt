@@ -1,10 +1,10 @@
 //! Tasks that wait: a hang sets the caller's bit at each read, then looks whether each stands; a leave takes the bits back.
 
 ghost use Rattle.std.specs.Prelude.{◌≡◌};
-ghost use Rattle.kc_machine.specs.Hangs.{hang_access, hang_step, hang_after, hang_onward, look_or_hung, after_set, after_clear, leave_access, leave_after, leave_onward, looked};
+ghost use Rattle.kc_machine.specs.Waits.{hang_at, leave_at};
+ghost use Rattle.kc_machine.specs.Hangs.{read_of, hang_access, hang_next, hang_after, hang_onward, look_or_hung, after_set, after_clear, leave_access, leave_after, leave_onward, looked};
 
-use arrayvec::ArrayVec;
-use kc_model::{MOST, Seen};
+use kc_model::Seen;
 use kc_steps::{LookNext, LookStep, Onward, Told, after_line, look_access, look_next};
 use kc_words::{Access, Bits, Found};
 
@@ -16,25 +16,11 @@ pub enum HangStep {
     Clear { read: u32, changed: u32 },
 }
 
-/// A task that hangs.
-#[derive(Drop)]
-pub struct Hang {
-    pub reads: ArrayVec<Seen, MOST>,
-    pub step: HangStep,
-}
-
 /// Where a leave stands.
 #[derive(Clone, Copy)]
 pub enum LeaveStep {
     Unsignal,
     Clear { read: u32 },
-}
-
-/// A task that leaves.
-#[derive(Drop)]
-pub struct Leave {
-    pub reads: ArrayVec<Seen, MOST>,
-    pub step: LeaveStep,
 }
 
 /// What follows a step of a hang.
@@ -91,64 +77,64 @@ fn looked(reads: &[Seen], read: u32, expected: u32, version: u32) -> HangNext
     }
 }
 
-fn look_or_hung(reads: &[Seen], read: u32, step: LookStep, found: Found) -> HangNext
-    ensures { result ≡ look_or_hung reads.now read step found }
+fn look_or_hung(reads: &[Seen], read: u32, step: &LookStep, found: &Found) -> HangNext
+    ensures { result ≡ look_or_hung reads.now read step.now found.now }
 {
     match reads.get(read as usize) {
         Some(expected) => match look_next(expected.loc, step, found) {
             LookNext::Goes(step) => HangNext::Goes(HangStep::Look { read, step }),
             LookNext::Saw(seen) => looked(reads, read, expected.version, seen.version),
         },
-        None => HangNext::Goes(HangStep::Look { read, step }),
+        None => HangNext::Goes(HangStep::Look { read, step: *step }),
     }
 }
 
-impl Hang {
-    /// The word that the next step touches, and how.
-    pub fn access(&self, caller: u32) -> Access
-        ensures { result ≡ hang_access caller self.now }
+impl HangStep {
+    fn read(&self) -> u32
+        ensures { result ≡ read_of self.now }
     {
-        let reads = self.reads.as_slice();
-        let read = match self.step {
+        match self {
             HangStep::Set { read }
             | HangStep::Look { read, step: _ }
-            | HangStep::Clear { read, changed: _ } => read,
-        };
-        match (reads.get(read as usize), self.step) {
-            (None, _) => Access::Nothing,
-            (Some(seen), HangStep::Set { read: _ }) => {
-                Access::Awaiters(seen.loc, Bits::Set { caller })
-            }
-            (Some(seen), HangStep::Look { read: _, step }) => look_access(seen.loc, step),
-            (
-                Some(seen),
-                HangStep::Clear {
-                    read: _,
-                    changed: _,
-                },
-            ) => Access::Awaiters(seen.loc, Bits::Clear { caller }),
+            | HangStep::Clear { read, changed: _ } => *read,
         }
     }
 
-    fn next(&self, found: Found) -> HangNext
-        ensures { result ≡ hang_step self.now found }
+    /// The word that the next step touches, and how.
+    pub fn access(&self, caller: u32, reads: &[Seen]) -> Access
+        ensures { result ≡ hang_access caller (hang_at reads.now self.now) }
     {
-        let reads = self.reads.as_slice();
-        match self.step {
-            HangStep::Set { read } => HangNext::Goes(after_set(reads, read)),
-            HangStep::Look { read, step } => look_or_hung(reads, read, step, found),
-            HangStep::Clear { read, changed } => after_clear(reads, read, changed),
+        let Some(seen) = reads.get(self.read() as usize) else {
+            return Access::Nothing;
+        };
+        match self {
+            HangStep::Set { read: _ } => Access::Awaiters(seen.loc, Bits::Set { caller }),
+            HangStep::Look { read: _, step } => look_access(seen.loc, step),
+            HangStep::Clear {
+                read: _,
+                changed: _,
+            } => Access::Awaiters(seen.loc, Bits::Clear { caller }),
+        }
+    }
+
+    fn next(&self, reads: &[Seen], found: &Found) -> HangNext
+        ensures { result ≡ hang_next reads.now self.now found.now }
+    {
+        match self {
+            HangStep::Set { read } => HangNext::Goes(after_set(reads, *read)),
+            HangStep::Look { read, step } => look_or_hung(reads, *read, step, found),
+            HangStep::Clear { read, changed } => after_clear(reads, *read, *changed),
         }
     }
 
     /// The step, given what was found.
-    pub fn answer(&mut self, found: Found) -> Onward
-        ensures onward { result ≡ hang_onward self.old found }
-        ensures hang { self.new ≡ hang_after self.old found }
+    pub fn answer(&mut self, reads: &[Seen], found: &Found) -> Onward
+        ensures onward { result ≡ hang_onward (hang_at reads.now self.old) found.now }
+        ensures hang { hang_at reads.now self.new ≡ hang_after (hang_at reads.now self.old) found.now }
     {
-        match self.next(found) {
+        match self.next(reads, found) {
             HangNext::Goes(step) => {
-                self.step = step;
+                *self = step;
                 Onward::Goes
             }
             HangNext::Tells(told) => Onward::Tells(told),
@@ -156,14 +142,14 @@ impl Hang {
     }
 }
 
-impl Leave {
+impl LeaveStep {
     /// The word that the next step touches, and how.
-    pub fn access(&self, caller: u32) -> Access
-        ensures { result ≡ leave_access caller self.now }
+    pub fn access(&self, caller: u32, reads: &[Seen]) -> Access
+        ensures { result ≡ leave_access caller (leave_at reads.now self.now) }
     {
-        match self.step {
+        match self {
             LeaveStep::Unsignal => Access::Signal(caller, false),
-            LeaveStep::Clear { read } => match self.reads.as_slice().get(read as usize) {
+            LeaveStep::Clear { read } => match reads.get(*read as usize) {
                 Some(seen) => Access::Awaiters(seen.loc, Bits::Clear { caller }),
                 None => Access::Nothing,
             },
@@ -171,17 +157,17 @@ impl Leave {
     }
 
     /// The step, whatever was found.
-    pub fn answer(&mut self) -> Onward
-        ensures onward { result ≡ leave_onward self.old }
-        ensures leave { self.new ≡ leave_after self.old }
+    pub fn answer(&mut self, reads: &[Seen]) -> Onward
+        ensures onward { result ≡ leave_onward (leave_at reads.now self.old) }
+        ensures leave { leave_at reads.now self.new ≡ leave_after (leave_at reads.now self.old) }
     {
-        let next = match self.step {
+        let next = match self {
             LeaveStep::Unsignal => 0,
-            LeaveStep::Clear { read } => after_line(read),
+            LeaveStep::Clear { read } => after_line(*read),
         };
-        match self.reads.as_slice().get(next as usize) {
+        match reads.get(next as usize) {
             Some(_) => {
-                self.step = LeaveStep::Clear { read: next };
+                *self = LeaveStep::Clear { read: next };
                 Onward::Unblocks
             }
             None => Onward::Tells(Told::Free),

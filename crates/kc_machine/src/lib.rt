@@ -3,15 +3,17 @@
 
 mod hang;
 mod machine;
+mod point;
 mod seat;
 #[cfg(test)]
 mod tests;
 mod words;
 
-pub use hang::{Hang, HangStep, Leave, LeaveStep};
+pub use hang::{HangStep, LeaveStep};
 pub use kc_steps::{
     AfterCheck, AidStep, Aided, Commit, Event, Intent, Line, Look, LookStep, OwnStep, PassStep,
     Stage, Task, Told,
 };
 pub use machine::Machine;
-pub use seat::{Seat, Work};
+pub use point::Point;
+pub use seat::Seat;

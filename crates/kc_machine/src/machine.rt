@@ -122,7 +122,7 @@ impl Machine {
         let access = self.seat(seat).access();
         if self.is_possible(access) {
             let found = self.touch(access);
-            answer_at(&mut self.seats, seat, found);
+            answer_at(&mut self.seats, seat, &found);
         }
     }
 
@@ -209,9 +209,9 @@ impl Machine {
     }
 }
 
-fn answer_at(seats: &mut [Seat], seat: u32, found: Found)
+fn answer_at(seats: &mut [Seat], seat: u32, found: &Found)
     requires { seat < length seats.old }
-    ensures { (d : Seat) → seats.new ≡ set seats.old seat (answer_of (get_or seats.old seat d) found) }
+    ensures { (d : Seat) → seats.new ≡ set seats.old seat (answer_of (get_or seats.old seat d) found.now) }
 {
     seats[seat as usize].answer(found);
 }

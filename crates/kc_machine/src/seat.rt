@@ -1,44 +1,62 @@
 //! A seat: which word it touches next and how, and what it makes of what it finds.
 
-ghost use Rattle.std.specs.Prelude.{◌≡◌};
+ghost use Rattle.std.specs.Prelude.{◌≡◌, ◌≤◌, length};
 ghost use Rattle.kc_machine.specs.Seats.{fresh, access_of, answer_of, begun, halted, told_of, own_of, steps_of, is_idle, after};
 
-use crate::hang::{Hang, HangStep, Leave, LeaveStep};
+use crate::hang::{HangStep, LeaveStep};
+use crate::point::Point;
 use arrayvec::ArrayVec;
-use kc_steps::{
-    Aided, Commit, Intent, Look, LookStep, Onward, OwnStep, Stage, Task, Told, copied, lines_of,
-    one_more,
-};
-use kc_words::{Access, Found, Mode, Owner};
+use kc_model::{Loc, MOST, Seen};
+use kc_steps::{Commit, Line, Look, LookStep, Onward, Task, Told, copy_reads, one_more};
+use kc_words::{Access, Found, Mode};
+use std::marker::Model;
 
-/// What a seat does.
-#[derive(Drop)]
-pub enum Work {
+/// Which task runs.
+#[derive(Clone, Copy)]
+pub enum Kind {
     Idle,
-    Look(Look),
-    Commit(Commit),
-    Hang(Hang),
-    Leave(Leave),
+    Look,
+    Commit,
+    Hang,
+    Leave,
 }
 
-/// A seat of a machine.
+/// A seat of a machine. Contracts see the task that runs as a `Work`.
 #[derive(Drop)]
 pub struct Seat {
-    pub caller: u32,
+    kind: Kind,
+    caller: u32,
     /// How many descriptors there are.
-    pub descriptors: u32,
+    descriptors: u32,
     /// Where its scans begin.
-    pub first: u32,
+    first: u32,
     /// How many descriptors it has taken.
-    pub calls: u64,
-    pub made: u64,
+    calls: u64,
+    made: u64,
     /// Whether it hangs: from the step that ends its hang to the first one of its leave.
-    pub blocked: bool,
-    pub told: Option<Told>,
-    pub work: Work,
+    blocked: bool,
+    told: Option<Told>,
+    look: Look,
+    commit: Commit,
+    /// Of a hang or a leave.
+    reads: ArrayVec<Seen, MOST>,
+    hang: HangStep,
+    leave: LeaveStep,
+}
+
+impl Model for Seat {
+    ghost use Rattle.kc_machine.specs.SeatValue.{SeatValue};
+
+    ghost Value = { SeatValue };
+
+    ghost use Rattle.kc_machine.specs.SeatView.{seat_view};
+
+    ghost view = { seat_view };
 }
 
 impl Seat {
+    ghost use Rattle.kc_machine.specs.Points.{seat_at, seat_told};
+
     /// A seat that was never asked to do anything.
     pub fn new(caller: u32, descriptors: u32, first: u32) -> Seat
         ensures { result ≡ fresh caller descriptors first }
@@ -51,8 +69,45 @@ impl Seat {
             made: 0,
             blocked: false,
             told: None,
-            work: Work::Idle,
+            kind: Kind::Idle,
+            look: Look {
+                loc: Loc(0),
+                halted: false,
+                step: LookStep::Load,
+            },
+            commit: Commit::new(),
+            reads: ArrayVec::new(),
+            hang: HangStep::Set { read: 0 },
+            leave: LeaveStep::Unsignal,
         }
+    }
+
+    /// The number of its caller.
+    pub fn caller(&self) -> u32
+        ensures { result ≡ self.now.caller }
+    {
+        self.caller
+    }
+
+    /// How many descriptors there are.
+    pub fn descriptors(&self) -> u32
+        ensures { result ≡ self.now.descriptors }
+    {
+        self.descriptors
+    }
+
+    /// Where its scans begin.
+    pub fn first(&self) -> u32
+        ensures { result ≡ self.now.first }
+    {
+        self.first
+    }
+
+    /// How many descriptors it has taken, up to 2^64 - 1.
+    pub fn calls(&self) -> u64
+        ensures { result ≡ self.now.calls }
+    {
+        self.calls
     }
 
     /// What it was told; None exactly while a task runs or none was begun.
@@ -66,11 +121,8 @@ impl Seat {
     pub fn own(&self) -> Option<(u32, u64)>
         ensures { result ≡ own_of self.now }
     {
-        match &self.work {
-            Work::Commit(commit) => match commit.stage {
-                Stage::Own { own, step: _ } => Some((own.descriptor, own.generation)),
-                _ => None,
-            },
+        match self.kind {
+            Kind::Commit => self.commit.owned(),
             _ => None,
         }
     }
@@ -86,32 +138,32 @@ impl Seat {
     pub fn is_idle(&self) -> bool
         ensures { result ≡ is_idle self.now.work }
     {
-        matches!(&self.work, Work::Idle)
+        matches!(self.kind, Kind::Idle)
     }
 
     /// The word that the next step touches, and how; Nothing where no task runs.
     pub fn access(&self) -> Access
         ensures { result ≡ access_of self.now }
     {
-        match &self.work {
-            Work::Idle => Access::Nothing,
-            Work::Look(look) => look.access(),
-            Work::Commit(commit) => commit.access(self.caller, self.calls),
-            Work::Hang(hang) => hang.access(self.caller),
-            Work::Leave(leave) => leave.access(self.caller),
+        match self.kind {
+            Kind::Idle => Access::Nothing,
+            Kind::Look => self.look.access(),
+            Kind::Commit => self.commit.access(self.caller, self.calls),
+            Kind::Hang => self.hang.access(self.caller, self.reads.as_slice()),
+            Kind::Leave => self.leave.access(self.caller, self.reads.as_slice()),
         }
     }
 
     /// The step, given what was found.
-    pub fn answer(&mut self, found: Found)
-        ensures { self.new ≡ answer_of self.old found }
+    pub fn answer(&mut self, found: &Found)
+        ensures { self.new ≡ answer_of self.old found.now }
     {
-        let onward = match &mut self.work {
-            Work::Idle => return,
-            Work::Look(look) => look.answer(found),
-            Work::Commit(commit) => commit.answer(self.descriptors, self.calls, found),
-            Work::Hang(hang) => hang.answer(found),
-            Work::Leave(leave) => leave.answer(),
+        let onward = match self.kind {
+            Kind::Idle => return,
+            Kind::Look => self.look.answer(found),
+            Kind::Commit => self.commit.answer(self.descriptors, self.calls, found),
+            Kind::Hang => self.hang.answer(self.reads.as_slice(), found),
+            Kind::Leave => self.leave.answer(self.reads.as_slice()),
         };
         self.go(onward);
     }
@@ -124,15 +176,19 @@ impl Seat {
             Onward::Goes => {}
             Onward::Takes => self.calls = one_more(self.calls),
             Onward::Unblocks => self.blocked = false,
-            Onward::Tells(told) => {
-                self.work = Work::Idle;
-                self.told = Some(told);
-                match told {
-                    Told::Hung => self.blocked = true,
-                    Told::Free => self.blocked = false,
-                    _ => {}
-                }
-            }
+            Onward::Tells(told) => self.tell(told),
+        }
+    }
+
+    fn tell(&mut self, told: Told)
+        ensures { self.new ≡ seat_told self.old self.old.made self.old.calls told }
+    {
+        self.kind = Kind::Idle;
+        self.told = Some(told);
+        match told {
+            Told::Hung => self.blocked = true,
+            Told::Free => self.blocked = false,
+            _ => {}
         }
     }
 
@@ -143,53 +199,68 @@ impl Seat {
         if !self.is_idle() {
             return;
         }
-        let work = match task {
-            Task::Look(loc) => Work::Look(Look {
-                loc: *loc,
-                halted: false,
-                step: LookStep::Load,
-            }),
-            Task::Commit { footprint, mode } => Work::Commit(Commit {
-                intent: Intent {
-                    mode: *mode,
-                    lines: lines_of(footprint),
-                },
-                halted: false,
-                copy: Aided::new(),
-                stage: Stage::Scan {
-                    descriptor: self.first,
-                    worn: 0,
-                },
-            }),
+        match task {
+            Task::Look(loc) => {
+                self.look = Look {
+                    loc: *loc,
+                    halted: false,
+                    step: LookStep::Load,
+                };
+                self.kind = Kind::Look;
+            }
+            Task::Commit { footprint, mode } => {
+                self.commit.begin(footprint, *mode, self.first);
+                self.kind = Kind::Commit;
+            }
             Task::Hang { reads } => {
                 if self.blocked {
                     return;
                 }
-                Work::Hang(Hang {
-                    reads: copied(reads),
-                    step: HangStep::Set { read: 0 },
-                })
+                copy_reads(&mut self.reads, reads);
+                self.hang = HangStep::Set { read: 0 };
+                self.kind = Kind::Hang;
             }
-            Task::Leave { reads } => Work::Leave(Leave {
-                reads: copied(reads),
-                step: LeaveStep::Unsignal,
-            }),
-        };
-        self.work = work;
+            Task::Leave { reads } => {
+                copy_reads(&mut self.reads, reads);
+                self.leave = LeaveStep::Unsignal;
+                self.kind = Kind::Leave;
+            }
+        }
         self.told = None;
+    }
+
+    /// Written by who carried a commit of these lines to this point outside of the seat.
+    pub fn stand_at(&mut self, mode: Mode, lines: &[Line], point: Point)
+        requires { length lines.now ≤ MOST }
+        ensures { self.new ≡ seat_at self.old mode lines.now point }
+    {
+        self.commit.stand_at(mode, lines, point.stage);
+        self.kind = Kind::Commit;
+        self.made = point.made;
+        self.calls = point.calls;
+        self.told = None;
+    }
+
+    /// Written by who carried a task to its end outside of the seat: what it is told, so many steps and calls made.
+    pub fn end_with(&mut self, made: u64, calls: u64, told: Told)
+        ensures { self.new ≡ seat_told self.old made calls told }
+    {
+        self.made = made;
+        self.calls = calls;
+        self.tell(told);
     }
 
     /// Halts its task. What is held is dropped first, and what is decided is carried out.
     pub fn halt(&mut self)
         ensures { self.new ≡ halted self.old }
     {
-        let at_once = match &mut self.work {
-            Work::Look(look) => look.halt(),
-            Work::Commit(commit) => commit.halt(),
+        let at_once = match self.kind {
+            Kind::Look => self.look.halt(),
+            Kind::Commit => self.commit.halt(),
             _ => false,
         };
         if at_once {
-            self.work = Work::Idle;
+            self.kind = Kind::Idle;
             self.told = Some(Told::Halted);
         }
     }

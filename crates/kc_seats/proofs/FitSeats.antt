@@ -33,14 +33,14 @@ use Rattle.kc_steps.specs.declared.commit.OwnStep.TheVariants as own
 use Rattle.kc_steps.specs.declared.commit.Commit.{Commit}
 use Rattle.kc_steps.specs.declared.commit.Stage.{Stage}
 use Rattle.kc_steps.specs.declared.commit.Stage.TheVariants.{Scan, Take, Own}
-use Rattle.kc_steps.specs.declared.commit.Next.{Next}
-use Rattle.kc_steps.specs.declared.commit.Next.TheVariants as next
-use Rattle.kc_machine.specs.declared.hang.Hang.{Hang}
+use Rattle.kc_steps.specs.Nexts.{Next}
+use Rattle.kc_steps.specs.Nexts as next
+use Rattle.kc_machine.specs.Waits.{Hang}
 use Rattle.kc_machine.specs.declared.hang.HangNext.{HangNext}
 use Rattle.kc_machine.specs.declared.hang.HangNext.TheVariants as hanging
-use Rattle.kc_machine.specs.declared.hang.Leave.{Leave}
-use Rattle.kc_machine.specs.declared.seat.Work.{Work}
-use Rattle.kc_machine.specs.declared.seat.Work.TheVariants as work
+use Rattle.kc_machine.specs.Waits.{Leave}
+use Rattle.kc_machine.specs.Works.{Work}
+use Rattle.kc_machine.specs.Works as work
 use Rattle.kc_machine.specs.declared.seat.Seat.{Seat}
 use Rattle.kc_steps.specs.Lines.{next_line, after_line}
 use Rattle.kc_steps.specs.Looks.{look_next, looks_on, told_by, halts_at_once, look_halted}
@@ -64,7 +64,7 @@ use Rattle.kc_seats.proofs.FitSteps.{NextFits, pass_fits, install_starts, releas
 module _ (b : Bool) (r : Reference) where
   aid_passes : (a : Aided) (p : PassStep) (n : PassNext) → NextFits b checked.Leave a.owner.mode a.lines.items p n → AidFits b a (after_pass n)
   aid_passes a p (pass.Goes q) y = y
-  aid_passes a p (pass.Met q) y = tt
+  aid_passes a p (pass.Met k q) y = tt
   aid_passes a p (pass.Finished q) y = tt
   aid_passes a p pass.Left y = tt
 
@@ -181,10 +181,9 @@ module _ (c : Commit) where
   finishes a (Crossed k) = tt
   finishes a Halted = tt
 
-  own_passes : (a : Aided) (p : PassStep) (n : PassNext) → NextFits c.halted (checked.Decide Halted) c.intent.mode c.intent.lines.items p n → Fits a (after_own_pass c.intent p n)
+  own_passes : (a : Aided) (p : PassStep) (n : PassNext) → NextFits c.halted (checked.Decide Halted) c.intent.mode c.intent.lines.items p n → Fits a (after_own_pass c.intent n)
   own_passes a p (pass.Goes q) y = y
-  own_passes a (Install k) (pass.Met r) y = (y, tt)
-  own_passes a p (pass.Met r) y = absurd y
+  own_passes a p (pass.Met k r) y = (y, tt)
   own_passes a p (pass.Finished q) y = finishes a q
   own_passes a p pass.Left y = halted_decided
 

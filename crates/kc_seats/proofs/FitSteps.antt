@@ -61,8 +61,7 @@ module _ (halted : Bool) (out : AfterCheck) (m : Mode) (xs : List Line) where
   -- how a pass goes on: at a step that fits; from a line that is installed to a reference
   abbrev pub NextFits : PassStep → PassNext → Type 0
   NextFits p (pass.Goes q) = Fits q
-  NextFits (Install k) (pass.Met r) = IsInstalledAt m xs k
-  NextFits _ (pass.Met r) = ⊥
+  NextFits p (pass.Met k r) = IsInstalledAt m xs k
   NextFits p (pass.Finished q) = q ≢ Active
   NextFits p pass.Left = Unit {0}
 
@@ -81,7 +80,7 @@ module _ (halted : Bool) (out : AfterCheck) (m : Mode) (xs : List Line) where
       go false = failed_decided k
   installs h k (found.Word (Ref g d j)) y (Some l) = go (refers_to h k (reference_of g d j))
     where
-      go : (b : Bool) → NextFits (Install k) (if b then pass.Goes (from_install m xs (after_line k)) else pass.Met (reference_of g d j))
+      go : (b : Bool) → NextFits (Install k) (if b then pass.Goes (from_install m xs (after_line k)) else pass.Met k (reference_of g d j))
       go true = install_starts _
       go false = y
   installs h k _ y _ = y

@@ -23,7 +23,6 @@ use Rattle.kc_steps.specs.declared.look.LookStep.TheVariants as look
 use Rattle.kc_steps.specs.declared.look.LookNext.{LookNext}
 use Rattle.kc_steps.specs.declared.look.LookNext.TheVariants as looking
 use Rattle.kc_steps.specs.declared.pass.PassStep.{PassStep}
-use Rattle.kc_steps.specs.declared.pass.PassStep.TheVariants.{Install}
 use Rattle.kc_steps.specs.declared.pass.AfterCheck.TheVariants as checked
 use Rattle.kc_steps.specs.declared.pass.PassNext.{PassNext}
 use Rattle.kc_steps.specs.declared.pass.PassNext.TheVariants as pass
@@ -37,16 +36,16 @@ use Rattle.kc_steps.specs.declared.commit.OwnStep.TheVariants as own
 use Rattle.kc_steps.specs.declared.commit.Commit.{Commit}
 use Rattle.kc_steps.specs.declared.commit.Stage.{Stage}
 use Rattle.kc_steps.specs.declared.commit.Stage.TheVariants.{Scan, Take, Own}
-use Rattle.kc_steps.specs.declared.commit.Next.{Next}
-use Rattle.kc_steps.specs.declared.commit.Next.TheVariants as next
-use Rattle.kc_machine.specs.declared.hang.Hang.{Hang}
+use Rattle.kc_steps.specs.Nexts.{Next}
+use Rattle.kc_steps.specs.Nexts as next
+use Rattle.kc_machine.specs.Waits.{Hang}
 use Rattle.kc_machine.specs.declared.hang.HangStep.{HangStep}
 use Rattle.kc_machine.specs.declared.hang.HangStep.TheVariants as hang
 use Rattle.kc_machine.specs.declared.hang.HangNext.{HangNext}
 use Rattle.kc_machine.specs.declared.hang.HangNext.TheVariants as hanging
-use Rattle.kc_machine.specs.declared.hang.Leave.{Leave}
-use Rattle.kc_machine.specs.declared.seat.Work.{Work}
-use Rattle.kc_machine.specs.declared.seat.Work.TheVariants as work
+use Rattle.kc_machine.specs.Waits.{Leave}
+use Rattle.kc_machine.specs.Works.{Work}
+use Rattle.kc_machine.specs.Works as work
 use Rattle.kc_machine.specs.declared.seat.Seat.{Seat}
 use Rattle.kc_steps.specs.Lines.{one_more, next_line, after_line, joined}
 use Rattle.kc_steps.specs.Looks.{look_next, looks_on, told_by, halts_at_once, look_halted_at}
@@ -103,10 +102,9 @@ module _ (c : Commit) where
   finishes (Crossed k) d = d
   finishes Halted d = d
 
-  own_passes : (p : PassStep) (n : PassNext) → NextFits c.halted (checked.Decide Halted) c.intent.mode c.intent.lines.items p n → Is (after_own_pass c.intent p n)
+  own_passes : (p : PassStep) (n : PassNext) → NextFits c.halted (checked.Decide Halted) c.intent.mode c.intent.lines.items p n → Is (after_own_pass c.intent n)
   own_passes p (pass.Goes q) y = tt
-  own_passes (Install k) (pass.Met r) y = y
-  own_passes p (pass.Met r) y = absurd y
+  own_passes p (pass.Met k r) y = y
   own_passes p (pass.Finished q) y = finishes q y
   own_passes p pass.Left y = tt
 

@@ -8,8 +8,8 @@ use Rattle.kc_words.specs.declared.access.Found.TheVariants as found
 use Rattle.kc_steps.specs.declared.task.Told.TheVariants as told
 use Rattle.kc_steps.specs.declared.commit.OwnStep.TheVariants as own
 use Rattle.kc_steps.specs.declared.commit.Stage.TheVariants.{Scan, Take, Own}
-use Rattle.kc_steps.specs.declared.commit.Next.{Next}
-use Rattle.kc_steps.specs.declared.commit.Next.TheVariants.{Goes, Takes, Tells}
+use Rattle.kc_steps.specs.Nexts.{Next}
+use Rattle.kc_steps.specs.Nexts.{Goes, Takes, Tells}
 use Rattle.kc_steps.specs.declared.line.Line.{Line}
 use Rattle.kc_steps.specs.declared.line.Pick.{Pick}
 use Rattle.kc_steps.specs.Lines.{picks, picked, next_among, next_line}

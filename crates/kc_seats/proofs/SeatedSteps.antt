@@ -18,16 +18,16 @@ use Rattle.kc_steps.specs.declared.commit.OwnStep.TheVariants as own
 use Rattle.kc_steps.specs.declared.commit.Commit.{Commit}
 use Rattle.kc_steps.specs.declared.commit.Stage.{Stage}
 use Rattle.kc_steps.specs.declared.commit.Stage.TheVariants.{Scan, Take, Own}
-use Rattle.kc_steps.specs.declared.commit.Next.{Next}
-use Rattle.kc_steps.specs.declared.commit.Next.TheVariants as next
-use Rattle.kc_steps.specs.declared.commit.Onward.{Onward}
-use Rattle.kc_steps.specs.declared.commit.Onward.TheVariants as onward
-use Rattle.kc_machine.specs.declared.hang.Hang.{Hang}
+use Rattle.kc_steps.specs.Nexts.{Next}
+use Rattle.kc_steps.specs.Nexts as next
+use Rattle.kc_steps.specs.declared.task.Onward.{Onward}
+use Rattle.kc_steps.specs.declared.task.Onward.TheVariants as onward
+use Rattle.kc_machine.specs.Waits.{Hang}
 use Rattle.kc_machine.specs.declared.hang.HangNext.{HangNext}
 use Rattle.kc_machine.specs.declared.hang.HangNext.TheVariants as hanging
-use Rattle.kc_machine.specs.declared.hang.Leave.{Leave}
-use Rattle.kc_machine.specs.declared.seat.Work.{Work}
-use Rattle.kc_machine.specs.declared.seat.Work.TheVariants as work
+use Rattle.kc_machine.specs.Waits.{Leave}
+use Rattle.kc_machine.specs.Works.{Work}
+use Rattle.kc_machine.specs.Works as work
 use Rattle.kc_machine.specs.declared.seat.Seat.{Seat}
 use Rattle.kc_steps.specs.Looks.{look_next, look_tells, look_halted, looks_on, told_by, halts_at_once}
 use Rattle.kc_steps.specs.Commits.{after_scan, scan_next, take_next, stage_next, tells_or_goes, loaded, gone_on, onward_by, commit_next, commit_onward}

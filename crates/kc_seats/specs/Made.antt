@@ -4,8 +4,8 @@ use Rattle.kc_model.specs.declared.footprint.TheConstants.{LAST_VERSION, MOST}
 use Rattle.kc_model.specs.Rising.{IsRising}
 use Rattle.kc_steps.specs.declared.line.Line.{Line}
 use Rattle.kc_steps.specs.declared.line.Intent.{Intent}
-use Rattle.kc_machine.specs.declared.seat.Work.{Work}
-use Rattle.kc_machine.specs.declared.seat.Work.TheVariants as work
+use Rattle.kc_machine.specs.Works.{Work}
+use Rattle.kc_machine.specs.Works as work
 use Rattle.kc_steps.specs.Lines.{has_put}
 use Rattle.kc_machine.specs.Machine.{State}
 use Rattle.kc_claims.specs.Claims.{AreBelow}

@@ -96,7 +96,7 @@ load_second_next a f _ = aid.LoadSecond f
 
 abbrev pub after_pass : PassNext → AidStep
 after_pass (pass.Goes p) = aid.Pass p
-after_pass (pass.Met r) = aid.Leave (Some r)
+after_pass (pass.Met k r) = aid.Leave (Some r)
 after_pass pass.Left = aid.Leave None
 after_pass (pass.Finished p) = aid.Drop false None
 

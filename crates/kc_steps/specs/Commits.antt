@@ -3,6 +3,7 @@ use Rattle.std.specs.Prelude.{ℕ, ◌+◌, ◌-◌, ◌==◌, ◌&&◌, List, l
 use Rattle.std.specs.Int.Count.{count_trailing_zeros}
 use Rattle.kc_words.specs.declared.words.Handle.{Handle}
 use Rattle.kc_words.specs.declared.words.Reference.{Reference}
+use Rattle.kc_words.specs.declared.words.Owner.{Owner}
 use Rattle.kc_words.specs.declared.words.Phase.{Phase}
 use Rattle.kc_words.specs.declared.words.Phase.TheVariants.{Active, Succeeded, Failed, Crossed, Halted}
 use Rattle.kc_words.specs.declared.access.Touch.TheVariants as touch
@@ -17,7 +18,6 @@ use Rattle.kc_steps.specs.declared.task.Told.TheVariants as told
 use Rattle.kc_steps.specs.declared.line.Line.{Line}
 use Rattle.kc_steps.specs.declared.line.Intent.{Intent}
 use Rattle.kc_steps.specs.declared.line.Pick.TheVariants.{Put}
-use Rattle.kc_steps.specs.declared.pass.PassStep.{PassStep}
 use Rattle.kc_steps.specs.declared.pass.PassStep.TheVariants.{Install, Decide}
 use Rattle.kc_steps.specs.declared.pass.PassNext.{PassNext}
 use Rattle.kc_steps.specs.declared.pass.PassNext.TheVariants as pass
@@ -30,13 +30,13 @@ use Rattle.kc_steps.specs.declared.commit.Stage.TheVariants.{Scan, Take, Own}
 use Rattle.kc_steps.specs.declared.commit.OwnStep.{OwnStep}
 use Rattle.kc_steps.specs.declared.commit.OwnStep.TheVariants as own
 use Rattle.kc_steps.specs.declared.commit.Commit.{Commit}
-use Rattle.kc_steps.specs.declared.commit.Onward.{Onward}
-use Rattle.kc_steps.specs.declared.commit.Onward.TheVariants as onward
-use Rattle.kc_steps.specs.declared.commit.Next.{Next}
-use Rattle.kc_steps.specs.declared.commit.Next.TheVariants.{Goes, Takes, Tells}
+use Rattle.kc_steps.specs.declared.task.Onward.{Onward}
+use Rattle.kc_steps.specs.declared.task.Onward.TheVariants as onward
+use Rattle.kc_steps.specs.Nexts.{Next, Goes, Takes, Tells}
 use Rattle.kc_steps.specs.Lines.{after_line, first_of, second_of, next_line}
 use Rattle.kc_steps.specs.Passes.{pass_access, pass_next, from_install, status}
-use Rattle.kc_steps.specs.Aids.{aid_access, aid_next, aid_copy}
+use Rattle.kc_words.specs.declared.words.Mode.{Mode}
+use Rattle.kc_steps.specs.Aids.{aid_access, aid_next, aid_copy, no_copy}
 
 -- ---- the access of each step
 
@@ -52,8 +52,11 @@ abbrev pub wake_access : Option Line → Access
 wake_access None = access.Nothing
 wake_access (Some x) = access.Awaiters x.seen.loc bits.TakeAll
 
+abbrev pub owner_of : ℕ → ℕ → Intent → Owner
+owner_of caller calls i = record { caller = caller; mode = i.mode; lines = length i.lines.items; number = calls }
+
 abbrev pub fill_access : ℕ → ℕ → ℕ → Intent → OwnStep → Access
-fill_access caller calls d i own.FillOwner = access.Owner d (touch.Store (record { caller = caller; mode = i.mode; lines = length i.lines.items; number = calls }))
+fill_access caller calls d i own.FillOwner = access.Owner d (touch.Store (owner_of caller calls i))
 fill_access caller calls d i (own.FillFirst k) = fill_first d k (slice_get i.lines.items k)
 fill_access caller calls d i (own.FillSecond k) = fill_second d k (slice_get i.lines.items k)
 fill_access caller calls d i (own.Wake k owed) = wake_access (slice_get i.lines.items k)
@@ -106,11 +109,6 @@ fill_or_start k (Some x) = own.FillFirst k
 abbrev pub fill_next : List Line → ℕ → OwnStep
 fill_next xs k = fill_or_start k (slice_get xs k)
 
--- the line at which a pass met a reference
-abbrev pub met_at : PassStep → ℕ
-met_at (Install k) = k
-met_at _ = 0
-
 abbrev pub owed_next : ℕ → OwnStep
 owed_next owed = if owed == 0 then own.Drop Succeeded else own.Signal owed
 
@@ -145,11 +143,11 @@ finished i (Failed k) = own.Drop (Failed k)
 finished i (Crossed k) = own.Drop (Crossed k)
 finished i Halted = own.Drop Halted
 
-abbrev pub after_own_pass : Intent → PassStep → PassNext → OwnStep
-after_own_pass i p (pass.Goes q) = own.Pass q
-after_own_pass i p (pass.Met r) = own.Aid (met_at p) r aid.Hold
-after_own_pass i p (pass.Finished q) = finished i q
-after_own_pass i p pass.Left = own.Pass (Decide Halted)
+abbrev pub after_own_pass : Intent → PassNext → OwnStep
+after_own_pass i (pass.Goes q) = own.Pass q
+after_own_pass i (pass.Met k r) = own.Aid k r aid.Hold
+after_own_pass i (pass.Finished q) = finished i q
+after_own_pass i pass.Left = own.Pass (Decide Halted)
 
 abbrev pub wake_or_signal : ℕ → Option ℕ → OwnStep
 wake_or_signal owed None = owed_next owed
@@ -166,7 +164,7 @@ own_next c h (own.FillFirst k) f = own.FillSecond k
 own_next c h (own.FillSecond k) f = fill_next c.intent.lines.items (after_line k)
 own_next c h own.Start f = own.Pass (from_install c.intent.mode c.intent.lines.items 0)
 own_next c h own.Abandon f = own.Abandon
-own_next c h (own.Pass p) f = after_own_pass c.intent p (pass_next h c.intent.mode c.intent.lines.items p f)
+own_next c h (own.Pass p) f = after_own_pass c.intent (pass_next h c.intent.mode c.intent.lines.items p f)
 own_next c h (own.Aid k r a) f = aid_or_back c.halted k r (aid_next r c.copy a f)
 own_next c h (own.Wake k owed) f = wake_next c.intent k owed f
 own_next c h (own.Signal owed) f = owed_next (bit_and owed (owed - 1))
@@ -213,3 +211,40 @@ commit_onward n calls c f = onward_by (commit_next n calls (loaded c f) f)
 
 abbrev pub commit_after : ℕ → ℕ → Commit → Found → Commit
 commit_after n calls c f = gone_on (loaded c f) (commit_next n calls (loaded c f) f)
+
+-- ---- a commit as its lines and its stage, where it was not halted and has copied nothing
+
+abbrev pub intent_of : Mode → List Line → Intent
+intent_of m xs = record { mode = m; lines = record { items = xs } }
+
+abbrev pub commit_at : Mode → List Line → Stage → Commit
+commit_at m xs stage = record { intent = intent_of m xs; halted = false; copy = no_copy; stage = stage }
+
+abbrev pub aids_at : OwnStep → Bool
+aids_at (own.Aid k r step) = true
+aids_at _ = false
+
+abbrev pub aids : Stage → Bool
+aids (Own h step) = aids_at step
+aids _ = false
+
+-- ---- what a step changes in place
+
+abbrev pub owned : Stage → Bool
+owned (Scan d worn) = false
+owned (Take d g) = false
+owned (Own h step) = true
+
+abbrev pub with_step : Stage → OwnStep → Stage
+with_step (Scan d worn) t = Scan d worn
+with_step (Take d g) t = Take d g
+with_step (Own h step) t = Own h t
+
+abbrev pub stepped : Commit → OwnStep → Commit
+stepped c t = record c { stage = with_step c.stage t }
+
+-- descriptor and generation
+abbrev pub handle_of : Stage → Option (ℕ × ℕ)
+handle_of (Scan d worn) = None
+handle_of (Take d g) = None
+handle_of (Own h step) = Some (h.descriptor, h.generation)

@@ -94,6 +94,20 @@ abbrev pub put_of : List Put → ℕ → Option ℕ
 put_of [] l = None
 put_of (p ∷ ps) l = if p.loc.0 == l then Some p.after else put_of ps l
 
+-- in rising order of location, from l on
+abbrev pub rises_from : ℕ → List Put → Bool
+rises_from l [] = true
+rises_from l (p ∷ ps) = if nat_lt p.loc.0 l then false else rises_from (p.loc.0 + 1) ps
+
+abbrev pub is_below : ℕ → Option Put → Bool
+is_below l None = false
+is_below l (Some p) = nat_lt p.loc.0 l
+
+-- the put before the i-th is of a location below l
+abbrev pub follows : List Put → ℕ → ℕ → Bool
+follows ps zero l = true
+follows ps (suc i) l = is_below l (slice_get ps i)
+
 abbrev pub line_of : List Put → Seen → Line
 line_of puts r = record { seen = r; put = put_of puts r.loc.0 }
 

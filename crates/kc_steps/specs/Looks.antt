@@ -18,8 +18,8 @@ use Rattle.kc_steps.specs.declared.look.LookStep.{LookStep}
 use Rattle.kc_steps.specs.declared.look.LookStep.TheVariants as look
 use Rattle.kc_steps.specs.declared.look.LookNext.{LookNext}
 use Rattle.kc_steps.specs.declared.look.LookNext.TheVariants.{Goes, Saw}
-use Rattle.kc_steps.specs.declared.commit.Onward.{Onward}
-use Rattle.kc_steps.specs.declared.commit.Onward.TheVariants as onward
+use Rattle.kc_steps.specs.declared.task.Onward.{Onward}
+use Rattle.kc_steps.specs.declared.task.Onward.TheVariants as onward
 use Rattle.kc_steps.specs.Lines.{resolved_version, resolved_value}
 
 abbrev pub reference_of : ℕ → ℕ → ℕ → Reference

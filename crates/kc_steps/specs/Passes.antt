@@ -43,6 +43,9 @@ release_at h k p (Some x) = release_access h k p x
 abbrev pub status : ℕ → Phase → Status
 status g p = record { generation = g; phase = p }
 
+abbrev pub decide_access : Handle → Phase → Access
+decide_access h p = access.Status h.descriptor (touch.CompareExchange (status h.generation Active) (status h.generation p))
+
 abbrev pub pass_access : Handle → List Line → PassStep → Access
 pass_access h xs (Install k) = install_access h k (slice_get xs k)
 pass_access h xs (Check k) = check_access (slice_get xs k)
@@ -50,7 +53,7 @@ pass_access h xs (CheckHold k r) = access.Control r.handle.descriptor grip.Add
 pass_access h xs (CheckStatus k r) = access.Status r.handle.descriptor touch.Load
 pass_access h xs (CheckFirst k r p) = access.First r.handle.descriptor r.line touch.Load
 pass_access h xs (CheckDrop k r stray c) = access.Control r.handle.descriptor grip.Subtract
-pass_access h xs (Decide p) = access.Status h.descriptor (touch.CompareExchange (status h.generation Active) (status h.generation p))
+pass_access h xs (Decide p) = decide_access h p
 pass_access h xs (Release k p) = release_at h k p (slice_get xs k)
 
 -- installs, then checks, then the decision for success
@@ -84,7 +87,7 @@ refers_to h k r = (r.handle.descriptor == h.descriptor) && ((r.handle.generation
 
 abbrev pub install_found : Handle → Mode → List Line → ℕ → Found → Option Line → PassNext
 install_found h m xs k (found.Word (Plain v y)) (Some x) = if fits v y x then Goes (from_install m xs (after_line k)) else Goes (Decide (Failed k))
-install_found h m xs k (found.Word (Ref g d j)) (Some x) = if refers_to h k (reference_of g d j) then Goes (from_install m xs (after_line k)) else Met (reference_of g d j)
+install_found h m xs k (found.Word (Ref g d j)) (Some x) = if refers_to h k (reference_of g d j) then Goes (from_install m xs (after_line k)) else Met k (reference_of g d j)
 install_found h m xs k _ _ = Goes (Install k)
 
 abbrev pub install_next : Handle → Mode → List Line → ℕ → Found → PassNext

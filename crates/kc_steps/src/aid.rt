@@ -62,8 +62,8 @@ pub enum AidNext {
     Back { onward: Option<Reference> },
 }
 
-pub fn aid_access(met: Reference, copy: &Aided, step: AidStep) -> Access
-    ensures { result ≡ aid_access met copy.now.lines.items step }
+pub fn aid_access(met: Reference, copy: &Aided, step: &AidStep) -> Access
+    ensures { result ≡ aid_access met copy.now.lines.items step.now }
 {
     let d = met.handle.descriptor;
     match step {
@@ -71,7 +71,7 @@ pub fn aid_access(met: Reference, copy: &Aided, step: AidStep) -> Access
         AidStep::Status | AidStep::Leave { onward: _ } => Access::Status(d, Touch::Load),
         AidStep::First { phase: _ } => Access::First(d, met.line, Touch::Load),
         AidStep::Second { phase: _, first: _ } => Access::Second(d, met.line, Touch::Load),
-        AidStep::Release { phase, line } => release_access(met.handle, met.line, &line, phase),
+        AidStep::Release { phase, line } => release_access(met.handle, met.line, line, *phase),
         AidStep::Owner => Access::Owner(d, Touch::Load),
         AidStep::LoadFirst => Access::First(d, copy.lines.len() as u32, Touch::Load),
         AidStep::LoadSecond { first: _ } => Access::Second(d, copy.lines.len() as u32, Touch::Load),
@@ -83,8 +83,8 @@ pub fn aid_access(met: Reference, copy: &Aided, step: AidStep) -> Access
     }
 }
 
-fn hold_next(met: Reference, found: Found) -> AidStep
-    ensures { result ≡ hold_next met found }
+fn hold_next(met: Reference, found: &Found) -> AidStep
+    ensures { result ≡ hold_next met found.now }
 {
     match found {
         Found::Control(control) => if control.generation == met.handle.generation {
@@ -99,8 +99,8 @@ fn hold_next(met: Reference, found: Found) -> AidStep
     }
 }
 
-fn status_next(found: Found) -> AidStep
-    ensures { result ≡ status_next found }
+fn status_next(found: &Found) -> AidStep
+    ensures { result ≡ status_next found.now }
 {
     match found {
         Found::Status(status) => match status.phase {
@@ -116,7 +116,7 @@ fn after_pass(next: PassNext) -> AidStep
 {
     match next {
         PassNext::Goes(step) => AidStep::Pass(step),
-        PassNext::Met(met) => AidStep::Leave { onward: Some(met) },
+        PassNext::Met { line: _, met } => AidStep::Leave { onward: Some(met) },
         PassNext::Left => AidStep::Leave { onward: None },
         PassNext::Finished(_) => AidStep::Drop {
             stray: false,
@@ -125,8 +125,8 @@ fn after_pass(next: PassNext) -> AidStep
     }
 }
 
-fn leave_next(mode: Mode, lines: &[Line], onward: Option<Reference>, found: Found) -> AidStep
-    ensures { result ≡ leave_next mode lines.now onward found }
+fn leave_next(mode: Mode, lines: &[Line], onward: Option<Reference>, found: &Found) -> AidStep
+    ensures { result ≡ leave_next mode lines.now onward found.now }
 {
     match found {
         Found::Status(status) => match status.phase {
@@ -156,6 +156,19 @@ impl Aided {
         }
     }
 
+    /// Forgets what was loaded.
+    pub fn reset(&mut self)
+        ensures { self.new ≡ no_copy }
+    {
+        self.owner = Owner {
+            caller: 0,
+            mode: Mode::Light,
+            lines: 0,
+            number: 0,
+        };
+        self.lines.clear();
+    }
+
     // The load of the next line, or the pass.
     fn load_next(&self) -> AidStep
         ensures { result ≡ load_next self.now }
@@ -168,17 +181,17 @@ impl Aided {
     }
 
     /// Keeps what a step loads.
-    pub fn load(&mut self, step: AidStep, found: Found)
-        ensures { self.new ≡ aid_copy self.old step found }
+    pub fn load(&mut self, step: &AidStep, found: &Found)
+        ensures { self.new ≡ aid_copy self.old step.now found.now }
     {
         match (step, found) {
             (AidStep::Owner, Found::Owner(owner)) => {
-                self.owner = owner;
+                self.owner = *owner;
                 self.lines.clear();
             }
             (AidStep::LoadSecond { first }, Found::Second(second)) => {
                 if !self.lines.is_full() {
-                    self.lines.push(joined(first, second));
+                    self.lines.push(joined(*first, *second));
                 }
             }
             _ => {}
@@ -186,30 +199,33 @@ impl Aided {
     }
 
     /// What follows a step, given what was found, where what the step loads is kept.
-    pub fn next(&self, met: Reference, step: AidStep, found: Found) -> AidNext
-        ensures { result ≡ aid_next met self.now step found }
+    pub fn next(&self, met: Reference, step: &AidStep, found: &Found) -> AidNext
+        ensures { result ≡ aid_next met self.now step.now found.now }
     {
         let mode = self.owner.mode;
         let lines = self.lines.as_slice();
         AidNext::Goes(match (step, found) {
             (AidStep::Hold, _) => hold_next(met, found),
             (AidStep::Status, _) => status_next(found),
-            (AidStep::First { phase }, Found::First(first)) => AidStep::Second { phase, first },
+            (AidStep::First { phase }, Found::First(first)) => AidStep::Second {
+                phase: *phase,
+                first: *first,
+            },
             (AidStep::Second { phase, first }, Found::Second(second)) => AidStep::Release {
-                phase,
-                line: joined(first, second),
+                phase: *phase,
+                line: joined(*first, *second),
             },
             (AidStep::Release { phase: _, line: _ }, _) => AidStep::Drop {
                 stray: false,
                 onward: None,
             },
             (AidStep::Owner, Found::Owner(_)) => self.load_next(),
-            (AidStep::LoadFirst, Found::First(first)) => AidStep::LoadSecond { first },
+            (AidStep::LoadFirst, Found::First(first)) => AidStep::LoadSecond { first: *first },
             (AidStep::LoadSecond { first: _ }, Found::Second(_)) => self.load_next(),
             (AidStep::Pass(pass), _) => after_pass(pass_next(met.handle, mode, lines, pass, found)),
-            (AidStep::Leave { onward }, _) => leave_next(mode, lines, onward, found),
-            (AidStep::Drop { stray: _, onward }, _) => return AidNext::Back { onward },
-            _ => step,
+            (AidStep::Leave { onward }, _) => leave_next(mode, lines, *onward, found),
+            (AidStep::Drop { stray: _, onward }, _) => return AidNext::Back { onward: *onward },
+            _ => *step,
         })
     }
 }

@@ -1,7 +1,7 @@
 //! The lines of a commit.
 
-ghost use Rattle.std.specs.Prelude.{◌≡◌, slice_get};
-ghost use Rattle.kc_steps.specs.Lines.{after_line, first_of, second_of, joined, resolved, resolved_version, next_version, picks, next_line, put_of, lines_of, one_more, word_of};
+ghost use Rattle.std.specs.Prelude.{◌≡◌, ◌≤◌, slice_get, length, true};
+ghost use Rattle.kc_steps.specs.Lines.{after_line, first_of, second_of, joined, resolved, resolved_version, next_version, picks, next_line, put_of, rises_from, follows, lines_of, one_more, word_of};
 
 use arrayvec::ArrayVec;
 use kc_model::{Footprint, LAST_VERSION, Loc, MOST, Put, Seen, Word};
@@ -181,27 +181,95 @@ fn put_of(puts: &[Put], loc: Loc) -> Option<u32>
     None
 }
 
-/// The lines of a footprint: each read, with its put where there is one.
-pub fn lines_of(footprint: &Footprint) -> ArrayVec<Line, MOST>
-    ensures { result.items ≡ lines_of footprint.now }
+// Whether the puts are in rising order of location.
+fn rises(puts: &[Put]) -> bool
+    ensures { result ≡ rises_from 0 puts.now }
 {
-    let mut lines = ArrayVec::new();
-    for read in footprint.reads.as_slice() {
-        lines.push(Line {
-            seen: *read,
-            put: put_of(footprint.puts.as_slice(), read.loc),
-        });
+    let mut from = 0u64;
+    for put in puts {
+        let loc = put.loc.0 as u64;
+        if loc < from {
+            return false;
+        }
+        from = loc + 1;
     }
-    lines
+    true
 }
 
-/// A copy of the reads.
-pub fn copied(reads: &ArrayVec<Seen, MOST>) -> ArrayVec<Seen, MOST>
-    ensures { result.items ≡ reads.now.items }
+fn put_at(puts: &[Put], i: usize) -> Option<Put>
+    ensures { result ≡ slice_get puts.now i }
 {
-    let mut copy = ArrayVec::new();
-    for read in reads.as_slice() {
-        copy.push(*read);
+    puts.get(i).copied()
+}
+
+// Whether the put before this one is of a lower location.
+fn follows(puts: &[Put], next: usize, loc: Loc) -> bool
+    ensures { result ≡ follows puts.now next loc.0 }
+{
+    if next == 0 {
+        return true;
     }
-    copy
+    match put_at(puts, next - 1) {
+        Some(put) => put.loc.0 < loc.0,
+        None => false,
+    }
+}
+
+// The put of a location: the next one, or none between it and the one before; else all are searched.
+fn put_near(puts: &[Put], next: usize, loc: Loc) -> Option<u32>
+    requires { rises_from 0 puts.now ≡ true }
+    ensures { result ≡ put_of puts.now loc.0 }
+{
+    match put_at(puts, next) {
+        Some(put) => {
+            if put.loc.0 == loc.0 {
+                return Some(put.after);
+            }
+            if loc.0 < put.loc.0 && follows(puts, next, loc) {
+                return None;
+            }
+        }
+        None => if follows(puts, next, loc) {
+            return None;
+        },
+    }
+    put_of(puts, loc)
+}
+
+/// Writes the lines of a footprint: each read, with its put where there is one. Puts in rising order are walked once.
+pub fn fill_lines(lines: &mut ArrayVec<Line, MOST>, footprint: &Footprint)
+    ensures { lines.new.items ≡ lines_of footprint.now }
+{
+    let puts = footprint.puts.as_slice();
+    let rising = rises(puts);
+    let mut next = 0usize;
+    lines.clear();
+    for read in footprint.reads.as_slice() {
+        let put = if rising {
+            put_near(puts, next, read.loc)
+        } else {
+            put_of(puts, read.loc)
+        };
+        if put.is_some() {
+            next = next.saturating_add(1);
+        }
+        lines.push(Line { seen: *read, put });
+    }
+}
+
+/// Writes a copy of the lines.
+pub fn copy_lines(copy: &mut ArrayVec<Line, MOST>, lines: &[Line])
+    requires { length lines.now ≤ MOST }
+    ensures { copy.new.items ≡ lines.now }
+{
+    copy.clear();
+    let _ = copy.try_extend_from_slice(lines);
+}
+
+/// Writes a copy of the reads.
+pub fn copy_reads(copy: &mut ArrayVec<Seen, MOST>, reads: &ArrayVec<Seen, MOST>)
+    ensures { copy.new.items ≡ reads.now.items }
+{
+    copy.clear();
+    let _ = copy.try_extend_from_slice(reads.as_slice());
 }

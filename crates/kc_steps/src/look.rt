@@ -1,13 +1,12 @@
 //! A look: what a location's word stands for.
 
 ghost use Rattle.std.specs.Prelude.{◌≡◌};
-ghost use Rattle.kc_steps.specs.Looks.{look_access, look_next, look_after, look_tells, look_halted, halts_at_once, reference_of, seen_as};
+ghost use Rattle.kc_steps.specs.Looks.{look_access, load_next, hold_next, look_next, look_after, look_tells, look_halted, halts_at_once, reference_of, seen_as};
 
-use crate::commit::Onward;
 use crate::line::resolved;
-use crate::task::Told;
+use crate::task::{Onward, Told};
 use kc_model::{Loc, Seen, Word};
-use kc_words::{Access, First, Found, Grip, Handle, Phase, Reference, Touch};
+use kc_words::{Access, Control, First, Found, Grip, Handle, Phase, Reference, Touch};
 
 /// Where a look stands. `met` is the reference that stood at the location.
 #[derive(Clone, Copy)]
@@ -64,8 +63,8 @@ pub fn reference_of(generation: u64, descriptor: u32, entry: u32) -> Reference
     }
 }
 
-pub fn look_access(loc: Loc, step: LookStep) -> Access
-    ensures { result ≡ look_access loc step }
+pub fn look_access(loc: Loc, step: &LookStep) -> Access
+    ensures { result ≡ look_access loc step.now }
 {
     match step {
         LookStep::Load => Access::Location(loc, Touch::Load),
@@ -98,73 +97,76 @@ fn seen_as(loc: Loc, first: First, after: u32, phase: Phase) -> Seen
     }
 }
 
-pub fn look_next(loc: Loc, step: LookStep, found: Found) -> LookNext
-    ensures { result ≡ look_next loc step found }
+fn load_next(loc: Loc, found: &Found) -> LookNext
+    ensures { result ≡ load_next loc found.now }
 {
-    let next = match (step, found) {
-        (LookStep::Load, Found::Word(Word::Plain { version, value })) => {
-            return LookNext::Saw(Seen {
-                loc,
-                version,
-                value,
-            });
-        }
-        (
-            LookStep::Load,
-            Found::Word(
-                Word::Ref {
-                    generation,
-                    descriptor,
-                    entry,
-                },
-            ),
-        ) => LookStep::Hold {
-            met: reference_of(generation, descriptor, entry),
-        },
-        (LookStep::Hold { met }, Found::Control(control)) => {
-            if control.generation == met.handle.generation {
-                LookStep::Status { met }
-            } else {
-                LookStep::Drop {
-                    met,
-                    stray: true,
-                    then: None,
-                }
-            }
-        }
-        (LookStep::Status { met }, Found::Status(status)) => LookStep::First {
+    match found {
+        Found::Word(Word::Plain { version, value }) => LookNext::Saw(Seen {
+            loc,
+            version: *version,
+            value: *value,
+        }),
+        Found::Word(
+            Word::Ref {
+                generation,
+                descriptor,
+                entry,
+            },
+        ) => LookNext::Goes(LookStep::Hold {
+            met: reference_of(*generation, *descriptor, *entry),
+        }),
+        _ => LookNext::Goes(LookStep::Load),
+    }
+}
+
+fn hold_next(met: Reference, control: Control) -> LookStep
+    ensures { LookNext.Goes result ≡ hold_next met (Found.Control control) }
+{
+    if control.generation == met.handle.generation {
+        LookStep::Status { met }
+    } else {
+        LookStep::Drop {
             met,
+            stray: true,
+            then: None,
+        }
+    }
+}
+
+/// What follows a step, given what was found.
+pub fn look_next(loc: Loc, step: &LookStep, found: &Found) -> LookNext
+    ensures { result ≡ look_next loc step.now found.now }
+{
+    LookNext::Goes(match (step, found) {
+        (LookStep::Load, _) => return load_next(loc, found),
+        (LookStep::Hold { met }, Found::Control(control)) => hold_next(*met, *control),
+        (LookStep::Status { met }, Found::Status(status)) => LookStep::First {
+            met: *met,
             phase: status.phase,
         },
-        (LookStep::First { met, phase }, Found::First(first)) => {
-            LookStep::Second { met, phase, first }
-        }
+        (LookStep::First { met, phase }, Found::First(first)) => LookStep::Second {
+            met: *met,
+            phase: *phase,
+            first: *first,
+        },
         (LookStep::Second { met, phase, first }, Found::Second(second)) => LookStep::Drop {
-            met,
+            met: *met,
             stray: false,
-            then: Some(seen_as(loc, first, second.after, phase)),
+            then: Some(seen_as(loc, *first, second.after, *phase)),
         },
         (
             LookStep::Drop {
                 met: _,
                 stray: _,
-                then: Some(seen),
+                then,
             },
             Found::Control(_),
-        ) => {
-            return LookNext::Saw(seen);
-        }
-        (
-            LookStep::Drop {
-                met: _,
-                stray: _,
-                then: None,
-            },
-            Found::Control(_),
-        ) => LookStep::Load,
-        _ => step,
-    };
-    LookNext::Goes(next)
+        ) => match then {
+            Some(seen) => return LookNext::Saw(*seen),
+            None => LookStep::Load,
+        },
+        _ => *step,
+    })
 }
 
 impl Look {
@@ -172,15 +174,15 @@ impl Look {
     pub fn access(&self) -> Access
         ensures { result ≡ look_access self.now.loc self.now.step }
     {
-        look_access(self.loc, self.step)
+        look_access(self.loc, &self.step)
     }
 
     /// The step, given what was found.
-    pub fn answer(&mut self, found: Found) -> Onward
-        ensures told { result ≡ look_tells self.old found }
-        ensures look { self.new ≡ look_after self.old found }
+    pub fn answer(&mut self, found: &Found) -> Onward
+        ensures told { result ≡ look_tells self.old found.now }
+        ensures look { self.new ≡ look_after self.old found.now }
     {
-        match look_next(self.loc, self.step, found) {
+        match look_next(self.loc, &self.step, found) {
             LookNext::Goes(step) => self.step = step,
             LookNext::Saw(seen) => {
                 return Onward::Tells(if self.halted {

@@ -1,7 +1,7 @@
 //! A pass over a descriptor, the seat's own or one that it aids: installs, then checks, then the decision, then releases.
 
-ghost use Rattle.std.specs.Prelude.{◌≡◌};
-ghost use Rattle.kc_steps.specs.Passes.{pass_access, pass_next, install_next, check_next, check_hold_next, check_status_next, check_first_next, check_drop_next, decide_next, decided_as, from_install, from_check, from_release, release_access, fits, refers_to};
+ghost use Rattle.std.specs.Prelude.{◌≡◌, slice_get};
+ghost use Rattle.kc_steps.specs.Passes.{pass_access, install_access, check_access, decide_access, release_at, pass_next, install_next, check_next, check_hold_next, check_status_next, check_first_next, check_drop_next, decide_next, decided_as, from_install, from_check, from_release, release_access, fits, refers_to};
 
 use crate::line::{
     Line, Pick, after_line, first_of, next_line, resolved, resolved_version, second_of, word_of,
@@ -62,35 +62,77 @@ pub enum AfterCheck {
 #[derive(Clone, Copy)]
 pub enum PassNext {
     Goes(PassStep),
-    /// An install found a reference of another descriptor.
-    Met(Reference),
+    /// The install of this line found a reference of another descriptor.
+    Met { line: u32, met: Reference },
     /// All is released.
     Finished(Phase),
     /// A halted aid has dropped its check's hold.
     Left,
 }
 
-pub fn pass_access(handle: Handle, lines: &[Line], step: PassStep) -> Access
-    ensures { result ≡ pass_access handle lines.now step }
+/// The install of a line: its reference in exchange for the plain word that it expects.
+pub fn install_access(handle: Handle, lines: &[Line], line: u32) -> Access
+    ensures { result ≡ install_access handle line (slice_get lines.now line) }
+{
+    match lines.get(line as usize) {
+        Some(x) => Access::Location(
+            x.seen.loc,
+            Touch::CompareExchange {
+                old: Word::Plain {
+                    version: x.seen.version,
+                    value: x.seen.value,
+                },
+                new: word_of(handle, line),
+            },
+        ),
+        None => Access::Nothing,
+    }
+}
+
+pub fn check_access(lines: &[Line], line: u32) -> Access
+    ensures { result ≡ check_access (slice_get lines.now line) }
+{
+    match lines.get(line as usize) {
+        Some(x) => Access::Location(x.seen.loc, Touch::Load),
+        None => Access::Nothing,
+    }
+}
+
+/// The exchange of an active status for a decided one.
+pub fn decide_access(handle: Handle, phase: Phase) -> Access
+    ensures { result ≡ decide_access handle phase }
+{
+    Access::Status(
+        handle.descriptor,
+        Touch::CompareExchange {
+            old: Status {
+                generation: handle.generation,
+                phase: Phase::Active,
+            },
+            new: Status {
+                generation: handle.generation,
+                phase,
+            },
+        },
+    )
+}
+
+/// The release of a line.
+pub fn release_at(handle: Handle, lines: &[Line], line: u32, phase: Phase) -> Access
+    ensures { result ≡ release_at handle line phase (slice_get lines.now line) }
+{
+    match lines.get(line as usize) {
+        Some(x) => release_access(handle, line, x, phase),
+        None => Access::Nothing,
+    }
+}
+
+pub fn pass_access(handle: Handle, lines: &[Line], step: &PassStep) -> Access
+    ensures { result ≡ pass_access handle lines.now step.now }
 {
     match step {
-        PassStep::Install { line } => match lines.get(line as usize) {
-            Some(x) => Access::Location(
-                x.seen.loc,
-                Touch::CompareExchange {
-                    old: Word::Plain {
-                        version: x.seen.version,
-                        value: x.seen.value,
-                    },
-                    new: word_of(handle, line),
-                },
-            ),
-            None => Access::Nothing,
-        },
-        PassStep::Check { line } => match lines.get(line as usize) {
-            Some(x) => Access::Location(x.seen.loc, Touch::Load),
-            None => Access::Nothing,
-        },
+        PassStep::Install { line } => install_access(handle, lines, *line),
+        PassStep::Check { line } => check_access(lines, *line),
         PassStep::CheckHold { line: _, met } => Access::Control(met.handle.descriptor, Grip::Add),
         PassStep::CheckStatus { line: _, met } => {
             Access::Status(met.handle.descriptor, Touch::Load)
@@ -106,23 +148,8 @@ pub fn pass_access(handle: Handle, lines: &[Line], step: PassStep) -> Access
             stray: _,
             then: _,
         } => Access::Control(met.handle.descriptor, Grip::Subtract),
-        PassStep::Decide { phase } => Access::Status(
-            handle.descriptor,
-            Touch::CompareExchange {
-                old: Status {
-                    generation: handle.generation,
-                    phase: Phase::Active,
-                },
-                new: Status {
-                    generation: handle.generation,
-                    phase,
-                },
-            },
-        ),
-        PassStep::Release { line, phase } => match lines.get(line as usize) {
-            Some(x) => release_access(handle, line, x, phase),
-            None => Access::Nothing,
-        },
+        PassStep::Decide { phase } => decide_access(handle, *phase),
+        PassStep::Release { line, phase } => release_at(handle, lines, *line, *phase),
     }
 }
 
@@ -172,13 +199,13 @@ pub fn from_release(mode: Mode, lines: &[Line], line: u32, phase: Phase) -> Pass
     }
 }
 
-fn fits(version: u32, value: u32, line: &Line) -> bool
+pub fn fits(version: u32, value: u32, line: &Line) -> bool
     ensures { result ≡ fits version value line.now }
 {
     version == line.seen.version && value == line.seen.value
 }
 
-fn refers_to(handle: Handle, line: u32, met: Reference) -> bool
+pub fn refers_to(handle: Handle, line: u32, met: Reference) -> bool
     ensures { result ≡ refers_to handle line met }
 {
     met.handle.descriptor == handle.descriptor
@@ -186,14 +213,14 @@ fn refers_to(handle: Handle, line: u32, met: Reference) -> bool
         && met.line == line
 }
 
-fn install_next(handle: Handle, mode: Mode, lines: &[Line], line: u32, found: Found) -> PassNext
-    ensures { result ≡ install_next handle mode lines.now line found }
+fn install_next(handle: Handle, mode: Mode, lines: &[Line], line: u32, found: &Found) -> PassNext
+    ensures { result ≡ install_next handle mode lines.now line found.now }
 {
     let failed = PassStep::Decide {
         phase: Phase::Failed { line },
     };
     let next = match (found, lines.get(line as usize)) {
-        (Found::Word(Word::Plain { version, value }), Some(x)) => if fits(version, value, x) {
+        (Found::Word(Word::Plain { version, value }), Some(x)) => if fits(*version, *value, x) {
             from_install(mode, lines, after_line(line))
         } else {
             failed
@@ -208,9 +235,9 @@ fn install_next(handle: Handle, mode: Mode, lines: &[Line], line: u32, found: Fo
             ),
             Some(_),
         ) => {
-            let met = reference_of(generation, descriptor, entry);
+            let met = reference_of(*generation, *descriptor, *entry);
             if !refers_to(handle, line, met) {
-                return PassNext::Met(met);
+                return PassNext::Met { line, met };
             }
             from_install(mode, lines, after_line(line))
         }
@@ -219,11 +246,11 @@ fn install_next(handle: Handle, mode: Mode, lines: &[Line], line: u32, found: Fo
     PassNext::Goes(next)
 }
 
-fn check_next(mode: Mode, lines: &[Line], line: u32, found: Found) -> PassStep
-    ensures { result ≡ check_next mode lines.now line found }
+fn check_next(mode: Mode, lines: &[Line], line: u32, found: &Found) -> PassStep
+    ensures { result ≡ check_next mode lines.now line found.now }
 {
     match (found, lines.get(line as usize)) {
-        (Found::Word(Word::Plain { version, value }), Some(x)) => if fits(version, value, x) {
+        (Found::Word(Word::Plain { version, value }), Some(x)) => if fits(*version, *value, x) {
             from_check(mode, lines, after_line(line))
         } else {
             PassStep::Decide {
@@ -241,14 +268,14 @@ fn check_next(mode: Mode, lines: &[Line], line: u32, found: Found) -> PassStep
             Some(_),
         ) => PassStep::CheckHold {
             line,
-            met: reference_of(generation, descriptor, entry),
+            met: reference_of(*generation, *descriptor, *entry),
         },
         _ => PassStep::Check { line },
     }
 }
 
-fn check_hold_next(line: u32, met: Reference, found: Found) -> PassStep
-    ensures { result ≡ check_hold_next line met found }
+fn check_hold_next(line: u32, met: Reference, found: &Found) -> PassStep
+    ensures { result ≡ check_hold_next line met found.now }
 {
     match found {
         Found::Control(control) => if control.generation == met.handle.generation {
@@ -265,8 +292,8 @@ fn check_hold_next(line: u32, met: Reference, found: Found) -> PassStep
     }
 }
 
-fn check_status_next(line: u32, met: Reference, found: Found) -> PassStep
-    ensures { result ≡ check_status_next line met found }
+fn check_status_next(line: u32, met: Reference, found: &Found) -> PassStep
+    ensures { result ≡ check_status_next line met found.now }
 {
     match found {
         Found::Status(status) => match status.phase {
@@ -287,13 +314,13 @@ fn check_first_next(
     line: u32,
     met: Reference,
     phase: Phase,
-    found: Found,
+    found: &Found,
 ) -> PassStep
-    ensures { result ≡ check_first_next lines.now line met phase found }
+    ensures { result ≡ check_first_next lines.now line met phase found.now }
 {
     match (found, lines.get(line as usize)) {
         (Found::First(first), Some(x)) => {
-            let agrees = resolved_version(first, phase) == x.seen.version;
+            let agrees = resolved_version(*first, phase) == x.seen.version;
             PassStep::CheckDrop {
                 line,
                 met,
@@ -321,7 +348,7 @@ fn check_drop_next(mode: Mode, lines: &[Line], line: u32, then: AfterCheck) -> P
 }
 
 // The decided phase: this one where the descriptor was active.
-fn decided_as(phase: Phase, stood: Phase) -> Phase
+pub fn decided_as(phase: Phase, stood: Phase) -> Phase
     ensures { result ≡ decided_as phase stood }
 {
     match stood {
@@ -330,8 +357,8 @@ fn decided_as(phase: Phase, stood: Phase) -> Phase
     }
 }
 
-fn decide_next(mode: Mode, lines: &[Line], phase: Phase, found: Found) -> PassNext
-    ensures { result ≡ decide_next mode lines.now phase found }
+fn decide_next(mode: Mode, lines: &[Line], phase: Phase, found: &Found) -> PassNext
+    ensures { result ≡ decide_next mode lines.now phase found.now }
 {
     match found {
         Found::Status(status) => { from_release(mode, lines, 0, decided_as(phase, status.phase)) }
@@ -344,28 +371,28 @@ pub fn pass_next(
     handle: Handle,
     mode: Mode,
     lines: &[Line],
-    step: PassStep,
-    found: Found,
+    step: &PassStep,
+    found: &Found,
 ) -> PassNext
-    ensures { result ≡ pass_next handle mode lines.now step found }
+    ensures { result ≡ pass_next handle mode lines.now step.now found.now }
 {
     let next = match step {
-        PassStep::Install { line } => return install_next(handle, mode, lines, line, found),
-        PassStep::Check { line } => check_next(mode, lines, line, found),
-        PassStep::CheckHold { line, met } => check_hold_next(line, met, found),
-        PassStep::CheckStatus { line, met } => check_status_next(line, met, found),
+        PassStep::Install { line } => return install_next(handle, mode, lines, *line, found),
+        PassStep::Check { line } => check_next(mode, lines, *line, found),
+        PassStep::CheckHold { line, met } => check_hold_next(*line, *met, found),
+        PassStep::CheckStatus { line, met } => check_status_next(*line, *met, found),
         PassStep::CheckFirst { line, met, phase } => {
-            check_first_next(lines, line, met, phase, found)
+            check_first_next(lines, *line, *met, *phase, found)
         }
         PassStep::CheckDrop {
             line,
             met: _,
             stray: _,
             then,
-        } => return check_drop_next(mode, lines, line, then),
-        PassStep::Decide { phase } => return decide_next(mode, lines, phase, found),
+        } => return check_drop_next(mode, lines, *line, *then),
+        PassStep::Decide { phase } => return decide_next(mode, lines, *phase, found),
         PassStep::Release { line, phase } => {
-            return from_release(mode, lines, after_line(line), phase);
+            return from_release(mode, lines, after_line(*line), *phase);
         }
     };
     PassNext::Goes(next)

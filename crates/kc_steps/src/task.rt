@@ -44,3 +44,15 @@ pub enum Event {
     Step { seat: u32 },
     Halt { seat: u32 },
 }
+
+/// What follows a step for its seat.
+#[derive(Clone, Copy)]
+pub enum Onward {
+    Goes,
+    /// A descriptor was taken: one call more.
+    Takes,
+    /// The seat is no longer blocked.
+    Unblocks,
+    /// The task ends.
+    Tells(Told),
+}
