@@ -171,3 +171,10 @@ applied f cells made below e =
 pub put_back : (n : ℕ) (old new : List Cell) (puts : List Put) → length old ≡ n → new ≡ all_put old puts → take n (new ++ drop (length new) old) ≡ all_put old puts
 put_back n old new puts e f =
     written_over n old new e (ap length f ∙ length_put puts old ∙ e) ∙ f
+
+-- reads that stand are not stale
+pub not_stale : (s : Store) (reads : List Seen) → ((r : Seen) → Contains reads r → s r.loc.0 ≡ record { version = r.version; value = r.value }) → stale s reads ≡ None
+not_stale s [] h = refl
+not_stale s (q ∷ reads) h =
+    let here = h q (Contains-first q reads) in
+    rw (agrees (s q.loc.0).version q.version (s q.loc.0).value q.value (ap (λ (c : Cell). c.version) here) (ap (λ (c : Cell). c.value) here)) (not_stale s reads (λ r k. h r (Contains-later q reads r k)))

@@ -13,8 +13,8 @@ mod reply;
 mod sure;
 #[cfg(test)]
 mod tests;
-mod word;
 mod well_made;
+mod word;
 mod writing;
 
 pub use errors::{ModelError, NoMemory, OpenError};

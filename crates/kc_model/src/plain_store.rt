@@ -1,6 +1,6 @@
 //! A store of one owner.
 
-ghost use Rattle.std.specs.Prelude.{◌≡◌, ◌<◌, ◌≤◌, ◌↔◌, length, map, Err, IfOk, IfSome, IfErr, OnOk, OnErr, MatchResult, slice_get, None, Some, Contains};
+ghost use Rattle.std.specs.Prelude.{◌≡◌, ◌<◌, ◌≤◌, ◌↔◌, length, map, Err, IfOk, IfSome, IfErr, IsOk, OnOk, OnErr, MatchResult, slice_get, None, Some, Contains};
 ghost use Rattle.std.specs.Option.{option_map};
 ghost use Rattle.kc_model.specs.Footprint.{IsWellMade, IsBelow};
 ghost use Rattle.kc_model.specs.Store.{store_of, opened, Finds, after, stale};
@@ -94,6 +94,7 @@ impl PlainStore {
         requires made { IsWellMade footprint.now }
         requires within { IsBelow (length self.old) footprint.now }
         ensures ok { OnOk result (Finds footprint.now (store_of self.old) × (store_of self.new ≡ after footprint.now (store_of self.old)) × (length self.new ≡ length self.old)) }
+        ensures stands { Finds footprint.now (store_of self.old) → IsOk result }
         ensures stale { IfErr result (λ e. stale (store_of self.old) footprint.now.reads.items ≡ Some e) }
         ensures err { OnErr result (self.new ≡ self.old) }
     {

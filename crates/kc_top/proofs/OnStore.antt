@@ -17,13 +17,6 @@ use Rattle.kc_xt.proofs.Spared.{touched-given_up, written-given_up}
 use Rattle.kc_history.proofs.Choice.{some_is}
 use Rattle.kc_top.specs.Commit.{answer_of, VersionsTo}
 
--- reads that stand are not stale
-pub not_stale : (s : Store) (reads : List Seen) → ((r : Seen) → Contains reads r → s r.loc.0 ≡ record { version = r.version; value = r.value }) → stale s reads ≡ None
-not_stale s [] h = refl
-not_stale s (q ∷ reads) h =
-    let here = h q (Contains-first q reads) in
-    rw (agrees (s q.loc.0).version q.version (s q.loc.0).value q.value (ap (λ (c : Cell). c.version) here) (ap (λ (c : Cell). c.value) here)) (not_stale s reads (λ r k. h r (Contains-later q reads r k)))
-
 -- what is made of touches reads what stands
 pub makes_finds : (s : Store) (touches : List Touch) (f : Footprint) → Makes s touches f → Finds f s
 makes_finds s touches f makes q h = of_touched (is_touched touches q.loc.0) (sym (read_at-contained f.reads.items q makes.well_made.reads_rise h) ∙ makes.reads q.loc.0) where

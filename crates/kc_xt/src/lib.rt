@@ -2,6 +2,7 @@
 #![tactic(auto)]
 
 mod attempts;
+mod committing;
 mod line;
 mod peek;
 mod place;
@@ -14,6 +15,7 @@ mod transact;
 mod xt;
 
 pub use attempts::{Tried, attempt, is_found_somewhere, plain_attempts};
+pub use committing::commit;
 pub use peek::{Peek, PeekBusy};
 pub use plain_peek::PlainPeek;
 pub use stop::Stop;

@@ -1,5 +1,6 @@
 use Rattle.std.proofs.Common.{◌≡◌, length, sym, ◌∙◌, arith}
-use Rattle.kc_model.proofs.Stores.{puts_fit, fit_put, applied, put_back}
+use Rattle.kc_model.proofs.Stores.{puts_fit, fit_put, applied, put_back, not_stale}
+use Rattle.kc_model.specs.Store.{store_of}
 use Rattle.kc_model.proofs.plain_store.PlainStore.apply.Goals as goal
 
 pub first_stale-requires : goal.first_stale-requires
@@ -20,3 +21,9 @@ returns-clause-ok c =
     let back = put_back c.self.inside.cells.len c.self.inside.cells.items c.put_all.new.cells c.args.footprint.now.puts.items len (rw (c.deref_mut.ensures.value, c.as_slice-2.ensures.value) at c.put_all.ensures) in
     let stands = rw (c.as_slice.ensures.value, c.deref.ensures.value, c.self.view_is) at (sym c.first_stale.ensures ∙ c.in_default.is) in
     rw (back, c.self.view_is) (applied c.args.footprint.now c.args.self.now c.requires.made c.requires.within stands)
+
+pub returns-in-Some-clause-stands : goal.returns-in-Some-clause-stands
+returns-in-Some-clause-stands c finds = absurd (
+    let found = rw (c.as_slice.ensures.value, c.deref.ensures.value, c.self.view_is) at c.first_stale.ensures in
+    let none = not_stale (store_of c.args.self.now) c.args.footprint.now.reads.items finds in
+    cc (found, none, c.in-Some.is))
