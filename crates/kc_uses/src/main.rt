@@ -1,0 +1,90 @@
+//! The library in use, as one program that grows: a little server of jobs. README quotes it; the gate proves it, runs
+//! it, and compares what it prints.
+#![tactic(auto)]
+
+ghost use Rattle.std.specs.Prelude.{◌≤◌, length};
+
+mod finish_job;
+mod server;
+
+use finish_job::FinishJob;
+use kc_cache::{CacheAct, CacheOp};
+use kc_loc::LocOp;
+use kc_model::{Footprint, PlainStore};
+use kc_queue::{Queue, QueueAct, QueueOp};
+use kc_term::Term;
+use kc_xt::{Transact, Tried, commit};
+use server::Server;
+use std::alloc::Global;
+use std::io;
+
+fn main(rt: HostRuntime) -> io::Result<()> {
+    let server = Server::new();
+    let mut store = server.open(rt.alloc())?;
+    count_a_request(&rt, &server, &mut store)?;
+    queue_a_job(&rt, &server, &mut store)?;
+    finish_a_job(&rt, &server, &mut store)?;
+    read_a_result(&rt, &server, &mut store)?;
+    wait_for_a_job(&rt, &server, &mut store)?;
+    take_the_first_job(&rt, rt.alloc(), &server, &mut store)
+}
+
+// Commits a transaction, and prints what came of it.
+fn run<T: Transact>(rt: &impl Print, what: &str, store: &mut PlainStore, transaction: &T) -> io::Result<()>
+    requires fit { T.is_fit transaction.now }
+    requires within { T.end transaction.now ≤ length store.old }
+{
+    let mut footprint = Footprint::new();
+    let tried = commit(store, transaction, &mut footprint);
+    println!(rt; "{what}: {tried:?}")
+}
+
+// One location.
+fn count_a_request(rt: &impl Print, server: &Server, store: &mut PlainStore) -> io::Result<()> {
+    run(rt, "a request came", store, &LocOp::Incr(server.requests))?;
+    println!(rt; "requests: {:?}", store.get(server.requests))
+}
+
+fn on(queue: Queue, act: QueueAct) -> QueueOp {
+    QueueOp { queue, act }
+}
+
+// One structure.
+fn queue_a_job(rt: &impl Print, server: &Server, store: &mut PlainStore) -> io::Result<()> {
+    run(rt, "job 7 waits", store, &on(server.jobs, QueueAct::Enq(7)))
+}
+
+// Two structures in one step.
+fn finish_a_job(rt: &impl Print, server: &Server, store: &mut PlainStore) -> io::Result<()> {
+    run(rt, "a job is finished", store, &FinishJob::new(server))
+}
+
+fn read_a_result(rt: &impl Print, server: &Server, store: &mut PlainStore) -> io::Result<()> {
+    let read = CacheOp {
+        cache: server.results,
+        act: CacheAct::CGet(7),
+    };
+    run(rt, "the result of job 7", store, &read)
+}
+
+// A transaction that has to wait says what for.
+fn wait_for_a_job(rt: &impl Print, server: &Server, store: &mut PlainStore) -> io::Result<()> {
+    let mut footprint = Footprint::new();
+    let tried = commit(store, &FinishJob::new(server), &mut footprint);
+    println!(rt; "no job waits: {tried:?}")?;
+    for read in footprint.reads.as_slice() {
+        println!(rt; "try again when location {} changes", read.loc.0)?;
+    }
+    Ok(())
+}
+
+// Alternatives: an urgent job, or else any job.
+fn take_the_first_job(rt: &impl Print, alloc: Global, server: &Server, store: &mut PlainStore) -> io::Result<()> {
+    run(rt, "job 8 waits", store, &on(server.jobs, QueueAct::Enq(8)))?;
+    let urgent = Term::op(on(server.urgent, QueueAct::DeqWait));
+    let any = Term::op(on(server.jobs, QueueAct::DeqWait));
+    let Ok(first) = Term::first(alloc, urgent, any) else {
+        return Err(io::ErrorKind::OutOfMemory.into());
+    };
+    run(rt, "an urgent job, or any", store, &first)
+}
