@@ -37,36 +37,9 @@ use Rattle.kc_machine.specs.Seats.{access_of, is_idle}
 use Rattle.kc_machine.specs.Machine.{World, State, Opening, event_of, run}
 use Rattle.kc_effects.specs.Stands.{Own, NoOwn, Owns, Runs, Waits, Turn, At, Meets, Ends, Leaves, Passing, NoPass, Over, Aiding, NoAid, Aids, Passes, Stand, stand}
 use Rattle.kc_effects.specs.Holds.{Proper, own_hold}
+use Rattle.kc_machine.specs.Schedules.{IsInRange, AreBelow, IsWellMadeTask, BeginsWellMade, IsSchedule}
 use Rattle.kc_claims.specs.Histories.{History, Placed, ending, cell_of, IsLegalHistory, IsLegalWhereInstalled, EntriesDiffer, Grows}
 use Rattle.kc_claims.specs.Traces.{trace, first_store, IsHonest}
-
--- ---- for which openings and schedules
-
-pub record IsInRange (o : Opening) : Type 0 where
-  pub locations : o.locations ≤ 65536
-  pub callers : o.callers ≤ 64
-  pub versions : (l : ℕ) → o.version l ≤ LAST_VERSION
-  pub values : (l : ℕ) → o.value l < 2 ^ 32
-  pub generation : o.generation ≤ LAST_GENERATION
-
--- reads of locations below n, as many as a task may have
-abbrev pub AreBelow : ℕ → List Seen → Type 0
-AreBelow n reads = All (λ r. r.loc.0 < n) reads × (length reads ≤ MOST)
-
-abbrev pub IsWellMadeTask : ℕ → Task → Type 0
-IsWellMadeTask n (task.Look l) = l.0 < n
-IsWellMadeTask n (task.Commit f m) = IsWellMade f × IsBelow n f × (length f.reads.items ≤ MOST)
-IsWellMadeTask n (task.Hang reads) = (reads.items ≢ []) × AreBelow n reads.items
-IsWellMadeTask n (task.Leave reads) = AreBelow n reads.items
-
-abbrev pub BeginsWellMade : ℕ → Event → Type 0
-BeginsWellMade n (Begin k t) = IsWellMadeTask n t
-BeginsWellMade n (Step k) = Unit {0}
-BeginsWellMade n (Halt k) = Unit {0}
-
--- a schedule of well-made tasks, from an opening in range
-abbrev pub IsSchedule : Opening → List Event → Type 0
-IsSchedule o schedule = IsInRange o × All (BeginsWellMade o.locations) schedule
 
 -- ---- moments
 

@@ -9,3 +9,4 @@ pub mod Words
 pub mod Lists
 pub mod Machine
 pub mod Views
+pub mod Schedules

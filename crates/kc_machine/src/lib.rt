@@ -17,3 +17,4 @@ pub use kc_steps::{
 pub use machine::Machine;
 pub use point::Point;
 pub use seat::Seat;
+pub use words::bit_of;

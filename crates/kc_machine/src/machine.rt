@@ -126,7 +126,8 @@ impl Machine {
         }
     }
 
-    fn perform(&mut self, event: &Event)
+    /// The same as `event`, of one that stays with the caller: an event is 1,600 bytes long.
+    pub fn perform(&mut self, event: &Event)
         ensures { machine_state self.new ≡ event_of (machine_state self.old) event.now }
     {
         let seats = self.seats.len();

@@ -165,8 +165,8 @@ fn gripped(grip: Grip, stood: Control) -> Option<Control>
     }
 }
 
-// The bit that stands for a caller.
-fn bit_of(caller: u32) -> u64
+/// The bit that stands for a caller; none from 64 on.
+pub fn bit_of(caller: u32) -> u64
     ensures { result ≡ bit_of caller }
 {
     if caller < 64 { 1 << caller } else { 0 }

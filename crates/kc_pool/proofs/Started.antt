@@ -53,7 +53,7 @@ use Rattle.kc_effects.specs.Stands.{Stand, resting, works, commits, owns}
 use Rattle.kc_effects.specs.Holds.{Proper, own_hold}
 use Rattle.kc_effects.proofs.Tests.{status_active}
 use Rattle.kc_effects.proofs.PoolLaws.{holds_kept}
-use Rattle.kc_claims.specs.Claims.{BeginsWellMade, IsSchedule}
+use Rattle.kc_machine.specs.Schedules.{BeginsWellMade, IsSchedule}
 use Rattle.kc_seats.specs.Made.{IsWellMadeIntent, IsWellMadeLine, IntentIsMade}
 use Rattle.kc_seats.proofs.MadeSteps.{intents_made}
 use Rattle.kc_pool.specs.Filled.{owner_word, Filled}

@@ -7,7 +7,7 @@ ghost use Rattle.kc_pool.specs.Owners.{ActiveHasItsOwner, OwnersDiffer, OwnersKn
 ghost use Rattle.kc_pool.specs.References.{HeldAreStarted, RememberedArePublished, WordsArePublished};
 ghost use Rattle.kc_pool.specs.Filled.{OwnedWordsAreFilled};
 ghost use Rattle.kc_pool.specs.Started.{StartedWordsAreWellMade};
-ghost use Rattle.kc_claims.specs.Claims.{IsSchedule};
+ghost use Rattle.kc_machine.specs.Schedules.{IsSchedule};
 ghost use Rattle.kc_pool.specs.Counts.{AtMostThree, CallsFit, GenerationsFit, GenerationsGrow};
 
 /// No two seats own the same descriptor.

@@ -29,7 +29,7 @@ use Rattle.kc_machine.specs.Hangs.{hang_step, hangs_on, onward_of, leaves_on, un
 use Rattle.kc_machine.specs.Seats.{answer_of, answer_by, after, begun, begun_idle, is_idle, working, halted, halted_by, ended}
 use Rattle.kc_machine.specs.Seats.{hanging as hanging_of}
 use Rattle.kc_machine.specs.Machine.{Opening, run}
-use Rattle.kc_claims.specs.Claims.{IsWellMadeTask, BeginsWellMade, IsSchedule}
+use Rattle.kc_machine.specs.Schedules.{IsWellMadeTask, BeginsWellMade, IsSchedule}
 use Rattle.kc_seats.specs.Formed.{WorkIsFormed, HangStands, HangsStandAtReads}
 use Rattle.kc_seats.specs.Made.{IntentIsMade, ReadsAreMade, IntentsAreWellMade, ReadsAreWellMade}
 use Rattle.kc_seats.proofs.Always.{always}

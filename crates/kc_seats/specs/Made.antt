@@ -8,7 +8,7 @@ use Rattle.kc_machine.specs.Works.{Work}
 use Rattle.kc_machine.specs.Works as work
 use Rattle.kc_steps.specs.Lines.{has_put}
 use Rattle.kc_machine.specs.Machine.{State}
-use Rattle.kc_claims.specs.Claims.{AreBelow}
+use Rattle.kc_machine.specs.Schedules.{AreBelow}
 
 abbrev pub line_location : Line → ℕ
 line_location x = x.seen.loc.0

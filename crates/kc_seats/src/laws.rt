@@ -4,7 +4,7 @@ ghost use Rattle.std.specs.Prelude.{List};
 ghost use Rattle.kc_machine.specs.Machine.{Opening, run};
 ghost use Rattle.kc_steps.specs.declared.task.Event.{Event};
 ghost use Rattle.kc_seats.specs.Fits.{PassStepsFit};
-ghost use Rattle.kc_claims.specs.Claims.{IsSchedule};
+ghost use Rattle.kc_machine.specs.Schedules.{IsSchedule};
 ghost use Rattle.kc_seats.specs.Formed.{SeatsAreWellFormed, HangsStandAtReads};
 ghost use Rattle.kc_seats.specs.Made.{IntentsAreWellMade, ReadsAreWellMade};
 ghost use Rattle.kc_seats.specs.Seated.{SeatsStay, SearchesAreInRange};

@@ -412,8 +412,6 @@ impl Commit {
     {
         let handle = self.own;
         let line = self.line;
-        let phase = self.phase;
-        let owed = self.owed;
         match self.at {
             At::FillOwner => self.fill(0),
             At::FillFirst => self.at = At::FillSecond,
@@ -425,17 +423,29 @@ impl Commit {
                 let probe = self.probe;
                 self.probed(handle, probe, found);
             }
-            At::Decide => self.decided(handle, phase, found),
-            At::Release => self.to_release(after_line(line), phase),
+            At::Decide => {
+                let phase = self.phase;
+                self.decided(handle, phase, found);
+            }
+            At::Release => {
+                let phase = self.phase;
+                self.to_release(after_line(line), phase);
+            }
             At::Aid => {
                 let met = self.met;
                 let aid = self.aid;
                 self.aided(handle, line, met, aid, found);
             }
-            At::Wake => self.woke(handle, line, owed, found),
-            At::Signal => self.owe(owed & owed.saturating_sub(1)),
+            At::Wake => {
+                let owed = self.owed;
+                self.woke(handle, line, owed, found);
+            }
+            At::Signal => {
+                let owed = self.owed;
+                self.owe(owed & owed.saturating_sub(1));
+            }
             At::Abandon => return Onward::Tells(Told::Halted),
-            At::Drop => return Onward::Tells(told_of(phase, calls)),
+            At::Drop => return Onward::Tells(told_of(self.phase, calls)),
         }
         Onward::Goes
     }

@@ -2,12 +2,14 @@
 #![tactic(auto)]
 
 mod access;
+mod laws;
 mod packing;
 #[cfg(test)]
 mod tests;
 mod words;
 
 pub use access::{Access, Bits, Found, Grip, Touch};
+pub use laws::bits_tell_words_apart;
 pub use words::{
     Control, First, Handle, LAST_GENERATION, Mode, Owner, Phase, Reference, Second, Status,
 };
