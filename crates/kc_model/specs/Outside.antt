@@ -18,7 +18,7 @@ IsSpent left = IfSome left (λ bytes. bytes ≡ [])
 
 -- a count of faults rose, or stands at its last number
 abbrev pub Rises : ℕ → ℕ → Type 0
-Rises old new = (old ≤ new) × (min (old + 1) (2 ^ 64 - 1) ≤ new)
+Rises old new = (old ≤ new) × (min (old + 1) (2 ^ 64 - 1) ≤ new) × (new ≤ 2 ^ 64 - 1)
 
 -- ---- writing
 

@@ -1,6 +1,6 @@
 //! Where bytes come from, and where they go.
 
-ghost use Rattle.std.specs.Prelude.{◌≡◌, ◌≤◌, ◌<◌, ◌^◌, ℕ, List, Option, Result, length, take, IfOk, OnErr};
+ghost use Rattle.std.specs.Prelude.{◌≡◌, ◌≤◌, ◌<◌, ℕ, List, Option, Result, length, take, IfOk, OnErr};
 ghost use Rattle.kc_model.specs.declared.outside.Failed.{Failed as Fault};
 ghost use Rattle.kc_model.specs.Outside.{ahead, behind, IsSpent, Rises};
 
@@ -28,8 +28,7 @@ pub trait Source {
         ensures end { IfOk result (λ n. n ≡ 0 → 0 < length buf.old → IsSpent (left self.old)) }
         ensures err { OnErr result (left self.new ≡ left self.old) }
         ensures cause { OnErr result (Rises (faults self.old) (faults self.new)) }
-        ensures faultless { IfOk result (λ _. faults self.new ≡ faults self.old) }
-        ensures counted { faults self.new < 2 ^ 64 };
+        ensures faultless { IfOk result (λ _. faults self.new ≡ faults self.old) };
 }
 
 /// Where bytes go.
@@ -51,6 +50,5 @@ pub trait Sink {
         ensures taken { IfOk result (λ n. written self.new ≡ behind (written self.old) (take n buf.now)) }
         ensures err { OnErr result (written self.new ≡ written self.old) }
         ensures cause { OnErr result (Rises (faults self.old) (faults self.new)) }
-        ensures faultless { IfOk result (λ _. faults self.new ≡ faults self.old) }
-        ensures counted { faults self.new < 2 ^ 64 };
+        ensures faultless { IfOk result (λ _. faults self.new ≡ faults self.old) };
 }
