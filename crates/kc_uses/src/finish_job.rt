@@ -1,7 +1,7 @@
 //! A transaction of one's own.
 
 ghost use Rattle.std.specs.Prelude.{◌≡◌};
-ghost use Rattle.kc_uses.specs.Finish.{finish_meaning, FinishIsFit, finish_end, next_job, kept_result, result_of};
+ghost use Rattle.kc_uses.specs.Finish.{finish_meaning, FinishIsFit, finish_end, next_job, kept_result, number_of, result_of};
 
 use crate::server::Server;
 use kc_cache::{Cache, CacheAct, CacheOp};
@@ -18,7 +18,10 @@ pub struct FinishJob {
 }
 
 impl FinishJob {
-    pub fn new(server: &Server) -> FinishJob {
+    pub fn new(server: &Server) -> FinishJob
+        ensures jobs { result.jobs ≡ server.now.jobs }
+        ensures results { result.results ≡ server.now.results }
+    {
         FinishJob {
             jobs: server.jobs,
             results: server.results,
@@ -44,6 +47,15 @@ impl FinishJob {
     }
 }
 
+fn number_of(reply: &Reply) -> Option<u32>
+    ensures { result ≡ number_of reply.now }
+{
+    match reply {
+        Reply::Value(number) => Some(*number),
+        _ => None,
+    }
+}
+
 fn result_of(job: u32) -> u32
     ensures { result ≡ result_of job }
 {
@@ -62,9 +74,10 @@ impl Transact for FinishJob {
     }
 
     fn run<P: Peek>(&self, xt: &mut Xt<P>) -> Result<Reply, Stop> {
-        match self.next().run(xt)? {
-            Reply::Value(job) => self.keep(job).run(xt),
-            other => Ok(other),
+        let reply = self.next().run(xt)?;
+        match number_of(&reply) {
+            Some(job) => self.keep(job).run(xt),
+            None => Ok(reply),
         }
     }
 }

@@ -2,7 +2,11 @@
 //! it, and compares what it prints.
 #![tactic(auto)]
 
-ghost use Rattle.std.specs.Prelude.{◌≤◌, length};
+ghost use Rattle.std.specs.Prelude.{◌≡◌, ◌≤◌, ⊤, IfOk, length};
+ghost use Rattle.kc_queue.specs.Meaning.{queue_meaning};
+ghost use Rattle.kc_term.specs.Fit.{AreFit};
+ghost use Rattle.kc_term.specs.Tree.{first, op, operations};
+ghost use Rattle.kc_uses.specs.Serving.{HasServer};
 
 mod finish_job;
 mod server;
@@ -11,7 +15,7 @@ use finish_job::FinishJob;
 use kc_cache::{CacheAct, CacheOp};
 use kc_loc::LocOp;
 use kc_model::{Footprint, PlainStore};
-use kc_queue::{Queue, QueueAct, QueueOp};
+use kc_queue::{Queue, QueueAct, QueueOp, touches_its_own_cells as each_replies_one_item};
 use kc_term::Term;
 use kc_xt::{Transact, Tried, commit};
 use server::Server;
@@ -33,6 +37,7 @@ fn main(rt: HostRuntime) -> io::Result<()> {
 fn run<T: Transact>(rt: &impl Print, what: &str, store: &mut PlainStore, transaction: &T) -> io::Result<()>
     requires fit { T.is_fit transaction.now }
     requires within { T.end transaction.now ≤ length store.old }
+    ensures { length store.new ≡ length store.old }
 {
     let mut footprint = Footprint::new();
     let tried = commit(store, transaction, &mut footprint);
@@ -40,26 +45,40 @@ fn run<T: Transact>(rt: &impl Print, what: &str, store: &mut PlainStore, transac
 }
 
 // One location.
-fn count_a_request(rt: &impl Print, server: &Server, store: &mut PlainStore) -> io::Result<()> {
+fn count_a_request(rt: &impl Print, server: &Server, store: &mut PlainStore) -> io::Result<()>
+    requires { HasServer server.now (length store.old) }
+    ensures { length store.new ≡ length store.old }
+{
     run(rt, "a request came", store, &LocOp::Incr(server.requests))?;
     println!(rt; "requests: {:?}", store.get(server.requests))
 }
 
-fn on(queue: Queue, act: QueueAct) -> QueueOp {
+fn on(queue: Queue, act: QueueAct) -> QueueOp
+    ensures queue { result.queue ≡ queue }
+{
     QueueOp { queue, act }
 }
 
 // One structure.
-fn queue_a_job(rt: &impl Print, server: &Server, store: &mut PlainStore) -> io::Result<()> {
+fn queue_a_job(rt: &impl Print, server: &Server, store: &mut PlainStore) -> io::Result<()>
+    requires { HasServer server.now (length store.old) }
+    ensures { length store.new ≡ length store.old }
+{
     run(rt, "job 7 waits", store, &on(server.jobs, QueueAct::Enq(7)))
 }
 
 // Two structures in one step.
-fn finish_a_job(rt: &impl Print, server: &Server, store: &mut PlainStore) -> io::Result<()> {
+fn finish_a_job(rt: &impl Print, server: &Server, store: &mut PlainStore) -> io::Result<()>
+    requires { HasServer server.now (length store.old) }
+    ensures { length store.new ≡ length store.old }
+{
     run(rt, "a job is finished", store, &FinishJob::new(server))
 }
 
-fn read_a_result(rt: &impl Print, server: &Server, store: &mut PlainStore) -> io::Result<()> {
+fn read_a_result(rt: &impl Print, server: &Server, store: &mut PlainStore) -> io::Result<()>
+    requires { HasServer server.now (length store.old) }
+    ensures { length store.new ≡ length store.old }
+{
     let read = CacheOp {
         cache: server.results,
         act: CacheAct::CGet(7),
@@ -68,7 +87,10 @@ fn read_a_result(rt: &impl Print, server: &Server, store: &mut PlainStore) -> io
 }
 
 // A transaction that has to wait says what for.
-fn wait_for_a_job(rt: &impl Print, server: &Server, store: &mut PlainStore) -> io::Result<()> {
+fn wait_for_a_job(rt: &impl Print, server: &Server, store: &mut PlainStore) -> io::Result<()>
+    requires { HasServer server.now (length store.old) }
+    ensures { length store.new ≡ length store.old }
+{
     let mut footprint = Footprint::new();
     let tried = commit(store, &FinishJob::new(server), &mut footprint);
     println!(rt; "no job waits: {tried:?}")?;
@@ -79,12 +101,25 @@ fn wait_for_a_job(rt: &impl Print, server: &Server, store: &mut PlainStore) -> i
 }
 
 // Alternatives: an urgent job, or else any job.
-fn take_the_first_job(rt: &impl Print, alloc: Global, server: &Server, store: &mut PlainStore) -> io::Result<()> {
+fn take_the_first_job(rt: &impl Print, alloc: Global, server: &Server, store: &mut PlainStore) -> io::Result<()>
+    requires { HasServer server.now (length store.old) }
+    ensures { length store.new ≡ length store.old }
+{
     run(rt, "job 8 waits", store, &on(server.jobs, QueueAct::Enq(8)))?;
-    let urgent = Term::op(on(server.urgent, QueueAct::DeqWait));
-    let any = Term::op(on(server.jobs, QueueAct::DeqWait));
-    let Ok(first) = Term::first(alloc, urgent, any) else {
+    let urgent = on(server.urgent, QueueAct::DeqWait);
+    let any = on(server.jobs, QueueAct::DeqWait);
+    let first = one_or_other(alloc, urgent, any)?;
+    run(rt, "an urgent job, or any", store, &first)
+}
+
+// Where the first would wait, the second runs.
+fn one_or_other(alloc: Global, a: QueueOp, b: QueueOp) -> io::Result<Term<QueueOp>>
+    ensures tree { IfOk result (λ term. term ≡ first (op a) (op b)) }
+    ensures fit { IfOk result (λ term. AreFit (λ o. ⊤) queue_meaning (operations term)) }
+{
+    each_replies_one_item();
+    let Ok(term) = Term::first(alloc, Term::op(a), Term::op(b)) else {
         return Err(io::ErrorKind::OutOfMemory.into());
     };
-    run(rt, "an urgent job, or any", store, &first)
+    Ok(term)
 }

@@ -1,5 +1,8 @@
 //! What the server keeps, and where.
 
+ghost use Rattle.std.specs.Prelude.{◌<◌, IfOk, length};
+ghost use Rattle.kc_uses.specs.Serving.{IsServer, HasServer};
+
 use kc_cache::Cache;
 use kc_model::{Loc, PlainStore};
 use kc_queue::Queue;
@@ -15,9 +18,14 @@ pub struct Server {
     pub results: Cache,
 }
 
+/// How many locations that takes.
+pub const CELLS: u32 = 139;
+
 impl Server {
     /// A server with room for 8 jobs, 4 urgent ones and 16 results.
-    pub fn new() -> Server {
+    pub fn new() -> Server
+        ensures { IsServer result }
+    {
         Server {
             requests: Loc(0),
             jobs: Queue::layout(Loc(1), 8),
@@ -27,18 +35,27 @@ impl Server {
     }
 
     /// A store with nothing in it.
-    pub fn open(&self, alloc: Global) -> io::Result<PlainStore> {
+    pub fn open(&self, alloc: Global) -> io::Result<PlainStore>
+        requires { IsServer self.now }
+        ensures { IfOk result (λ store. HasServer self.now (length store)) }
+    {
         let mut values = Vec::new(alloc);
-        values.push(0)?;
-        for i in 0..self.jobs.cells() {
-            values.push(self.jobs.opening(i))?;
-        }
-        for i in 0..self.urgent.cells() {
-            values.push(self.urgent.opening(i))?;
-        }
-        for i in 0..self.results.cells() {
-            values.push(self.results.opening(i))?;
+        for i in 0..CELLS {
+            values.push(self.opening(i))?;
         }
         PlainStore::open(alloc, &values).map_err(|_| io::ErrorKind::OutOfMemory.into())
+    }
+
+    // What each location opens with.
+    fn opening(&self, i: u32) -> u32
+        requires server { IsServer self.now }
+        requires within { i < CELLS }
+    {
+        match i {
+            0 => 0,
+            1..11 => self.jobs.opening(i - 1),
+            11..17 => self.urgent.opening(i - 11),
+            _ => self.results.opening(i - 17),
+        }
     }
 }
