@@ -30,15 +30,15 @@ module _ (names : Names) (lie : LieFrom 1 names) where
   command_within (command.One o) on = op_end_within names lie o on
   command_within (command.Block t) on = end_within (operations t) on.1
 
-  module _ (sized : AreSized names) where
-    pub command_fits : next_from 1 names ≤ 65536 → (c : Command) → CommandIsOn names c → CommandIsFit c
-    command_fits within (command.One o) on = op_fits names lie within sized o on
-    command_fits within (command.Block t) on = record {
-      few = on.0;
-      each = each_on names (op_fits names lie within sized) (operations t) on.1;
-      single = each_on names (λ o h n m ks. one-meaning (op_program o replies) n m ks (op_keeps_to names sized o h).single) (operations t) on.1;
-    }
+  pub command_fits : next_from 1 names ≤ 65536 → AreSized names → (c : Command) → CommandIsOn names c → CommandIsFit c
+  command_fits within sized (command.One o) on = op_fits names lie within sized o on
+  command_fits within sized (command.Block t) on = record {
+    few = on.0;
+    each = each_on names (op_fits names lie within sized) (operations t) on.1;
+    single = each_on names (λ o h n m ks. one-meaning (op_program o replies) n m ks (op_keeps_to names sized o h).single) (operations t) on.1;
+  }
 
+  module _ (sized : AreSized names) where
     -- ---- location 0
 
     op_spares_zero : (o : Op) → IsOn names o → (n : ℕ) (m : ℕ → ℕ) (ks : List ℕ) → last_written (op_meaning o n m ks).touches 0 ≡ None
