@@ -1,4 +1,4 @@
--- The plain run of each operation on cells that stand for items.
+-- On cells that stand for items, each operation goes to its value, whatever comes behind.
 use Rattle.std.proofs.Common.{◌≡◌, ◌≢◌, ℕ, suc, ◌+◌, ◌-◌, ◌%◌, ◌<◌, ◌≤◌, Bool, true, false, cond, List, [], ◌∷◌, ◌++◌, length, get_or, refl, sym, ap, ◌∙◌, subst, arith, length-append, inl, inr}
 use Rattle.std.specs.Prelude.{◌==◌}
 use Rattle.std.proofs.Math.ListN.{get_or-append}
@@ -7,15 +7,19 @@ use Rattle.std.proofs.Math.Seq.{get_or-append_seam}
 use Rattle.std.proofs.lemmas.Bool.{cases_lt, lt-ltb, eqb-false, ne_eqb}
 use Rattle.std.proofs.lemmas.Bool.Decides.{nat_tests}
 use Rattle.std.proofs.lemmas.Nat.{mod_below}
+use Rattle.kc_model.specs.declared.reply.Reply.{Reply}
 use Rattle.kc_model.specs.declared.reply.Reply.TheVariants as reply
-use Rattle.kc_xt.specs.Meaning.{too_large, replied, retried, map_after, put}
-use Rattle.kc_xt.specs.Program.{Plain, plain, replies, retries, read, write}
-use Rattle.kc_xt.proofs.PlainRuns.{plain-meaning}
+use Rattle.kc_xt.specs.Meaning.{Outcome, replied, retried, put}
+use Rattle.kc_xt.specs.Program.{Program, plain, retries, read, write}
+use Rattle.kc_xt.specs.Structure.{Value, comes_to, goes_on, RunsInsideOthers, MeansItsValue}
+use Rattle.kc_xt.proofs.Inside.{GoesTo, runs_to}
+use Rattle.kc_xt.proofs.Structures.{runs_means}
 use Rattle.kc_queue.specs.declared.queue.Queue.{Queue}
 use Rattle.kc_queue.specs.declared.operation.QueueAct.{QueueAct}
 use Rattle.kc_queue.specs.declared.operation.QueueAct.TheVariants as act
 use Rattle.kc_queue.specs.declared.operation.QueueOp.{QueueOp}
-use Rattle.kc_queue.specs.Meaning.{queue_program, queue_meaning, queue_value, QueueValue, StandsFor, IsOpened, comes_to, front_taken, deq_program, counted, head_in, back_of, second_of, head_cell, count_cell, ring_cell}
+use Rattle.kc_queue.specs.Meaning.{queue_program, queue_meaning, queue_value, queue_begin, queue_end, StandsFor, front_taken, front_reply, counted, head_in, back_of, second_of, head_cell, count_cell, ring_cell}
+use Rattle.kc_queue.proofs.QueueLaw.{queue_stays}
 
 -- ---- places in a ring
 
@@ -40,6 +44,18 @@ next_place h i c = let e : h + 1 + i ≡ h + suc i = omega arith in mod-add-mod 
 -- the first place is the head's
 first_place : (h c : ℕ) → h < c → (h + 0) % c ≡ h
 first_place h c lt = let e : h + 0 ≡ h = omega arith in ap (λ x. x % c) e ∙ mod-eq_of_lt lt
+
+-- ---- the programs behind their count
+
+module _ (q : Queue) where
+  abbrev enq_rest : ℕ → ℕ → (Reply → Program) → Program
+  enq_rest v c k = read (head_cell q) (λ h. write (ring_cell q (back_of q (head_in q h) c)) v (write (count_cell q) (c + 1) (k reply.Unit)))
+
+  abbrev deq_rest : ℕ → (Reply → Program) → Program
+  deq_rest c k = read (head_cell q) (λ h. read (ring_cell q (head_in q h)) (λ v. write (head_cell q) (second_of q (head_in q h)) (write (count_cell q) (c - 1) (k (reply.Value v)))))
+
+  abbrev front_rest : (Reply → Program) → Program
+  front_rest k = read (head_cell q) (λ h. read (ring_cell q (head_in q h)) (λ v. k (reply.Value v)))
 
 -- ---- what is read behind the writes of an operation
 
@@ -66,9 +82,6 @@ module _ (q : Queue) (m : ℕ → ℕ) where
   deq_ring h n j = grind (arith, nat_tests)
 
 -- ---- on cells that stand for items
-
-abbrev IsValue : Queue → Plain → QueueValue → Type 0
-IsValue q w v = (w.outcome ≡ v.outcome) × StandsFor q w.map v.items
 
 module _ (q : Queue) (m : ℕ → ℕ) (items : List ℕ) (stands : StandsFor q m items) where
   -- the numbers in the cells count as they are
@@ -98,23 +111,27 @@ module _ (q : Queue) (m : ℕ → ℕ) (items : List ℕ) (stands : StandsFor q 
         ]);
       }
 
-  enq_by : (v : ℕ) (t : Bool) → (length items == q.cap) ≡ t → IsValue q (plain (cond t (replies reply.Full) (read (head_cell q) (λ h. write (ring_cell q (back_of q (head_in q h) (length items))) v (write (count_cell q) (length items + 1) (replies reply.Unit))))) m) (cond t (comes_to (replied reply.Full) items) (comes_to (replied reply.Unit) (items ++ v ∷ [])))
-  enq_by v true e = (refl, stands)
-  enq_by v false e = (refl, subst (λ h. StandsFor q (put (put m (ring_cell q (back_of q h (length items))) v) (count_cell q) (length items + 1)) (items ++ v ∷ [])) (sym heads) (enqueued v (eqb-false _ _ e)))
+  -- the list and the map stay
+  stays : {program : (Reply → Program) → Program} {o : Outcome} → ((k : Reply → Program) → plain (program k) m ≡ goes_on o k m) → GoesTo (StandsFor q) program m (comes_to o items)
+  stays runs = record { left = m; runs = runs; stand = stands }
 
-  enq_value : (v : ℕ) → IsValue q (plain (queue_program q (act.Enq v) replies) m) (queue_value q (act.Enq v) items)
-  unfolding queue_program
-  enq_value v = subst (λ c. IsValue q (plain (cond (c == q.cap) (replies reply.Full) (read (head_cell q) (λ h. write (ring_cell q (back_of q (head_in q h) c)) v (write (count_cell q) (c + 1) (replies reply.Unit))))) m) (queue_value q (act.Enq v) items)) (sym counts) (enq_by v _ refl)
+  -- behind the count, which is that of the items
+  behind_count : (program : ℕ → (Reply → Program) → Program) (v : Value (List ℕ)) → GoesTo (StandsFor q) (program (length items)) m v → GoesTo (StandsFor q) (λ k. read (count_cell q) (λ n. program (counted q n) k)) m v
+  behind_count program v g = let h = subst (λ c. GoesTo (StandsFor q) (program c) m v) (sym counts) g in record { left = h.left; runs = h.runs; stand = h.stand }
 
-  len_value : IsValue q (plain (queue_program q act.Len replies) m) (queue_value q act.Len items)
-  unfolding queue_program
-  len_value = (ap (λ n. replied (reply.Value n)) counts, stands)
+  enq_by : (v : ℕ) (t : Bool) → (length items == q.cap) ≡ t → GoesTo (StandsFor q) (λ k. cond t (k reply.Full) (enq_rest q v (length items) k)) m (cond t (comes_to (replied reply.Full) items) (comes_to (replied reply.Unit) (items ++ v ∷ [])))
+  enq_by v true e = stays (λ k. refl)
+  enq_by v false e = record {
+    left = put (put m (ring_cell q (back_of q (head_in q (m (head_cell q))) (length items))) v) (count_cell q) (length items + 1);
+    runs = λ k. refl;
+    stand = subst (λ h. StandsFor q (put (put m (ring_cell q (back_of q h (length items))) v) (count_cell q) (length items + 1)) (items ++ v ∷ [])) (sym heads) (enqueued v (eqb-false _ _ e));
+  }
 
 -- ---- on cells that stand for a front item and others
 
 module _ (q : Queue) (m : ℕ → ℕ) (x : ℕ) (items : List ℕ) (stands : StandsFor q m (x ∷ items)) where
-  some_items : (counted q (m (count_cell q)) == 0) ≡ false
-  some_items = let e = counts q m _ stands in ne_eqb _ _ (λ z. omega (arith, e, z))
+  some_items : (length (x ∷ items) == 0) ≡ false
+  some_items = ne_eqb _ _ (λ z. omega (arith, z))
 
   front_read : m (ring_cell q (head_in q (m (head_cell q)))) ≡ x
   front_read =
@@ -135,47 +152,45 @@ module _ (q : Queue) (m : ℕ → ℕ) (x : ℕ) (items : List ℕ) (stands : St
         ring = λ i lt. subst (λ y. after (ring_cell q ((y + i) % q.cap)) ≡ get_or items i 0) (sym eh) (deq_ring q m second (length items) ((second + i) % q.cap) ∙ ap (λ j. m (ring_cell q j)) (next_place h i q.cap) ∙ stands.ring (suc i) (omega (arith, lt)));
       }
 
+  taken : StandsFor q (put (put m (head_cell q) (second_of q (head_in q (m (head_cell q))))) (count_cell q) (length (x ∷ items) - 1)) items
+  taken =
+      let left : length items ≡ length (x ∷ items) - 1 = omega arith in
+      let h = m (head_cell q) in
+      subst (λ n. StandsFor q (put (put m (head_cell q) (second_of q (head_in q h))) (count_cell q) n) items) left (subst (λ h. StandsFor q (put (put m (head_cell q) (second_of q h)) (count_cell q) (length items)) items) (sym (heads q m _ stands)) dequeued)
+
 -- ---- each operation
 
-deq_value : (q : Queue) (m : ℕ → ℕ) (waits : Bool) (items : List ℕ) → StandsFor q m items → IsValue q (plain (deq_program q waits replies) m) (front_taken (cond waits retried (replied reply.Empty)) items)
-deq_value q m true [] stands = subst (λ c. IsValue q (plain (cond (c == 0) retries (read (head_cell q) (λ h. read (ring_cell q (head_in q h)) (λ v. write (head_cell q) (second_of q (head_in q h)) (write (count_cell q) (c - 1) (replies (reply.Value v))))))) m) (comes_to retried [])) (sym (counts q m [] stands)) (refl, stands)
-deq_value q m false [] stands = subst (λ c. IsValue q (plain (cond (c == 0) (replies reply.Empty) (read (head_cell q) (λ h. read (ring_cell q (head_in q h)) (λ v. write (head_cell q) (second_of q (head_in q h)) (write (count_cell q) (c - 1) (replies (reply.Value v))))))) m) (comes_to (replied reply.Empty) [])) (sym (counts q m [] stands)) (refl, stands)
-deq_value q m waits (x ∷ items) stands =
-    let n = counted q (m (count_cell q)) in
-    let taken : StandsFor q (put (put m (head_cell q) (second_of q (head_in q (m (head_cell q))))) (count_cell q) (length items)) items = subst (λ h. StandsFor q (put (put m (head_cell q) (second_of q h)) (count_cell q) (length items)) items) (sym (heads q m _ stands)) (dequeued q m x items stands) in
-    let P : Bool → ℕ → Type 0 = λ t d. IsValue q (plain (cond t (cond waits retries (replies reply.Empty)) (read (head_cell q) (λ h. read (ring_cell q (head_in q h)) (λ v. write (head_cell q) (second_of q (head_in q h)) (write (count_cell q) d (replies (reply.Value v))))))) m) (comes_to (replied (reply.Value x)) items) in
-    let left : n - 1 ≡ length items = let e = counts q m _ stands in omega (arith, e) in
-    subst (λ t. P t (n - 1)) (sym (some_items q m x items stands)) (subst (λ d. P false d) (sym left) (ap (λ v. replied (reply.Value v)) (front_read q m x items stands), taken))
+module _ (q : Queue) (m : ℕ → ℕ) where
+  deq_goes : (waits : Bool) (items : List ℕ) → StandsFor q m items → GoesTo (StandsFor q) (λ k. cond (length items == 0) (cond waits retries (k reply.Empty)) (deq_rest q (length items) k)) m (front_taken (cond waits retried (replied reply.Empty)) items)
+  deq_goes true [] stands = stays q m [] stands (λ k. refl)
+  deq_goes false [] stands = stays q m [] stands (λ k. refl)
+  deq_goes waits (x ∷ items) stands =
+      let left : ℕ → ℕ = put (put m (head_cell q) (second_of q (head_in q (m (head_cell q))))) (count_cell q) (length (x ∷ items) - 1) in
+      record {
+        left = left;
+        runs = λ k.
+            ap (λ t. plain (cond t (cond waits retries (k reply.Empty)) (deq_rest q (length (x ∷ items)) k)) m) (some_items q m x items stands)
+            ∙ ap (λ v. plain (k (reply.Value v)) left) (front_read q m x items stands);
+        stand = taken q m x items stands;
+      }
 
-front_value : (q : Queue) (m : ℕ → ℕ) (items : List ℕ) → StandsFor q m items → IsValue q (plain (queue_program q act.Front replies) m) (queue_value q act.Front items)
-unfolding queue_program
-front_value q m [] stands = subst (λ c. IsValue q (plain (cond (c == 0) (replies reply.Empty) (read (head_cell q) (λ h. read (ring_cell q (head_in q h)) (λ v. replies (reply.Value v))))) m) (comes_to (replied reply.Empty) [])) (sym (counts q m [] stands)) (refl, stands)
-front_value q m (x ∷ items) stands = subst (λ t. IsValue q (plain (cond t (replies reply.Empty) (read (head_cell q) (λ h. read (ring_cell q (head_in q h)) (λ v. replies (reply.Value v))))) m) (comes_to (replied (reply.Value x)) (x ∷ items))) (sym (some_items q m x items stands)) (ap (λ v. replied (reply.Value v)) (front_read q m x items stands), stands)
+  front_goes : (items : List ℕ) → StandsFor q m items → GoesTo (StandsFor q) (λ k. cond (length items == 0) (k reply.Empty) (front_rest q k)) m (comes_to (replied (front_reply items)) items)
+  front_goes [] stands = stays q m [] stands (λ k. refl)
+  front_goes (x ∷ items) stands = stays q m (x ∷ items) stands (λ k.
+      ap (λ t. plain (cond t (k reply.Empty) (front_rest q k)) m) (some_items q m x items stands)
+      ∙ ap (λ v. plain (k (reply.Value v)) m) (front_read q m x items stands))
 
--- with room for each location it comes to its value
-act_value : (q : Queue) (m : ℕ → ℕ) (a : QueueAct) (items : List ℕ) → StandsFor q m items → IsValue q (plain (queue_program q a replies) m) (queue_value q a items)
-unfolding queue_program
-act_value q m (act.Enq v) items stands = enq_value q m items stands v
-act_value q m act.Deq items stands = deq_value q m false items stands
-act_value q m act.DeqWait items stands = deq_value q m true items stands
-act_value q m act.Front items stands = front_value q m items stands
-act_value q m act.Len items stands = len_value q m items stands
+  act_goes : (a : QueueAct) (items : List ℕ) → StandsFor q m items → GoesTo (StandsFor q) (queue_program q a) m (queue_value q a items)
+  unfolding queue_program
+  act_goes (act.Enq v) items stands = behind_count q m items stands (λ c k. cond (c == q.cap) (k reply.Full) (enq_rest q v c k)) _ (enq_by q m items stands v _ refl)
+  act_goes act.Deq items stands = behind_count q m items stands (λ c k. cond (c == 0) (k reply.Empty) (deq_rest q c k)) _ (deq_goes false items stands)
+  act_goes act.DeqWait items stands = behind_count q m items stands (λ c k. cond (c == 0) retries (deq_rest q c k)) _ (deq_goes true items stands)
+  act_goes act.Front items stands = behind_count q m items stands (λ c k. cond (c == 0) (k reply.Empty) (front_rest q k)) _ (front_goes items stands)
+  act_goes act.Len items stands = behind_count q m items stands (λ c k. k (reply.Value c)) _ (stays q m items stands (λ k. refl))
 
--- so does its meaning, where it is not too large
-pub queue_has_value : (o : QueueOp) (n : ℕ) (m : ℕ → ℕ) (ks : List ℕ) (items : List ℕ) → StandsFor o.queue m items → (queue_meaning o n m ks).outcome ≢ too_large → ((queue_meaning o n m ks).outcome ≡ (queue_value o.queue o.act items).outcome) × StandsFor o.queue (map_after m (queue_meaning o n m ks).touches) (queue_value o.queue o.act items).items
-queue_has_value o n m ks items stands ne =
-    let p = plain-meaning (queue_program o.queue o.act replies) n m ks ne in
-    let v = act_value o.queue m o.act items stands in
-    (p.0 ∙ v.0, subst (λ (w : ℕ → ℕ). StandsFor o.queue w (queue_value o.queue o.act items).items) (sym p.1) v.1)
+-- inside whatever longer program
+pub queue_inside : (o : QueueOp) (items : List ℕ) → RunsInsideOthers (StandsFor o.queue) (queue_begin o) (queue_end o) (queue_program o.queue o.act) items (queue_value o.queue o.act items)
+queue_inside o items m stands = runs_to (queue_stays o) (act_goes o.queue m o.act items stands)
 
--- opening cells stand for no item
-pub opened_empty : (q : Queue) (m : ℕ → ℕ) → IsOpened q m → StandsFor q m []
-opened_empty q m opened =
-    let at : q.base.0 ≡ q.base.0 + 0 = omega arith in
-    let first : m (head_cell q) ≡ 0 = ap m at ∙ opened.opens 0 (omega arith) in
-    record {
-      head = subst (λ x. x < q.cap) (sym first) opened.some;
-      count = opened.opens 1 (omega arith);
-      within = omega arith;
-      ring = λ i lt. absurd (omega (arith, lt));
-    }
+pub queue_means : (o : QueueOp) (items : List ℕ) → MeansItsValue (StandsFor o.queue) (queue_meaning o) items (queue_value o.queue o.act items)
+queue_means o items = runs_means (queue_program o.queue o.act) items (queue_value o.queue o.act items) (queue_inside o items)

@@ -4,6 +4,7 @@ use Rattle.kc_model.specs.declared.reply.Reply.{Reply}
 use Rattle.kc_model.specs.declared.reply.Reply.TheVariants as reply
 use Rattle.kc_xt.specs.Meaning.{Outcome, replied, retried, Meaning}
 use Rattle.kc_xt.specs.Program.{Program, read, write, retries, replies, meaning}
+use Rattle.kc_xt.specs.Structure.{Value, comes_to}
 use Rattle.kc_queue.specs.declared.queue.Queue.{Queue}
 use Rattle.kc_queue.specs.declared.operation.QueueAct.{QueueAct}
 use Rattle.kc_queue.specs.declared.operation.QueueAct.TheVariants as act
@@ -79,16 +80,13 @@ queue_program q act.Len k = read (count_cell q) (λ n. k (reply.Value (counted q
 abbrev pub queue_meaning : QueueOp → Meaning
 queue_meaning o = meaning (queue_program o.queue o.act replies)
 
+-- a number above its locations
 abbrev pub queue_end : QueueOp → ℕ
 queue_end o = cells_end o.queue
 
 -- no location of it is below this one
 abbrev pub queue_begin : QueueOp → ℕ
 queue_begin o = o.queue.base.0
-
--- the ring has a cell, and its cells are locations of a store
-abbrev pub QueueIsFit : QueueOp → Type 0
-QueueIsFit o = (0 < o.queue.cap) × (queue_end o ≤ 65536)
 
 -- ---- on contents: the content of a queue is the list of its items, the front first
 
@@ -99,25 +97,8 @@ pub record StandsFor (q : Queue) (m : ℕ → ℕ) (items : List ℕ) : Type 0 w
   pub within : length items ≤ q.cap
   pub ring : (i : ℕ) → i < length items → m (ring_cell q ((m (head_cell q) + i) % q.cap)) ≡ slice_index items i
 
--- the cells stand for some items
-abbrev pub IsWellFormed : Queue → (ℕ → ℕ) → Type 0
-IsWellFormed q m = (items : List ℕ) × StandsFor q m items
-
--- there is room for an item, and each cell has its opening value
-pub record IsOpened (q : Queue) (m : ℕ → ℕ) : Type 0 where
-  pub some : 0 < q.cap
-  pub opens : (i : ℕ) → i < queue_cells q → m (q.base.0 + i) ≡ queue_opening q i
-
--- a reply or retry, and the items then
-pub record QueueValue : Type 0 where
-  pub outcome : Outcome
-  pub items : List ℕ
-
-abbrev pub comes_to : Outcome → List ℕ → QueueValue
-comes_to o items = record { outcome = o; items = items }
-
 -- the front item, taken; none is how it ends where there is none
-abbrev pub front_taken : Outcome → List ℕ → QueueValue
+abbrev pub front_taken : Outcome → List ℕ → Value (List ℕ)
 front_taken none [] = comes_to none []
 front_taken none (x ∷ items) = comes_to (replied (reply.Value x)) items
 
@@ -126,7 +107,7 @@ abbrev pub front_reply : List ℕ → Reply
 front_reply [] = reply.Empty
 front_reply (x ∷ items) = reply.Value x
 
-abbrev pub queue_value : Queue → QueueAct → List ℕ → QueueValue
+abbrev pub queue_value : Queue → QueueAct → List ℕ → Value (List ℕ)
 queue_value q (act.Enq v) items = cond (length items == q.cap) (comes_to (replied reply.Full) items) (comes_to (replied reply.Unit) (items ++ v ∷ []))
 queue_value q act.Deq items = front_taken (replied reply.Empty) items
 queue_value q act.DeqWait items = front_taken retried items

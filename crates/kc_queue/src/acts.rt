@@ -4,15 +4,14 @@ ghost use Rattle.std.specs.Prelude.{◌≡◌, ◌<◌, ◌≤◌};
 ghost use Rattle.kc_xt.specs.Steps.{Does};
 ghost use Rattle.kc_queue.specs.Meaning.{queue_program, deq_program, cells_end};
 
+use crate::layout::head_of;
 use crate::operation::QueueAct;
-use crate::queue::{Queue, head_of};
+use crate::queue::Queue;
 use kc_model::{Loc, Reply};
 use kc_xt::{Peek, Stop, Xt};
 
 pub(crate) fn enq<P: Peek>(queue: Queue, value: u32, xt: &mut Xt<P>) -> Result<Reply, Stop>
-    requires some { 0 < queue.cap }
-    requires fits { cells_end queue ≤ 65536 }
-    requires within { cells_end queue ≤ P.locations xt.old.peek }
+    requires { cells_end queue ≤ P.locations xt.old.peek }
     ensures goes { Does P.peek_gives (queue_program queue (QueueAct.Enq value)) xt.old result xt.new }
     ensures size { P.locations xt.new.peek ≡ P.locations xt.old.peek }
 {
@@ -29,9 +28,7 @@ pub(crate) fn enq<P: Peek>(queue: Queue, value: u32, xt: &mut Xt<P>) -> Result<R
 }
 
 pub(crate) fn deq<P: Peek>(queue: Queue, waits: bool, xt: &mut Xt<P>) -> Result<Reply, Stop>
-    requires some { 0 < queue.cap }
-    requires fits { cells_end queue ≤ 65536 }
-    requires within { cells_end queue ≤ P.locations xt.old.peek }
+    requires { cells_end queue ≤ P.locations xt.old.peek }
     ensures goes { Does P.peek_gives (deq_program queue waits) xt.old result xt.new }
     ensures size { P.locations xt.new.peek ≡ P.locations xt.old.peek }
 {
@@ -52,9 +49,7 @@ pub(crate) fn deq<P: Peek>(queue: Queue, waits: bool, xt: &mut Xt<P>) -> Result<
 }
 
 pub(crate) fn front<P: Peek>(queue: Queue, xt: &mut Xt<P>) -> Result<Reply, Stop>
-    requires some { 0 < queue.cap }
-    requires fits { cells_end queue ≤ 65536 }
-    requires within { cells_end queue ≤ P.locations xt.old.peek }
+    requires { cells_end queue ≤ P.locations xt.old.peek }
     ensures goes { Does P.peek_gives (queue_program queue QueueAct.Front) xt.old result xt.new }
     ensures size { P.locations xt.new.peek ≡ P.locations xt.old.peek }
 {
@@ -70,8 +65,7 @@ pub(crate) fn front<P: Peek>(queue: Queue, xt: &mut Xt<P>) -> Result<Reply, Stop
 }
 
 pub(crate) fn len<P: Peek>(queue: Queue, xt: &mut Xt<P>) -> Result<Reply, Stop>
-    requires fits { cells_end queue ≤ 65536 }
-    requires within { cells_end queue ≤ P.locations xt.old.peek }
+    requires { cells_end queue ≤ P.locations xt.old.peek }
     ensures goes { Does P.peek_gives (queue_program queue QueueAct.Len) xt.old result xt.new }
     ensures size { P.locations xt.new.peek ≡ P.locations xt.old.peek }
 {

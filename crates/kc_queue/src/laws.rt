@@ -1,30 +1,40 @@
 //! What holds of the operations and of a queue's cells.
 
-ghost use Rattle.std.specs.Prelude.{◌≡◌, ◌≢◌, ◌<◌, ◌≤◌, ℕ, List, []};
+ghost use Rattle.std.specs.Prelude.{ℕ, List, []};
+ghost use Rattle.kc_xt.specs.Structure.{ContentIsOne, DependsOnItsCells, KeepsWellFormed, MeansItsValue, Opens, RepliesOneItem, RunsInsideOthers, TouchesItsOwnCells};
 ghost use Rattle.kc_queue.specs.declared.queue.Queue.{Queue};
 ghost use Rattle.kc_queue.specs.declared.operation.QueueOp.{QueueOp};
-ghost use Rattle.kc_queue.specs.Meaning.{queue_meaning, queue_value, cells_end, StandsFor, IsWellFormed, IsOpened};
-ghost use Rattle.kc_xt.specs.Meaning.{too_large, map_after};
+ghost use Rattle.kc_queue.specs.Meaning.{queue_begin, queue_cells, queue_end, queue_meaning, queue_program, queue_value, queue_opening, cells_end, StandsFor};
 
-/// On cells that stand for items, and where an operation isn't too large, its meaning by cells is its value on the
-/// items: the same reply or retry, and the cells then stand for the items then.
+/// On cells that stand for a list of items, an operation that isn't too large means what it does to the list: the same
+/// reply or retry, and the cells then stand for the list then.
 pub fn means_its_value()
-    ensures outcome { (o : QueueOp) (n : ℕ) (m : ℕ → ℕ) (ks : List ℕ) (items : List ℕ) → StandsFor o.queue m items → (queue_meaning o n m ks).outcome ≢ too_large → (queue_meaning o n m ks).outcome ≡ (queue_value o.queue o.act items).outcome }
-    ensures contents { (o : QueueOp) (n : ℕ) (m : ℕ → ℕ) (ks : List ℕ) (items : List ℕ) → StandsFor o.queue m items → (queue_meaning o n m ks).outcome ≢ too_large → StandsFor o.queue (map_after m (queue_meaning o n m ks).touches) (queue_value o.queue o.act items).items }
+    ensures { (o : QueueOp) (items : List ℕ) → MeansItsValue (StandsFor o.queue) (queue_meaning o) items (queue_value o.queue o.act items) }
 {}
 
-/// Cells with their opening values stand for no item.
-pub fn opens_empty()
-    ensures { (q : Queue) (m : ℕ → ℕ) → IsOpened q m → StandsFor q m [] }
-{}
-
-/// Where an operation isn't too large, cells that are well formed stay so.
+/// An operation that isn't too large keeps the cells well formed.
 pub fn keeps_well_formed()
-    ensures { (o : QueueOp) (n : ℕ) (m : ℕ → ℕ) (ks : List ℕ) → IsWellFormed o.queue m → (queue_meaning o n m ks).outcome ≢ too_large → IsWellFormed o.queue (map_after m (queue_meaning o n m ks).touches) }
+    ensures { (o : QueueOp) → KeepsWellFormed (StandsFor o.queue) (queue_meaning o) }
 {}
 
-/// Cells stand for one list of items at most, and for which depends on the queue's own cells alone.
+/// An operation touches the queue's own cells alone, whatever they hold, and its reply is one item.
+pub fn touches_its_own_cells()
+    ensures touches { (o : QueueOp) → TouchesItsOwnCells (queue_begin o) (queue_end o) (queue_meaning o) }
+    ensures one { (o : QueueOp) → RepliesOneItem (queue_meaning o) }
+{}
+
+/// Inside a longer program an operation does to the list what it does alone, and leaves all else as it was.
+pub fn runs_inside_others()
+    ensures { (o : QueueOp) (items : List ℕ) → RunsInsideOthers (StandsFor o.queue) (queue_begin o) (queue_end o) (queue_program o.queue o.act) items (queue_value o.queue o.act items) }
+{}
+
+/// Cells with their opening values stand for no items.
+pub fn opens_empty()
+    ensures { (q : Queue) → Opens (StandsFor q) q.base.0 (queue_cells q) (queue_opening q) [] }
+{}
+
+/// What the cells of a queue stand for depends on these cells alone, and is one list.
 pub fn content_is_one()
-    ensures same { (q : Queue) (m w : ℕ → ℕ) (items : List ℕ) → ((l : ℕ) → q.base.0 ≤ l → l < cells_end q → m l ≡ w l) → StandsFor q m items → StandsFor q w items }
-    ensures one { (q : Queue) (m : ℕ → ℕ) (items others : List ℕ) → StandsFor q m items → StandsFor q m others → items ≡ others }
+    ensures own { (q : Queue) → DependsOnItsCells (StandsFor q) q.base.0 (cells_end q) }
+    ensures one { (q : Queue) → ContentIsOne (StandsFor q) }
 {}

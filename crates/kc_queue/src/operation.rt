@@ -1,6 +1,7 @@
 //! The operations.
 
-ghost use Rattle.kc_queue.specs.Meaning.{queue_meaning, QueueIsFit, queue_end};
+ghost use Rattle.std.specs.Prelude.{⊤};
+ghost use Rattle.kc_queue.specs.Meaning.{queue_meaning, queue_end};
 
 use crate::acts;
 use crate::queue::Queue;
@@ -22,7 +23,7 @@ pub enum QueueAct {
     Len,
 }
 
-/// An operation on a queue. It is fit where the queue has room for an item, and its cells are below 65,536.
+/// An operation on a queue.
 #[derive(Clone, Copy, Debug, PartialEq, Eq)]
 pub struct QueueOp {
     pub queue: Queue,
@@ -32,7 +33,7 @@ pub struct QueueOp {
 impl Transact for QueueOp {
     ghost meaning = { queue_meaning };
 
-    ghost is_fit = { QueueIsFit };
+    ghost is_fit = { λ o. ⊤ };
 
     ghost end = { queue_end };
 

@@ -1,4 +1,4 @@
--- On cells that stand for items, the plain run of each operation is its value.
+-- On cells that stand for items, each operation runs to its value, whatever comes behind.
 use Rattle.std.proofs.Common.{◌≡◌, ◌≢◌, ℕ, ◌+◌, ◌-◌, ◌<◌, Bool, true, false, cond, List, [], ◌∷◌, ◌++◌, length, take, get_or, refl, sym, ap, ◌∙◌, subst, arith, length-append, inl, inr}
 use Rattle.std.specs.Prelude.{◌==◌}
 use Rattle.std.proofs.lemmas.Bool.Decides.{nat_tests}
@@ -7,20 +7,20 @@ use Rattle.std.proofs.lemmas.List.{get_or-take}
 use Rattle.std.proofs.Math.ListN.{get_or-append, length-take}
 use Rattle.std.proofs.Math.Seq.{get_or-append_seam}
 use borrow.Author.Tests.{eqb-false}
+use Rattle.kc_model.specs.declared.reply.Reply.{Reply}
 use Rattle.kc_model.specs.declared.reply.Reply.TheVariants as reply
-use Rattle.kc_xt.specs.Meaning.{too_large, replied, retried, map_after, put}
-use Rattle.kc_xt.specs.Program.{Plain, plain, replies, retries, read, write}
-use Rattle.kc_xt.proofs.PlainRuns.{plain-meaning}
+use Rattle.kc_xt.specs.Meaning.{Outcome, replied, retried, put}
+use Rattle.kc_xt.specs.Program.{Program, plain, retries, read, write}
+use Rattle.kc_xt.specs.Structure.{Value, comes_to, goes_on, RunsInsideOthers, MeansItsValue}
+use Rattle.kc_xt.proofs.Inside.{GoesTo, runs_to}
+use Rattle.kc_xt.proofs.Structures.{runs_means}
 use Rattle.kc_stack.specs.declared.stack.Stack.{Stack}
-use Rattle.kc_stack.specs.declared.operation.StackOp.{StackOp}
 use Rattle.kc_stack.specs.declared.operation.StackAct.{StackAct}
 use Rattle.kc_stack.specs.declared.operation.StackAct.TheVariants as act
-use Rattle.kc_stack.specs.Meaning.{push_program, pop_program, top_program, length_program, stack_program, stack_meaning, stack_cells, counted}
-use Rattle.kc_stack.specs.Content.{StandsFor, IsWellFormed, StackValue, stack_value, stack_opening, after, taken, top_of}
-
--- a plain run has this value
-abbrev IsValue : Stack → Plain → StackValue → Type 0
-IsValue s w v = (w.outcome ≡ v.outcome) × StandsFor s w.map v.items
+use Rattle.kc_stack.specs.declared.operation.StackOp.{StackOp}
+use Rattle.kc_stack.specs.Meaning.{stack_program, stack_meaning, stack_begin, stack_end, counted}
+use Rattle.kc_stack.specs.Content.{StandsFor, stack_value, top_of}
+use Rattle.kc_stack.proofs.StackLaw.{stack_stays}
 
 module _ (s : Stack) (m : ℕ → ℕ) (items : List ℕ) (stands : StandsFor s m items) where
   counts : counted s (m s.base.0) ≡ length items
@@ -63,60 +63,42 @@ module _ (s : Stack) (m : ℕ → ℕ) (items : List ℕ) (stands : StandsFor s 
       let e : s.base.0 + length items ≡ s.base.0 + 1 + (length items - 1) = omega arith in
       ap m e ∙ stands.cells (length items - 1) (omega arith)
 
-  push_by : (v : ℕ) (t : Bool) → (length items == s.cap) ≡ t → IsValue s (plain (cond t (replies reply.Full) (write (s.base.0 + 1 + length items) v (write s.base.0 (length items + 1) (replies reply.Unit)))) m) (cond t (after (replied reply.Full) items) (after (replied reply.Unit) (items ++ v ∷ [])))
-  push_by v true e = (refl, stands)
-  push_by v false e = (refl, pushed v (eqb-false _ _ e))
+  abbrev Goes : ((Reply → Program) → Program) → Value (List ℕ) → Type 0
+  Goes program v = GoesTo (StandsFor s) program m v
 
-  push_value : (v : ℕ) → IsValue s (plain (push_program s v replies) m) (stack_value s (act.Push v) items)
-  push_value v =
-      let Q : ℕ → Type 0 = λ c. IsValue s (plain (cond (c == s.cap) (replies reply.Full) (write (s.base.0 + 1 + c) v (write s.base.0 (c + 1) (replies reply.Unit)))) m) (stack_value s (act.Push v) items) in
-      subst Q (sym counts) (push_by v _ refl)
+  -- the list and the map stay
+  stays : {program : (Reply → Program) → Program} {o : Outcome} → ((k : Reply → Program) → plain (program k) m ≡ goes_on o k m) → Goes program (comes_to o items)
+  stays runs = record { left = m; runs = runs; stand = stands }
 
-  pop_by : (waits t : Bool) → (length items == 0) ≡ t → IsValue s (plain (cond t (cond waits retries (replies reply.Empty)) (read (s.base.0 + length items) (λ v. write s.base.0 (length items - 1) (replies (reply.Value v))))) m) (cond t (after (cond waits retried (replied reply.Empty)) items) (after (replied (reply.Value (top_of items))) (take (length items - 1) items)))
-  pop_by true true e = (refl, stands)
-  pop_by false true e = (refl, stands)
-  pop_by waits false e = let ne : length items ≢ 0 = eqb-false _ _ e in (ap (λ v. replied (reply.Value v)) (top_read ne), popped ne)
+  push_by : (v : ℕ) (t : Bool) → (length items == s.cap) ≡ t → Goes (λ k. cond t (k reply.Full) (write (s.base.0 + 1 + length items) v (write s.base.0 (length items + 1) (k reply.Unit)))) (cond t (comes_to (replied reply.Full) items) (comes_to (replied reply.Unit) (items ++ v ∷ [])))
+  push_by v true e = stays (λ k. refl)
+  push_by v false e = record { left = put (put m (s.base.0 + 1 + length items) v) s.base.0 (length items + 1); runs = λ k. refl; stand = pushed v (eqb-false _ _ e) }
 
-  pop_value : (waits : Bool) → IsValue s (plain (pop_program s waits replies) m) (taken (cond waits retried (replied reply.Empty)) items)
-  pop_value waits =
-      let Q : ℕ → Type 0 = λ c. IsValue s (plain (cond (c == 0) (cond waits retries (replies reply.Empty)) (read (s.base.0 + c) (λ v. write s.base.0 (c - 1) (replies (reply.Value v))))) m) (taken (cond waits retried (replied reply.Empty)) items) in
-      subst Q (sym counts) (pop_by waits _ refl)
+  pop_by : (waits t : Bool) → (length items == 0) ≡ t → Goes (λ k. cond t (cond waits retries (k reply.Empty)) (read (s.base.0 + length items) (λ v. write s.base.0 (length items - 1) (k (reply.Value v))))) (cond t (comes_to (cond waits retried (replied reply.Empty)) items) (comes_to (replied (reply.Value (top_of items))) (take (length items - 1) items)))
+  pop_by true true e = stays (λ k. refl)
+  pop_by false true e = stays (λ k. refl)
+  pop_by waits false e =
+      let ne : length items ≢ 0 = eqb-false _ _ e in
+      record { left = put m s.base.0 (length items - 1); runs = λ k. ap (λ v. plain (k (reply.Value v)) (put m s.base.0 (length items - 1))) (top_read ne); stand = popped ne }
 
-  top_by : (t : Bool) → (length items == 0) ≡ t → IsValue s (plain (cond t (replies reply.Empty) (read (s.base.0 + length items) (λ v. replies (reply.Value v)))) m) (after (cond t (replied reply.Empty) (replied (reply.Value (top_of items)))) items)
-  top_by true e = (refl, stands)
-  top_by false e = (ap (λ v. replied (reply.Value v)) (top_read (eqb-false _ _ e)), stands)
+  top_by : (t : Bool) → (length items == 0) ≡ t → Goes (λ k. cond t (k reply.Empty) (read (s.base.0 + length items) (λ v. k (reply.Value v)))) (comes_to (cond t (replied reply.Empty) (replied (reply.Value (top_of items)))) items)
+  top_by true e = stays (λ k. refl)
+  top_by false e = stays (λ k. ap (λ v. plain (k (reply.Value v)) m) (top_read (eqb-false _ _ e)))
 
-  top_value : IsValue s (plain (top_program s replies) m) (stack_value s act.Top items)
-  top_value =
-      let Q : ℕ → Type 0 = λ c. IsValue s (plain (cond (c == 0) (replies reply.Empty) (read (s.base.0 + c) (λ v. replies (reply.Value v)))) m) (stack_value s act.Top items) in
-      subst Q (sym counts) (top_by _ refl)
+  -- behind the count, which is that of the items
+  behind_count : (program : ℕ → (Reply → Program) → Program) (v : Value (List ℕ)) → Goes (program (length items)) v → Goes (λ k. read s.base.0 (λ n. program (counted s n) k)) v
+  behind_count program v g = let h = subst (λ c. Goes (program c) v) (sym counts) g in record { left = h.left; runs = h.runs; stand = h.stand }
 
-  length_value : IsValue s (plain (length_program s replies) m) (stack_value s act.Len items)
-  length_value = (ap (λ v. replied (reply.Value v)) counts, stands)
+  act_goes : (a : StackAct) → Goes (stack_program s a) (stack_value s a items)
+  act_goes (act.Push v) = behind_count (λ c k. cond (c == s.cap) (k reply.Full) (write (s.base.0 + 1 + c) v (write s.base.0 (c + 1) (k reply.Unit)))) _ (push_by v _ refl)
+  act_goes act.Pop = behind_count (λ c k. cond (c == 0) (k reply.Empty) (read (s.base.0 + c) (λ v. write s.base.0 (c - 1) (k (reply.Value v))))) _ (pop_by false _ refl)
+  act_goes act.PopWait = behind_count (λ c k. cond (c == 0) retries (read (s.base.0 + c) (λ v. write s.base.0 (c - 1) (k (reply.Value v))))) _ (pop_by true _ refl)
+  act_goes act.Top = behind_count (λ c k. cond (c == 0) (k reply.Empty) (read (s.base.0 + c) (λ v. k (reply.Value v)))) _ (top_by _ refl)
+  act_goes act.Len = behind_count (λ c k. k (reply.Value c)) _ (stays (λ k. refl))
 
-  act_value : (a : StackAct) → IsValue s (plain (stack_program s a replies) m) (stack_value s a items)
-  act_value (act.Push v) = push_value v
-  act_value act.Pop = pop_value false
-  act_value act.PopWait = pop_value true
-  act_value act.Top = top_value
-  act_value act.Len = length_value
+-- inside whatever longer program
+pub stack_inside : (o : StackOp) (items : List ℕ) → RunsInsideOthers (StandsFor o.stack) (stack_begin o) (stack_end o) (stack_program o.stack o.act) items (stack_value o.stack o.act items)
+stack_inside o items m stands = runs_to (stack_stays o) (act_goes o.stack m items stands o.act)
 
--- so has its meaning, where it is not too large
-pub stack_has_value : (o : StackOp) (n : ℕ) (m : ℕ → ℕ) (ks : List ℕ) (items : List ℕ) → StandsFor o.stack m items → (stack_meaning o n m ks).outcome ≢ too_large → ((stack_meaning o n m ks).outcome ≡ (stack_value o.stack o.act items).outcome) × StandsFor o.stack (map_after m (stack_meaning o n m ks).touches) (stack_value o.stack o.act items).items
-stack_has_value o n m ks items stands ne =
-    let p = plain-meaning (stack_program o.stack o.act replies) n m ks ne in
-    let v = act_value o.stack m items stands o.act in
-    let Q : (ℕ → ℕ) → Type 0 = λ w. StandsFor o.stack w (stack_value o.stack o.act items).items in
-    (p.0 ∙ v.0, subst Q (sym p.1) v.1)
-
--- and its cells stand for some items then
-pub stack_keeps : (o : StackOp) (n : ℕ) (m : ℕ → ℕ) (ks : List ℕ) → IsWellFormed o.stack m → (stack_meaning o n m ks).outcome ≢ too_large → IsWellFormed o.stack (map_after m (stack_meaning o n m ks).touches)
-stack_keeps o n m ks (items, stands) ne = ((stack_value o.stack o.act items).items, (stack_has_value o n m ks items stands ne).1)
-
--- opening cells stand for no items
-pub stack_opens : (s : Stack) (m : ℕ → ℕ) → ((i : ℕ) → i < stack_cells s → m (s.base.0 + i) ≡ stack_opening s i) → StandsFor s m []
-stack_opens s m h = record {
-  count = let e : s.base.0 + 0 ≡ s.base.0 = omega arith in ap m (sym e) ∙ h 0 (omega arith);
-  within = omega arith;
-  cells = λ k lt. absurd (omega (arith, lt));
-}
+pub stack_means : (o : StackOp) (items : List ℕ) → MeansItsValue (StandsFor o.stack) (stack_meaning o) items (stack_value o.stack o.act items)
+stack_means o items = runs_means (stack_program o.stack o.act) items (stack_value o.stack o.act items) (stack_inside o items)

@@ -1,5 +1,5 @@
 -- What the operations on a stack mean, for every content of its cells.
-use Rattle.std.specs.Prelude.{ℕ, ◌+◌, ◌-◌, ◌≤◌, ◌==◌, min, Bool, true, false, cond}
+use Rattle.std.specs.Prelude.{ℕ, ◌+◌, ◌-◌, ◌==◌, min, Bool, true, false, cond}
 use Rattle.kc_model.specs.declared.reply.Reply.{Reply}
 use Rattle.kc_model.specs.declared.reply.Reply.TheVariants as reply
 use Rattle.kc_xt.specs.Meaning.{Meaning}
@@ -52,7 +52,3 @@ stack_end o = cells_end o.stack
 -- no location of it is below this one
 abbrev pub stack_begin : StackOp → ℕ
 stack_begin o = o.stack.base.0
-
--- its locations are locations of a store
-abbrev pub StackIsFit : StackOp → Type 0
-StackIsFit o = stack_end o ≤ 65536

@@ -1,30 +1,41 @@
-//! What holds of the operations.
+//! What holds of the operations and of a stack's cells.
 
-ghost use Rattle.std.specs.Prelude.{◌≡◌, ◌≢◌, ◌<◌, ◌≤◌, ◌+◌, ℕ, List, []};
+ghost use Rattle.std.specs.Prelude.{ℕ, List, []};
+ghost use Rattle.kc_xt.specs.Structure.{ContentIsOne, DependsOnItsCells, KeepsWellFormed, MeansItsValue, Opens, RepliesOneItem, RunsInsideOthers, TouchesItsOwnCells};
 ghost use Rattle.kc_stack.specs.declared.stack.Stack.{Stack};
 ghost use Rattle.kc_stack.specs.declared.operation.StackOp.{StackOp};
-ghost use Rattle.kc_stack.specs.Meaning.{stack_meaning, stack_cells, cells_end};
-ghost use Rattle.kc_stack.specs.Content.{StandsFor, IsWellFormed, stack_value, stack_opening};
-ghost use Rattle.kc_xt.specs.Meaning.{too_large, map_after};
+ghost use Rattle.kc_stack.specs.Meaning.{stack_begin, stack_cells, stack_end, stack_meaning, stack_program, cells_end};
+ghost use Rattle.kc_stack.specs.Content.{StandsFor, stack_value, stack_opening};
 
-/// On cells that stand for a list of items, an operation that isn't too large means what it does to the list: the same reply or retry, and the cells then stand for the list then.
+/// On cells that stand for a list of items, an operation that isn't too large means what it does to the list: the same
+/// reply or retry, and the cells then stand for the list then.
 pub fn means_its_value()
-    ensures outcome { (o : StackOp) (n : ℕ) (m : ℕ → ℕ) (ks : List ℕ) (items : List ℕ) → StandsFor o.stack m items → (stack_meaning o n m ks).outcome ≢ too_large → (stack_meaning o n m ks).outcome ≡ (stack_value o.stack o.act items).outcome }
-    ensures contents { (o : StackOp) (n : ℕ) (m : ℕ → ℕ) (ks : List ℕ) (items : List ℕ) → StandsFor o.stack m items → (stack_meaning o n m ks).outcome ≢ too_large → StandsFor o.stack (map_after m (stack_meaning o n m ks).touches) (stack_value o.stack o.act items).items }
+    ensures { (o : StackOp) (items : List ℕ) → MeansItsValue (StandsFor o.stack) (stack_meaning o) items (stack_value o.stack o.act items) }
 {}
 
 /// An operation that isn't too large keeps the cells well formed.
 pub fn keeps_well_formed()
-    ensures { (o : StackOp) (n : ℕ) (m : ℕ → ℕ) (ks : List ℕ) → IsWellFormed o.stack m → (stack_meaning o n m ks).outcome ≢ too_large → IsWellFormed o.stack (map_after m (stack_meaning o n m ks).touches) }
+    ensures { (o : StackOp) → KeepsWellFormed (StandsFor o.stack) (stack_meaning o) }
+{}
+
+/// An operation touches the stack's own cells alone, whatever they hold, and its reply is one item.
+pub fn touches_its_own_cells()
+    ensures touches { (o : StackOp) → TouchesItsOwnCells (stack_begin o) (stack_end o) (stack_meaning o) }
+    ensures one { (o : StackOp) → RepliesOneItem (stack_meaning o) }
+{}
+
+/// Inside a longer program an operation does to the list what it does alone, and leaves all else as it was.
+pub fn runs_inside_others()
+    ensures { (o : StackOp) (items : List ℕ) → RunsInsideOthers (StandsFor o.stack) (stack_begin o) (stack_end o) (stack_program o.stack o.act) items (stack_value o.stack o.act items) }
 {}
 
 /// Cells with their opening values stand for no items.
 pub fn opens_empty()
-    ensures { (s : Stack) (m : ℕ → ℕ) → ((i : ℕ) → i < stack_cells s → m (s.base.0 + i) ≡ stack_opening s i) → StandsFor s m [] }
+    ensures { (s : Stack) → Opens (StandsFor s) s.base.0 (stack_cells s) (stack_opening s) [] }
 {}
 
-/// Cells stand for one list of items at most, and for which depends on the stack's own cells alone.
+/// What the cells of a stack stand for depends on these cells alone, and is one list.
 pub fn content_is_one()
-    ensures same { (s : Stack) (m w : ℕ → ℕ) (items : List ℕ) → ((l : ℕ) → s.base.0 ≤ l → l < cells_end s → m l ≡ w l) → StandsFor s m items → StandsFor s w items }
-    ensures one { (s : Stack) (m : ℕ → ℕ) (items others : List ℕ) → StandsFor s m items → StandsFor s m others → items ≡ others }
+    ensures own { (s : Stack) → DependsOnItsCells (StandsFor s) s.base.0 (cells_end s) }
+    ensures one { (s : Stack) → ContentIsOne (StandsFor s) }
 {}

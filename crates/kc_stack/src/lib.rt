@@ -3,11 +3,15 @@
 
 mod acts;
 mod laws;
+mod layout;
 mod operation;
 mod stack;
 #[cfg(test)]
 mod tests;
 
-pub use laws::{content_is_one, keeps_well_formed, means_its_value, opens_empty};
+pub use laws::{
+    content_is_one, keeps_well_formed, means_its_value, opens_empty, runs_inside_others,
+    touches_its_own_cells,
+};
 pub use operation::{StackAct, StackOp};
 pub use stack::Stack;

@@ -1,6 +1,7 @@
 //! The operations.
 
-ghost use Rattle.kc_stack.specs.Meaning.{stack_meaning, StackIsFit, stack_end};
+ghost use Rattle.std.specs.Prelude.{⊤};
+ghost use Rattle.kc_stack.specs.Meaning.{stack_meaning, stack_end};
 
 use crate::acts;
 use crate::stack::Stack;
@@ -22,7 +23,7 @@ pub enum StackAct {
     Len,
 }
 
-/// An operation on a stack. It is fit where the stack's cells are below 65,536.
+/// An operation on a stack.
 #[derive(Clone, Copy, Debug, PartialEq, Eq)]
 pub struct StackOp {
     pub stack: Stack,
@@ -32,7 +33,7 @@ pub struct StackOp {
 impl Transact for StackOp {
     ghost meaning = { stack_meaning };
 
-    ghost is_fit = { StackIsFit };
+    ghost is_fit = { λ o. ⊤ };
 
     ghost end = { stack_end };
 

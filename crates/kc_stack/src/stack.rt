@@ -1,68 +1,16 @@
 //! Where a stack lies.
 
-ghost use Rattle.std.specs.Prelude.{◌≡◌, ◌≤◌, ◌<◌, ◌+◌, ◌-◌, ℕ, List, length, reverse, slice_index};
-ghost use Rattle.kc_model.specs.Store.{store_of};
-ghost use Rattle.kc_xt.specs.Meaning.{values};
-ghost use Rattle.kc_stack.specs.Meaning.{stack_cells, cells_end, counted};
-ghost use Rattle.kc_stack.specs.Content.{stack_opening, StandsFor};
+ghost use Rattle.std.specs.Prelude.{◌≤◌, ◌<◌, ◌+◌};
 
-use kc_model::{Loc, PlainStore};
+use kc_model::Loc;
 
-/// The cells of a stack: how many items it has, and behind it the items, the bottom first.
+/// The cells of a stack: how many items it has, and behind it the items, the bottom first. They are locations of a
+/// store: below 65,536.
 #[derive(Clone, Copy, Debug, PartialEq, Eq)]
 pub struct Stack {
-    /// The cell with the number of items.
-    pub base: Loc,
-    /// For how many items it has room.
-    pub cap: u32,
-}
-
-impl Stack {
-    /// The stack that begins at a location.
-    pub fn layout(base: Loc, cap: u32) -> Stack
-        requires some { 1 ≤ cap }
-        requires most { cap ≤ 4096 }
-        requires cells { base.0 + cap < 65536 }
-        ensures base { result.base ≡ base }
-        ensures cap { result.cap ≡ cap }
-    {
-        Stack { base, cap }
-    }
-
-    /// How many cells it has.
-    pub fn cells(&self) -> u32
-        requires { cells_end self.now ≤ 65536 }
-        ensures { result ≡ stack_cells self.now }
-    {
-        1 + self.cap
-    }
-
-    /// What a cell holds at the opening, where the stack is empty.
-    pub fn opening(&self, index: u32) -> u32
-        requires { index < stack_cells self.now }
-        ensures { result ≡ stack_opening self.now index }
-    {
-        0
-    }
-
-    /// How many items it has in a store. A number of items above the capacity counts as the capacity.
-    pub fn count(&self, store: &PlainStore) -> u32
-        requires { cells_end self.now ≤ length store.now }
-        ensures is { result ≡ counted self.now (values (store_of store.now) self.now.base.0) }
-        ensures content { (items : List ℕ) → StandsFor self.now (values (store_of store.now)) items → result ≡ length items }
-    {
-        store.get(self.base).unwrap().min(self.cap)
-    }
-
-    /// An item in a store; that of index 0 is on top.
-    pub fn item(&self, store: &PlainStore, index: u32) -> u32
-        requires within { cells_end self.now ≤ length store.now }
-        requires fits { cells_end self.now ≤ 65536 }
-        requires index { index < counted self.now (values (store_of store.now) self.now.base.0) }
-        ensures is { result ≡ values (store_of store.now) (self.now.base.0 + counted self.now (values (store_of store.now) self.now.base.0) - index) }
-        ensures content { (items : List ℕ) → StandsFor self.now (values (store_of store.now)) items → result ≡ slice_index (reverse items) index }
-    {
-        let count = self.count(store);
-        store.get(Loc(self.base.0 + count - index)).unwrap()
-    }
+    // The cell with the number of items.
+    pub(crate) base: Loc,
+    // For how many items it has room.
+    pub(crate) cap: u32,
+    ghost laid: { base.0 + 1 + cap ≤ 65536 },
 }

@@ -1,8 +1,5 @@
-use Rattle.kc_queue.proofs.Values.{queue_has_value}
+use Rattle.kc_queue.proofs.Values.{queue_means}
 use Rattle.kc_queue.proofs.laws.means_its_value.Goals as goal
 
-pub returns-clause-outcome : goal.returns-clause-outcome
-returns-clause-outcome c = λ o n m ks items stands ne. (queue_has_value o n m ks items stands ne).0
-
-pub returns-clause-contents : goal.returns-clause-contents
-returns-clause-contents c = λ o n m ks items stands ne. (queue_has_value o n m ks items stands ne).1
+pub returns : goal.returns
+returns c = queue_means

@@ -1,8 +1,5 @@
-use Rattle.kc_stack.proofs.Values.{stack_has_value}
+use Rattle.kc_stack.proofs.Values.{stack_means}
 use Rattle.kc_stack.proofs.laws.means_its_value.Goals as goal
 
-pub returns-clause-outcome : goal.returns-clause-outcome
-returns-clause-outcome c = λ o n m ks items stands ne. (stack_has_value o n m ks items stands ne).0
-
-pub returns-clause-contents : goal.returns-clause-contents
-returns-clause-contents c = λ o n m ks items stands ne. (stack_has_value o n m ks items stands ne).1
+pub returns : goal.returns
+returns c = stack_means

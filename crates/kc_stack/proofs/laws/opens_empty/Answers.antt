@@ -1,4 +1,4 @@
-use Rattle.kc_stack.proofs.Values.{stack_opens}
+use Rattle.kc_stack.proofs.Standing.{stack_opens}
 use Rattle.kc_stack.proofs.laws.opens_empty.Goals as goal
 
 pub returns : goal.returns

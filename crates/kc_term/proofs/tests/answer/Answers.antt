@@ -4,9 +4,6 @@ use Rattle.kc_term.proofs.Worked.{add_one_item}
 use Rattle.kc_term.proofs.Ones.{few_are_fit}
 use Rattle.kc_term.proofs.tests.answer.Goals as goal
 
-pub bound-requires : goal.bound-requires
-bound-requires c = few_are_fit (λ o. tt) (λ o. add_one_item o.at o.least o.n) (operations c.args.term.now) (c.if-not-is_short.ensures.0 refl)
-
 pub run-requires : goal.run-requires
 run-requires c = record {
   fit = few_are_fit (λ o. tt) (λ o. add_one_item o.at o.least o.n) (operations c.args.term.now) (c.if-not-is_short.ensures.0 refl);
