@@ -1,113 +1,79 @@
--- Two cells with room for one value: what their programs touch, and their values on contents.
-use Rattle.std.proofs.Common.{◌≡◌, ℕ, ◌+◌, ◌<◌, ◌≤◌, Bool, true, false, not, cond, Option, Some, None, refl, sym, ap, ◌∙◌, subst, arith}
+-- Two cells with room for one value: what is done to them keeps to them, and what they stand for then.
+use Rattle.std.proofs.Common.{◌≡◌, ℕ, ◌+◌, true, false, not, cond, Option, Some, None, sym, ap, ◌∙◌, arith}
 use Rattle.std.specs.Prelude.{◌==◌}
-use Rattle.std.specs.Option.{is_some}
 use Rattle.std.proofs.lemmas.Bool.Decides.{nat_tests}
 use Rattle.kc_model.specs.declared.reply.Reply.TheVariants as reply
-use Rattle.kc_xt.specs.Meaning.{replied, retried, put}
-use Rattle.kc_xt.specs.Program.{Plain, plain, read, write, replies, retries}
-use Rattle.kc_xt.proofs.Laws.{Below, below_if}
-use Rattle.kc_xt.proofs.Spared.{Spares, spares_if}
-use Rattle.kc_xt.specs.Single.{EndsInOne}
-use Rattle.kc_xt.proofs.Singles.{one_if}
-use Rattle.kc_cells.specs.OnePlace.{place_cells, place_opening, fill_program, look_program, take_program, is_full_program, held, Holds, PlaceValue, comes_to, filled, looked}
-use Rattle.kc_cells.specs.Mvar.{taken}
-
--- ---- what is touched
+use Rattle.kc_xt.specs.Meaning.{put}
+use Rattle.kc_xt.specs.Program.{plain, read, write, replies, retries}
+use Rattle.kc_xt.specs.Stays.{Stays}
+use Rattle.kc_xt.specs.Structure.{ContentIsOne, DependsOnItsCells, MeansItsValue, Opens, RunsInsideOthers}
+use Rattle.kc_xt.specs.Program.{meaning}
+use Rattle.kc_xt.proofs.Inside.{GoesTo, runs_to}
+use Rattle.kc_xt.proofs.Laws.{TouchesFirst}
+use Rattle.kc_xt.proofs.Stay.{stays_if}
+use Rattle.kc_xt.proofs.Structures.{runs_means}
+use Rattle.kc_cells.specs.declared.one_place.PlaceAct.{PlaceAct}
+use Rattle.kc_cells.specs.declared.one_place.PlaceAct.TheVariants as act
+use Rattle.kc_cells.specs.OnePlace.{place_cells, place_opening, place_program, place_value, held, Holds}
 
 module _ (base : ℕ) where
-  pub fill_below : (waits : Bool) (v : ℕ) → Below (base + place_cells) (fill_program base waits v replies)
-  fill_below waits v = (omega arith, λ flag. below_if _ (flag == 0) _ _ (omega arith, (omega arith, tt)) (below_if _ waits _ _ tt tt))
+  pub place_stays : (a : PlaceAct) → Stays base (base + place_cells) (place_program base a replies)
+  place_stays (act.Fill waits v) = (omega arith, omega arith, λ flag. stays_if _ _ (flag == 0) _ _ (omega arith, omega arith, (omega arith, omega arith, tt)) (stays_if _ _ waits _ _ tt tt))
+  place_stays act.Take = (omega arith, omega arith, λ flag. stays_if _ _ (flag == 0) _ _ tt (omega arith, omega arith, λ v. (omega arith, omega arith, tt)))
+  place_stays (act.Look waits) = (omega arith, omega arith, λ flag. stays_if _ _ (flag == 0) _ _ (stays_if _ _ waits _ _ tt tt) (omega arith, omega arith, λ v. tt))
+  place_stays act.IsFull = (omega arith, omega arith, λ flag. tt)
 
-  pub look_below : (waits : Bool) → Below (base + place_cells) (look_program base waits replies)
-  look_below waits = (omega arith, λ flag. below_if _ (flag == 0) _ _ (below_if _ waits _ _ tt tt) (omega arith, λ v. tt))
+  pub place_first : (a : PlaceAct) → TouchesFirst (place_program base a replies)
+  place_first (act.Fill waits v) = tt
+  place_first act.Take = tt
+  place_first (act.Look waits) = tt
+  place_first act.IsFull = tt
 
-  pub take_below : Below (base + place_cells) (take_program base replies)
-  take_below = (omega arith, λ flag. below_if _ (flag == 0) _ _ tt (omega arith, λ v. (omega arith, tt)))
+  module _ (m : ℕ → ℕ) where
+    put_full : (v : ℕ) → Holds base (put (put m (base + 1) v) base 1) (Some v)
+    put_full v = (grind (arith, nat_tests), grind (arith, nat_tests))
 
-  pub is_full_below : Below (base + place_cells) (is_full_program base replies)
-  is_full_below = (omega arith, λ flag. tt)
+    put_empty : Holds base (put m base 0) None
+    put_empty = grind (arith, nat_tests)
 
-  pub fill_spares : (waits : Bool) (v l : ℕ) → l < base → Spares l (fill_program base waits v replies)
-  fill_spares waits v l h = λ flag. spares_if l (flag == 0) _ _ (λ e. omega (arith, h, e), (λ e. omega (arith, h, e), tt)) (spares_if l waits _ _ tt tt)
+    place_goes : (a : PlaceAct) (c : Option ℕ) → Holds base m c → GoesTo (Holds base) (place_program base a) m (place_value a c)
+    place_goes (act.Fill waits v) None e = record { left = put (put m (base + 1) v) base 1; runs = λ k. ap (λ flag. plain (cond (flag == 0) (write (base + 1) v (write base 1 (k reply.Unit))) (cond waits retries (k (reply.Bool false)))) m) e; stand = put_full v }
+    place_goes (act.Fill true v) (Some u) (e, h) = record { left = m; runs = λ k. ap (λ flag. plain (cond (flag == 0) (write (base + 1) v (write base 1 (k reply.Unit))) retries) m) e; stand = (e, h) }
+    place_goes (act.Fill false v) (Some u) (e, h) = record { left = m; runs = λ k. ap (λ flag. plain (cond (flag == 0) (write (base + 1) v (write base 1 (k reply.Unit))) (k (reply.Bool false))) m) e; stand = (e, h) }
+    place_goes act.Take None e = record { left = m; runs = λ k. ap (λ flag. plain (cond (flag == 0) retries (read (base + 1) (λ v. write base 0 (k (reply.Value v))))) m) e; stand = e }
+    place_goes act.Take (Some u) (e, h) = record {
+      left = put m base 0;
+      runs = λ k. ap (λ flag. plain (cond (flag == 0) retries (read (base + 1) (λ v. write base 0 (k (reply.Value v))))) m) e ∙ ap (λ v. plain (k (reply.Value v)) (put m base 0)) h;
+      stand = put_empty;
+    }
+    place_goes (act.Look true) None e = record { left = m; runs = λ k. ap (λ flag. plain (cond (flag == 0) retries (read (base + 1) (λ v. k (reply.Value v)))) m) e; stand = e }
+    place_goes (act.Look false) None e = record { left = m; runs = λ k. ap (λ flag. plain (cond (flag == 0) (k reply.Empty) (read (base + 1) (λ v. k (reply.Value v)))) m) e; stand = e }
+    place_goes (act.Look waits) (Some u) (e, h) = record {
+      left = m;
+      runs = λ k. ap (λ flag. plain (cond (flag == 0) (cond waits retries (k reply.Empty)) (read (base + 1) (λ v. k (reply.Value v)))) m) e ∙ ap (λ v. plain (k (reply.Value v)) m) h;
+      stand = (e, h);
+    }
+    place_goes act.IsFull None e = record { left = m; runs = λ k. ap (λ flag. plain (k (reply.Bool (not (flag == 0)))) m) e; stand = e }
+    place_goes act.IsFull (Some u) (e, h) = record { left = m; runs = λ k. ap (λ flag. plain (k (reply.Bool (not (flag == 0)))) m) e; stand = (e, h) }
 
-  pub look_spares : (waits : Bool) (l : ℕ) → Spares l (look_program base waits replies)
-  look_spares waits l = λ flag. spares_if l (flag == 0) _ _ (spares_if l waits _ _ tt tt) (λ v. tt)
+    -- what the cells hold is the content for which they stand
+    pub holds_held : (c : Option ℕ) → Holds base m c → held base m ≡ c
+    holds_held None e = ap (λ flag. cond (flag == 0) None (Some (m (base + 1)))) e
+    holds_held (Some u) (e, h) = ap (λ flag. cond (flag == 0) None (Some (m (base + 1)))) e ∙ ap Some h
 
-  pub take_spares : (l : ℕ) → l < base → Spares l (take_program base replies)
-  take_spares l h = λ flag. spares_if l (flag == 0) _ _ tt (λ v. (λ e. omega (arith, h, e), tt))
+  -- inside whatever longer program
+  pub place_inside : (a : PlaceAct) (c : Option ℕ) → RunsInsideOthers (Holds base) base (base + place_cells) (place_program base a) c (place_value a c)
+  place_inside a c m h = runs_to (place_stays a) (place_goes m a c h)
 
--- ---- how they end
+  pub place_means : (a : PlaceAct) (c : Option ℕ) → MeansItsValue (Holds base) (meaning (place_program base a replies)) c (place_value a c)
+  place_means a c = runs_means (place_program base a) c (place_value a c) (place_inside a c)
 
-pub fill_single : (base : ℕ) (waits : Bool) (v : ℕ) → EndsInOne (fill_program base waits v replies)
-fill_single base waits v = λ flag. one_if (flag == 0) _ _ tt (one_if waits _ _ tt tt)
+  pub place_one : ContentIsOne (Holds base)
+  place_one m c d h g = sym (holds_held m c h) ∙ holds_held m d g
 
-pub look_single : (base : ℕ) (waits : Bool) → EndsInOne (look_program base waits replies)
-look_single base waits = λ flag. one_if (flag == 0) _ _ (one_if waits _ _ tt tt) (λ v. tt)
+  pub place_own : DependsOnItsCells (Holds base) base (base + place_cells)
+  place_own m w None same e = sym (same base (omega arith) (omega arith)) ∙ e
+  place_own m w (Some u) same (e, h) = (sym (same base (omega arith) (omega arith)) ∙ e, sym (same (base + 1) (omega arith) (omega arith)) ∙ h)
 
-pub take_single : (base : ℕ) → EndsInOne (take_program base replies)
-take_single base = λ flag. one_if (flag == 0) _ _ tt (λ v. tt)
-
--- ---- values
-
--- a plain run has this value
-abbrev pub IsPlaceValue : ℕ → Plain → PlaceValue → Type 0
-IsPlaceValue base w v = (w.outcome ≡ v.outcome) × Holds base w.map v.content
-
-module _ (base : ℕ) (m : ℕ → ℕ) where
-  put_full : (v : ℕ) → Holds base (put (put m (base + 1) v) base 1) (Some v)
-  put_full v = (grind (arith, nat_tests), grind (arith, nat_tests))
-
-  put_empty : Holds base (put m base 0) None
-  put_empty = grind (arith, nat_tests)
-
-  pub fill_value : (waits : Bool) (v : ℕ) (c : Option ℕ) → Holds base m c → IsPlaceValue base (plain (fill_program base waits v replies) m) (filled (cond waits retried (replied (reply.Bool false))) v c)
-  fill_value waits v None e =
-      let Q : ℕ → Type 0 = λ flag. IsPlaceValue base (plain (cond (flag == 0) (write (base + 1) v (write base 1 (replies reply.Unit))) (cond waits retries (replies (reply.Bool false)))) m) (comes_to (replied reply.Unit) (Some v)) in
-      subst Q (sym e) (refl, put_full v)
-  fill_value true v (Some u) (e, h) =
-      let Q : ℕ → Type 0 = λ flag. IsPlaceValue base (plain (cond (flag == 0) (write (base + 1) v (write base 1 (replies reply.Unit))) retries) m) (comes_to retried (Some u)) in
-      subst Q (sym e) (refl, (e, h))
-  fill_value false v (Some u) (e, h) =
-      let Q : ℕ → Type 0 = λ flag. IsPlaceValue base (plain (cond (flag == 0) (write (base + 1) v (write base 1 (replies reply.Unit))) (replies (reply.Bool false))) m) (comes_to (replied (reply.Bool false)) (Some u)) in
-      subst Q (sym e) (refl, (e, h))
-
-  pub look_value : (waits : Bool) (c : Option ℕ) → Holds base m c → IsPlaceValue base (plain (look_program base waits replies) m) (looked (cond waits retried (replied reply.Empty)) c)
-  look_value true None e =
-      let Q : ℕ → Type 0 = λ flag. IsPlaceValue base (plain (cond (flag == 0) retries (read (base + 1) (λ v. replies (reply.Value v)))) m) (comes_to retried None) in
-      subst Q (sym e) (refl, e)
-  look_value false None e =
-      let Q : ℕ → Type 0 = λ flag. IsPlaceValue base (plain (cond (flag == 0) (replies reply.Empty) (read (base + 1) (λ v. replies (reply.Value v)))) m) (comes_to (replied reply.Empty) None) in
-      subst Q (sym e) (refl, e)
-  look_value waits (Some u) (e, h) =
-      let Q : ℕ → Type 0 = λ flag. IsPlaceValue base (plain (cond (flag == 0) (cond waits retries (replies reply.Empty)) (read (base + 1) (λ v. replies (reply.Value v)))) m) (comes_to (replied (reply.Value u)) (Some u)) in
-      subst Q (sym e) (ap (λ v. replied (reply.Value v)) h, (e, h))
-
-  pub take_value : (c : Option ℕ) → Holds base m c → IsPlaceValue base (plain (take_program base replies) m) (taken c)
-  take_value None e =
-      let Q : ℕ → Type 0 = λ flag. IsPlaceValue base (plain (cond (flag == 0) retries (read (base + 1) (λ v. write base 0 (replies (reply.Value v))))) m) (comes_to retried None) in
-      subst Q (sym e) (refl, e)
-  take_value (Some u) (e, h) =
-      let Q : ℕ → Type 0 = λ flag. IsPlaceValue base (plain (cond (flag == 0) retries (read (base + 1) (λ v. write base 0 (replies (reply.Value v))))) m) (comes_to (replied (reply.Value u)) None) in
-      subst Q (sym e) (ap (λ v. replied (reply.Value v)) h, put_empty)
-
-  pub is_full_value : (c : Option ℕ) → Holds base m c → IsPlaceValue base (plain (is_full_program base replies) m) (comes_to (replied (reply.Bool (is_some c))) c)
-  is_full_value None e = (ap (λ flag. replied (reply.Bool (not (flag == 0)))) e, e)
-  is_full_value (Some u) (e, h) = (ap (λ flag. replied (reply.Bool (not (flag == 0)))) e, (e, h))
-
-  -- what the cells hold is the content for which they stand
-  pub holds_held : (c : Option ℕ) → Holds base m c → held base m ≡ c
-  holds_held None e = ap (λ flag. cond (flag == 0) None (Some (m (base + 1)))) e
-  holds_held (Some u) (e, h) = ap (λ flag. cond (flag == 0) None (Some (m (base + 1)))) e ∙ ap Some h
-
-  -- so it is one
-  pub holds_one : (c d : Option ℕ) → Holds base m c → Holds base m d → c ≡ d
-  holds_one c d h g = sym (holds_held c h) ∙ holds_held d g
-
-  pub holds_opened : ((i : ℕ) → i < place_cells → m (base + i) ≡ place_opening i) → Holds base m None
-  holds_opened h = let e : base ≡ base + 0 = omega arith in ap m e ∙ h 0 (omega arith)
-
--- what the two cells hold depends on them alone
-pub holds_same : (base : ℕ) (m m' : ℕ → ℕ) (c : Option ℕ) → ((l : ℕ) → base ≤ l → l < base + place_cells → m l ≡ m' l) → Holds base m c → Holds base m' c
-holds_same base m m' None same e = sym (same base (omega arith) (omega arith)) ∙ e
-holds_same base m m' (Some u) same (e, h) = (sym (same base (omega arith) (omega arith)) ∙ e, sym (same (base + 1) (omega arith) (omega arith)) ∙ h)
+  pub place_opens : Opens (Holds base) base place_cells place_opening None
+  place_opens m h = let e : base ≡ base + 0 = omega arith in ap m e ∙ h 0 (omega arith)

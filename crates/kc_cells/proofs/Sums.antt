@@ -6,12 +6,12 @@ use Rattle.std.proofs.lemmas.Bool.{cases_eq}
 use Rattle.std.proofs.lemmas.Bool.Decides.{nat_tests}
 use Rattle.std.proofs.lemmas.List.Sums.{sum_by-cons, sum_by_push}
 use Rattle.std.proofs.lemmas.List.FromFn.{map-range_with_len_more}
+use Rattle.kc_model.specs.declared.reply.Reply.{Reply}
 use Rattle.kc_model.specs.declared.reply.Reply.TheVariants as reply
-use Rattle.kc_xt.specs.Meaning.{replied, put}
-use Rattle.kc_xt.specs.Program.{Plain, plain, replies, wrapped}
-use Rattle.kc_xt.proofs.Laws.{Below, TouchesFirst}
-use Rattle.kc_xt.proofs.Spared.{Spares}
-use Rattle.kc_xt.specs.Single.{EndsInOne}
+use Rattle.kc_xt.specs.Meaning.{put}
+use Rattle.kc_xt.specs.Program.{Program, plain, replies, wrapped}
+use Rattle.kc_xt.specs.Stays.{Stays}
+use Rattle.kc_xt.proofs.Laws.{TouchesFirst}
 use Rattle.kc_cells.specs.Accumulator.{sums, cells_sum}
 
 -- ---- sums
@@ -92,33 +92,20 @@ sum_zero m a (suc n) h =
 
 -- ---- the program
 
-pub sums_below : (b n l s : ℕ) → l + n ≤ b → Below b (sums l n s replies)
+pub sums_stays : (a b n l s : ℕ) → a ≤ l → l + n ≤ b → Stays a b (sums l n s replies)
 unfolding sums
-sums_below b zero l s h = tt
-sums_below b (suc n) l s h = (omega (arith, h), λ v. sums_below b n (l + 1) (wrapped (s + v)) (omega (arith, h)))
-
-pub sums_spares : (k n l s : ℕ) → Spares k (sums l n s replies)
-unfolding sums
-sums_spares k zero l s = tt
-sums_spares k (suc n) l s = λ v. sums_spares k n (l + 1) (wrapped (s + v))
+sums_stays a b zero l s lo hi = tt
+sums_stays a b (suc n) l s lo hi = (lo, omega (arith, hi), λ v. sums_stays a b n (l + 1) (wrapped (s + v)) (omega (arith, lo)) (omega (arith, hi)))
 
 pub sums_first : (n l s : ℕ) → TouchesFirst (sums l n s replies)
 unfolding sums
 sums_first zero l s = λ e. cc
 sums_first (suc n) l s = tt
 
-pub sums_single : (n l s : ℕ) → EndsInOne (sums l n s replies)
-unfolding sums
-sums_single zero l s = tt
-sums_single (suc n) l s = λ v. sums_single n (l + 1) (wrapped (s + v))
-
-abbrev summed : (ℕ → ℕ) → ℕ → Plain
-summed m s = record { outcome = replied (reply.Value s); map = m }
-
 -- it comes to the wrapped sum of the cells and of the sum so far
-pub sums_plain : (m : ℕ → ℕ) (n l s : ℕ) → wrapped s ≡ s → plain (sums l n s replies) m ≡ summed m (wrapped (s + cells_sum m l n))
+pub sums_plain : (m : ℕ → ℕ) (n l s : ℕ) → wrapped s ≡ s → (k : Reply → Program) → plain (sums l n s k) m ≡ plain (k (reply.Value (wrapped (s + cells_sum m l n)))) m
 unfolding sums
-sums_plain m zero l s e = let z : s + 0 ≡ s = omega arith in ap (summed m) (sym (ap wrapped z ∙ e))
-sums_plain m (suc n) l s e =
+sums_plain m zero l s e k = let z : s + 0 ≡ s = omega arith in ap (λ t. plain (k (reply.Value t)) m) (sym (ap wrapped z ∙ e))
+sums_plain m (suc n) l s e k =
     let whole : s + m l + cells_sum m (l + 1) n ≡ s + cells_sum m l (suc n) = let f = sum_first m l n in omega (arith, f) in
-    sums_plain m n (l + 1) (wrapped (s + m l)) (mod-mod (s + m l) (2 ^ 32)) ∙ ap (summed m) (mod-add-mod (s + m l) (2 ^ 32) (cells_sum m (l + 1) n) ∙ ap wrapped whole)
+    sums_plain m n (l + 1) (wrapped (s + m l)) (mod-mod (s + m l) (2 ^ 32)) k ∙ ap (λ t. plain (k (reply.Value t)) m) (mod-add-mod (s + m l) (2 ^ 32) (cells_sum m (l + 1) n) ∙ ap wrapped whole)

@@ -1,9 +1,10 @@
 -- What the operations on an accumulator mean, by cells and on contents.
-use Rattle.std.specs.Prelude.{◌≡◌, ℕ, zero, suc, ◌+◌, ◌%◌, ◌<◌, ◌≤◌, map}
+use Rattle.std.specs.Prelude.{◌≡◌, ℕ, zero, suc, ◌+◌, ◌%◌, map}
 use Rattle.std.specs.List.{sum, range_with_len}
 use Rattle.kc_model.specs.declared.reply.Reply.{Reply}
 use Rattle.kc_model.specs.declared.reply.Reply.TheVariants as reply
-use Rattle.kc_xt.specs.Meaning.{Outcome, replied, Meaning}
+use Rattle.kc_xt.specs.Meaning.{replied, Meaning}
+use Rattle.kc_xt.specs.Structure.{Standing, Value, comes_to}
 use Rattle.kc_xt.specs.Program.{Program, read, replies, meaning, wrapped, fetches_and_adds}
 use Rattle.kc_cells.specs.declared.accumulator.Accumulator.{Accumulator}
 use Rattle.kc_cells.specs.declared.accumulator.AccOp.{AccOp}
@@ -48,10 +49,6 @@ acc_end o = acc_cells_end o.acc
 abbrev pub acc_begin : AccOp → ℕ
 acc_begin o = o.acc.base.0
 
--- it has a cell, and its cells are locations of a store
-abbrev pub AccIsFit : AccOp → Type 0
-AccIsFit o = (0 < o.acc.cells) × (acc_end o ≤ 65536)
-
 -- ---- on contents: a number, whatever the cells hold
 
 -- the sum of n cells, from l on
@@ -59,18 +56,9 @@ abbrev pub cells_sum : (ℕ → ℕ) → ℕ → ℕ → ℕ
 cells_sum m l n = sum (map m (range_with_len l n))
 
 -- the cells stand for this total: their sum, wrapped
-abbrev pub AccStandsFor : Accumulator → (ℕ → ℕ) → ℕ → Type 0
+abbrev pub AccStandsFor : Accumulator → Standing ℕ
 AccStandsFor x m t = t ≡ wrapped (cells_sum m x.base.0 x.cells)
 
--- the cells stand for some total
-abbrev pub AccIsWellFormed : Accumulator → (ℕ → ℕ) → Type 0
-AccIsWellFormed x m = (t : ℕ) × AccStandsFor x m t
-
--- a reply, and the total then
-pub record AccValue : Type 0 where
-  pub outcome : Outcome
-  pub total : ℕ
-
-abbrev pub acc_value : AccAct → ℕ → AccValue
-acc_value (act.Bump c n) t = record { outcome = replied reply.Unit; total = wrapped (t + n) }
-acc_value act.Total t = record { outcome = replied (reply.Value t); total = t }
+abbrev pub acc_value : AccAct → ℕ → Value ℕ
+acc_value (act.Bump c n) t = comes_to (replied reply.Unit) (wrapped (t + n))
+acc_value act.Total t = comes_to (replied (reply.Value t)) t

@@ -1,9 +1,13 @@
 -- Two cells with room for one value: a flag, which is 0 where there is none, and the value behind it.
 use Rattle.std.specs.Prelude.{◌≡◌, ℕ, ◌+◌, ◌==◌, Bool, false, not, cond, Option, Some, None}
+use Rattle.std.specs.Option.{is_some}
 use Rattle.kc_model.specs.declared.reply.Reply.{Reply}
 use Rattle.kc_model.specs.declared.reply.Reply.TheVariants as reply
-use Rattle.kc_xt.specs.Meaning.{Outcome, replied}
+use Rattle.kc_xt.specs.Meaning.{Outcome, replied, retried}
 use Rattle.kc_xt.specs.Program.{Program, read, write, retries}
+use Rattle.kc_xt.specs.Structure.{Standing, Value, comes_to}
+use Rattle.kc_cells.specs.declared.one_place.PlaceAct.{PlaceAct}
+use Rattle.kc_cells.specs.declared.one_place.PlaceAct.TheVariants as act
 
 -- how many cells
 abbrev pub place_cells : ℕ
@@ -31,6 +35,13 @@ take_program base k = read base (λ flag. cond (flag == 0) retries (read (base +
 abbrev pub is_full_program : ℕ → (Reply → Program) → Program
 is_full_program base k = read base (λ flag. k (reply.Bool (not (flag == 0))))
 
+-- what is done to the two cells, and what comes behind its reply
+abbrev pub place_program : ℕ → PlaceAct → (Reply → Program) → Program
+place_program base (act.Fill waits v) = fill_program base waits v
+place_program base act.Take = take_program base
+place_program base (act.Look waits) = look_program base waits
+place_program base act.IsFull = is_full_program base
+
 -- the value that is there
 abbrev pub held : ℕ → (ℕ → ℕ) → Option ℕ
 held base m = cond (m base == 0) None (Some (m (base + 1)))
@@ -38,24 +49,27 @@ held base m = cond (m base == 0) None (Some (m (base + 1)))
 -- ---- on contents
 
 -- the cells stand for a value, or for none
-abbrev pub Holds : ℕ → (ℕ → ℕ) → Option ℕ → Type 0
+abbrev pub Holds : ℕ → Standing (Option ℕ)
 Holds base m None = m base ≡ 0
 Holds base m (Some v) = (m base ≡ 1) × (m (base + 1) ≡ v)
 
--- a reply or retry, and the content then
-pub record PlaceValue : Type 0 where
-  pub outcome : Outcome
-  pub content : Option ℕ
-
-abbrev pub comes_to : Outcome → Option ℕ → PlaceValue
-comes_to o c = record { outcome = o; content = c }
-
 -- a value is put where there is none; where there is one it ends so
-abbrev pub filled : Outcome → ℕ → Option ℕ → PlaceValue
+abbrev pub filled : Outcome → ℕ → Option ℕ → Value (Option ℕ)
 filled full v None = comes_to (replied reply.Unit) (Some v)
 filled full v (Some u) = comes_to full (Some u)
 
 -- the value is replied; where there is none it ends so
-abbrev pub looked : Outcome → Option ℕ → PlaceValue
+abbrev pub looked : Outcome → Option ℕ → Value (Option ℕ)
 looked none None = comes_to none None
 looked none (Some v) = comes_to (replied (reply.Value v)) (Some v)
+
+-- the value is taken; where there is none, it waits
+abbrev pub taken : Option ℕ → Value (Option ℕ)
+taken None = comes_to retried None
+taken (Some v) = comes_to (replied (reply.Value v)) None
+
+abbrev pub place_value : PlaceAct → Option ℕ → Value (Option ℕ)
+place_value (act.Fill waits v) c = filled (cond waits retried (replied (reply.Bool false))) v c
+place_value act.Take c = taken c
+place_value (act.Look waits) c = looked (cond waits retried (replied reply.Empty)) c
+place_value act.IsFull c = comes_to (replied (reply.Bool (is_some c))) c

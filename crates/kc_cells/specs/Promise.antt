@@ -1,25 +1,30 @@
--- What the operations on a promise mean, by cells and on contents.
-use Rattle.std.specs.Prelude.{ℕ, ◌+◌, ◌≤◌, true, false, Option}
-use Rattle.std.specs.Option.{is_some}
+-- What the operations on a promise mean, by cells and on contents: the value of one that is resolved, else none.
+use Rattle.std.specs.Prelude.{ℕ, ◌+◌, true, false, Option}
 use Rattle.kc_model.specs.declared.reply.Reply.{Reply}
-use Rattle.kc_model.specs.declared.reply.Reply.TheVariants as reply
-use Rattle.kc_xt.specs.Meaning.{Meaning, replied, retried}
+use Rattle.kc_xt.specs.Meaning.{Meaning}
 use Rattle.kc_xt.specs.Program.{Program, replies, meaning}
-use Rattle.kc_cells.specs.OnePlace.{place_cells, fill_program, look_program, is_full_program, Holds, PlaceValue, comes_to, filled, looked}
+use Rattle.kc_xt.specs.Structure.{Standing, Value}
 use Rattle.kc_cells.specs.declared.promise.Promise.{Promise}
 use Rattle.kc_cells.specs.declared.promise.PromiseOp.{PromiseOp}
 use Rattle.kc_cells.specs.declared.promise.PromiseAct.{PromiseAct}
 use Rattle.kc_cells.specs.declared.promise.PromiseAct.TheVariants as act
+use Rattle.kc_cells.specs.declared.one_place.PlaceAct.{PlaceAct}
+use Rattle.kc_cells.specs.declared.one_place.PlaceAct.TheVariants as place
+use Rattle.kc_cells.specs.OnePlace.{place_cells, place_program, place_value, Holds}
 
 -- a number above its cells
 abbrev pub promise_cells_end : Promise → ℕ
 promise_cells_end x = x.base.0 + place_cells
 
+-- what it does to the two cells
+abbrev pub promise_act : PromiseAct → PlaceAct
+promise_act (act.Resolve v) = place.Fill false v
+promise_act act.Await = place.Look true
+promise_act act.IsResolved = place.IsFull
+
 -- what an operation does, and what comes behind its reply
 abbrev pub promise_program : Promise → PromiseAct → (Reply → Program) → Program
-promise_program x (act.Resolve v) = fill_program x.base.0 false v
-promise_program x act.Await = look_program x.base.0 true
-promise_program x act.IsResolved = is_full_program x.base.0
+promise_program x a = place_program x.base.0 (promise_act a)
 
 abbrev pub promise_meaning : PromiseOp → Meaning
 promise_meaning o = meaning (promise_program o.promise o.act replies)
@@ -32,21 +37,9 @@ promise_end o = promise_cells_end o.promise
 abbrev pub promise_begin : PromiseOp → ℕ
 promise_begin o = o.promise.base.0
 
--- its locations are locations of a store
-abbrev pub PromiseIsFit : PromiseOp → Type 0
-PromiseIsFit o = promise_end o ≤ 65536
-
--- ---- on contents: the value of a promise that is resolved, else none
-
 -- the cells stand for this content
-abbrev pub PromiseStandsFor : Promise → (ℕ → ℕ) → Option ℕ → Type 0
-PromiseStandsFor x m c = Holds x.base.0 m c
+abbrev pub PromiseStandsFor : Promise → Standing (Option ℕ)
+PromiseStandsFor x = Holds x.base.0
 
--- the cells stand for some content
-abbrev pub PromiseIsWellFormed : Promise → (ℕ → ℕ) → Type 0
-PromiseIsWellFormed x m = (c : Option ℕ) × PromiseStandsFor x m c
-
-abbrev pub promise_value : PromiseAct → Option ℕ → PlaceValue
-promise_value (act.Resolve v) c = filled (replied (reply.Bool false)) v c
-promise_value act.Await c = looked retried c
-promise_value act.IsResolved c = comes_to (replied (reply.Bool (is_some c))) c
+abbrev pub promise_value : PromiseAct → Option ℕ → Value (Option ℕ)
+promise_value a = place_value (promise_act a)

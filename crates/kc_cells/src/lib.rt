@@ -2,14 +2,20 @@
 #![tactic(auto)]
 
 mod accumulator;
+mod acts;
 mod laws;
+mod layout;
 mod mvar;
 mod one_place;
+mod operation;
 mod promise;
 #[cfg(test)]
 mod tests;
 
 pub use accumulator::{AccAct, AccOp, Accumulator};
-pub use laws::{content_is_one, keeps_well_formed, means_its_value, opens_empty};
+pub use laws::{
+    content_is_one, keeps_well_formed, means_its_value, opens_empty, runs_inside_others,
+    touches_its_own_cells,
+};
 pub use mvar::{Mvar, MvarAct, MvarOp};
 pub use promise::{Promise, PromiseAct, PromiseOp};

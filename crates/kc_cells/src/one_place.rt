@@ -4,21 +4,43 @@ ghost use Rattle.std.specs.Prelude.{◌≡◌, ◌+◌, ◌≤◌, length};
 ghost use Rattle.kc_model.specs.Store.{store_of};
 ghost use Rattle.kc_xt.specs.Meaning.{values};
 ghost use Rattle.kc_xt.specs.Steps.{Does};
-ghost use Rattle.kc_cells.specs.OnePlace.{place_cells, fill_program, look_program, take_program, is_full_program, held};
+ghost use Rattle.kc_cells.specs.OnePlace.{place_cells, place_program, fill_program, look_program, take_program, is_full_program, held};
 
 use kc_model::{Loc, PlainStore, Reply};
 use kc_xt::{Peek, Stop, Xt};
+
+/// What is done to the two cells.
+#[derive(Clone, Copy, Debug, PartialEq, Eq)]
+pub enum PlaceAct {
+    /// Puts the value where there is none; where there is one, it waits, or replies false.
+    Fill(bool, u32),
+    /// Takes the value, and waits until there is one.
+    Take,
+    /// Replies the value; where there is none, it waits, or replies Empty.
+    Look(bool),
+    /// Replies whether there is a value.
+    IsFull,
+}
+
+pub(crate) fn run<P: Peek>(base: Loc, act: PlaceAct, xt: &mut Xt<P>) -> Result<Reply, Stop>
+    requires within { base.0 + place_cells ≤ P.locations xt.old.peek }
+    requires fits { base.0 + place_cells ≤ 65536 }
+    ensures goes { Does P.peek_gives (place_program base.0 act) xt.old result xt.new }
+    ensures size { P.locations xt.new.peek ≡ P.locations xt.old.peek }
+{
+    match act {
+        PlaceAct::Fill(waits, value) => fill(base, waits, value, xt),
+        PlaceAct::Take => take(base, xt),
+        PlaceAct::Look(waits) => look(base, waits, xt),
+        PlaceAct::IsFull => is_full(base, xt),
+    }
+}
 
 /// How many cells there are.
 pub(crate) const CELLS: u32 = 2;
 
 // Both forms: where there is a value, one waits, the other replies false.
-pub(crate) fn fill<P: Peek>(
-    base: Loc,
-    waits: bool,
-    value: u32,
-    xt: &mut Xt<P>,
-) -> Result<Reply, Stop>
+fn fill<P: Peek>(base: Loc, waits: bool, value: u32, xt: &mut Xt<P>) -> Result<Reply, Stop>
     requires within { base.0 + place_cells ≤ P.locations xt.old.peek }
     requires fits { base.0 + place_cells ≤ 65536 }
     ensures goes { Does P.peek_gives (fill_program base.0 waits value) xt.old result xt.new }
@@ -37,7 +59,7 @@ pub(crate) fn fill<P: Peek>(
 }
 
 // Both forms: where there is no value, one waits, the other replies Empty.
-pub(crate) fn look<P: Peek>(base: Loc, waits: bool, xt: &mut Xt<P>) -> Result<Reply, Stop>
+fn look<P: Peek>(base: Loc, waits: bool, xt: &mut Xt<P>) -> Result<Reply, Stop>
     requires within { base.0 + place_cells ≤ P.locations xt.old.peek }
     requires fits { base.0 + place_cells ≤ 65536 }
     ensures goes { Does P.peek_gives (look_program base.0 waits) xt.old result xt.new }
@@ -54,7 +76,7 @@ pub(crate) fn look<P: Peek>(base: Loc, waits: bool, xt: &mut Xt<P>) -> Result<Re
     Ok(Reply::Value(value))
 }
 
-pub(crate) fn take<P: Peek>(base: Loc, xt: &mut Xt<P>) -> Result<Reply, Stop>
+fn take<P: Peek>(base: Loc, xt: &mut Xt<P>) -> Result<Reply, Stop>
     requires within { base.0 + place_cells ≤ P.locations xt.old.peek }
     requires fits { base.0 + place_cells ≤ 65536 }
     ensures goes { Does P.peek_gives (take_program base.0) xt.old result xt.new }
@@ -69,7 +91,7 @@ pub(crate) fn take<P: Peek>(base: Loc, xt: &mut Xt<P>) -> Result<Reply, Stop>
     Ok(Reply::Value(value))
 }
 
-pub(crate) fn is_full<P: Peek>(base: Loc, xt: &mut Xt<P>) -> Result<Reply, Stop>
+fn is_full<P: Peek>(base: Loc, xt: &mut Xt<P>) -> Result<Reply, Stop>
     requires within { base.0 + place_cells ≤ P.locations xt.old.peek }
     ensures goes { Does P.peek_gives (is_full_program base.0) xt.old result xt.new }
     ensures size { P.locations xt.new.peek ≡ P.locations xt.old.peek }

@@ -1,7 +1,7 @@
 use Rattle.std.proofs.Common.{◌≡◌, suc, ◌+◌, ◌-◌, arith, rules}
 use Rattle.kc_cells.specs.Accumulator.{sums}
 use Rattle.kc_xt.proofs.Chain.{exits, goes_read, goes_to, stop_read, does_reply}
-use Rattle.kc_cells.proofs.accumulator.total.Goals as goal
+use Rattle.kc_cells.proofs.acts.total.Goals as goal
 
 -- out of the loop by `?`: a cell is left, and its look stopped
 pub returns-in_err-value-clause-goes : goal.returns-in_err-value-clause-goes

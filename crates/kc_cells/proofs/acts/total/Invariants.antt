@@ -1,7 +1,7 @@
 use Rattle.std.proofs.Common.{◌≡◌, ◌+◌, ◌-◌}
 use Rattle.kc_xt.specs.Steps.{Goes}
 use Rattle.kc_cells.specs.Accumulator.{sums}
-use Rattle.kc_cells.proofs.accumulator.total.Given as goal
+use Rattle.kc_cells.proofs.acts.total.Given as goal
 
 -- so far the program has come to the sum of the cells before this one
 abbrev pub invariant-loop-l : goal.invariant-loop-l
