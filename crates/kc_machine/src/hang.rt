@@ -101,7 +101,6 @@ impl HangStep {
     }
 
     /// The word that the next step touches, and how.
-    #[inline(never)]
     pub fn access(&self, caller: u32, reads: &[Seen]) -> Access
         ensures { result ≡ hang_access caller (hang_at reads.now self.now) }
     {
@@ -129,7 +128,6 @@ impl HangStep {
     }
 
     /// The step, given what was found.
-    #[inline(never)]
     pub fn answer(&mut self, reads: &[Seen], found: &Found) -> Onward
         ensures onward { result ≡ hang_onward (hang_at reads.now self.old) found.now }
         ensures hang { hang_at reads.now self.new ≡ hang_after (hang_at reads.now self.old) found.now }
@@ -146,7 +144,6 @@ impl HangStep {
 
 impl LeaveStep {
     /// The word that the next step touches, and how.
-    #[inline(never)]
     pub fn access(&self, caller: u32, reads: &[Seen]) -> Access
         ensures { result ≡ leave_access caller (leave_at reads.now self.now) }
     {

@@ -62,7 +62,6 @@ pub enum AidNext {
     Back { onward: Option<Reference> },
 }
 
-#[inline(never)]
 pub fn aid_access(met: Reference, copy: &Aided, step: &AidStep) -> Access
     ensures { result ≡ aid_access met copy.now.lines.items step.now }
 {

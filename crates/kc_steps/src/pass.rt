@@ -127,7 +127,6 @@ pub fn release_at(handle: Handle, lines: &[Line], line: u32, phase: Phase) -> Ac
     }
 }
 
-#[inline(never)]
 pub fn pass_access(handle: Handle, lines: &[Line], step: &PassStep) -> Access
     ensures { result ≡ pass_access handle lines.now step.now }
 {
