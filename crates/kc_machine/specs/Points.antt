@@ -1,5 +1,5 @@
 -- Where a commit has come to that no seat was written for, and the seat there.
-use Rattle.std.specs.Prelude.{ℕ, List, Option, None, Some}
+use Rattle.std.specs.Prelude.{ℕ, List, None, Some}
 use Rattle.kc_words.specs.declared.words.Mode.{Mode}
 use Rattle.kc_steps.specs.declared.line.Line.{Line}
 use Rattle.kc_steps.specs.declared.task.Told.{Told}

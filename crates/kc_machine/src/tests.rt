@@ -1,7 +1,8 @@
 use crate::*;
 use arrayvec::ArrayVec;
 use kc_model::{Footprint, Loc, OpenError, Put, Seen, Word};
-use kc_words::{Access, Mode, Touch};
+use kc_steps::{Pick, first_of, from_install, next_line, second_of};
+use kc_words::{Access, First, Found, Handle, Mode, Second, Touch};
 use std::test::Fail;
 
 fn seen(loc: u32, version: u32, value: u32) -> Seen {
@@ -384,5 +385,104 @@ fn alone_a_commit_of_puts_makes_one_exchange_more_than_it_has_puts(
         assert_eq!(rt; told(&machine, 0), WON);
         assert_eq!(rt; steps(&machine, 0), expected);
     }
+    Ok(())
+}
+
+fn put_line() -> Line {
+    Line {
+        seen: seen(3, 2, 5),
+        put: Some(7),
+    }
+}
+
+fn compared_line() -> Line {
+    Line {
+        seen: seen(2, 1, 4),
+        put: None,
+    }
+}
+
+fn decides(seat: &Seat) -> bool {
+    matches!(
+        seat.access(),
+        Access::Status(0, Touch::CompareExchange { old: _, new: _ })
+    )
+}
+
+#[test]
+fn a_seat_is_written_where_a_commit_has_come_to(rt: HostRuntime) -> Result<(), Fail> {
+    let mut seat = Seat::new(0, 4, 0);
+    let lines = [put_line()];
+    let point = Point {
+        made: 6,
+        calls: 1,
+        stage: Stage::Own {
+            own: Handle {
+                descriptor: 0,
+                generation: 1,
+            },
+            step: OwnStep::Pass(PassStep::Install { line: 0 }),
+        },
+    };
+    seat.stand_at(Mode::Light, &lines, point);
+    assert_eq!(rt;
+        (seat.steps(), seat.calls(), seat.own()),
+        (6, 1, Some((0, 1)))
+    );
+    assert_eq!(rt;
+        (seat.told(), seat.is_idle(), decides(&seat)),
+        (None, false, false)
+    );
+    seat.answer(&Found::Word(Word::Plain {
+        version: 2,
+        value: 5,
+    }));
+    assert_eq!(rt; (seat.steps(), decides(&seat)), (7, true));
+    seat.end_with(11, 1, Told::Succeeded { number: 1 });
+    assert_eq!(rt;
+        (seat.steps(), seat.told(), seat.is_idle()),
+        (11, WON, true)
+    );
+    Ok(())
+}
+
+#[test]
+fn a_seat_tells_what_it_was_made_with(rt: HostRuntime) -> Result<(), Fail> {
+    let seat = Seat::new(2, 10, 6);
+    assert_eq!(rt;
+        (
+            seat.caller(),
+            seat.descriptors(),
+            seat.first(),
+            seat.calls()
+        ),
+        (2, 10, 6, 0)
+    );
+    Ok(())
+}
+
+#[test]
+fn the_lines_of_a_commit_are_found_and_packed(rt: HostRuntime) -> Result<(), Fail> {
+    let lines = [compared_line(), put_line()];
+    assert_eq!(rt; next_line(Pick::Put, Mode::All, &lines, 0), Some(1));
+    assert_eq!(rt; next_line(Pick::Installed, Mode::All, &lines, 0), Some(0));
+    assert_eq!(rt; next_line(Pick::Checked, Mode::Light, &lines, 0), Some(0));
+    assert_eq!(rt; next_line(Pick::Checked, Mode::Light, &lines, 1), None);
+    assert!(rt;
+        matches!(
+            from_install(Mode::Light, &lines, 0),
+            PassStep::Install { line: 1 }
+        )
+    );
+    let first = First {
+        put: true,
+        version: 2,
+        before: 5,
+    };
+    assert_eq!(rt;
+        (first_of(&lines[1]), second_of(&lines[1])),
+        (first, Second { loc: 3, after: 7 })
+    );
+    assert_eq!(rt; (bit_of(3), bit_of(64)), (8, 0));
     Ok(())
 }

@@ -412,6 +412,7 @@ impl Commit {
     {
         let handle = self.own;
         let line = self.line;
+        let phase = self.phase;
         match self.at {
             At::FillOwner => self.fill(0),
             At::FillFirst => self.at = At::FillSecond,
@@ -423,14 +424,8 @@ impl Commit {
                 let probe = self.probe;
                 self.probed(handle, probe, found);
             }
-            At::Decide => {
-                let phase = self.phase;
-                self.decided(handle, phase, found);
-            }
-            At::Release => {
-                let phase = self.phase;
-                self.to_release(after_line(line), phase);
-            }
+            At::Decide => self.decided(handle, phase, found),
+            At::Release => self.to_release(after_line(line), phase),
             At::Aid => {
                 let met = self.met;
                 let aid = self.aid;
@@ -445,7 +440,7 @@ impl Commit {
                 self.owe(owed & owed.saturating_sub(1));
             }
             At::Abandon => return Onward::Tells(Told::Halted),
-            At::Drop => return Onward::Tells(told_of(self.phase, calls)),
+            At::Drop => return Onward::Tells(told_of(phase, calls)),
         }
         Onward::Goes
     }

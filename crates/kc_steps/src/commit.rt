@@ -1,7 +1,7 @@
 //! A commit: its own descriptor is taken, filled and started, then passed over, with aid where a reference is met, and
 //! dropped.
 
-ghost use Rattle.std.specs.Prelude.{◌≡◌, slice_get, true};
+ghost use Rattle.std.specs.Prelude.{◌≡◌, [], slice_get, true};
 ghost use Rattle.kc_steps.specs.declared.commit.Stage.TheVariants.{Scan};
 ghost use Rattle.kc_steps.specs.Lines.{lines_of};
 ghost use Rattle.kc_steps.specs.Commits.{owner_of, fill_first, fill_second, wake_access, commit_access, commit_at, owned, handle_of};
@@ -156,7 +156,9 @@ impl Intent {
 
 impl Commit {
     /// A commit of no lines.
-    pub fn new() -> Commit {
+    pub fn new() -> Commit
+        ensures { result ≡ commit_at Mode.Light [] (Scan 0 0) }
+    {
         let handle = Handle {
             descriptor: 0,
             generation: 0,
