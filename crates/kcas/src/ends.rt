@@ -2,7 +2,10 @@
 //! counts its faults. It tells no bytes of its own, since a reader may come to know its bytes later.
 
 ghost use Rattle.std.specs.Prelude.{◌≡◌, None};
-ghost use Rattle.std.specs.Io.KnownBytes.{ReadConsumes, WriteAppends};
+ghost use Rattle.kcas.specs.Ends.{PassesRead, PassesWrite};
+
+#[cfg(test)]
+mod tests;
 
 use kc_model::{Failed, Sink, Source};
 use std::io::{Read, Write};
@@ -27,7 +30,7 @@ impl<R: Read> Source for StdinSource<R> {
 
     ghost faults = { λ s. s.faults };
 
-    ghost read_gives = { λ before _ result buf after. ReadConsumes (R.remaining before.input) (R.remaining after.input) result buf };
+    ghost read_gives = { PassesRead R.remaining };
 
     #[tactic(auto, unfolding(kc_model::specs::Outside::ahead))]
     fn read(&mut self, buf: &mut [u8]) -> Result<usize, Failed> {
@@ -61,7 +64,7 @@ impl<W: Write> Sink for StdoutSink<W> {
 
     ghost faults = { λ s. s.faults };
 
-    ghost write_gives = { λ before buf result after. WriteAppends (W.contents before.output) (W.contents after.output) result buf };
+    ghost write_gives = { PassesWrite W.contents };
 
     #[tactic(auto, unfolding(kc_model::specs::Outside::behind))]
     // A writer that would take nothing of a piece counts as failed, since writing would not end.

@@ -1,10 +1,19 @@
-//! The line on standard error.
+//! The line on standard error, and the exit number.
+
+ghost use Rattle.std.specs.Prelude.{◌≡◌};
+ghost use Rattle.std.specs.Process.{exit_status};
+ghost use Rattle.kc_top.specs.Numbers.{number};
 
 use kc_top::Status;
+use std::process::ExitCode;
 
-/// Prints what went wrong, where something did. Where even that fails, the exit number still tells.
-pub fn report(rt: &impl Eprint, status: Status) {
+/// Prints what went wrong, where something did, and answers with what the program exits. Where even printing fails,
+/// the exit number still tells.
+pub fn report(rt: &impl Eprint, status: Status) -> ExitCode
+    ensures { exit_status result ≡ number status }
+{
     if status != Status::Done {
         let _ = rt.eprintln(status.line());
     }
+    ExitCode::from(status.number())
 }

@@ -1,23 +1,13 @@
-use crate::ends::{StdinSource, StdoutSink};
 use crate::line::report;
-use kc_model::{Sink, Source};
+use crate::words::words_of;
+use kc_lines::Why;
 use kc_top::Status;
 use std::cell::RefCell;
+use std::env::{Env, FillError};
 use std::fmt::{Display, Write};
-use std::io;
+use std::process::ExitCode;
 use std::test::Fail;
-
-#[test]
-fn a_reader_and_a_writer_are_passed_on(rt: HostRuntime) -> Result<(), Fail> {
-    let mut source = StdinSource::new(b"kcas".as_slice());
-    let mut piece = [0u8; 8];
-    assert_eq!(rt; source.read(&mut piece), Ok(4));
-    assert_eq!(rt; &piece[..4], b"kcas".as_slice());
-    assert_eq!(rt; source.read(&mut piece), Ok(0));
-    let mut sink = StdoutSink::new(Vec::new(rt.alloc()));
-    assert_eq!(rt; sink.write(b"kcas"), Ok(4));
-    Ok(())
-}
+use std::{env, io};
 
 // A standard error that keeps its text.
 struct KeptText(RefCell<String>);
@@ -35,17 +25,75 @@ impl Eprint for KeptText {
 }
 
 #[test]
-fn one_line_is_printed_and_none_where_the_run_is_done(rt: HostRuntime) -> Result<(), Fail> {
+fn each_status_has_its_line_and_its_exit_number(rt: HostRuntime) -> Result<(), Fail> {
+    let script = Status::Script {
+        part: 0,
+        line: 2,
+        why: Why::BadNumber,
+    };
     let rows = [
-        (Status::Done, ""),
-        (Status::ReadFault, "kcas: reading failed\n"),
-        (Status::NoMemory, "kcas: out of memory\n"),
+        (Status::Done, "", 0u8),
+        (
+            Status::Usage,
+            "kcas: usage: kcas run, kcas files SETUP FILE.., or kcas storm N\n",
+            2,
+        ),
+        (script, "kcas: part 0 line 2: bad number\n", 3),
+        (Status::ReadFault, "kcas: reading failed\n", 4),
+        (Status::WriteFault, "kcas: writing failed\n", 5),
+        (Status::NoMemory, "kcas: out of memory\n", 6),
+        (
+            Status::TooLong,
+            "kcas: input longer than 1048576 bytes\n",
+            7,
+        ),
     ];
-    for (status, printed) in rows {
+    for (status, printed, number) in rows {
         let kept = KeptText(RefCell::new(String::new(rt.alloc())));
-        report(&kept, status);
+        let code = report(&kept, status);
         let KeptText(text) = kept;
         assert_eq!(rt; text.into_inner().as_str(), printed);
+        assert!(rt; code == ExitCode::from(number), "{printed}");
     }
+    Ok(())
+}
+
+// A command line of the program's name and a word of these bytes.
+#[derive(Drop)]
+struct OneWord(&'static [u8]);
+
+impl Env for OneWord {
+    fn arg(&self, i: usize, buf: &mut [u8]) -> Result<usize, FillError> {
+        let word: &[u8] = match i {
+            0 => b"kcas",
+            1 => self.0,
+            _ => return Err(FillError::NotPresent),
+        };
+        if buf.len() < word.len() {
+            return Err(FillError::TooLong);
+        }
+        buf[..word.len()].copy_from_slice(word);
+        Ok(word.len())
+    }
+
+    fn var(&self, _name: &str, _buf: &mut [u8]) -> Result<usize, FillError> {
+        Err(FillError::NotPresent)
+    }
+
+    fn var_at(&self, _i: usize, _buf: &mut [u8]) -> Result<usize, FillError> {
+        Err(FillError::NotPresent)
+    }
+}
+
+#[test]
+fn a_word_that_is_not_utf8_is_no_command(rt: HostRuntime) -> Result<(), Fail> {
+    let alloc = rt.alloc();
+    let words = words_of(alloc, env::args(&(OneWord(b"run"), alloc)));
+    let is_run = matches!(&words, Ok(words) if words.len() == 2 && words[1].as_str() == "run");
+    assert!(rt; is_run);
+    let words = words_of(alloc, env::args(&(OneWord(b"r\xffn"), alloc)));
+    assert!(rt; matches!(&words, Err(Status::Usage)));
+    let none = io::Error::from(io::ErrorKind::OutOfMemory);
+    assert!(rt; matches!(&words_of(alloc, Err(none)), Err(Status::NoMemory)));
     Ok(())
 }
