@@ -277,6 +277,7 @@ impl Commit {
         }
     }
 
+    #[cold]
     #[inline(never)]
     fn probed(&mut self, handle: Handle, step: PassStep, found: &Found)
         requires { self.old.stage ≡ Own handle (own.Pass step) }
@@ -296,6 +297,7 @@ impl Commit {
         }
     }
 
+    #[cold]
     #[inline(never)]
     fn aided(&mut self, handle: Handle, line: u32, met: Reference, step: AidStep, found: &Found)
         requires { self.old.stage ≡ Own handle (own.Aid line met step) }

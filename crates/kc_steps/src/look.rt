@@ -134,6 +134,7 @@ fn hold_next(met: Reference, control: Control) -> LookStep
 }
 
 /// What follows a step, given what was found.
+#[inline(always)]
 pub fn look_next(loc: Loc, step: &LookStep, found: &Found) -> LookNext
     ensures { result ≡ look_next loc step.now found.now }
 {
