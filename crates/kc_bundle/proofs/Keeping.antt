@@ -4,41 +4,30 @@ use Rattle.std.specs.Prelude.{None, reverse}
 use Rattle.std.proofs.lemmas.Bool.Decides.{nat_tests}
 use Rattle.kc_model.specs.declared.footprint.Loc.{Loc}
 use Rattle.kc_xt.specs.Meaning.{Touch, too_large, put, last_written, map_after}
-use Rattle.kc_xt.specs.Program.{Program, meaning, replies}
-use Rattle.kc_xt.proofs.Spared.{Spares, spared}
-use Rattle.kc_xt.proofs.Laws.{Below, below-meaning}
+use Rattle.kc_xt.specs.Program.{replies}
+use Rattle.kc_xt.proofs.Spared.{spared}
+use Rattle.kc_xt.proofs.Laws.{below-meaning}
 use Rattle.kc_xt.proofs.Written.{map_after-at, unwritten_above}
 use Rattle.kc_loc.specs.declared.operation.LocOp.{LocOp}
 use Rattle.kc_loc.specs.declared.operation.LocOp.TheVariants as loc
 use Rattle.kc_loc.specs.Meaning.{loc_value}
 use Rattle.kc_loc.proofs.Values.{loc_has_value}
-use Rattle.kc_stack.specs.Meaning.{stack_program}
-use Rattle.kc_stack.proofs.StackLaw.{stack_below, stack_spares}
 use Rattle.kc_stack.proofs.Values.{stack_keeps}
-use Rattle.kc_queue.specs.Meaning.{queue_program}
-use Rattle.kc_queue.proofs.QueueLaw.{act_below as queue_act_below, queue_spares}
 use Rattle.kc_queue.proofs.Values.{queue_has_value}
-use Rattle.kc_cells.specs.Mvar.{mvar_program}
-use Rattle.kc_cells.proofs.MvarLaw.{mvar_below, mvar_spares, mvar_keeps}
-use Rattle.kc_cells.specs.Promise.{promise_program}
-use Rattle.kc_cells.proofs.PromiseLaw.{promise_below, promise_spares, promise_keeps}
-use Rattle.kc_cells.specs.Accumulator.{acc_program}
-use Rattle.kc_cells.proofs.AccLaw.{act_below as acc_act_below, acc_spares}
-use Rattle.kc_hash.specs.Meaning.{hash_program, hash_end}
-use Rattle.kc_hash.proofs.HashLaw.{program_below, program_spares}
+use Rattle.kc_cells.proofs.MvarLaw.{mvar_keeps}
+use Rattle.kc_cells.proofs.PromiseLaw.{promise_keeps}
 use Rattle.kc_hash.proofs.Values.{hash_keeps}
-use Rattle.kc_cache.specs.Meaning.{cache_program}
-use Rattle.kc_cache.proofs.CacheLaw.{cache_below, cache_spares}
-use Rattle.kc_cache.proofs.Values.{cache_has_value}
+use Rattle.kc_cache.proofs.Values.{cache_keeps}
 use Rattle.kc_bundle.specs.declared.object.Object.{Object}
 use Rattle.kc_bundle.specs.declared.object.Object.TheVariants as object
 use Rattle.kc_bundle.specs.declared.operation.Op.{Op}
 use Rattle.kc_bundle.specs.declared.operation.Op.TheVariants as op
 use Rattle.kc_bundle.specs.Script.{Names, base, cells, HasObject, LieFrom, AreSized}
 use Rattle.kc_bundle.specs.On.{IsOn, LocIsOn, IsLocation}
-use Rattle.kc_bundle.specs.Meaning.{op_meaning}
+use Rattle.kc_bundle.specs.Meaning.{op_program, op_meaning}
 use Rattle.kc_bundle.specs.State.{Content, number, items, place, pairs, Stands, AreWellFormed}
-use Rattle.kc_bundle.proofs.Having.{has_place, has_sizes}
+use Rattle.kc_bundle.proofs.Having.{has_place}
+use Rattle.kc_bundle.proofs.Own.{first_of, behind_of, op_keeps_to}
 use Rattle.kc_bundle.proofs.Standing.{stands_same}
 
 -- an object's cells stand for some content
@@ -73,12 +62,13 @@ one_changes o m w before behind keeps at (entry ∷ names) lie (inr has) (c ∷ 
 unwritten : (m : ℕ → ℕ) (ts : List Touch) (l : ℕ) → last_written ts l ≡ None → m l ≡ map_after m ts l
 unwritten m ts l h = let e = map_after-at m ts l in sym (rw h at e)
 
--- a program that writes to one object's cells alone
-program_keeps : (o : Object) (p : Program) (n : ℕ) (m : ℕ → ℕ) (ks : List ℕ) → ((l : ℕ) → l < base o → Spares l p) → Below (base o + cells o) p → (IsWell o m → IsWell o (map_after m (meaning p n m ks).touches))
-    → (names : Names) → LieFrom 1 names → HasObject names o → AreWellFormed names m → AreWellFormed names (map_after m (meaning p n m ks).touches)
-program_keeps o p n m ks spares below keeps names lie has well =
-    let ts = (meaning p n m ks).touches in
-    one_changes o m (map_after m ts) (λ l lt. unwritten m ts l (spared l p n m ks (spares l lt))) (λ l le. unwritten m ts l (unwritten_above (base o + cells o) ts l (below-meaning (base o + cells o) p n m ks below) le)) keeps 1 names lie has well
+-- an operation on one object that keeps that one well formed
+object_keeps : (names : Names) → LieFrom 1 names → AreSized names → (o : Op) (x : Object) → IsOn names o → HasObject names x → base x ≡ first_of o → base x + cells x ≡ behind_of o → (n : ℕ) (m : ℕ → ℕ) (ks : List ℕ) → (IsWell x m → IsWell x (map_after m (op_meaning o n m ks).touches))
+    → AreWellFormed names m → AreWellFormed names (map_after m (op_meaning o n m ks).touches)
+object_keeps names lie sized o x on has first last n m ks keeps well =
+    let ts = (op_meaning o n m ks).touches in
+    let own = op_keeps_to names sized o on in
+    one_changes x m (map_after m ts) (λ l lt. unwritten m ts l (spared l (op_program o replies) n m ks (own.spares l (omega (arith, first, lt))))) (λ l le. unwritten m ts l (unwritten_above (behind_of o) ts l (below-meaning (behind_of o) (op_program o replies) n m ks own.below) (omega (arith, last, le)))) keeps 1 names lie has well
 
 -- ---- locations
 
@@ -111,41 +101,16 @@ module _ (names : Names) (lie : LieFrom 1 names) (sized : AreSized names) where
 
   pub op_keeps : (o : Op) (n : ℕ) (m : ℕ → ℕ) (ks : List ℕ) → IsOn names o → AreWellFormed names m → (op_meaning o n m ks).outcome ≢ too_large → AreWellFormed names (map_after m (op_meaning o n m ks).touches)
   op_keeps (op.Loc o) n m ks on well ne = subst (AreWellFormed names) (sym (loc_has_value o n m ks ne).1) (value_keeps o m on well)
-  op_keeps (op.Stack o) n m ks on well ne =
-      let x = object.Stack o.stack in
-      let p = stack_program o.stack o.act replies in
-      let keeps : IsWell x m → IsWell x (map_after m (meaning p n m ks).touches) = λ (c, (xs, h, e)). let k = stack_keeps o n m ks (xs, h) ne in (items (reverse k.0), (k.0, k.1, refl)) in
-      program_keeps x p n m ks (stack_spares o) (subst (λ b. Below b p) (omega arith) (stack_below o)) keeps names lie on well
-  op_keeps (op.Queue o) n m ks on well ne =
-      let x = object.Queue o.queue in
-      let p = queue_program o.queue o.act replies in
-      let keeps : IsWell x m → IsWell x (map_after m (meaning p n m ks).touches) = λ (c, (xs, h, e)). let k = queue_has_value o n m ks xs h ne in (items _, (_, k.1, refl)) in
-      program_keeps x p n m ks (queue_spares o) (subst (λ b. Below b p) (omega arith) (queue_act_below o.queue o.act (let z = has_sizes names x sized on in omega (arith, z.0)))) keeps names lie on well
-  op_keeps (op.Mvar o) n m ks on well ne =
-      let x = object.Mvar o.mvar in
-      let p = mvar_program o.mvar o.act replies in
-      let keeps : IsWell x m → IsWell x (map_after m (meaning p n m ks).touches) = λ (c, (v, h, e)). let k = mvar_keeps o n m ks (v, h) ne in (place k.0, (k.0, k.1, refl)) in
-      program_keeps x p n m ks (mvar_spares o) (mvar_below o) keeps names lie on well
-  op_keeps (op.Promise o) n m ks on well ne =
-      let x = object.Promise o.promise in
-      let p = promise_program o.promise o.act replies in
-      let keeps : IsWell x m → IsWell x (map_after m (meaning p n m ks).touches) = λ (c, (v, h, e)). let k = promise_keeps o n m ks (v, h) ne in (place k.0, (k.0, k.1, refl)) in
-      program_keeps x p n m ks (promise_spares o) (promise_below o) keeps names lie on well
-  op_keeps (op.Acc o) n m ks on well ne =
-      let x = object.Acc o.acc in
-      let p = acc_program o.acc o.act replies in
-      let keeps : IsWell x m → IsWell x (map_after m (meaning p n m ks).touches) = λ h. (number _, (_, refl, refl)) in
-      program_keeps x p n m ks (acc_spares o) (acc_act_below o.acc o.act (let z = has_sizes names x sized on in omega (arith, z.0))) keeps names lie on well
-  op_keeps (op.Hash o) n m ks on well ne =
-      let x = object.Hash o.hash in
-      let p = hash_program o.hash o.act replies in
-      let keeps : IsWell x m → IsWell x (map_after m (meaning p n m ks).touches) = λ (c, (ps, h, e)). let k = hash_keeps o n m ks (ps, h) ne in (pairs k.0, (k.0, k.1, refl)) in
-      let some = (has_sizes names x sized on).0 in
-      let spares : (l : ℕ) → l < o.hash.base.0 → Spares l p = λ l lt. program_spares o.hash some l (λ k lo hi e. omega (arith, lt, lo, e)) o.act replies (λ r. tt) in
-      program_keeps x p n m ks spares (subst (λ b. Below b p) (omega arith) (program_below o.hash some (hash_end o) (omega arith) o.act replies (λ r. tt))) keeps names lie on well
-  op_keeps (op.Cache o) n m ks on well ne =
-      let x = object.Cache o.cache in
-      let p = cache_program o.cache o.act replies in
-      let keeps : IsWell x m → IsWell x (map_after m (meaning p n m ks).touches) = λ (c, (ps, h, e)). (pairs _, (_, (cache_has_value o n m ks ps h ne).1, refl)) in
-      let some = (has_sizes names x sized on).0 in
-      program_keeps x p n m ks (cache_spares o some) (subst (λ b. Below b p) (omega arith) (cache_below o some)) keeps names lie on well
+  op_keeps (op.Stack o) n m ks on well ne = object_keeps names lie sized (op.Stack o) (object.Stack o.stack) on on refl (omega arith) n m ks
+      (λ (c, (xs, h, e)). let k = stack_keeps o n m ks (xs, h) ne in (items (reverse k.0), (k.0, k.1, refl))) well
+  op_keeps (op.Queue o) n m ks on well ne = object_keeps names lie sized (op.Queue o) (object.Queue o.queue) on on refl (omega arith) n m ks
+      (λ (c, (xs, h, e)). let k = queue_has_value o n m ks xs h ne in (items _, (_, k.1, refl))) well
+  op_keeps (op.Mvar o) n m ks on well ne = object_keeps names lie sized (op.Mvar o) (object.Mvar o.mvar) on on refl refl n m ks
+      (λ (c, (v, h, e)). let k = mvar_keeps o n m ks (v, h) ne in (place k.0, (k.0, k.1, refl))) well
+  op_keeps (op.Promise o) n m ks on well ne = object_keeps names lie sized (op.Promise o) (object.Promise o.promise) on on refl refl n m ks
+      (λ (c, (v, h, e)). let k = promise_keeps o n m ks (v, h) ne in (place k.0, (k.0, k.1, refl))) well
+  op_keeps (op.Acc o) n m ks on well ne = object_keeps names lie sized (op.Acc o) (object.Acc o.acc) on on refl refl n m ks (λ h. (number _, (_, refl, refl))) well
+  op_keeps (op.Hash o) n m ks on well ne = object_keeps names lie sized (op.Hash o) (object.Hash o.hash) on on refl (omega arith) n m ks
+      (λ (c, (ps, h, e)). let k = hash_keeps o n m ks (ps, h) ne in (pairs k.0, (k.0, k.1, refl))) well
+  op_keeps (op.Cache o) n m ks on well ne = object_keeps names lie sized (op.Cache o) (object.Cache o.cache) on on refl (omega arith) n m ks
+      (λ (c, (ps, h, e)). let k = cache_keeps o n m ks (ps, h) ne in (pairs k.0, (k.0, k.1, refl))) well

@@ -3,6 +3,7 @@ pub mod Entries
 pub mod Having
 pub mod Standing
 pub mod Opened
+pub mod Own
 pub mod Keeping
 pub mod Fitting
 pub mod Commands

@@ -40,7 +40,7 @@ stands_same (object.Mvar x) m w c same (v, h, e) = (v, mvar_same x m w v same h,
 stands_same (object.Promise p) m w c same (v, h, e) = (v, promise_same p m w v same h, e)
 stands_same (object.Acc a) m w c same (t, h, e) = (t, acc_same a m w t same h, e)
 stands_same (object.Hash x) m w c same (ps, h, e) = (ps, same_cells x m ps h w (λ l lo hi. same l lo (omega (arith, hi))), e)
-stands_same (object.Cache x) m w c same (ps, h, e) = (ps, cache_same x m w ps (λ l lo hi. sym (same l lo (omega (arith, hi)))) h, e)
+stands_same (object.Cache x) m w c same (ps, h, e) = (ps, cache_same x m w ps (λ l lo hi. same l lo (omega (arith, hi))) h, e)
 
 -- ---- it is shown, so it is one
 
@@ -105,4 +105,4 @@ stands_opened (object.Mvar x) m sized h = (None, holds_opened x.base.0 m h, refl
 stands_opened (object.Promise p) m sized h = (None, holds_opened p.base.0 m h, refl)
 stands_opened (object.Acc a) m sized h = (0, acc_opens a m h, refl)
 stands_opened (object.Hash x) m sized h = ([], hash_opens x m h sized.0 sized.2, refl)
-stands_opened (object.Cache x) m sized h = ([], cache_opens x m (record { buckets = sized.0; some = sized.2; opens = h }), refl)
+stands_opened (object.Cache x) m sized h = ([], cache_opens x m sized.0 sized.2 h, refl)

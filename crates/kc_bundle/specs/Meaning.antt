@@ -1,17 +1,18 @@
 -- What commands mean, and what a thread commits.
 use Rattle.std.specs.Prelude.{ℕ, ◌==◌, cond}
+use Rattle.kc_model.specs.declared.reply.Reply.{Reply}
 use Rattle.kc_model.specs.declared.reply.Reply.TheVariants as reply
 use Rattle.kc_xt.specs.Meaning.{Meaning, first_meaning}
 use Rattle.kc_xt.specs.Program.{Program, read, replies, retries, meaning}
 use Rattle.kc_loc.specs.declared.operation.LocOp.TheVariants as loc
-use Rattle.kc_loc.specs.Meaning.{loc_meaning, loc_end, LocIsFit}
-use Rattle.kc_stack.specs.Meaning.{stack_meaning, stack_end, StackIsFit}
-use Rattle.kc_queue.specs.Meaning.{queue_meaning, queue_end, QueueIsFit}
-use Rattle.kc_cells.specs.Mvar.{mvar_meaning, mvar_end, MvarIsFit}
-use Rattle.kc_cells.specs.Promise.{promise_meaning, promise_end, PromiseIsFit}
-use Rattle.kc_cells.specs.Accumulator.{acc_meaning, acc_end, AccIsFit}
-use Rattle.kc_hash.specs.Meaning.{hash_meaning, hash_end, HashIsFit}
-use Rattle.kc_cache.specs.Meaning.{cache_meaning, cache_end, CacheIsFit}
+use Rattle.kc_loc.specs.Meaning.{loc_program, loc_meaning, loc_end, LocIsFit}
+use Rattle.kc_stack.specs.Meaning.{stack_program, stack_end, StackIsFit}
+use Rattle.kc_queue.specs.Meaning.{queue_program, queue_end, QueueIsFit}
+use Rattle.kc_cells.specs.Mvar.{mvar_program, mvar_end, MvarIsFit}
+use Rattle.kc_cells.specs.Promise.{promise_program, promise_end, PromiseIsFit}
+use Rattle.kc_cells.specs.Accumulator.{acc_program, acc_end, AccIsFit}
+use Rattle.kc_hash.specs.Meaning.{hash_program, hash_end, HashIsFit}
+use Rattle.kc_cache.specs.Meaning.{cache_program, cache_end, CacheIsFit}
 use Rattle.kc_term.specs.Tree.{operations}
 use Rattle.kc_term.specs.Meaning.{term_meaning, greatest_end}
 use Rattle.kc_term.specs.Fit.{AreFit}
@@ -22,15 +23,19 @@ use Rattle.kc_bundle.specs.declared.operation.Command.TheVariants as command
 
 -- ---- an operation
 
+-- what it does, and what comes behind its reply
+abbrev pub op_program : Op → (Reply → Program) → Program
+op_program (op.Loc o) = loc_program o
+op_program (op.Stack o) = stack_program o.stack o.act
+op_program (op.Queue o) = queue_program o.queue o.act
+op_program (op.Mvar o) = mvar_program o.mvar o.act
+op_program (op.Promise o) = promise_program o.promise o.act
+op_program (op.Acc o) = acc_program o.acc o.act
+op_program (op.Hash o) = hash_program o.hash o.act
+op_program (op.Cache o) = cache_program o.cache o.act
+
 abbrev pub op_meaning : Op → Meaning
-op_meaning (op.Loc o) = loc_meaning o
-op_meaning (op.Stack o) = stack_meaning o
-op_meaning (op.Queue o) = queue_meaning o
-op_meaning (op.Mvar o) = mvar_meaning o
-op_meaning (op.Promise o) = promise_meaning o
-op_meaning (op.Acc o) = acc_meaning o
-op_meaning (op.Hash o) = hash_meaning o
-op_meaning (op.Cache o) = cache_meaning o
+op_meaning o = meaning (op_program o replies)
 
 -- a number above its locations
 abbrev pub op_end : Op → ℕ

@@ -16,6 +16,6 @@ pub use bundle::Bundle;
 pub use laws::{contents_are_one, fits, keeps_well_formed, opens_well_formed, shows_its_contents, spares_zero};
 pub use object::Object;
 pub use operation::{Command, Op};
-pub use place::{base, cells};
+pub use place::cells;
 pub use start::opening;
 pub use state::{put_state, write_state};

@@ -1,11 +1,12 @@
 -- Listed nodes, the map of their keys, and their pairs.
 use Rattle.std.proofs.Common.{◌≡◌, ◌≢◌, ℕ, suc, ◌<◌, ◌≤◌, ◌==◌, Bool, true, false, List, [], ◌∷◌, length, map, Some, None, refl, sym, ap, ◌∙◌, subst, arith}
 use Rattle.std.proofs.lemmas.Bool.{eqb-true, eqb-false, eq-eqb, ne_eqb}
+use Rattle.kc_xt.specs.Times.{times}
+use Rattle.kc_xt.proofs.Times.{times-here, times-append, has_here, has_rest, has_later}
 use Rattle.kc_model.specs.declared.reply.Reply.TheVariants as reply
 use Rattle.kc_hash.specs.Content.{with_pair, without_key, value_at}
 use Rattle.kc_hash.proofs.FiniteMaps.{with_pair-comm, value_at-with, value_at-other, without-with, length-with}
-use Rattle.kc_dllist.specs.Content.{Listed, numbers, times, payload_of, without, last_reply}
-use Rattle.kc_dllist.proofs.Times.{times-here, times-append, among_here, among_more, among_rest}
+use Rattle.kc_dllist.specs.Content.{Listed, numbers, payload_of, without, last_reply}
 use Rattle.kc_cache.specs.Content.{keys, index_of, without_last}
 
 -- the pairs of listed nodes, by the value of each node
@@ -20,11 +21,11 @@ pub differ_rest : (x : ℕ) (xs : List ℕ) → Differ (x ∷ xs) → Differ xs
 differ_rest x xs h i = let a = times-append i (x ∷ []) xs in let o = h i in omega (arith, a, o)
 
 pub differ_head : (x : ℕ) (xs : List ℕ) → Differ (x ∷ xs) → times x xs ≡ 0
-differ_head x xs h = let a = times-here x xs in let o = h x in omega (arith, a, o)
+differ_head x xs h = let a = times-here x x xs refl in let o = h x in omega (arith, a, o)
 
 -- what does not stand in a list is neither its first number nor behind it
 not_first : (i x : ℕ) (xs : List ℕ) → times i (x ∷ xs) ≡ 0 → x ≢ i
-not_first i x xs h e = let a = among_here x xs in let b = ap (λ k. times k (x ∷ xs)) e in omega (arith, a, b, h)
+not_first i x xs h e = let a = has_here x xs in let b = ap (λ k. times k (x ∷ xs)) e in omega (arith, a, b, h)
 
 not_behind : (i x : ℕ) (xs : List ℕ) → times i (x ∷ xs) ≡ 0 → times i xs ≡ 0
 not_behind i x xs h = let a = times-append i (x ∷ []) xs in omega (arith, a, h)
@@ -66,7 +67,7 @@ first_entry v x xs key e =
     record {
       node = x.node;
       indexed = subst (λ k. value_at (index_of (x ∷ xs)) k ≡ Some x.node) e (value_at-with (index_of xs) x.payload x.node);
-      listed = among_here x.node (numbers xs);
+      listed = has_here x.node (numbers xs);
       payload = rw same e;
       held = rw here refl;
       rest = rw (here, same) refl;
@@ -84,7 +85,7 @@ later_entry v x xs key ne out r =
     record {
       node = r.node;
       indexed = value_at-other (index_of xs) x.payload x.node key ne ∙ r.indexed;
-      listed = among_more r.node x.node (numbers xs) r.listed;
+      listed = has_rest x.node r.node (numbers xs) r.listed;
       payload = rw other r.payload;
       held = rw miss r.held;
       rest = rw (miss, other) (ap (λ ps. (x.payload, v x.node) ∷ ps) r.rest);
@@ -108,12 +109,12 @@ entry v (x ∷ xs) key n h = by_test (entry v xs key (differ_rest x.node (number
   where
     by_test : (0 < times key (keys xs) → Entry v xs key) → (t : Bool) → (x.payload == key) ≡ t → Entry v (x ∷ xs) key
     by_test rest true e = first_entry v x xs key (eqb-true x.payload key e)
-    by_test rest false e = let ne = eqb-false x.payload key e in later_entry v x xs key ne (differ_head x.node (numbers xs) n) (rest (among_rest key x.payload (keys xs) ne h))
+    by_test rest false e = let ne = eqb-false x.payload key e in later_entry v x xs key ne (differ_head x.node (numbers xs) n) (rest (has_later x.payload key (keys xs) ne h))
 
 -- a key that was taken out is not there
 pub entry_gone : (v : ℕ → ℕ) (xs : List Listed) (key : ℕ) (r : Entry v xs key) → Differ (keys xs) → times key (keys (without r.node xs)) ≡ 0
 entry_gone v xs key r h =
-    let a = times-here key (keys (without r.node xs)) in
+    let a = times-here key key (keys (without r.node xs)) refl in
     let b = r.times key in
     let o = h key in
     omega (arith, a, b, o)
@@ -141,7 +142,7 @@ pub last_key : (v : ℕ → ℕ) (x : Listed) (xs : List Listed) → Differ (key
 last_key v x [] h = record {
   key = x.payload;
   reply = refl;
-  there = among_here x.payload [];
+  there = has_here x.payload [];
   rest = rw (eq-eqb x.payload x.payload refl) refl;
 }
 last_key v x (y ∷ ys) h =
@@ -150,6 +151,6 @@ last_key v x (y ∷ ys) h =
     record {
       key = r.key;
       reply = r.reply;
-      there = among_more r.key x.payload (keys (y ∷ ys)) r.there;
+      there = has_rest x.payload r.key (keys (y ∷ ys)) r.there;
       rest = rw (ne_eqb x.payload r.key (λ e. (let t = r.there in let z = ap (λ j. times j (keys (y ∷ ys))) e in omega (arith, t, z, out)))) (ap (λ ps. (x.payload, v x.node) ∷ ps) r.rest);
     }

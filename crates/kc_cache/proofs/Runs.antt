@@ -1,6 +1,8 @@
 -- The plain run of each operation on cells that stand for pairs, whatever comes behind it.
-use Rattle.std.proofs.Common.{◌≡◌, ◌≢◌, ℕ, suc, ◌+◌, ◌<◌, ◌≤◌, ◌==◌, Bool, true, false, cond, List, [], ◌∷◌, length, Some, None, refl, sym, ap, ap₂, ◌∙◌, subst, arith}
-use Rattle.std.proofs.lemmas.Bool.{ne_eqb, eqb-true}
+use Rattle.std.proofs.Common.{◌≡◌, ◌≢◌, ℕ, suc, ◌+◌, ◌<◌, ◌≤◌, ◌==◌, Bool, true, false, cond, List, [], ◌∷◌, length, Some, None, refl, sym, ap, ap₂, ◌∙◌, subst, arith, inl, inr}
+use Rattle.std.proofs.lemmas.Bool.{ne_eqb, cases_eq}
+use Rattle.kc_xt.specs.Times.{times}
+use Rattle.kc_xt.proofs.Times.{times-here, times-there, times-append, has_here, apart}
 use Rattle.kc_model.specs.declared.reply.Reply.{Reply}
 use Rattle.kc_model.specs.declared.reply.Reply.TheVariants as reply
 use Rattle.kc_xt.specs.Meaning.{Outcome, replied, put}
@@ -12,8 +14,8 @@ use Rattle.kc_hash.specs.Content.{after, without_key, found_reply, put_value}
 use Rattle.kc_hash.proofs.FiniteMaps.{without-none}
 use Rattle.kc_dllist.specs.declared.operation.DllistAct.TheVariants as list
 use Rattle.kc_dllist.specs.Meaning.{dllist_program, IsNode}
-use Rattle.kc_dllist.specs.Content.{Listed, Content, numbers, times, payload_of, without}
-use Rattle.kc_dllist.proofs.Times.{times-append, times-here, times-less, among_here, apart, less}
+use Rattle.kc_dllist.specs.Content.{Listed, Content, numbers, payload_of, without}
+use Rattle.kc_dllist.proofs.Times.{times-less, less}
 use Rattle.kc_dllist.proofs.Rings.{put_here, put_else}
 use Rattle.kc_dllist.proofs.Cells.{node_as_is}
 use Rattle.kc_dllist.proofs.Standing.{listed_node, free_node, listed_once, not_listed, numbers-without}
@@ -71,7 +73,7 @@ module _ (c : Cache) (m : ℕ → ℕ) (l : Content) (s : ℕ) (v : ℕ → ℕ)
     gone_out =
         let o = listed_once (order_of c) (numbers xs) l.free S.list.each i in
         let t = times-less i i (numbers xs) e.listed in
-        let h = times-here i (less i (numbers xs)) in
+        let h = times-here i i (less i (numbers xs)) refl in
         let n = ap (times i) (numbers-without i xs) in
         omega (arith, o, t, h, n)
 
@@ -207,20 +209,19 @@ module _ (c : Cache) (m : ℕ → ℕ) (xs : List Listed) (f : ℕ) (fs : List �
   entered = record { listed = new; free = fs }
 
   new_node : IsNode (order_of c) f
-  new_node = free_node (order_of c) (numbers xs) (f ∷ fs) S.list.each f (among_here f fs)
+  new_node = free_node (order_of c) (numbers xs) (f ∷ fs) S.list.each f (has_here f fs)
 
   new_some : f ≢ 0
   new_some z = let n = new_node in omega (arith, n, z)
 
   new_out : times f (numbers xs) ≡ 0
-  new_out = not_listed (order_of c) (numbers xs) (f ∷ fs) S.list.each f (among_here f fs)
+  new_out = not_listed (order_of c) (numbers xs) (f ∷ fs) S.list.each f (has_here f fs)
 
   pub new_differ : Differ (keys new)
-  new_differ k = let a = times-append k (key ∷ []) (keys xs) in by_test k (k == key) refl
-    where
-      by_test : (k : ℕ) (t : Bool) → (k == key) ≡ t → cond t (suc (times k (keys xs))) (times k (keys xs)) ≤ 1
-      by_test k true e = let z = ap (λ j. times j (keys xs)) (eqb-true k key e) in omega (arith, z, none)
-      by_test k false e = differ k
+  new_differ k = elim (cases_eq key k) [
+    | inl e ↦ let z = ap (λ j. times j (keys xs)) e in let a = times-here key k (keys xs) e in omega (arith, a, z, none)
+    | inr ne ↦ let a = times-there key k (keys xs) ne in let b = differ k in omega (arith, a, b)
+  ]
 
   push_step : Step c (dllist_program (order_of c) (list.PushFront key)) m (replied (reply.Value f)) entered (index_of xs) s v
   push_step = on_list c m _ (index_of xs) s v S (list.PushFront key) tt

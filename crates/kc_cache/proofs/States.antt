@@ -1,6 +1,8 @@
 -- What stands in a cache's cells between the steps of an operation, and what each step makes of it.
 use Rattle.std.proofs.Common.{◌≡◌, ℕ, ◌-◌, ◌<◌, ◌≤◌, ◌==◌, Bool, true, false, cond, List, [], ◌∷◌, length, refl, sym, ap, ap₂, ◌∙◌, subst, arith}
 use Rattle.std.proofs.lemmas.Bool.{eqb-true, eqb-false}
+use Rattle.kc_xt.specs.Times.{times}
+use Rattle.kc_xt.proofs.Times.{has_here, has_rest}
 use Rattle.kc_model.specs.declared.reply.Reply.{Reply}
 use Rattle.kc_xt.specs.Meaning.{Outcome, put}
 use Rattle.kc_xt.specs.Program.{Program, plain}
@@ -12,8 +14,7 @@ use Rattle.kc_hash.proofs.Values.{hash_inside}
 use Rattle.kc_hash.proofs.Kept.{same_cells}
 use Rattle.kc_dllist.specs.declared.operation.DllistAct.{DllistAct}
 use Rattle.kc_dllist.specs.Meaning.{dllist_program, IsNode}
-use Rattle.kc_dllist.specs.Content.{Listed, Content, numbers, times, dllist_value, NamesListed, StandsFor as ListStandsFor}
-use Rattle.kc_dllist.proofs.Times.{among_here, among_more}
+use Rattle.kc_dllist.specs.Content.{Listed, Content, numbers, dllist_value, NamesListed, StandsFor as ListStandsFor}
 use Rattle.kc_dllist.proofs.Rings.{put_here, put_else}
 use Rattle.kc_dllist.proofs.Standing.{listed_node}
 use Rattle.kc_dllist.proofs.Values.{dllist_same, dllist_inside}
@@ -87,7 +88,7 @@ module _ (c : Cache) (m : ℕ → ℕ) (l : Content) (t : List (ℕ × ℕ)) (s 
 -- the pairs, by values that agree at the listed nodes
 pub pairs_same : (v w : ℕ → ℕ) (xs : List Listed) → ((i : ℕ) → 0 < times i (numbers xs) → v i ≡ w i) → pairs_by v xs ≡ pairs_by w xs
 pairs_same v w [] f = refl
-pairs_same v w (x ∷ xs) f = ap₂ (λ n ps. (x.payload, n) ∷ ps) (f x.node (among_here x.node (numbers xs))) (pairs_same v w xs (λ i h. f i (among_more i x.node (numbers xs) h)))
+pairs_same v w (x ∷ xs) f = ap₂ (λ n ps. (x.payload, n) ∷ ps) (f x.node (has_here x.node (numbers xs))) (pairs_same v w xs (λ i h. f i (has_rest x.node i (numbers xs) h)))
 
 -- a state whose table is that of the list stands for its pairs
 pub stands : (c : Cache) (m : ℕ → ℕ) (l : Content) (t : List (ℕ × ℕ)) (s : ℕ) (v : ℕ → ℕ) → 1 ≤ c.cap → State c m l t s v → Differ (keys l.listed) → t ≡ index_of l.listed → s ≡ c.cap - length l.listed → StandsFor c m (pairs_by v l.listed)

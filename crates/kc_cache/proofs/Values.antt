@@ -2,6 +2,8 @@
 use Rattle.std.proofs.Common.{◌≡◌, ◌≢◌, ℕ, suc, ◌+◌, ◌-◌, ◌<◌, ◌≤◌, ◌==◌, Bool, true, false, cond, List, [], ◌∷◌, length, Option, None, refl, sym, ap, ap₂, ◌∙◌, subst, arith, inl, inr}
 use Rattle.std.proofs.lemmas.Bool.{cases_lt, ne_eqb, eq-eqb, eqb-true, eqb-false}
 use Rattle.std.proofs.lemmas.List.{length-map}
+use Rattle.kc_xt.specs.Times.{times}
+use Rattle.kc_xt.proofs.Times.{times-append}
 use Rattle.kc_model.specs.declared.reply.Reply.{Reply}
 use Rattle.kc_model.specs.declared.reply.Reply.TheVariants as reply
 use Rattle.kc_xt.specs.Meaning.{put, replied, retried}
@@ -12,8 +14,7 @@ use Rattle.kc_xt.proofs.Structures.{runs_means, means_keeps}
 use Rattle.kc_hash.specs.Content.{without_key, value_at, found_reply}
 use Rattle.kc_hash.proofs.FiniteMaps.{without-none}
 use Rattle.kc_dllist.specs.declared.operation.DllistAct.TheVariants as list
-use Rattle.kc_dllist.specs.Content.{Listed, Content, numbers, times, without}
-use Rattle.kc_dllist.proofs.Times.{times-append}
+use Rattle.kc_dllist.specs.Content.{Listed, Content, numbers, without}
 use Rattle.kc_dllist.proofs.Rings.{put_here}
 use Rattle.kc_dllist.proofs.Standing.{listed_once}
 use Rattle.kc_dllist.proofs.Counts.{all_nodes}
@@ -21,7 +22,7 @@ use Rattle.kc_cache.specs.declared.cache.Cache.{Cache}
 use Rattle.kc_cache.specs.declared.operation.CacheAct.{CacheAct}
 use Rattle.kc_cache.specs.declared.operation.CacheAct.TheVariants as act
 use Rattle.kc_cache.specs.declared.operation.CacheOp.{CacheOp}
-use Rattle.kc_cache.specs.Meaning.{cache_program, cache_meaning, cache_begin, cache_end, order_of, space_cell, value_cell, counted, oldest_program, replace_program, enter_program, add_program, put_program, get_program, del_program, length_program}
+use Rattle.kc_cache.specs.Meaning.{cache_program, cache_meaning, cache_begin, cells_end, order_of, space_cell, value_cell, counted, oldest_program, replace_program, enter_program, add_program, put_program, get_program, del_program, length_program}
 use Rattle.kc_cache.specs.Content.{keys, index_of, without_last, used, added, put_value, cache_value, StandsFor}
 use Rattle.kc_cache.proofs.CacheLaw.{cache_stays}
 use Rattle.kc_cache.proofs.Index.{pairs_by, Differ, pairs_none, Entry, entry, entry_differ, last_key}
@@ -236,7 +237,7 @@ module _ (c : Cache) (m : ℕ → ℕ) (l : Content) (v : ℕ → ℕ) (some : 1
   act_value act.Len = length_value c m l v some S differ
 
 -- inside any longer program it does so, and leaves all else as it was
-pub cache_inside : (o : CacheOp) (pairs : List (ℕ × ℕ)) → RunsInsideOthers (StandsFor o.cache) (cache_begin o) (cache_end o) (cache_program o.cache o.act) pairs (cache_value o.cache o.act pairs)
+pub cache_inside : (o : CacheOp) (pairs : List (ℕ × ℕ)) → RunsInsideOthers (StandsFor o.cache) (cache_begin o) (cells_end o.cache) (cache_program o.cache o.act) pairs (cache_value o.cache o.act pairs)
 cache_inside o pairs m s =
     let Q : List (ℕ × ℕ) → Type 0 = λ ps. Has o.cache (cache_program o.cache o.act) m (cache_value o.cache o.act ps) in
     runs_to (cache_stays o s.indexed.some) (subst Q (sym s.holds) (act_value o.cache m s.order (λ i. m (value_cell o.cache i)) s.some (state o.cache m pairs s) s.differ o.act))

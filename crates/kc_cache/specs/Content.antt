@@ -4,7 +4,8 @@ use Rattle.kc_model.specs.declared.reply.Reply.TheVariants as reply
 use Rattle.kc_xt.specs.Meaning.{replied, retried}
 use Rattle.kc_xt.specs.Structure.{Value, comes_to}
 use Rattle.kc_hash.specs.Content.{with_pair, without_key, value_at, found_reply, StandsFor as TableStandsFor}
-use Rattle.kc_dllist.specs.Content.{Listed, Content, times, walked, StandsFor as ListStandsFor}
+use Rattle.kc_xt.specs.Times.{times}
+use Rattle.kc_dllist.specs.Content.{Listed, Content, walked, StandsFor as ListStandsFor}
 use Rattle.kc_cache.specs.declared.cache.Cache.{Cache}
 use Rattle.kc_cache.specs.declared.operation.CacheAct.{CacheAct}
 use Rattle.kc_cache.specs.declared.operation.CacheAct.TheVariants as act

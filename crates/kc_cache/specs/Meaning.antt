@@ -1,5 +1,5 @@
 -- What the operations on a cache mean, for every content of its cells.
-use Rattle.std.specs.Prelude.{ℕ, ◌+◌, ◌-◌, ◌*◌, ◌≤◌, ◌==◌, nat_lt, min, Bool, true, false, cond, Option, Some, None}
+use Rattle.std.specs.Prelude.{ℕ, ◌+◌, ◌-◌, ◌*◌, ◌^◌, ◌≤◌, ◌==◌, nat_lt, min, Bool, true, false, cond, Option, Some, None}
 use Rattle.kc_model.specs.declared.reply.Reply.{Reply}
 use Rattle.kc_model.specs.declared.reply.Reply.TheVariants as reply
 use Rattle.kc_xt.specs.Meaning.{Meaning}
@@ -163,8 +163,9 @@ cache_program c act.Len = length_program c
 abbrev pub cache_meaning : CacheOp → Meaning
 cache_meaning o = meaning (cache_program o.cache o.act replies)
 
+-- a number above its locations, where a number of its type is
 abbrev pub cache_end : CacheOp → ℕ
-cache_end o = cells_end o.cache
+cache_end o = min (cells_end o.cache) (2 ^ 32 - 1)
 
 -- no location of it is below this one
 abbrev pub cache_begin : CacheOp → ℕ
@@ -172,4 +173,4 @@ cache_begin o = o.cache.base.0
 
 -- it has a bucket, and its cells are locations of a store
 abbrev pub CacheIsFit : CacheOp → Type 0
-CacheIsFit o = (1 ≤ o.cache.buckets) × (cache_end o ≤ 65536)
+CacheIsFit o = (1 ≤ o.cache.buckets) × (cells_end o.cache ≤ 65536)

@@ -1,6 +1,6 @@
 //! Where a cache lies.
 
-ghost use Rattle.std.specs.Prelude.{◌≡◌, ◌+◌, ◌*◌, ◌<◌, ◌≤◌};
+ghost use Rattle.std.specs.Prelude.{◌≡◌, ◌+◌, ◌-◌, ◌*◌, ◌^◌, ◌<◌, ◌≤◌, min};
 ghost use Rattle.kc_cache.specs.Meaning.{cache_cells, cells_end, cache_opening, table_of, order_of, value_cell};
 
 use kc_dllist::Dllist;
@@ -38,6 +38,17 @@ impl Cache {
         ensures { result ≡ cache_cells self.now }
     {
         6 + self.buckets + 7 * self.cap
+    }
+
+    // A number above its cells, where a number of its type is.
+    pub(crate) fn end(&self) -> u32
+        ensures { result ≡ min (cells_end self.now) (2 ^ 32 - 1) }
+    {
+        self.base
+            .0
+            .saturating_add(6)
+            .saturating_add(self.buckets)
+            .saturating_add(self.cap.saturating_mul(7))
     }
 
     /// What a cell opens with: there is no pair.

@@ -38,7 +38,7 @@ impl Transact for CacheOp {
     ghost end = { cache_end };
 
     fn bound(&self) -> u32 {
-        self.cache.base.0 + 6 + self.cache.buckets + 7 * self.cache.cap
+        self.cache.end()
     }
 
     fn run<P: Peek>(&self, xt: &mut Xt<P>) -> Result<Reply, Stop> {

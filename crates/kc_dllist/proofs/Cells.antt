@@ -2,11 +2,12 @@
 use Rattle.std.proofs.Common.{◌≡◌, ◌≢◌, ℕ, ◌<◌, ◌≤◌, ◌==◌, Bool, true, false, cond, List, [], ◌∷◌, refl, sym, ap, ◌∙◌, subst, arith}
 use Rattle.std.proofs.lemmas.Bool.{ne_eqb}
 use Rattle.std.proofs.lemmas.Bool.Decides.{nat_tests}
+use Rattle.kc_xt.specs.Times.{times}
+use Rattle.kc_xt.proofs.Times.{has_here, has_rest}
 use Rattle.kc_xt.specs.Meaning.{put}
 use Rattle.kc_dllist.specs.declared.dllist.Dllist.{Dllist}
 use Rattle.kc_dllist.specs.Meaning.{last_cell, free_cell, payload_cell, prev_cell, next_cell, after_cell, before_cell, node_in}
-use Rattle.kc_dllist.specs.Content.{Listed, numbers, times, Chain, Backward, Payloads}
-use Rattle.kc_dllist.proofs.Times.{among_here, among_more}
+use Rattle.kc_dllist.specs.Content.{Listed, numbers, Chain, Backward, Payloads}
 use Rattle.kc_dllist.proofs.Rings.{Ring, put_here, put_else}
 
 -- ---- cells apart
@@ -110,27 +111,27 @@ module _ (d : Dllist) (m : ℕ → ℕ) (v j : ℕ) where
 pub ring_of : (d : Dllist) (m : ℕ → ℕ) (p : ℕ) (is : List ℕ) → ((j : ℕ) → 0 < times j is → j ≢ 0) → Chain d m (after_cell d p) is → Backward d m p is → Ring (nexts d m) (prevs d m) p is
 ring_of d m p [] some h g = (h, g)
 ring_of d m p (i ∷ is) some h g =
-    let ne = some i (among_here i is) in
-    (h.0, subst (λ l. m l ≡ p) (prev_is d i ne) g.0, ring_of d m i is (λ j w. some j (among_more j i is w)) (subst (λ l. Chain d m l is) (next_is d i ne) h.1) g.1)
+    let ne = some i (has_here i is) in
+    (h.0, subst (λ l. m l ≡ p) (prev_is d i ne) g.0, ring_of d m i is (λ j w. some j (has_rest i j is w)) (subst (λ l. Chain d m l is) (next_is d i ne) h.1) g.1)
 
 pub chain_of : (d : Dllist) (m : ℕ → ℕ) (p : ℕ) (is : List ℕ) → ((j : ℕ) → 0 < times j is → j ≢ 0) → Ring (nexts d m) (prevs d m) p is → Chain d m (after_cell d p) is
 chain_of d m p [] some r = r.0
-chain_of d m p (i ∷ is) some r = (r.0, subst (λ l. Chain d m l is) (sym (next_is d i (some i (among_here i is)))) (chain_of d m i is (λ j w. some j (among_more j i is w)) r.2))
+chain_of d m p (i ∷ is) some r = (r.0, subst (λ l. Chain d m l is) (sym (next_is d i (some i (has_here i is)))) (chain_of d m i is (λ j w. some j (has_rest i j is w)) r.2))
 
 pub backward_of : (d : Dllist) (m : ℕ → ℕ) (p : ℕ) (is : List ℕ) → ((j : ℕ) → 0 < times j is → j ≢ 0) → Ring (nexts d m) (prevs d m) p is → Backward d m p is
 backward_of d m p [] some r = r.1
-backward_of d m p (i ∷ is) some r = (subst (λ l. m l ≡ p) (sym (prev_is d i (some i (among_here i is)))) r.1, backward_of d m i is (λ j w. some j (among_more j i is w)) r.2)
+backward_of d m p (i ∷ is) some r = (subst (λ l. m l ≡ p) (sym (prev_is d i (some i (has_here i is)))) r.1, backward_of d m i is (λ j w. some j (has_rest i j is w)) r.2)
 
 -- ---- the same in other maps
 
 pub chain_same : (d : Dllist) (m w : ℕ → ℕ) (c b : ℕ) (is : List ℕ) → w b ≡ m c → ((j : ℕ) → 0 < times j is → w (next_cell d j) ≡ m (next_cell d j)) → Chain d m c is → Chain d w b is
 chain_same d m w c b [] e f h = e ∙ h
-chain_same d m w c b (i ∷ is) e f h = (e ∙ h.0, chain_same d m w (next_cell d i) (next_cell d i) is (f i (among_here i is)) (λ j g. f j (among_more j i is g)) h.1)
+chain_same d m w c b (i ∷ is) e f h = (e ∙ h.0, chain_same d m w (next_cell d i) (next_cell d i) is (f i (has_here i is)) (λ j g. f j (has_rest i j is g)) h.1)
 
 pub backward_same : (d : Dllist) (m w : ℕ → ℕ) (p : ℕ) (is : List ℕ) → w (last_cell d) ≡ m (last_cell d) → ((j : ℕ) → 0 < times j is → w (prev_cell d j) ≡ m (prev_cell d j)) → Backward d m p is → Backward d w p is
 backward_same d m w p [] e f h = e ∙ h
-backward_same d m w p (i ∷ is) e f h = (f i (among_here i is) ∙ h.0, backward_same d m w i is e (λ j g. f j (among_more j i is g)) h.1)
+backward_same d m w p (i ∷ is) e f h = (f i (has_here i is) ∙ h.0, backward_same d m w i is e (λ j g. f j (has_rest i j is g)) h.1)
 
 pub payloads_same : (d : Dllist) (m w : ℕ → ℕ) (xs : List Listed) → ((j : ℕ) → 0 < times j (numbers xs) → w (payload_cell d j) ≡ m (payload_cell d j)) → Payloads d m xs → Payloads d w xs
 payloads_same d m w [] f h = tt
-payloads_same d m w (x ∷ xs) f h = (f x.node (among_here x.node (numbers xs)) ∙ h.0, payloads_same d m w xs (λ j g. f j (among_more j x.node (numbers xs) g)) h.1)
+payloads_same d m w (x ∷ xs) f h = (f x.node (has_here x.node (numbers xs)) ∙ h.0, payloads_same d m w xs (λ j g. f j (has_rest x.node j (numbers xs) g)) h.1)

@@ -1,5 +1,5 @@
 -- Each operation's program keeps to the list's cells, and touches one before it retries, whatever comes behind it.
-use Rattle.std.proofs.Common.{◌≡◌, ◌≢◌, ℕ, ◌<◌, ◌≤◌, false, arith}
+use Rattle.std.proofs.Common.{◌≡◌, ◌≢◌, ℕ, ◌<◌, ◌≤◌, false, subst, arith}
 use Rattle.std.specs.Prelude.{Result, ◌==◌}
 use Rattle.std.proofs.lemmas.Bool.Decides.{nat_tests}
 use Rattle.kc_model.specs.declared.reply.Reply.{Reply}
@@ -70,9 +70,11 @@ dllist_first d (act.MoveFront i) k = tt
 dllist_first d act.Last k = tt
 
 -- an operation keeps to the list's cells
-pub op_stays : (o : DllistOp) → NamesNode o.list o.act → Stays (dllist_begin o) (dllist_end o) (dllist_program o.list o.act replies)
-op_stays o node = dllist_stays o.list (dllist_begin o) (dllist_end o) (omega arith) (omega arith) replies (λ r one. one) o.act node
+pub op_stays : (o : DllistOp) → NamesNode o.list o.act → Stays (dllist_begin o) (cells_end o.list) (dllist_program o.list o.act replies)
+op_stays o node = dllist_stays o.list (dllist_begin o) (cells_end o.list) (omega arith) (omega arith) replies (λ r one. one) o.act node
 
 -- what does its program obeys the law
 pub dllist_law : {P : Type 0} (gives : Gives P) (o : DllistOp) {x y : Log P} (r : Result Reply Stop) → DllistIsFit o → Does gives (dllist_program o.list o.act) x r y → Obeys gives (dllist_meaning o) (dllist_end o) x r y
-dllist_law gives o r fit d = stays_law (dllist_begin o) (dllist_end o) gives (dllist_program o.list o.act) (op_stays o fit.0) (dllist_first o.list o.act replies) r d
+dllist_law gives o {x} {y} r fit d =
+    let whole : cells_end o.list ≡ dllist_end o = omega (arith, fit) in
+    subst (λ e. Obeys gives (dllist_meaning o) e x r y) whole (stays_law (dllist_begin o) (cells_end o.list) gives (dllist_program o.list o.act) (op_stays o fit.0) (dllist_first o.list o.act replies) r d)

@@ -1,6 +1,8 @@
 -- The plain run of each operation on cells that stand for a content, whatever comes behind it.
 use Rattle.std.proofs.Common.{◌≡◌, ◌≢◌, ℕ, ◌<◌, ◌≤◌, ◌==◌, Bool, true, false, cond, List, [], ◌∷◌, ◌++◌, refl, sym, ap, ap₂, ◌∙◌, subst, arith}
 use Rattle.std.proofs.lemmas.Bool.{eqb-true, eq-eqb, ne_eqb}
+use Rattle.kc_xt.specs.Times.{times}
+use Rattle.kc_xt.proofs.Times.{times-there, times-append, has_here, has_rest, apart}
 use Rattle.kc_model.specs.declared.reply.Reply.{Reply}
 use Rattle.kc_model.specs.declared.reply.Reply.TheVariants as reply
 use Rattle.kc_xt.specs.Meaning.{put}
@@ -11,8 +13,8 @@ use Rattle.kc_dllist.specs.declared.dllist.Dllist.{Dllist}
 use Rattle.kc_dllist.specs.declared.operation.DllistAct.{DllistAct}
 use Rattle.kc_dllist.specs.declared.operation.DllistAct.TheVariants as act
 use Rattle.kc_dllist.specs.Meaning.{dllist_program, unlink_program, take_program, release_program, bring_program, lead_program, first_cell, last_cell, free_cell, payload_cell, next_cell, after_cell, node_in, IsNode}
-use Rattle.kc_dllist.specs.Content.{Listed, Content, numbers, times, Chain, HasEachOnce, StandsFor, NamesListed, payload_of, without, last_reply, dllist_value, pushed, comes_to}
-use Rattle.kc_dllist.proofs.Times.{times-append, times-less, among_here, among_more, apart, less}
+use Rattle.kc_dllist.specs.Content.{Listed, Content, numbers, Chain, HasEachOnce, StandsFor, NamesListed, payload_of, without, last_reply, dllist_value, pushed, comes_to}
+use Rattle.kc_dllist.proofs.Times.{times-less, less}
 use Rattle.kc_dllist.proofs.Rings.{Ring, Apart, put_here, put_else, ring_same, ring_near, ring_first}
 use Rattle.kc_dllist.proofs.Cells.{nexts, prevs, next_is, node_as_is, nexts-after, prevs-after, nexts-free, prevs-free, nexts-payload, prevs-payload, free-payload, payload-after, payload-free, payload-payload, payloads_same}
 use Rattle.kc_dllist.proofs.Changes.{unlinked, led, plain_unlink, nexts-unlinked, free-unlinked, payload-unlinked, ring_unlinked, plain_lead, nexts-led, free-led, payload-led, ring_led}
@@ -38,20 +40,20 @@ module _ (d : Dllist) (m : ℕ → ℕ) (v : ℕ) (xs : List Listed) (f : ℕ) (
   two = put one (payload_cell d f) v
 
   push_node : IsNode d f
-  push_node = free_node d ns (f ∷ fs) s.each f (among_here f fs)
+  push_node = free_node d ns (f ∷ fs) s.each f (has_here f fs)
 
   push_some : f ≢ 0
-  push_some = free_some d ns (f ∷ fs) s.each f (among_here f fs)
+  push_some = free_some d ns (f ∷ fs) s.each f (has_here f fs)
 
   push_new : times f ns ≡ 0
-  push_new = not_listed d ns (f ∷ fs) s.each f (among_here f fs)
+  push_new = not_listed d ns (f ∷ fs) s.each f (has_here f fs)
 
   first_within : h ≤ d.cap
   first_within = ring_first (nexts d m) (prevs d m) (λ j. j ≤ d.cap) 0 ns (omega arith) (λ j g. (listed_node d ns (f ∷ fs) s.each j g).1) (ring d m _ s)
 
   take_runs : (k : Reply → Program) → plain (take_program d v f k) m ≡ plain (k (reply.Value f)) (led d two f h)
   take_runs k =
-      let n : node_in d (m (next_cell d f)) ≡ m (next_cell d f) = node_as_is d _ (chain_within d m (next_cell d f) fs (λ j g. free_node d ns (f ∷ fs) s.each j (among_more j f fs g)) s.free.1) in
+      let n : node_in d (m (next_cell d f)) ≡ m (next_cell d f) = node_as_is d _ (chain_within d m (next_cell d f) fs (λ j g. free_node d ns (f ∷ fs) s.each j (has_rest f j fs g)) s.free.1) in
       let g : node_in d (put m (free_cell d) (node_in d (m (next_cell d f))) (first_cell d)) ≡ h = ap (node_in d) (nexts-free d m (node_in d (m (next_cell d f))) 0) ∙ node_as_is d h first_within in
       ap₂ (λ x y. plain (lead_program d f y (λ _. k (reply.Value f))) (put (put m (free_cell d) x) (payload_cell d f) v)) n g
       ∙ plain_lead d two f h (λ _. k (reply.Value f)) push_some
@@ -81,9 +83,9 @@ module _ (d : Dllist) (m : ℕ → ℕ) (v : ℕ) (xs : List Listed) (f : ℕ) (
 
   push_free : Chain d (led d two f h) (free_cell d) fs
   push_free = free_same d m (led d two f h) (next_cell d f) (free_cell d) fs
-      (λ j g. free_some d ns (f ∷ fs) s.each j (among_more j f fs g))
+      (λ j g. free_some d ns (f ∷ fs) s.each j (has_rest f j fs g))
       (free-led d two f h ∙ free-payload d one v f push_node.0 ∙ put_here m (free_cell d) (m (next_cell d f)) (free_cell d) refl)
-      (λ j g. nexts-led d two f h j ∙ put_else (put (nexts d two) f h) 0 f j (λ e. free_some d ns (f ∷ fs) s.each j (among_more j f fs g) (sym e)) ∙ put_else (nexts d two) f h j (push_other j g) ∙ two_nexts j)
+      (λ j g. nexts-led d two f h j ∙ put_else (put (nexts d two) f h) 0 f j (λ e. free_some d ns (f ∷ fs) s.each j (has_rest f j fs g) (sym e)) ∙ put_else (nexts d two) f h j (push_other j g) ∙ two_nexts j)
       s.free.1
     where
       push_other : (j : ℕ) → 0 < times j fs → f ≢ j
@@ -91,7 +93,7 @@ module _ (d : Dllist) (m : ℕ → ℕ) (v : ℕ) (xs : List Listed) (f : ℕ) (
           let o = s.each.once f push_node in
           let u = times-append f ns (f ∷ fs) in
           let w = times-append f (f ∷ []) fs in
-          let x = among_here f [] in
+          let x = has_here f [] in
           let y = ap (λ i. times i fs) e in
           omega (arith, o, u, w, x, y, g)
 
@@ -155,10 +157,10 @@ module _ (d : Dllist) (m : ℕ → ℕ) (i : ℕ) (xs : List Listed) (fs : List 
   cut_ring = ring_unlinked d m i is on (listed_apart d is fs s.each) (ring d m _ s)
 
   cut_out : times i (less i is) ≡ 0
-  cut_out = let o = listed_once d is fs s.each i in let e = times-less i i is on in let f = times-append i (i ∷ []) (less i is) in let g = among_here i [] in omega (arith, o, e, f, g)
+  cut_out = let o = listed_once d is fs s.each i in let e = times-less i i is on in let f = times-append i (i ∷ []) (less i is) in let g = has_here i [] in omega (arith, o, e, f, g)
 
   less_listed : (j : ℕ) → 0 < times j (less i is) → 0 < times j is
-  less_listed j g = let e = times-less i j is on in let f = among_more j i (less i is) g in omega (arith, e, f)
+  less_listed j g = let e = times-less i j is on in let f = has_rest i j (less i is) g in omega (arith, e, f)
 
   less_apart : Apart 0 (less i is)
   less_apart = apart_of 0 (less i is) (let e = times-less i 0 is on in let f = times-append 0 (i ∷ []) (less i is) in let z = listed_zero d is fs s.each in omega (arith, e, f, z)) (λ j g. listed_some d is fs s.each j (less_listed j g)) (λ j. let e = times-less i j is on in let f = times-append j (i ∷ []) (less i is) in let o = listed_once d is fs s.each j in omega (arith, e, f, o))
@@ -211,7 +213,7 @@ module _ (d : Dllist) (m : ℕ → ℕ) (i : ℕ) (xs : List Listed) (fs : List 
   gone_ring = ring_same (nexts d cut) (prevs d cut) (nexts d gone) (prevs d gone) 0 (less i is) (λ j g. gone_nexts j (apart i j (0 ∷ less i is) (let u = times-append i (0 ∷ []) (less i is) in let z = zero_out in omega (arith, u, z, cut_out)) g)) (λ j _. gone_prevs j) (gone_prevs 0) cut_ring
     where
       zero_out : times i (0 ∷ []) ≡ 0
-      zero_out = rw (ne_eqb i 0 cut_some) refl
+      zero_out = times-there 0 i [] (λ e. cut_some (sym e))
 
   gone_free : Chain d gone (free_cell d) (i ∷ fs)
   gone_free = (
@@ -288,7 +290,7 @@ stay_performs d m i (x ∷ xs) fs s on e = record { left = m; runs = stay_runs; 
         subst Q (sym e) refl
 
     first_is : x.node ≡ i
-    first_is = sym (ap (node_in d) s.forward.0 ∙ node_as_is d x.node (listed_node d (numbers (x ∷ xs)) fs s.each x.node (among_here x.node (numbers xs))).1) ∙ eqb-true (node_in d (m (first_cell d))) i e
+    first_is = sym (ap (node_in d) s.forward.0 ∙ node_as_is d x.node (listed_node d (numbers (x ∷ xs)) fs s.each x.node (has_here x.node (numbers xs))).1) ∙ eqb-true (node_in d (m (first_cell d))) i e
 
 front_performs : (d : Dllist) (m : ℕ → ℕ) (i : ℕ) (xs : List Listed) (fs : List ℕ) → (let c : Content = record { listed = xs; free = fs } in StandsFor d m c) → 0 < times i (numbers xs) → (t : Bool) → (node_in d (m (first_cell d)) == i) ≡ t → Goes d (act.MoveFront i) m (comes_to reply.Unit (record { node = i; payload = payload_of i xs } ∷ without i xs) fs)
 front_performs d m i xs fs s on true e = stay_performs d m i xs fs s on e

@@ -1,11 +1,13 @@
 -- What cells that stand for a content show, and what shows that they do.
 use Rattle.std.proofs.Common.{◌≡◌, ◌≢◌, ℕ, suc, ◌<◌, ◌≤◌, ◌==◌, Bool, true, false, cond, List, [], ◌∷◌, ◌++◌, refl, sym, ap, ◌∙◌, subst, arith, inl, inr}
 use Rattle.std.proofs.lemmas.Bool.{cases_lt, eqb-true, eqb-false}
+use Rattle.kc_xt.specs.Times.{times}
+use Rattle.kc_xt.proofs.Times.{times-here, times-rest, times-append, has_here, has_rest, has_later}
 use Rattle.kc_model.specs.declared.reply.Reply.TheVariants as reply
 use Rattle.kc_dllist.specs.declared.dllist.Dllist.{Dllist}
 use Rattle.kc_dllist.specs.Meaning.{last_cell, free_cell, payload_cell, IsNode}
-use Rattle.kc_dllist.specs.Content.{Listed, Content, numbers, times, Chain, Backward, Payloads, HasEachOnce, StandsFor, payload_of, without, last_reply}
-use Rattle.kc_dllist.proofs.Times.{times-here, times-append, among_here, among_more, among_rest, less}
+use Rattle.kc_dllist.specs.Content.{Listed, Content, numbers, Chain, Backward, Payloads, HasEachOnce, StandsFor, payload_of, without, last_reply}
+use Rattle.kc_dllist.proofs.Times.{less}
 use Rattle.kc_dllist.proofs.Rings.{Ring, Apart}
 use Rattle.kc_dllist.proofs.Cells.{nexts, prevs, next_is, ring_of, chain_of, backward_of, chain_same}
 
@@ -17,16 +19,9 @@ each_same d is js e h = record {
   once = λ i g. sym (e i) ∙ h.once i g;
 }
 
-times_rest : (i x : ℕ) (xs : List ℕ) → times i xs ≤ times i (x ∷ xs)
-times_rest i x xs = by_test (i == x)
-  where
-    by_test : (t : Bool) → times i xs ≤ cond t (suc (times i xs)) (times i xs)
-    by_test true = omega arith
-    by_test false = omega arith
-
 pub apart_of : (p : ℕ) (xs : List ℕ) → times p xs ≡ 0 → ((i : ℕ) → 0 < times i xs → i ≢ 0) → ((i : ℕ) → times i xs ≤ 1) → Apart p xs
 apart_of p [] e some once = tt
-apart_of p (x ∷ xs) e some once = (e, some x (among_here x xs), apart_of x xs (let h = times-here x xs in let o = once x in omega (arith, h, o)) (λ i g. some i (among_more i x xs g)) (λ i. let o = once i in let h = times_rest i x xs in omega (arith, o, h)))
+apart_of p (x ∷ xs) e some once = (e, some x (has_here x xs), apart_of x xs (let h = times-here x x xs refl in let o = once x in omega (arith, h, o)) (λ i g. some i (has_rest x i xs g)) (λ i. let o = once i in let h = times-rest x i xs in omega (arith, o, h)))
 
 module _ (d : Dllist) (ns fs : List ℕ) (each : HasEachOnce d (ns ++ fs)) where
   pub listed_node : (j : ℕ) → 0 < times j ns → IsNode d j
@@ -67,7 +62,7 @@ module _ (d : Dllist) (ns fs : List ℕ) (each : HasEachOnce d (ns ++ fs)) where
 -- the first of a free chain is a node, or 0
 pub chain_within : (d : Dllist) (m : ℕ → ℕ) (c : ℕ) (fs : List ℕ) → ((j : ℕ) → 0 < times j fs → IsNode d j) → Chain d m c fs → m c ≤ d.cap
 chain_within d m c [] f h = omega (arith, h)
-chain_within d m c (i ∷ is) f h = let w = f i (among_here i is) in let e = h.0 in omega (arith, w, e)
+chain_within d m c (i ∷ is) f h = let w = f i (has_here i is) in let e = h.0 in omega (arith, w, e)
 
 -- ---- from the links to the content
 
@@ -92,7 +87,7 @@ payload_at d m i (x ∷ xs) h p = by_test (λ g. payload_at d m i xs g p.1) (x.n
   where
     by_test : (0 < times i (numbers xs) → m (payload_cell d i) ≡ payload_of i xs) → (t : Bool) → (x.node == i) ≡ t → m (payload_cell d i) ≡ cond t x.payload (payload_of i xs)
     by_test rest true e = ap (λ k. m (payload_cell d k)) (sym (eqb-true x.node i e)) ∙ p.0
-    by_test rest false e = rest (among_rest i x.node (numbers xs) (eqb-false x.node i e) h)
+    by_test rest false e = rest (has_later x.node i (numbers xs) (eqb-false x.node i e) h)
 
 pub payloads_without : (d : Dllist) (m : ℕ → ℕ) (i : ℕ) (xs : List Listed) → Payloads d m xs → Payloads d m (without i xs)
 payloads_without d m i [] p = tt
@@ -121,12 +116,12 @@ pub last_is : (d : Dllist) (m : ℕ → ℕ) (p : ℕ) (x : Listed) (xs : List L
 last_is d m p x [] b q = record {
   payload = x.payload;
   reply = refl;
-  listed = subst (λ j. 0 < times j (x.node ∷ [])) (sym b.1) (among_here x.node []);
+  listed = subst (λ j. 0 < times j (x.node ∷ [])) (sym b.1) (has_here x.node []);
   held = ap (λ j. m (payload_cell d j)) b.1 ∙ q.0;
 }
 last_is d m p x (y ∷ ys) b q = let r = last_is d m x.node y ys b.1 q.1 in record {
   payload = r.payload;
   reply = r.reply;
-  listed = among_more (m (last_cell d)) x.node (numbers (y ∷ ys)) r.listed;
+  listed = has_rest x.node (m (last_cell d)) (numbers (y ∷ ys)) r.listed;
   held = r.held;
 }

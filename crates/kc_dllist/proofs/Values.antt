@@ -1,7 +1,9 @@
 -- Each operation's value; contents are one; what cells stand for depends on them alone; opening cells.
 use Rattle.std.proofs.Common.{◌≡◌, ◌≢◌, ℕ, zero, suc, ◌+◌, ◌*◌, ◌/◌, ◌%◌, ◌<◌, ◌≤◌, ◌==◌, Bool, true, false, cond, List, [], ◌∷◌, refl, sym, ap, ap₂, ◌∙◌, subst, arith, inl, inr}
-use Rattle.std.proofs.lemmas.Bool.{cases_lt, eqb-true, eqb-false}
+use Rattle.std.proofs.lemmas.Bool.{cases_lt, cases_eq}
 use Rattle.std.proofs.lemmas.Bool.Decides.{nat_tests}
+use Rattle.kc_xt.specs.Times.{times}
+use Rattle.kc_xt.proofs.Times.{times-append, has_here}
 use Rattle.kc_xt.specs.Structure.{RunsInsideOthers, MeansItsValue, DependsOnItsCells, Opened}
 use Rattle.kc_xt.proofs.Inside.{runs_to}
 use Rattle.kc_xt.proofs.Structures.{runs_means}
@@ -9,9 +11,8 @@ use Rattle.kc_dllist.specs.declared.dllist.Dllist.{Dllist}
 use Rattle.kc_dllist.specs.declared.operation.DllistOp.{DllistOp}
 use Rattle.kc_dllist.specs.declared.operation.DllistAct.{DllistAct}
 use Rattle.kc_dllist.specs.declared.operation.DllistAct.TheVariants as act
-use Rattle.kc_dllist.specs.Meaning.{dllist_program, dllist_meaning, dllist_begin, dllist_end, dllist_cells, dllist_opening, NamesNode, first_cell, last_cell, free_cell, payload_cell, prev_cell, next_cell, node_in, IsNode, cells_end}
-use Rattle.kc_dllist.specs.Content.{Listed, Content, numbers, times, Chain, Payloads, StandsFor, NamesListed, dllist_value, rising, opening_content}
-use Rattle.kc_dllist.proofs.Times.{times-append, among_here}
+use Rattle.kc_dllist.specs.Meaning.{dllist_program, dllist_meaning, dllist_begin, dllist_cells, dllist_opening, NamesNode, first_cell, last_cell, free_cell, payload_cell, prev_cell, next_cell, node_in, IsNode, cells_end}
+use Rattle.kc_dllist.specs.Content.{Listed, Content, numbers, Chain, Payloads, StandsFor, NamesListed, dllist_value, rising, opening_content}
 use Rattle.kc_dllist.proofs.Cells.{chain_same, backward_same, payloads_same, node_as_is}
 use Rattle.kc_dllist.proofs.Standing.{listed_node, free_node, listed_some, free_some}
 use Rattle.kc_dllist.proofs.DllistLaw.{op_stays}
@@ -24,7 +25,7 @@ names_node d m (act.Remove i) c s on = listed_node d (numbers c.listed) c.free s
 names_node d m (act.MoveFront i) c s on = listed_node d (numbers c.listed) c.free s.each i on
 names_node d m act.Last c s on = tt
 
-pub dllist_inside : (o : DllistOp) (c : Content) → NamesListed o.act c → RunsInsideOthers (StandsFor o.list) (dllist_begin o) (dllist_end o) (dllist_program o.list o.act) c (dllist_value o.act c)
+pub dllist_inside : (o : DllistOp) (c : Content) → NamesListed o.act c → RunsInsideOthers (StandsFor o.list) (dllist_begin o) (cells_end o.list) (dllist_program o.list o.act) c (dllist_value o.act c)
 dllist_inside o c on m s = runs_to (op_stays o (names_node o.list m o.act c s on)) (performs o.list o.act m c s on)
 
 pub dllist_means : (o : DllistOp) (c : Content) → NamesListed o.act c → MeansItsValue (StandsFor o.list) (dllist_meaning o) c (dllist_value o.act c)
@@ -34,8 +35,8 @@ dllist_means o c on = runs_means (dllist_program o.list o.act) c (dllist_value o
 
 chain_one : (d : Dllist) (m : ℕ → ℕ) (c : ℕ) (is js : List ℕ) → ((i : ℕ) → 0 < times i is → i ≢ 0) → ((j : ℕ) → 0 < times j js → j ≢ 0) → Chain d m c is → Chain d m c js → is ≡ js
 chain_one d m c [] [] f g h w = refl
-chain_one d m c [] (j ∷ js) f g h w = absurd (g j (among_here j js) (sym w.0 ∙ h))
-chain_one d m c (i ∷ is) [] f g h w = absurd (f i (among_here i is) (sym h.0 ∙ w))
+chain_one d m c [] (j ∷ js) f g h w = absurd (g j (has_here j js) (sym w.0 ∙ h))
+chain_one d m c (i ∷ is) [] f g h w = absurd (f i (has_here i is) (sym h.0 ∙ w))
 chain_one d m c (i ∷ is) (j ∷ js) f g h w =
     let e : i ≡ j = sym h.0 ∙ w.0 in
     ap₂ (λ x xs. x ∷ xs) e (chain_one d m (next_cell d i) is js (λ k q. f k (more k i is q)) (λ k q. g k (more k j js q)) h.1 (subst (λ x. Chain d m (next_cell d x) js) (sym e) w.1))
@@ -79,18 +80,15 @@ dllist_same d m w c same s =
 
 times_rising : (j i n : ℕ) → (j < i → times j (rising i n) ≡ 0) × (i ≤ j → j < i + n → times j (rising i n) ≡ 1) × (i + n ≤ j → times j (rising i n) ≡ 0)
 times_rising j i zero = (λ h. refl, λ h g. absurd (omega (arith, h, g)), λ h. refl)
-times_rising j i (suc n) = by_test (times_rising j (i + 1) n) (j == i) refl
-  where
-    by_test : (j < i + 1 → times j (rising (i + 1) n) ≡ 0) × (i + 1 ≤ j → j < i + 1 + n → times j (rising (i + 1) n) ≡ 1) × (i + 1 + n ≤ j → times j (rising (i + 1) n) ≡ 0) → (t : Bool) → (j == i) ≡ t → (j < i → cond t (suc (times j (rising (i + 1) n))) (times j (rising (i + 1) n)) ≡ 0) × (i ≤ j → j < i + suc n → cond t (suc (times j (rising (i + 1) n))) (times j (rising (i + 1) n)) ≡ 1) × (i + suc n ≤ j → cond t (suc (times j (rising (i + 1) n))) (times j (rising (i + 1) n)) ≡ 0)
-    by_test r true e =
-        let q = eqb-true j i e in
-        (λ h. absurd (omega (arith, h, q)), λ h g. ap suc (r.0 (omega (arith, q))), λ h. absurd (omega (arith, h, q)))
-    by_test r false e =
-        let q = eqb-false j i e in
-        (λ h. r.0 (omega (arith, h)), λ h g. r.1 (differs q h) (omega (arith, g)), λ h. r.2 (omega (arith, h)))
-      where
-        differs : (j ≡ i → ⊥) → i ≤ j → i + 1 ≤ j
-        differs ne h = elim (cases_lt i j) [ inl l ↦ omega (arith, l) | inr l ↦ absurd (ne (omega (arith, l, h))) ]
+times_rising j i (suc n) =
+    let r = times_rising j (i + 1) n in (
+      λ h. let a = r.0 (omega (arith, h)) in grind (arith, nat_tests, a, h),
+      λ h g. elim (cases_eq i j) [
+        | inl e ↦ let a = r.0 (omega (arith, e)) in grind (arith, nat_tests, a, e)
+        | inr ne ↦ let a = r.1 (omega (arith, h, ne)) (omega (arith, g)) in grind (arith, nat_tests, a, ne)
+      ],
+      λ h. let a = r.2 (omega (arith, h)) in grind (arith, nat_tests, a, h),
+    )
 
 opens_next : (d : Dllist) (m : ℕ → ℕ) (i : ℕ) → Opened d.base.0 (dllist_cells d) (dllist_opening d) m → i ≤ d.cap → m (next_cell d i) ≡ node_in d (i + 1)
 opens_next d m i o h =

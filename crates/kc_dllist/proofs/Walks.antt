@@ -6,14 +6,15 @@ use Rattle.std.proofs.lemmas.Option.{unwrap_or-slice_get}
 use Rattle.std.specs.List.{All}
 use Rattle.std.proofs.lemmas.List.Elements.{All-nil, All-cons}
 use Rattle.std.proofs.lemmas.Bool.{ne_eqb, eq-eqb, eqb-false}
+use Rattle.kc_xt.specs.Times.{times}
+use Rattle.kc_xt.proofs.Times.{has_here, has_rest}
 use Rattle.kc_dllist.proofs.DllistLaw.{node_within}
 use Rattle.kc_model.specs.declared.plain_store.Cell.{Cell}
 use Rattle.kc_model.specs.Store.{zero_cell, store_of}
 use Rattle.kc_xt.specs.Meaning.{values}
 use Rattle.kc_dllist.specs.declared.dllist.Dllist.{Dllist}
 use Rattle.kc_dllist.specs.Meaning.{IsNode, node_in, first_cell, next_cell, payload_cell}
-use Rattle.kc_dllist.specs.Content.{Listed, Content, numbers, times, Chain, Payloads, StandsFor, listed_from, walked}
-use Rattle.kc_dllist.proofs.Times.{among_here, among_more}
+use Rattle.kc_dllist.specs.Content.{Listed, Content, numbers, Chain, Payloads, StandsFor, listed_from, walked}
 use Rattle.kc_dllist.proofs.Cells.{node_as_is}
 use Rattle.kc_dllist.proofs.Standing.{listed_node}
 use Rattle.kc_dllist.proofs.Counts.{all_nodes}
@@ -25,11 +26,11 @@ walk_chain d m c zero [] f h e p = refl
 walk_chain d m c (suc n) [] f h e p = let z : node_in d (m c) ≡ 0 = ap (node_in d) e ∙ node_as_is d 0 (omega arith) in rw z refl
 walk_chain d m c zero (x ∷ xs) f h e p = absurd (omega (arith, h))
 walk_chain d m c (suc n) (x ∷ xs) f h e p =
-    let w = f x.node (among_here x.node (numbers xs)) in
+    let w = f x.node (has_here x.node (numbers xs)) in
     let i : node_in d (m c) ≡ x.node = ap (node_in d) e.0 ∙ node_as_is d x.node w.1 in
     let P : ℕ → Type 0 = λ j. cond (j == 0) [] ((let y : Listed = record { node = j; payload = m (payload_cell d j) } in y) ∷ listed_from d m (node_in d (m (next_cell d j))) n) ≡ x ∷ xs in
     let Q : Bool → Type 0 = λ t. cond t [] ((let y : Listed = record { node = x.node; payload = m (payload_cell d x.node) } in y) ∷ listed_from d m (node_in d (m (next_cell d x.node))) n) ≡ x ∷ xs in
-    let ih = walk_chain d m (next_cell d x.node) n xs (λ j g. f j (among_more j x.node (numbers xs) g)) (omega (arith, h)) e.1 p.1 in
+    let ih = walk_chain d m (next_cell d x.node) n xs (λ j g. f j (has_rest x.node j (numbers xs) g)) (omega (arith, h)) e.1 p.1 in
     subst P (sym i) (subst Q (sym (ne_eqb x.node 0 (λ q. omega (arith, w, q)))) (ap₂ (λ v (ys : List Listed). (let y : Listed = record { node = x.node; payload = v } in y) ∷ ys) p.0 ih))
 
 pub walk_listed : (d : Dllist) (m : ℕ → ℕ) (c : Content) → StandsFor d m c → walked d m ≡ c.listed

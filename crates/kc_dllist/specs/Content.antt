@@ -4,6 +4,7 @@ use Rattle.std.specs.Coded.{Coded, code_by, coded×, coded_ℕ}
 use Rattle.kc_model.specs.declared.reply.Reply.{Reply}
 use Rattle.kc_model.specs.declared.reply.Reply.TheVariants as reply
 use Rattle.kc_xt.specs.Meaning.{replied}
+use Rattle.kc_xt.specs.Times.{times}
 use Rattle.kc_xt.specs.Structure.{Value}
 use Rattle.kc_dllist.specs.declared.dllist.Dllist.{Dllist}
 use Rattle.kc_dllist.specs.declared.operation.DllistAct.{DllistAct}
@@ -23,11 +24,6 @@ pub record Content : Type 0 where
 -- the numbers of listed nodes
 abbrev pub numbers : List Listed → List ℕ
 numbers xs = map (λ x. x.node) xs
-
--- how often a number stands among others
-abbrev pub times : ℕ → List ℕ → ℕ
-times i [] = 0
-times i (j ∷ js) = cond (i == j) (suc (times i js)) (times i js)
 
 -- ---- cells that stand for a content
 

@@ -1,5 +1,5 @@
 -- What the operations on a list mean, for every content of its cells.
-use Rattle.std.specs.Prelude.{ℕ, ◌+◌, ◌*◌, ◌/◌, ◌%◌, ◌<◌, ◌≤◌, ◌==◌, nat_le, cond}
+use Rattle.std.specs.Prelude.{ℕ, ◌+◌, ◌-◌, ◌*◌, ◌^◌, min, ◌/◌, ◌%◌, ◌<◌, ◌≤◌, ◌==◌, nat_le, cond}
 use Rattle.kc_model.specs.declared.reply.Reply.{Reply}
 use Rattle.kc_model.specs.declared.reply.Reply.TheVariants as reply
 use Rattle.kc_xt.specs.Meaning.{Meaning}
@@ -101,8 +101,9 @@ dllist_program d act.Last k = read (last_cell d) (λ l. cond (node_in d l == 0) 
 abbrev pub dllist_meaning : DllistOp → Meaning
 dllist_meaning o = meaning (dllist_program o.list o.act replies)
 
+-- a number above its locations, where a number of its type is
 abbrev pub dllist_end : DllistOp → ℕ
-dllist_end o = cells_end o.list
+dllist_end o = min (cells_end o.list) (2 ^ 32 - 1)
 
 -- no location of it is below this one
 abbrev pub dllist_begin : DllistOp → ℕ
@@ -117,4 +118,4 @@ NamesNode d act.Last = Unit {0}
 
 -- what is named is a node, and its cells are locations of a store
 abbrev pub DllistIsFit : DllistOp → Type 0
-DllistIsFit o = NamesNode o.list o.act × (dllist_end o ≤ 65536)
+DllistIsFit o = NamesNode o.list o.act × (cells_end o.list ≤ 65536)

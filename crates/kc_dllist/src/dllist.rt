@@ -1,6 +1,6 @@
 //! Where a list lies.
 
-ghost use Rattle.std.specs.Prelude.{◌≡◌, ◌+◌, ◌*◌, ◌<◌, ◌≤◌};
+ghost use Rattle.std.specs.Prelude.{◌≡◌, ◌+◌, ◌-◌, ◌*◌, ◌^◌, ◌<◌, ◌≤◌, min};
 ghost use Rattle.kc_dllist.specs.Meaning.{dllist_cells, dllist_opening, node_in, after_cell, before_cell, cells_end};
 
 use kc_model::Loc;
@@ -32,6 +32,16 @@ impl Dllist {
         ensures { result ≡ dllist_cells self.now }
     {
         3 + 3 * self.cap
+    }
+
+    // A number above its cells, where a number of its type is.
+    pub(crate) fn end(&self) -> u32
+        ensures { result ≡ min (cells_end self.now) (2 ^ 32 - 1) }
+    {
+        self.base
+            .0
+            .saturating_add(3)
+            .saturating_add(self.cap.saturating_mul(3))
     }
 
     /// What a cell opens with: no node is listed, and all are free, in rising order.

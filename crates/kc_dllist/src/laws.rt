@@ -5,7 +5,7 @@ ghost use Rattle.kc_xt.specs.Meaning.{too_large, map_after};
 ghost use Rattle.kc_xt.specs.Structure.{MeansItsValue, WellFormed, TouchesItsOwnCells, RepliesOneItem, RunsInsideOthers, Opens, DependsOnItsCells, ContentIsOne};
 ghost use Rattle.kc_dllist.specs.declared.dllist.Dllist.{Dllist};
 ghost use Rattle.kc_dllist.specs.declared.operation.DllistOp.{DllistOp};
-ghost use Rattle.kc_dllist.specs.Meaning.{dllist_meaning, dllist_program, dllist_cells, dllist_opening, dllist_begin, dllist_end, cells_end, DllistIsFit};
+ghost use Rattle.kc_dllist.specs.Meaning.{dllist_meaning, dllist_program, dllist_cells, dllist_opening, dllist_begin, cells_end, DllistIsFit};
 ghost use Rattle.kc_dllist.specs.Content.{Content, StandsFor, NamesListed, dllist_value, opening_content, walked};
 
 /// On cells that stand for a content, and where an operation isn't too large and the node that it names, if any, is on
@@ -23,13 +23,13 @@ pub fn keeps_well_formed()
 
 /// An operation touches the list's own cells alone, whatever they hold, and its reply is one item.
 pub fn touches_its_own_cells()
-    ensures touches { (o : DllistOp) → DllistIsFit o → TouchesItsOwnCells (dllist_begin o) (dllist_end o) (dllist_meaning o) }
+    ensures touches { (o : DllistOp) → DllistIsFit o → TouchesItsOwnCells (dllist_begin o) (cells_end o.list) (dllist_meaning o) }
     ensures one { (o : DllistOp) → DllistIsFit o → RepliesOneItem (dllist_meaning o) }
 {}
 
 /// Inside a longer program an operation does to the content what it does alone, and leaves all else as it was.
 pub fn runs_inside_others()
-    ensures { (o : DllistOp) (c : Content) → NamesListed o.act c → RunsInsideOthers (StandsFor o.list) (dllist_begin o) (dllist_end o) (dllist_program o.list o.act) c (dllist_value o.act c) }
+    ensures { (o : DllistOp) (c : Content) → NamesListed o.act c → RunsInsideOthers (StandsFor o.list) (dllist_begin o) (cells_end o.list) (dllist_program o.list o.act) c (dllist_value o.act c) }
 {}
 
 /// Cells with their opening values stand for the content without a listed node and with all nodes free, in rising

@@ -35,7 +35,7 @@ impl Transact for DllistOp {
     ghost end = { dllist_end };
 
     fn bound(&self) -> u32 {
-        self.list.base.0 + 3 + 3 * self.list.cap
+        self.list.end()
     }
 
     fn run<P: Peek>(&self, xt: &mut Xt<P>) -> Result<Reply, Stop> {

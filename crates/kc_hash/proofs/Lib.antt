@@ -1,7 +1,6 @@
 pub mod WalkSteps
 pub mod HashLaw
 pub mod FiniteMaps
-pub mod Lists
 pub mod Maps
 pub mod Chains
 pub mod Buckets

@@ -1,24 +1,13 @@
 -- The map that nodes make.
-use Rattle.std.proofs.Common.{◌≡◌, ◌≢◌, ℕ, suc, ◌+◌, ◌≤◌, List, [], ◌∷◌, ◌++◌, length, None, refl, sym, ap, ◌∙◌, arith}
+use Rattle.std.proofs.Common.{◌≡◌, ℕ, suc, ◌+◌, ◌≤◌, List, [], ◌∷◌, ◌++◌, length, None, refl, sym, ap, ◌∙◌, arith}
 use Rattle.std.proofs.lemmas.List.{map-append}
+use Rattle.kc_xt.specs.Times.{times}
+use Rattle.kc_xt.proofs.Times.{times-here, times-rest, times-append, has_here, has_rest, none_there}
 use Rattle.kc_model.specs.Rising.{IsRising}
 use Rattle.kc_hash.specs.declared.hash.Hash.{Hash}
 use Rattle.kc_hash.specs.Meaning.{key_cell, value_cell}
-use Rattle.kc_hash.specs.Content.{times, keys_of, map_of, with_pair, value_at}
+use Rattle.kc_hash.specs.Content.{keys_of, map_of, with_pair, value_at}
 use Rattle.kc_hash.proofs.FiniteMaps.{keys, with_pair-comm, value_at-other, length-with, rising-with}
-use Rattle.kc_hash.proofs.Lists.{times-here, times-rest, times-append}
-
--- the first stands there
-pub has_here : (i : ℕ) (is : List ℕ) → 1 ≤ times i (i ∷ is)
-has_here i is = let e = times-here i i is refl in omega (arith, e)
-
--- and what stands behind it
-pub has_rest : (i j : ℕ) (is : List ℕ) → 1 ≤ times j is → 1 ≤ times j (i ∷ is)
-has_rest i j is h = let le = times-rest i j is in omega (arith, le, h)
-
--- where the first is another, and the rest has none
-pub none_there : (i j : ℕ) (is : List ℕ) → times j (i ∷ is) ≡ 0 → (i ≢ j) × (times j is ≡ 0)
-none_there i j is none = (λ e. let s = times-here i j is e in omega (arith, s, none), let le = times-rest i j is in omega (arith, le, none))
 
 module _ (h : Hash) where
   pub times_keys : (m : ℕ → ℕ) (k : ℕ) (xs ys : List ℕ) → times k (keys_of h m (xs ++ ys)) ≡ times k (keys_of h m xs) + times k (keys_of h m ys)

@@ -1,9 +1,9 @@
 -- On cells that stand for pairs, each operation does what it does to the pairs, whatever comes behind it.
 use Rattle.std.proofs.Common.{◌≡◌, ◌≢◌, ◌⊎◌, ℕ, suc, ◌<◌, ◌≤◌, min, cond, eqb, List, [], ◌∷◌, ◌++◌, length, None, refl, sym, ap, ◌∙◌, subst, inl, inr, arith, length-append, eq-eqb, ne_eqb}
-use Rattle.kc_model.specs.declared.reply.Reply.{Reply}
+use Rattle.kc_xt.specs.Times.{times}
 use Rattle.kc_model.specs.declared.reply.Reply.TheVariants as reply
 use Rattle.kc_xt.specs.Meaning.{put}
-use Rattle.kc_xt.specs.Program.{Program, plain}
+use Rattle.kc_xt.specs.Program.{plain}
 use Rattle.kc_xt.specs.Structure.{Value, RunsInsideOthers, MeansItsValue, KeepsWellFormed}
 use Rattle.kc_xt.proofs.Inside.{GoesTo, runs_to}
 use Rattle.kc_xt.proofs.Structures.{runs_means, means_keeps}
@@ -11,8 +11,8 @@ use Rattle.kc_hash.specs.declared.hash.Hash.{Hash}
 use Rattle.kc_hash.specs.declared.operation.HashOp.{HashOp}
 use Rattle.kc_hash.specs.declared.operation.HashAct.{HashAct}
 use Rattle.kc_hash.specs.declared.operation.HashAct.TheVariants as act
-use Rattle.kc_hash.specs.Meaning.{hash_program, hash_meaning, hash_begin, hash_end, found_program, placed_program, link_program, removed_program, bucket_of, link_of, count_cell, free_cell, head_cell, value_cell}
-use Rattle.kc_hash.specs.Content.{times, keys_of, IsChain, StandsFor, hash_value, after, found_reply, put_value, with_pair}
+use Rattle.kc_hash.specs.Meaning.{hash_program, hash_meaning, hash_begin, cells_end, found_program, placed_program, link_program, removed_program, bucket_of, link_of, count_cell, free_cell, head_cell, value_cell}
+use Rattle.kc_hash.specs.Content.{keys_of, IsChain, StandsFor, hash_value, after, found_reply, put_value, with_pair}
 use Rattle.kc_hash.proofs.HashLaw.{hash_stays, bucket_within}
 use Rattle.kc_hash.proofs.FiniteMaps.{without-none}
 use Rattle.kc_hash.proofs.Chains.{link_is, plain_true, plain_false, walk_misses, walk_finds_it, Found, seek}
@@ -141,7 +141,7 @@ module _ (h : Hash) (m : ℕ → ℕ) (pairs : List (ℕ × ℕ)) (S : StandsFor
   act_goes act.Len = length_goes
 
 -- inside any longer program it does so, and leaves all else as it was
-pub hash_inside : (o : HashOp) (pairs : List (ℕ × ℕ)) → RunsInsideOthers (StandsFor o.hash) (hash_begin o) (hash_end o) (hash_program o.hash o.act) pairs (hash_value o.hash o.act pairs)
+pub hash_inside : (o : HashOp) (pairs : List (ℕ × ℕ)) → RunsInsideOthers (StandsFor o.hash) (hash_begin o) (cells_end o.hash) (hash_program o.hash o.act) pairs (hash_value o.hash o.act pairs)
 hash_inside o pairs m S = runs_to (hash_stays o S.some) (act_goes o.hash m pairs S o.act)
 
 pub hash_means : (o : HashOp) (pairs : List (ℕ × ℕ)) → MeansItsValue (StandsFor o.hash) (hash_meaning o) pairs (hash_value o.hash o.act pairs)

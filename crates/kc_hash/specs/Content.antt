@@ -1,9 +1,10 @@
 -- A table as a finite map: the list of its keys and values, in rising order of key.
-use Rattle.std.specs.Prelude.{◌≡◌, ℕ, zero, suc, ◌+◌, ◌-◌, ◌*◌, ◌/◌, ◌%◌, ◌<◌, ◌≤◌, ◌==◌, nat_lt, Bool, true, ◌&&◌, cond, List, [], ◌∷◌, ◌++◌, length, map, Option, Some, None}
+use Rattle.std.specs.Prelude.{◌≡◌, ℕ, zero, suc, ◌+◌, ◌-◌, ◌/◌, ◌%◌, ◌<◌, ◌≤◌, ◌==◌, nat_lt, Bool, true, ◌&&◌, cond, List, [], ◌∷◌, ◌++◌, length, map, Option, Some, None}
 use Rattle.std.specs.List.{filter}
 use Rattle.kc_model.specs.declared.reply.Reply.{Reply}
 use Rattle.kc_model.specs.declared.reply.Reply.TheVariants as reply
 use Rattle.kc_xt.specs.Meaning.{replied}
+use Rattle.kc_xt.specs.Times.{times}
 use Rattle.kc_xt.specs.Structure.{Value, comes_to}
 use Rattle.kc_hash.specs.declared.hash.Hash.{Hash}
 use Rattle.kc_hash.specs.declared.operation.HashAct.{HashAct}
@@ -55,11 +56,6 @@ abbrev pub nearer : Option ℕ → Option (ℕ × ℕ) → ℕ × ℕ → Option
 nearer after best p = cond (is_above after p.0 && is_below p.0 best) (Some p) best
 
 -- ---- cells that stand for a map
-
--- how often a number stands in a list
-abbrev pub times : ℕ → List ℕ → ℕ
-times n [] = 0
-times n (x ∷ xs) = cond (x == n) 1 0 + times n xs
 
 -- From this link on, the chain has these nodes, and ends at 0.
 abbrev pub IsChain : Hash → (ℕ → ℕ) → ℕ → List ℕ → Type 0

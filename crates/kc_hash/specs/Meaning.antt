@@ -1,5 +1,5 @@
 -- What the operations on a table mean, for every content of its cells.
-use Rattle.std.specs.Prelude.{ℕ, zero, suc, ◌+◌, ◌-◌, ◌*◌, ◌%◌, ◌<◌, ◌≤◌, ◌==◌, nat_le, min, cond, Option, Some, None}
+use Rattle.std.specs.Prelude.{ℕ, zero, suc, ◌+◌, ◌-◌, ◌*◌, ◌%◌, ◌^◌, ◌<◌, ◌≤◌, ◌==◌, nat_le, min, cond, Option, Some, None}
 use Rattle.kc_model.specs.declared.reply.Reply.{Reply}
 use Rattle.kc_model.specs.declared.reply.Reply.TheVariants as reply
 use Rattle.kc_xt.specs.Meaning.{Meaning}
@@ -128,9 +128,9 @@ hash_program h act.Len = length_program h
 abbrev pub hash_meaning : HashOp → Meaning
 hash_meaning o = meaning (hash_program o.hash o.act replies)
 
--- a number above its locations
+-- a number above its locations, where a number of its type is
 abbrev pub hash_end : HashOp → ℕ
-hash_end o = cells_end o.hash
+hash_end o = min (cells_end o.hash) (2 ^ 32 - 1)
 
 -- no location of it is below this one
 abbrev pub hash_begin : HashOp → ℕ

@@ -1,6 +1,6 @@
 //! Where a table lies.
 
-ghost use Rattle.std.specs.Prelude.{◌≡◌, ◌≤◌, ◌<◌, ◌+◌, ◌*◌};
+ghost use Rattle.std.specs.Prelude.{◌≡◌, ◌≤◌, ◌<◌, ◌+◌, ◌-◌, ◌*◌, ◌^◌, min};
 ghost use Rattle.kc_hash.specs.Meaning.{hash_cells, cells_end, key_cell, link_of};
 ghost use Rattle.kc_hash.specs.Content.{hash_opening};
 
@@ -57,6 +57,17 @@ impl Hash {
         }
         let node = (index - nodes) / 3 + 1;
         if node < self.cap { node + 1 } else { 0 }
+    }
+
+    // A number above its cells, where a number of its type is.
+    pub(crate) fn end(&self) -> u32
+        ensures { result ≡ min (cells_end self.now) (2 ^ 32 - 1) }
+    {
+        self.base
+            .0
+            .saturating_add(2)
+            .saturating_add(self.buckets)
+            .saturating_add(self.cap.saturating_mul(3))
     }
 
     // A link above the capacity counts as 0.

@@ -34,7 +34,7 @@ impl Transact for HashOp {
     ghost end = { hash_end };
 
     fn bound(&self) -> u32 {
-        self.hash.base.0 + 2 + self.hash.buckets + 3 * self.hash.cap
+        self.hash.end()
     }
 
     fn run<P: Peek>(&self, xt: &mut Xt<P>) -> Result<Reply, Stop> {

@@ -1,21 +1,22 @@
 //! Reading line by line.
 
 ghost use Rattle.std.specs.Prelude.{◌≡◌, ◌≤◌, ◌+◌, map, None, OnOk};
-ghost use Rattle.kc_bundle.specs.Script.{script_of, names_of, cells, IsSized};
+ghost use Rattle.kc_bundle.specs.Script.{script_of, names_of};
 ghost use Rattle.kc_lines.specs.Words.{words};
 ghost use Rattle.kc_lines.specs.Gives.{Gives, Reaches};
 ghost use Rattle.kc_verbs.specs.Objects.{object_of};
+ghost use Rattle.kc_verbs.specs.Declaring.{IsAt};
 ghost use Rattle.kc_script.specs.Blocks.{in_block};
 ghost use Rattle.kc_script.specs.Reading.{state_of, opening, with_object, closed, next_thread, no_block, placed, declared_line, said_line, begun_block, thread_line, worded_line, header_line, content_line, any_line, all_lines, ended, spelled};
 
 use crate::blocks::{atomic_line, begin_thread, end_line, in_block, op_line, or_line};
 use crate::reader::Reader;
 use indexmap::IndexMap;
-use kc_bundle::{Bundle, Object};
+use kc_bundle::{Bundle, Object, cells};
 use kc_lines::{
     Complaint, Limit, Why, complain, counted, is_skipped, lines_of, wants, word_at, words_of,
 };
-use kc_verbs::{Kind, Verb, Word, add, cells_of, declare, say, word_of};
+use kc_verbs::{Kind, Verb, Word, add, declare, say, word_of};
 use std::alloc::{AllocError, Global};
 use std::mem;
 
@@ -39,12 +40,11 @@ fn open(alloc: Global) -> Reader
 
 fn with_object(reader: &mut Reader, name: &str, object: Object) -> Result<(), AllocError>
     requires new { object_of (names_of reader.old.objects) name.now ≡ None }
-    requires sized { IsSized object }
-    requires room { reader.old.next + cells object ≤ 65536 }
+    requires placed { IsAt reader.old.next object }
     ensures { OnOk result (state_of reader.new ≡ with_object (state_of reader.old) (name.now, object)) }
 {
     add(reader.alloc, &mut reader.objects, name, object)?;
-    reader.next += cells_of(object);
+    reader.next += cells(object);
     Ok(())
 }
 

@@ -87,9 +87,9 @@ fn run_one(alloc: Global, commands: &[Command], store: PlainStore) -> Result<Ran
 
 fn write_run<K: Sink>(bundle: &Bundle, ran: &Ran, sink: &mut K) -> Result<(), Failed>
     requires cells { CellsWithin (length ran.now.store) (names_of bundle.now.objects) }
+    requires formed { AreWellFormed (names_of bundle.now.objects) (values (store_of ran.now.store)) }
     requires named { NamesRecords (lists_of ran.now.records.items) ran.now.order.items }
-    ensures shown { Prints K.written K.faults K.write_gives sink.old sink.new result (records_text (lists_of ran.now.records.items) ran.now.order.items ++ codes "state\n" ++ state_text (names_of bundle.now.objects) (values (store_of ran.now.store))) }
-    ensures contents { (contents : List Content) → AllStand (names_of bundle.now.objects) (values (store_of ran.now.store)) contents → Prints K.written K.faults K.write_gives sink.old sink.new result (run_text (script_of bundle.now) (lists_of ran.now.records.items) ran.now.order.items contents) }
+    ensures { (contents : List Content) → AllStand (names_of bundle.now.objects) (values (store_of ran.now.store)) contents → Prints K.written K.faults K.write_gives sink.old sink.new result (run_text (script_of bundle.now) (lists_of ran.now.records.items) ran.now.order.items contents) }
 {
     let mut pen = Pen::new(sink);
     put_run(&mut pen, bundle, ran);

@@ -1,10 +1,10 @@
 -- Where a declared object lies, and its sizes.
-use Rattle.std.proofs.Common.{◌≡◌, ℕ, ◌+◌, ◌≤◌, Bool, true, false, ◌&&◌, cond, List, [], ◌∷◌, Option, Some, None, Ok, leb, refl, subst, arith}
+use Rattle.std.proofs.Common.{◌≡◌, ℕ, ◌+◌, ◌≤◌, Bool, true, false, ◌&&◌, cond, List, [], ◌∷◌, Option, Some, None, Result, Ok, leb, refl, subst, arith}
 use Rattle.std.proofs.lemmas.Bool.{leb-true}
 use Rattle.kc_lines.specs.Words.{is_numeral, value_on, number}
 use Rattle.kc_lines.specs.Tests.{◌>>=◌, wants, counted, word_at, number_to}
-use Rattle.kc_lines.specs.declared.fault.Why.TheVariants.{BadNumber, TooMany}
-use Rattle.kc_lines.specs.declared.fault.Limit.TheVariants.{Locations}
+use Rattle.kc_lines.specs.declared.fault.Why.{Why}
+use Rattle.kc_lines.specs.declared.fault.Why.TheVariants.{BadNumber}
 use Rattle.kc_lines.proofs.NameText.{both}
 use Rattle.kc_lines.proofs.Given.{given, bind_ok, wants_ok, ok_is, found_ok, when_some}
 use Rattle.kc_bundle.specs.declared.object.Object.{Object}
@@ -16,7 +16,8 @@ use Rattle.kc_verbs.specs.declared.word.Word.{Word}
 use Rattle.kc_verbs.specs.declared.word.Word.TheVariants as word
 use Rattle.kc_verbs.specs.Words.{word_of}
 use Rattle.kc_verbs.specs.Objects.{new_name}
-use Rattle.kc_verbs.specs.Declaring.{fields, size_to, object_at, with_room, declare, declared_by, declared, IsPlaced}
+use Rattle.kc_verbs.specs.Declaring.{fields, size_to, loc_at, stack_at, queue_at, table_at, cache_at, mvar_at, promise_at, acc_at, object_at, declare, declared_by, declared, IsAt, IsPlaced}
+use Rattle.kc_verbs.proofs.Placing.{few_made}
 
 -- ---- sizes
 
@@ -49,40 +50,62 @@ size_ok most w n e =
 
 -- ---- an object
 
--- it begins at a location, and is sized
-abbrev pub IsAt : ℕ → Object → Type 0
-IsAt at o = (base o ≡ at) × IsSized o
-
--- an object with one size
-one_size : (at most : ℕ) (w : List ℕ) (made : ℕ → Object) (o : Object) → (size_to most w >>= λ n. given (made n)) ≡ Ok o → ((n : ℕ) → 1 ≤ n → n ≤ most → IsAt at (made n)) → IsAt at o
+-- an object of one size
+one_size : (at most : ℕ) (w : List ℕ) (made : ℕ → Result Object Why) (o : Object) → (size_to most w >>= made) ≡ Ok o → ((n : ℕ) → 1 ≤ n → n ≤ most → made n ≡ Ok o → IsAt at o) → IsAt at o
 one_size at most w made o e good =
-    let a = bind_ok (size_to most w) (λ n. given (made n)) o e in
+    let a = bind_ok (size_to most w) made o e in
     let size = size_ok most w a.0 a.1 in
-    subst (IsAt at) (ok_is (made a.0) o a.2) (good a.0 size.0 size.1)
+    good a.0 size.0 size.1 a.2
+
+loc_placed : (at value : ℕ) (o : Object) → loc_at at value ≡ Ok o → IsAt at o
+unfolding loc_at
+loc_placed at value o e = let f = few_made _ _ _ _ o e in subst (IsAt at) (ok_is _ _ f.1) (refl, f.0, tt)
+
+stack_placed : (at cap : ℕ) (o : Object) → 1 ≤ cap → cap ≤ 4096 → stack_at at cap ≡ Ok o → IsAt at o
+unfolding stack_at
+stack_placed at cap o some few e = let f = few_made _ _ _ _ o e in subst (IsAt at) (ok_is _ _ f.1) (refl, omega (arith, f.0), (some, few))
+
+queue_placed : (at cap : ℕ) (o : Object) → 1 ≤ cap → cap ≤ 4096 → queue_at at cap ≡ Ok o → IsAt at o
+unfolding queue_at
+queue_placed at cap o some few e =
+    let g = few_made _ _ _ _ o e in
+    let f = few_made _ _ _ _ o g.1 in
+    subst (IsAt at) (ok_is _ _ f.1) (refl, omega (arith, f.0), (some, few))
+
+table_placed : (at buckets cap : ℕ) (o : Object) → (1 ≤ buckets) × (buckets ≤ 1024) → 1 ≤ cap → cap ≤ 4096 → table_at at buckets cap ≡ Ok o → IsAt at o
+unfolding table_at
+table_placed at buckets cap o b some few e = let f = few_made _ _ _ _ o e in subst (IsAt at) (ok_is _ _ f.1) (refl, omega (arith, f.0), (b.0, b.1, some, few))
+
+cache_placed : (at buckets cap : ℕ) (o : Object) → (1 ≤ buckets) × (buckets ≤ 1024) → 1 ≤ cap → cap ≤ 4096 → cache_at at buckets cap ≡ Ok o → IsAt at o
+unfolding cache_at
+cache_placed at buckets cap o b some few e = let f = few_made _ _ _ _ o e in subst (IsAt at) (ok_is _ _ f.1) (refl, omega (arith, f.0), (b.0, b.1, some, few))
+
+mvar_placed : (at : ℕ) (o : Object) → mvar_at at ≡ Ok o → IsAt at o
+unfolding mvar_at
+mvar_placed at o e = let f = few_made _ _ _ _ o e in subst (IsAt at) (ok_is _ _ f.1) (refl, f.0, tt)
+
+promise_placed : (at : ℕ) (o : Object) → promise_at at ≡ Ok o → IsAt at o
+unfolding promise_at
+promise_placed at o e = let f = few_made _ _ _ _ o e in subst (IsAt at) (ok_is _ _ f.1) (refl, f.0, tt)
+
+acc_placed : (at cells : ℕ) (o : Object) → 1 ≤ cells → cells ≤ 32 → acc_at at cells ≡ Ok o → IsAt at o
+unfolding acc_at
+acc_placed at cells o some few e =
+    let g = few_made _ _ _ _ o e in
+    let f = few_made _ _ _ _ o g.1 in
+    subst (IsAt at) (ok_is _ _ f.1) (refl, f.0, (some, few))
 
 -- the object that begins at a location
 object_is_at : (at : ℕ) (k : Kind) (args : List (List ℕ)) (o : Object) → object_at at k args ≡ Ok o → IsAt at o
 unfolding object_at
-object_is_at at kind.Loc args o e =
-    let a = bind_ok (number_to 4294967295 (word_at args 1)) (λ value. given (object.Loc (record { 0 = at }) value)) o e in
-    subst (IsAt at) (ok_is _ _ a.2) (refl, tt)
-object_is_at at kind.Stack args o e = one_size at 4096 (word_at args 1) (λ n. object.Stack (record { base = record { 0 = at }; cap = n })) o e (λ n some few. (refl, (some, few)))
-object_is_at at kind.Queue args o e = one_size at 4096 (word_at args 1) (λ n. object.Queue (record { base = record { 0 = at }; cap = n })) o e (λ n some few. (refl, (some, few)))
-object_is_at at kind.Table args o e =
-    let made = λ (b c : ℕ). object.Hash (record { base = record { 0 = at }; buckets = b; cap = c }) in
-    let last = λ (b : ℕ). size_to 4096 (word_at args 2) >>= λ c. given (made b c) in
-    let a = bind_ok (size_to 1024 (word_at args 1)) last o e in
-    let size = size_ok 1024 (word_at args 1) a.0 a.1 in
-    one_size at 4096 (word_at args 2) (made a.0) o a.2 (λ n some few. (refl, (size.0, size.1, some, few)))
-object_is_at at kind.Cache args o e =
-    let made = λ (b c : ℕ). object.Cache (record { base = record { 0 = at }; buckets = b; cap = c }) in
-    let last = λ (b : ℕ). size_to 4096 (word_at args 2) >>= λ c. given (made b c) in
-    let a = bind_ok (size_to 1024 (word_at args 1)) last o e in
-    let size = size_ok 1024 (word_at args 1) a.0 a.1 in
-    one_size at 4096 (word_at args 2) (made a.0) o a.2 (λ n some few. (refl, (size.0, size.1, some, few)))
-object_is_at at kind.Mvar args o e = subst (IsAt at) (ok_is _ _ e) (refl, tt)
-object_is_at at kind.Promise args o e = subst (IsAt at) (ok_is _ _ e) (refl, tt)
-object_is_at at kind.Acc args o e = one_size at 32 (word_at args 1) (λ n. object.Acc (record { base = record { 0 = at }; cells = n })) o e (λ n some few. (refl, (some, few)))
+object_is_at at kind.Loc args o e = let a = bind_ok (number_to 4294967295 (word_at args 1)) (loc_at at) o e in loc_placed at a.0 o a.2
+object_is_at at kind.Stack args o e = one_size at 4096 (word_at args 1) (stack_at at) o e (λ n some few f. stack_placed at n o some few f)
+object_is_at at kind.Queue args o e = one_size at 4096 (word_at args 1) (queue_at at) o e (λ n some few f. queue_placed at n o some few f)
+object_is_at at kind.Table args o e = one_size at 1024 (word_at args 1) (λ b. size_to 4096 (word_at args 2) >>= table_at at b) o e (λ b some few f. one_size at 4096 (word_at args 2) (table_at at b) o f (λ n some' few' g. table_placed at b n o (some, few) some' few' g))
+object_is_at at kind.Cache args o e = one_size at 1024 (word_at args 1) (λ b. size_to 4096 (word_at args 2) >>= cache_at at b) o e (λ b some few f. one_size at 4096 (word_at args 2) (cache_at at b) o f (λ n some' few' g. cache_placed at b n o (some, few) some' few' g))
+object_is_at at kind.Mvar args o e = mvar_placed at o e
+object_is_at at kind.Promise args o e = promise_placed at o e
+object_is_at at kind.Acc args o e = one_size at 32 (word_at args 1) (acc_at at) o e (λ n some few f. acc_placed at n o some few f)
 
 -- ---- what a line declares
 
@@ -90,15 +113,12 @@ object_is_at at kind.Acc args o e = one_size at 32 (word_at args 1) (λ n. objec
 pub declare_placed : (names : Names) (k : Kind) (args : List (List ℕ)) (entry : List ℕ × Object) → declare names k args ≡ Ok entry → IsPlaced names entry.1
 unfolding declare
 declare_placed names k args entry e =
-    let last = λ (name : List ℕ) (o : Object). with_room names name o in
+    let last = λ (name : List ℕ) (o : Object). given (name, o) in
     let second = λ (name : List ℕ). object_at (next_from 1 names) k args >>= last name in
     let a = bind_ok (counted (fields k) args) (λ all. new_name names (word_at args 0) >>= second) entry e in
     let b = bind_ok (new_name names (word_at args 0)) second entry a.2 in
     let d = bind_ok (object_at (next_from 1 names) k args) (last b.0) entry b.2 in
-    let f = bind_ok (wants (leb (next_from 1 names + cells d.0) 65536) (TooMany Locations)) (λ room. given (b.0, d.0)) entry d.2 in
-    let room = leb-true _ _ (wants_ok _ (TooMany Locations) f.0 f.1) in
-    let lies = object_is_at (next_from 1 names) k args d.0 d.1 in
-    subst (λ (x : List ℕ × Object). IsPlaced names x.1) (ok_is _ _ f.2) (lies.0, room, lies.1)
+    subst (λ (x : List ℕ × Object). IsPlaced names x.1) (ok_is _ _ d.2) (object_is_at (next_from 1 names) k args d.0 d.1)
 
 declared_by_placed : (names : Names) (w : Option Word) (args : List (List ℕ)) (entry : List ℕ × Object) → declared_by names w args ≡ Ok entry → IsPlaced names entry.1
 declared_by_placed names None args entry e = absurd cc

@@ -1,3 +1,4 @@
+pub mod Placing
 pub mod Names
 pub mod Declared
 pub mod Said

@@ -1,5 +1,6 @@
 -- Lines that declare an object. On each line the tests stand in their order; what is wrong is the first that fails.
-use Rattle.std.specs.Prelude.{◌≡◌, ℕ, ◌+◌, ◌≤◌, List, [], ◌∷◌, Option, Some, Result, Ok, Err, nat_le}
+use Rattle.std.specs.Prelude.{◌≡◌, ℕ, ◌+◌, ◌*◌, ◌≤◌, Bool, true, false, List, [], ◌∷◌, Option, Some, Result, Ok, Err, nat_le, refl}
+use Rattle.std.proofs.lemmas.Bool.{leb-true}
 use Rattle.kc_lines.specs.Tests.{◌>>=◌, wants, counted, word_at, number_to}
 use Rattle.kc_lines.specs.declared.fault.Why.{Why}
 use Rattle.kc_lines.specs.declared.fault.Why.TheVariants.{UnknownWord, BadNumber, TooMany}
@@ -32,26 +33,62 @@ size_to most word = do
   some ← wants (nat_le 1 n) BadNumber
   Ok n
 
+-- ---- objects, where all their cells are locations
+
+-- what comes of a number that has to be at most another one
+abbrev pub tested : {X : Type 0} (n most : ℕ) → Why → (n ≤ most → Result X Why) → (t : Bool) → nat_le n most ≡ t → Result X Why
+tested n most why go true e = go (leb-true n most e)
+tested n most why go false e = Err why
+
+unfoldable pub at_most : {X : Type 0} (n most : ℕ) → Why → (n ≤ most → Result X Why) → Result X Why
+at_most n most why go = tested n most why go (nat_le n most) refl
+
+-- an object with its last cell before this location
+abbrev pub laid : (n : ℕ) → (n ≤ 65536 → Object) → Result Object Why
+laid n make = at_most n 65536 (TooMany Locations) (λ room. Ok (make room))
+
+unfoldable pub loc_at : ℕ → ℕ → Result Object Why
+loc_at at value = laid (at + 1) (λ room. object.Loc (record { 0 = at }) value)
+
+unfoldable pub stack_at : ℕ → ℕ → Result Object Why
+stack_at at cap = laid (at + 1 + cap) (λ room. object.Stack (record { base = record { 0 = at }; cap = cap; laid = room }))
+
+unfoldable pub queue_at : ℕ → ℕ → Result Object Why
+queue_at at cap = at_most 1 cap BadNumber (λ some. laid (at + 2 + cap) (λ room. object.Queue (record { base = record { 0 = at }; cap = cap; some = some; laid = room })))
+
+unfoldable pub table_at : ℕ → ℕ → ℕ → Result Object Why
+table_at at buckets cap = laid (at + 2 + buckets + 3 * cap) (λ room. object.Hash (record { base = record { 0 = at }; buckets = buckets; cap = cap }))
+
+unfoldable pub cache_at : ℕ → ℕ → ℕ → Result Object Why
+cache_at at buckets cap = laid (at + 6 + buckets + 7 * cap) (λ room. object.Cache (record { base = record { 0 = at }; buckets = buckets; cap = cap }))
+
+unfoldable pub mvar_at : ℕ → Result Object Why
+mvar_at at = laid (at + 2) (λ room. object.Mvar (record { base = record { 0 = at }; laid = room }))
+
+unfoldable pub promise_at : ℕ → Result Object Why
+promise_at at = laid (at + 2) (λ room. object.Promise (record { base = record { 0 = at }; laid = room }))
+
+unfoldable pub acc_at : ℕ → ℕ → Result Object Why
+acc_at at cells = at_most 1 cells BadNumber (λ some. laid (at + cells) (λ room. object.Acc (record { base = record { 0 = at }; cells = cells; some = some; laid = room })))
+
 -- the object that begins at a location, with the numbers behind its name
 unfoldable pub object_at : ℕ → Kind → List (List ℕ) → Result Object Why
-object_at at kind.Loc args = number_to 4294967295 (word_at args 1) >>= λ value. Ok (object.Loc (record { 0 = at }) value)
-object_at at kind.Stack args = size_to 4096 (word_at args 1) >>= λ cap. Ok (object.Stack (record { base = record { 0 = at }; cap = cap }))
-object_at at kind.Queue args = size_to 4096 (word_at args 1) >>= λ cap. Ok (object.Queue (record { base = record { 0 = at }; cap = cap }))
-object_at at kind.Table args = size_to 1024 (word_at args 1) >>= λ buckets. size_to 4096 (word_at args 2) >>= λ cap. Ok (object.Hash (record { base = record { 0 = at }; buckets = buckets; cap = cap }))
-object_at at kind.Cache args = size_to 1024 (word_at args 1) >>= λ buckets. size_to 4096 (word_at args 2) >>= λ cap. Ok (object.Cache (record { base = record { 0 = at }; buckets = buckets; cap = cap }))
-object_at at kind.Mvar args = Ok (object.Mvar (record { base = record { 0 = at } }))
-object_at at kind.Promise args = Ok (object.Promise (record { base = record { 0 = at } }))
-object_at at kind.Acc args = size_to 32 (word_at args 1) >>= λ cells. Ok (object.Acc (record { base = record { 0 = at }; cells = cells }))
+object_at at kind.Loc args = number_to 4294967295 (word_at args 1) >>= loc_at at
+object_at at kind.Stack args = size_to 4096 (word_at args 1) >>= stack_at at
+object_at at kind.Queue args = size_to 4096 (word_at args 1) >>= queue_at at
+object_at at kind.Table args = size_to 1024 (word_at args 1) >>= λ buckets. size_to 4096 (word_at args 2) >>= table_at at buckets
+object_at at kind.Cache args = size_to 1024 (word_at args 1) >>= λ buckets. size_to 4096 (word_at args 2) >>= cache_at at buckets
+object_at at kind.Mvar args = mvar_at at
+object_at at kind.Promise args = promise_at at
+object_at at kind.Acc args = size_to 32 (word_at args 1) >>= acc_at at
+
+-- it begins at a location, with its last cell below 65,536, and is sized
+abbrev pub IsAt : ℕ → Object → Type 0
+IsAt at o = (base o ≡ at) × (at + cells o ≤ 65536) × IsSized o
 
 -- the first location that no object has
 abbrev pub next : Names → ℕ
 next names = next_from 1 names
-
--- an object with a new name has room
-abbrev pub with_room : Names → List ℕ → Object → Result (List ℕ × Object) Why
-with_room names name o = do
-  room ← wants (nat_le (next names + cells o) 65536) (TooMany Locations)
-  Ok (name, o)
 
 -- what a line declares behind these names
 unfoldable pub declare : Names → Kind → List (List ℕ) → Result (List ℕ × Object) Why
@@ -59,7 +96,7 @@ declare names k args = do
   all ← counted (fields k) args
   name ← new_name names (word_at args 0)
   o ← object_at (next names) k args
-  with_room names name o
+  Ok (name, o)
 
 -- a word that begins a declaration
 abbrev pub declared_by : Names → Option Word → List (List ℕ) → Result (List ℕ × Object) Why
@@ -73,4 +110,4 @@ declared names (first ∷ args) = declared_by names (word_of first) args
 
 -- an object lies behind those before it, has room, and is sized
 abbrev pub IsPlaced : Names → Object → Type 0
-IsPlaced names o = (base o ≡ next names) × (next names + cells o ≤ 65536) × IsSized o
+IsPlaced names o = IsAt (next names) o

@@ -1,10 +1,10 @@
 //! Lines that declare an object.
 
-ghost use Rattle.std.specs.Prelude.{◌≡◌, ◌≤◌, ◌+◌, map, length, None, IfOk};
-ghost use Rattle.kc_bundle.specs.Script.{names_of, cells, next_from, IsSized};
+ghost use Rattle.std.specs.Prelude.{◌≡◌, ◌≤◌, map, length, None, IfOk};
+ghost use Rattle.kc_bundle.specs.Script.{names_of, next_from};
 ghost use Rattle.kc_lines.specs.Gives.{Gives};
 ghost use Rattle.kc_verbs.specs.Objects.{object_of, new_name};
-ghost use Rattle.kc_verbs.specs.Declaring.{fields, size_to, object_at, with_room, declare};
+ghost use Rattle.kc_verbs.specs.Declaring.{fields, size_to, loc_at, stack_at, queue_at, table_at, cache_at, mvar_at, promise_at, acc_at, object_at, declare, IsAt};
 
 use crate::objects::find;
 use crate::word::Kind;
@@ -73,67 +73,131 @@ fn size_to(most: u32, word: &[u8]) -> Result<u32, Complaint>
     }
 }
 
+fn loc_at(at: Loc, value: u32) -> Result<Object, Complaint>
+    requires at { at.0 ≤ 65536 }
+    ensures gives { Gives (λ o. o) result (loc_at at.0 value) }
+    ensures placed { IfOk result (IsAt at.0) }
+{
+    if at.0 + 1 > END {
+        return complain(Why::TooMany(Limit::Locations));
+    }
+    Ok(Object::Loc { at, value })
+}
+
+fn stack_at(at: Loc, cap: u32) -> Result<Object, Complaint>
+    requires at { at.0 ≤ 65536 }
+    requires some { 1 ≤ cap }
+    requires most { cap ≤ 4096 }
+    ensures gives { Gives (λ o. o) result (stack_at at.0 cap) }
+    ensures placed { IfOk result (IsAt at.0) }
+{
+    if at.0 + 1 + cap > END {
+        return complain(Why::TooMany(Limit::Locations));
+    }
+    Ok(Object::Stack(Stack::layout(at, cap)))
+}
+
+fn queue_at(at: Loc, cap: u32) -> Result<Object, Complaint>
+    requires at { at.0 ≤ 65536 }
+    requires some { 1 ≤ cap }
+    requires most { cap ≤ 4096 }
+    ensures gives { Gives (λ o. o) result (queue_at at.0 cap) }
+    ensures placed { IfOk result (IsAt at.0) }
+{
+    if at.0 + 2 + cap > END {
+        return complain(Why::TooMany(Limit::Locations));
+    }
+    Ok(Object::Queue(Queue::layout(at, cap)))
+}
+
+fn table_at(at: Loc, buckets: u32, cap: u32) -> Result<Object, Complaint>
+    requires at { at.0 ≤ 65536 }
+    requires some_buckets { 1 ≤ buckets }
+    requires most_buckets { buckets ≤ 1024 }
+    requires some { 1 ≤ cap }
+    requires most { cap ≤ 4096 }
+    ensures gives { Gives (λ o. o) result (table_at at.0 buckets cap) }
+    ensures placed { IfOk result (IsAt at.0) }
+{
+    if at.0 + 2 + buckets + 3 * cap > END {
+        return complain(Why::TooMany(Limit::Locations));
+    }
+    Ok(Object::Hash(Hash::layout(at, buckets, cap)))
+}
+
+fn cache_at(at: Loc, buckets: u32, cap: u32) -> Result<Object, Complaint>
+    requires at { at.0 ≤ 65536 }
+    requires some_buckets { 1 ≤ buckets }
+    requires most_buckets { buckets ≤ 1024 }
+    requires some { 1 ≤ cap }
+    requires most { cap ≤ 4096 }
+    ensures gives { Gives (λ o. o) result (cache_at at.0 buckets cap) }
+    ensures placed { IfOk result (IsAt at.0) }
+{
+    if at.0 + 6 + buckets + 7 * cap > END {
+        return complain(Why::TooMany(Limit::Locations));
+    }
+    Ok(Object::Cache(Cache::layout(at, buckets, cap)))
+}
+
+fn mvar_at(at: Loc) -> Result<Object, Complaint>
+    requires at { at.0 ≤ 65536 }
+    ensures gives { Gives (λ o. o) result (mvar_at at.0) }
+    ensures placed { IfOk result (IsAt at.0) }
+{
+    if at.0 + 2 > END {
+        return complain(Why::TooMany(Limit::Locations));
+    }
+    Ok(Object::Mvar(Mvar::layout(at)))
+}
+
+fn promise_at(at: Loc) -> Result<Object, Complaint>
+    requires at { at.0 ≤ 65536 }
+    ensures gives { Gives (λ o. o) result (promise_at at.0) }
+    ensures placed { IfOk result (IsAt at.0) }
+{
+    if at.0 + 2 > END {
+        return complain(Why::TooMany(Limit::Locations));
+    }
+    Ok(Object::Promise(Promise::layout(at)))
+}
+
+fn acc_at(at: Loc, cells: u32) -> Result<Object, Complaint>
+    requires at { at.0 ≤ 65536 }
+    requires some { 1 ≤ cells }
+    requires most { cells ≤ 32 }
+    ensures gives { Gives (λ o. o) result (acc_at at.0 cells) }
+    ensures placed { IfOk result (IsAt at.0) }
+{
+    if at.0 + cells > END {
+        return complain(Why::TooMany(Limit::Locations));
+    }
+    Ok(Object::Acc(Accumulator::layout(at, cells)))
+}
+
 // The object that begins at a location, with the numbers behind its name.
 #[tactic(auto, unfolding(crate::specs::Declaring::object_at))]
 fn object_at(at: Loc, kind: Kind, args: &[&[u8]]) -> Result<Object, Complaint>
-    requires { length args.now ≡ fields kind }
+    requires at { at.0 ≤ 65536 }
+    requires counted { length args.now ≡ fields kind }
     ensures gives { Gives (λ o. o) result (object_at at.0 kind (map (λ word. word.now) args.now)) }
-    ensures sized { IfOk result IsSized }
+    ensures placed { IfOk result (IsAt at.0) }
 {
     match kind {
-        Kind::Loc => {
-            let value = number_to(u32::MAX, word_at(args, 1))?;
-            Ok(Object::Loc { at, value })
-        }
-        Kind::Stack => {
-            let cap = size_to(MOST_ITEMS, word_at(args, 1))?;
-            Ok(Object::Stack(Stack { base: at, cap }))
-        }
-        Kind::Queue => {
-            let cap = size_to(MOST_ITEMS, word_at(args, 1))?;
-            Ok(Object::Queue(Queue { base: at, cap }))
-        }
+        Kind::Loc => loc_at(at, number_to(u32::MAX, word_at(args, 1))?),
+        Kind::Stack => stack_at(at, size_to(MOST_ITEMS, word_at(args, 1))?),
+        Kind::Queue => queue_at(at, size_to(MOST_ITEMS, word_at(args, 1))?),
         Kind::Table => {
             let buckets = size_to(MOST_BUCKETS, word_at(args, 1))?;
-            let cap = size_to(MOST_ITEMS, word_at(args, 2))?;
-            Ok(Object::Hash(Hash {
-                base: at,
-                buckets,
-                cap,
-            }))
+            table_at(at, buckets, size_to(MOST_ITEMS, word_at(args, 2))?)
         }
         Kind::Cache => {
             let buckets = size_to(MOST_BUCKETS, word_at(args, 1))?;
-            let cap = size_to(MOST_ITEMS, word_at(args, 2))?;
-            Ok(Object::Cache(Cache {
-                base: at,
-                buckets,
-                cap,
-            }))
+            cache_at(at, buckets, size_to(MOST_ITEMS, word_at(args, 2))?)
         }
-        Kind::Mvar => Ok(Object::Mvar(Mvar { base: at })),
-        Kind::Promise => Ok(Object::Promise(Promise { base: at })),
-        Kind::Acc => {
-            let cells = size_to(MOST_CELLS, word_at(args, 1))?;
-            Ok(Object::Acc(Accumulator { base: at, cells }))
-        }
-    }
-}
-
-/// How many cells an object has, wherever it begins.
-pub fn cells_of(object: Object) -> u32
-    requires { IsSized object }
-    ensures value { result ≡ cells object }
-    ensures most { result ≤ 65536 }
-{
-    match object {
-        Object::Loc { .. } => 1,
-        Object::Stack(stack) => 1 + stack.cap,
-        Object::Queue(queue) => 2 + queue.cap,
-        Object::Mvar(_) | Object::Promise(_) => 2,
-        Object::Acc(acc) => acc.cells,
-        Object::Hash(hash) => 2 + hash.buckets + 3 * hash.cap,
-        Object::Cache(cache) => 6 + cache.buckets + 7 * cache.cap,
+        Kind::Mvar => mvar_at(at),
+        Kind::Promise => promise_at(at),
+        Kind::Acc => acc_at(at, size_to(MOST_CELLS, word_at(args, 1))?),
     }
 }
 
@@ -149,15 +213,10 @@ pub fn declare<'a>(
     requires within { next ≤ 65536 }
     ensures gives { Gives (λ entry. (entry.0.now, entry.1)) result (declare (names_of objects.now) kind (map (λ word. word.now) args.now)) }
     ensures new { IfOk result (λ entry. object_of (names_of objects.now) entry.0.now ≡ None) }
-    ensures sized { IfOk result (λ entry. IsSized entry.1) }
-    ensures room { IfOk result (λ entry. next + cells entry.1 ≤ 65536) }
+    ensures placed { IfOk result (λ entry. IsAt next entry.1) }
 {
     counted(fields(kind), args)?;
     let name = new_name(objects, word_at(args, 0))?;
     let object = object_at(Loc(next), kind, args)?;
-    wants(
-        next + cells_of(object) <= END,
-        Why::TooMany(Limit::Locations),
-    )?;
     Ok((name, object))
 }

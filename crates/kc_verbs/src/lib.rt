@@ -11,7 +11,7 @@ mod saying;
 mod verb;
 mod word;
 
-pub use declaring::{cells_of, declare};
+pub use declaring::declare;
 pub use laws::{declares_behind, says_on_objects};
 pub use objects::add;
 pub use saying::say;

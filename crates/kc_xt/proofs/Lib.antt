@@ -19,3 +19,4 @@ pub mod Written
 pub mod Stay
 pub mod Structures
 pub mod Inside
+pub mod Times

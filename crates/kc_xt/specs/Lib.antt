@@ -11,3 +11,4 @@ pub mod Single
 pub mod Stays
 pub mod Structure
 pub mod Worked
+pub mod Times

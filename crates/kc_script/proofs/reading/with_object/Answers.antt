@@ -8,4 +8,4 @@ invariant_of-reader-2-clause-follows c =
     let old = c.args.reader.now in
     let more = next_from_more 1 (names_of old.objects) (c.args.name.now, c.args.object) in
     let same = ap (next_from 1) c.in_ok-add.ensures.ok in
-    omega (arith, old.follows, more, same, c.cells_of.ensures.value)
+    omega (arith, old.follows, more, same, c.cells.ensures)

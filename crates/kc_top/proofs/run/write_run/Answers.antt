@@ -6,10 +6,7 @@ use Rattle.kc_bundle.specs.Script.{names_of}
 use Rattle.kc_bundle.proofs.Standing.{all_show}
 use Rattle.kc_top.proofs.run.write_run.Goals as goal
 
-pub returns-clause-shown : goal.returns-clause-shown
-returns-clause-shown g c = prints_sink c.new-pen.ensures.fresh c.put_run.ensures c.end.ensures.puts c.end.ensures.ok c.end.ensures.err (search rules)
-
-pub returns-clause-contents : goal.returns-clause-contents
-returns-clause-contents g c = λ contents stand.
+pub returns : goal.returns
+returns g c = λ contents stand.
     let text = all_show (names_of c.args.bundle.now.objects) (values (store_of c.args.ran.now.store)) contents stand in
     prints_sink c.new-pen.ensures.fresh (rw text at c.put_run.ensures) c.end.ensures.puts c.end.ensures.ok c.end.ensures.err (search rules)

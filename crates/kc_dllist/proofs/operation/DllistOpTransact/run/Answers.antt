@@ -1,3 +1,4 @@
+use Rattle.std.proofs.Common.{arith}
 use Rattle.kc_dllist.proofs.DllistLaw.{dllist_law}
 use Rattle.kc_dllist.proofs.operation.DllistOpTransact.run.Goals as goal
 
@@ -14,7 +15,7 @@ pub returns-in-Last-clause-law : goal.returns-in-Last-clause-law
 returns-in-Last-clause-law g c = dllist_law _ _ _ c.requires.fit (rw c.in-Last.is c.last.ensures.goes)
 
 pub remove-requires : goal.remove-requires
-remove-requires g c = record { node = rw c.in-Remove.is at c.requires.fit.0; fits = c.requires.fit.1; within = c.requires.within }
+remove-requires g c = record { node = rw c.in-Remove.is at c.requires.fit.0; fits = c.requires.fit.1; within = omega (arith, c.requires.fit.1, c.requires.within) }
 
 pub move_front-requires : goal.move_front-requires
-move_front-requires g c = record { node = rw c.in-MoveFront.is at c.requires.fit.0; fits = c.requires.fit.1; within = c.requires.within }
+move_front-requires g c = record { node = rw c.in-MoveFront.is at c.requires.fit.0; fits = c.requires.fit.1; within = omega (arith, c.requires.fit.1, c.requires.within) }
