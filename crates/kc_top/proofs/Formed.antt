@@ -25,7 +25,8 @@ use Rattle.kc_bundle.proofs.Opened.{script_opens}
 use Rattle.kc_bundle.proofs.Commands.{command_keeps}
 use Rattle.kc_bundle.proofs.Keeping.{all_same}
 use Rattle.kc_history.specs.declared.record.Record.{Record}
-use Rattle.kc_top.specs.Commit.{IsCommit, answer_of, kept, run_on}
+use Rattle.kc_xt.specs.Commit.{answer_of, kept, run_on}
+use Rattle.kc_top.specs.Commit.{IsCommit}
 use Rattle.kc_history.specs.declared.record.Place.{Place}
 use Rattle.kc_top.specs.Run.{meanings, opening_store}
 use Rattle.kc_top.specs.Thread.{Commits, CanRun, RunsOne}

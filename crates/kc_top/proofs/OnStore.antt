@@ -15,7 +15,8 @@ use Rattle.kc_xt.specs.declared.stop.Stop.TheVariants as stop
 use Rattle.kc_xt.specs.Meaning.{Touch, Outcome, replied, retried, too_large, answers, Makes, CanMake, given_up, is_touched}
 use Rattle.kc_xt.proofs.Spared.{touched-given_up, written-given_up}
 use Rattle.kc_history.proofs.Choice.{some_is}
-use Rattle.kc_top.specs.Commit.{answer_of, VersionsTo}
+use Rattle.kc_xt.specs.Commit.{answer_of}
+use Rattle.kc_top.specs.Commit.{VersionsTo}
 
 -- reads that stand are not stale
 pub not_stale : (s : Store) (reads : List Seen) → ((r : Seen) → Contains reads r → s r.loc.0 ≡ record { version = r.version; value = r.value }) → stale s reads ≡ None
