@@ -45,19 +45,19 @@ stack_shows s m xs h =
     let count : counted s (m s.base.0) ≡ length xs = omega (arith, h.count, h.within) in
     let turned = length-reverse xs in
     ext_get_or 0 (stack_shown s m) (reverse xs) (length-values_from (from_top s m) 0 _ ∙ count ∙ sym turned) (λ i lt.
-        let lt' : i < counted s (m s.base.0) = omega (arith, lt, length-values_from (from_top s m) 0 (counted s (m s.base.0))) in
-        let below : i < length xs = omega (arith, lt', count) in
-        let at : s.base.0 + counted s (m s.base.0) - (0 + i) ≡ s.base.0 + 1 + (length xs - 1 - i) = omega (arith, count, below) in
-        value_at (from_top s m) 0 _ i lt' ∙ ap m at ∙ h.cells (length xs - 1 - i) (omega (arith, below)) ∙ sym (get_or-reverse xs i 0 below))
+    let lt' : i < counted s (m s.base.0) = omega (arith, lt, length-values_from (from_top s m) 0 (counted s (m s.base.0))) in
+    let below : i < length xs = omega (arith, lt', count) in
+    let at : s.base.0 + counted s (m s.base.0) - (0 + i) ≡ s.base.0 + 1 + (length xs - 1 - i) = omega (arith, count, below) in
+    value_at (from_top s m) 0 _ i lt' ∙ ap m at ∙ h.cells (length xs - 1 - i) (omega (arith, below)) ∙ sym (get_or-reverse xs i 0 below))
 
 queue_shows : (q : Queue) (m : ℕ → ℕ) (xs : List ℕ) → QueueStands q m xs → queue_shown q m ≡ xs
 queue_shows q m xs h =
     let count : queue_counted q (m (count_cell q)) ≡ length xs = omega (arith, h.count, h.within) in
     let head : head_in q (m (head_cell q)) ≡ m (head_cell q) = ap (λ t. cond t (m (head_cell q)) 0) (lt-ltb _ _ h.head) in
     ext_get_or 0 (queue_shown q m) xs (length-values_from (from_front q m) 0 _ ∙ count) (λ i lt.
-        let lt' : i < queue_counted q (m (count_cell q)) = omega (arith, lt, length-values_from (from_front q m) 0 (queue_counted q (m (count_cell q)))) in
-        let start : 0 + i ≡ i = omega arith in
-        value_at (from_front q m) 0 _ i lt' ∙ ap (from_front q m) start ∙ ap (λ n. m (ring_cell q (back_of q n i))) head ∙ h.ring i (omega (arith, lt', count)))
+    let lt' : i < queue_counted q (m (count_cell q)) = omega (arith, lt, length-values_from (from_front q m) 0 (queue_counted q (m (count_cell q)))) in
+    let start : 0 + i ≡ i = omega arith in
+    value_at (from_front q m) 0 _ i lt' ∙ ap (from_front q m) start ∙ ap (λ n. m (ring_cell q (back_of q n i))) head ∙ h.ring i (omega (arith, lt', count)))
 
 place_shows : (base : ℕ) (m : ℕ → ℕ) (v : Option ℕ) → Holds base m v → held base m ≡ v
 place_shows base m None h = ap (λ t. cond t None (Some (m (base + 1)))) (eq-eqb _ _ h)

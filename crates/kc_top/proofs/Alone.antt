@@ -15,7 +15,8 @@ use Rattle.kc_bundle.specs.Script.{Names, LieFrom, AreSized}
 use Rattle.kc_bundle.specs.On.{CommandIsOn}
 use Rattle.kc_bundle.specs.Meaning.{command_meaning, alone_program, thread_meaning, end_meaning}
 use Rattle.kc_history.specs.declared.record.Record.{Record}
-use Rattle.kc_top.specs.Commit.{IsCommit, kept, run_on, OneLives}
+use Rattle.kc_xt.specs.Commit.{kept, run_on}
+use Rattle.kc_top.specs.Commit.{IsCommit, OneLives}
 
 -- the one live thread is stranded where it would wait
 alone_ends : (m : ℕ → ℕ) (ks : List ℕ) → m 0 ≡ 1 → (meaning (alone_program 0) MOST m ks).outcome ≢ retried

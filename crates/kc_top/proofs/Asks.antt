@@ -33,10 +33,10 @@ module _ {P : Type 0} (gives : Gives P) where
   ask_ended live c r x y ended law = obeys_first_stays _ (command_meaning c) (meaning (alone_program live)) r x y ended (obeys_wider _ (ask_end live c) (omega arith) (command_meaning c) x r y law)
 
   -- it would wait, and its puts were forgotten
-  pub ask_waited : (live : ℕ) (c : Command) (t r : Result Reply Stop) (x y w z : Log P) → t ≡ Err Retry → IsRising (locations x.lines) → Obeys gives (command_meaning c) (command_end c) x t y → w ≡ record y { lines = rolled_back x.lines y.lines }
+  pub ask_waited : (live : ℕ) → live + 1 ≤ 65536 → (c : Command) (t r : Result Reply Stop) (x y w z : Log P) → t ≡ Err Retry → IsRising (locations x.lines) → Obeys gives (command_meaning c) (command_end c) x t y → w ≡ record y { lines = rolled_back x.lines y.lines }
       → Obeys gives (meaning (alone_program live)) (live + 1) w r z → Obeys gives (thread_meaning live c) (ask_end live c) x r z
-  ask_waited live c t r x y w z waited rising law back alone_obeys =
-      obeys_first_else _ (command_meaning c) (meaning (alone_program live)) x y w r z rising (obeys_wider _ (ask_end live c) (omega arith) (command_meaning c) x (Err Retry) y (rw waited at law)) back (obeys_wider _ (ask_end live c) (omega arith) (meaning (alone_program live)) w r z alone_obeys)
+  ask_waited live fits c t r x y w z waited rising law back alone_obeys =
+      obeys_first_else _ (command_meaning c) (meaning (alone_program live)) x y w r z rising (obeys_wider _ (ask_end live c) (omega arith) (command_meaning c) x (Err Retry) y (rw waited at law)) back (obeys_wider _ (ask_end live c) (omega (arith, fits)) (meaning (alone_program live)) w r z alone_obeys)
 
 -- a command on a store's objects
 module _ (n : ℕ) (names : Names) (lie : LieFrom 1 names) (sized : AreSized names) (room : next_from 1 names ≤ n) (c : Command) (on : CommandIsOn names c) where

@@ -15,7 +15,8 @@ use Rattle.kc_xt.specs.declared.stop.Stop.TheVariants as stop
 use Rattle.kc_xt.specs.Meaning.{Touch, Outcome, replied, retried, too_large, answers, Makes, CanMake, given_up, is_touched}
 use Rattle.kc_xt.proofs.Spared.{touched-given_up, written-given_up}
 use Rattle.kc_history.proofs.Choice.{some_is}
-use Rattle.kc_top.specs.Commit.{answer_of, VersionsTo}
+use Rattle.kc_xt.specs.Commit.{answer_of}
+use Rattle.kc_top.specs.Commit.{VersionsTo}
 
 -- what is made of touches reads what stands
 pub makes_finds : (s : Store) (touches : List Touch) (f : Footprint) → Makes s touches f → Finds f s

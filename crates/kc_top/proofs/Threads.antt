@@ -17,7 +17,8 @@ use Rattle.kc_bundle.specs.Meaning.{thread_meaning, end_meaning}
 use Rattle.kc_history.specs.declared.record.Record.{Record}
 use Rattle.kc_history.specs.declared.record.Mark.TheVariants as mark
 use Rattle.kc_history.specs.declared.record.Place.{Place}
-use Rattle.kc_top.specs.Commit.{IsCommit, Label, label, run_on, VersionsTo, OneLives}
+use Rattle.kc_xt.specs.Commit.{run_on}
+use Rattle.kc_top.specs.Commit.{IsCommit, Label, label, VersionsTo, OneLives}
 use Rattle.kc_top.specs.Run.{labels, meanings}
 use Rattle.kc_top.specs.Thread.{Commits, own_places}
 use Rattle.kc_top.proofs.Alone.{still_lives}

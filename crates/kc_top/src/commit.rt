@@ -4,7 +4,8 @@ ghost use Rattle.std.specs.Prelude.{◌≡◌, ◌≢◌, ◌-◌, ◌<◌, ◌�
 ghost use Rattle.kc_model.specs.Footprint.{IsWellMade, IsBelow};
 ghost use Rattle.kc_model.specs.Store.{store_of, after, Finds};
 ghost use Rattle.kc_xt.specs.Meaning.{retried, Makes};
-ghost use Rattle.kc_top.specs.Commit.{IsCommit, run_on, answer_of, kept, label, VersionsTo};
+ghost use Rattle.kc_xt.specs.Commit.{run_on, answer_of, kept};
+ghost use Rattle.kc_top.specs.Commit.{IsCommit, label, VersionsTo};
 
 use kc_history::Record;
 use kc_model::{Answer, Footprint, LAST_VERSION, PlainStore};

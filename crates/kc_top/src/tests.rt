@@ -2,7 +2,7 @@ ghost use Rattle.std.specs.Prelude.{◌≡◌, ◌≤◌, ◌∷◌, [], codes, 
 ghost use Rattle.kc_model.specs.declared.reply.Reply.TheVariants as reply;
 ghost use Rattle.kc_xt.specs.Meaning.{replied, retried};
 ghost use Rattle.kc_bundle.specs.Meaning.{thread_meaning, end_meaning};
-ghost use Rattle.kc_top.specs.Commit.{run_on};
+ghost use Rattle.kc_xt.specs.Commit.{run_on};
 ghost use Rattle.kc_bundle.specs.State.{opening_values};
 ghost use Rattle.kc_top.specs.Run.{AreThreads, run_text};
 ghost use Rattle.kc_top.specs.Worked.{first_script, first_records, first_order, first_last, first_contents, waits_for_nine, one_lives, looks_at_x_and_live};

@@ -1,12 +1,12 @@
 -- What keeps to its cells and goes to a value leaves all else as it was.
-use Rattle.std.proofs.Common.{◌≡◌, ◌≢◌, ◌==◌, ℕ, refl, sym, ap, ◌∙◌}
+use Rattle.std.proofs.Common.{◌≡◌, ◌≢◌, ℕ, refl, sym, ap, ◌∙◌}
 use Rattle.std.proofs.lemmas.Bool.Decides.{nat_tests}
 use Rattle.std.proofs.Common.{arith}
 use Rattle.kc_model.specs.declared.reply.Reply.{Reply}
 use Rattle.kc_xt.specs.Meaning.{Outcome, replied, retried, too_large, put}
 use Rattle.kc_xt.specs.Program.{Program, ends, read, write, plain, replies}
 use Rattle.kc_xt.specs.Stays.{Stays}
-use Rattle.kc_xt.specs.Structure.{Standing, Value, IsOutside, RunsTo, goes_on}
+use Rattle.kc_xt.specs.Structure.{Standing, Value, RunsTo, goes_on}
 use Rattle.kc_xt.proofs.Spared.{Spares}
 use Rattle.kc_xt.proofs.Stay.{stays_spares}
 

@@ -1,12 +1,12 @@
-ghost use Rattle.std.specs.Prelude.{◌≡◌, ◌-◌, ◌≤◌, length, IfOk, ℕ, List, [], ◌∷◌, Some, None};
+ghost use Rattle.std.specs.Prelude.{◌≡◌, ◌+◌, ◌-◌, ◌<◌, ◌≤◌, ⊤, length, IfOk, ℕ, List, [], ◌∷◌, Some, None};
 ghost use Rattle.kc_model.specs.declared.reply.Reply.TheVariants as reply;
 ghost use Rattle.kc_xt.specs.Meaning.{Run, Touch, replied, too_large, first_meaning, then_meaning, map_after, last_written};
 ghost use Rattle.kc_xt.specs.Program.{meaning, read, write, replies, retries};
 ghost use Rattle.kc_xt.specs.Steps.{Does};
-ghost use Rattle.kc_xt.specs.Worked.{clears};
+ghost use Rattle.kc_xt.specs.Worked.{clears, takes_one};
 
 use crate::*;
-use kc_model::{Loc, MOST, PlainStore, Reply};
+use kc_model::{Footprint, LAST_VERSION, Loc, MOST, PlainStore, Put, Reply, Seen};
 use std::alloc::Global;
 use std::test::Fail;
 
@@ -108,5 +108,121 @@ fn a_loop_clears_the_locations_that_it_names_alone(rt: HostRuntime) -> Result<()
     assert_eq!(rt; xt.get(Loc(1)), Ok(0));
     assert_eq!(rt; xt.get(Loc(2)), Ok(0));
     assert_eq!(rt; xt.get(Loc(3)), Ok(8));
+    Ok(())
+}
+
+// Takes one from the number at a location, and replies the number before; waits while it is 0.
+#[derive(Clone, Copy, Debug, PartialEq, Eq)]
+struct Take {
+    at: u16,
+}
+
+impl Transact for Take {
+    ghost meaning = { λ t. meaning (takes_one t.at replies) };
+
+    ghost is_fit = { λ t. ⊤ };
+
+    ghost end = { λ t. t.at + 1 };
+
+    fn bound(&self) -> u32 {
+        self.at as u32 + 1
+    }
+
+    fn run<P: Peek>(&self, xt: &mut Xt<P>) -> Result<Reply, Stop> {
+        take_one(*self, xt)
+    }
+}
+
+fn take_one<P: Peek>(op: Take, xt: &mut Xt<P>) -> Result<Reply, Stop>
+    requires { op.at + 1 ≤ P.locations xt.old.peek }
+    ensures goes { Does P.peek_gives (takes_one op.at) xt.old result xt.new }
+    ensures size { P.locations xt.new.peek ≡ P.locations xt.old.peek }
+{
+    let at = Loc(op.at as u32);
+    let value = xt.get(at)?;
+    if value == 0 {
+        return Err(Stop::Retry);
+    }
+    xt.set(at, value - 1)?;
+    Ok(Reply::Value(value))
+}
+
+// Shows four locations at this version, each with the value 5, or gives up each look.
+#[derive(Drop)]
+struct Shown {
+    version: Option<u32>,
+}
+
+impl Peek for Shown {
+    ghost locations = { λ s. 4 };
+
+    ghost peek_gives = { λ s l r t. ⊤ };
+
+    fn size(&self) -> u32 {
+        4
+    }
+
+    fn peek(&mut self, loc: Loc) -> Result<Seen, PeekBusy> {
+        match self.version {
+            Some(version) => Ok(Seen {
+                loc,
+                version: version.min(LAST_VERSION),
+                value: 5,
+            }),
+            None => Err(PeekBusy),
+        }
+    }
+}
+
+#[test]
+fn an_attempt_on_a_plain_store_is_done_or_is_for_later(rt: HostRuntime) -> Result<(), Fail> {
+    let store = store_of(rt.alloc(), &[0, 3])?;
+    let mut footprint = Footprint::new();
+    let (_, tried) = attempt(PlainPeek::new(&store), &Take { at: 1 }, &mut footprint);
+    assert_eq!(rt; tried, Tried::Done(Reply::Value(3)));
+    let (loc, version) = (Loc(1), 0);
+    let (read, put) = (
+        Seen {
+            loc,
+            version,
+            value: 3,
+        },
+        Put {
+            loc,
+            version,
+            after: 2,
+        },
+    );
+    assert_eq!(rt; footprint.reads.as_slice().first(), Some(&read));
+    assert_eq!(rt; footprint.puts.as_slice().first(), Some(&put));
+    assert_eq!(rt; footprint.reads.len() + footprint.puts.len(), 2);
+    let (_, tried) = attempt(PlainPeek::new(&store), &Take { at: 0 }, &mut footprint);
+    assert_eq!(rt; tried, Tried::Later);
+    assert_eq!(rt; footprint.reads.len(), 1);
+    assert!(rt; footprint.puts.is_empty());
+    Ok(())
+}
+
+#[test]
+fn a_write_at_the_last_version_is_worn_and_a_busy_look_leaves_the_footprint(
+    rt: HostRuntime,
+) -> Result<(), Fail> {
+    let mut footprint = Footprint::new();
+    let last = Shown {
+        version: Some(LAST_VERSION),
+    };
+    let (_, tried) = attempt(last, &Take { at: 2 }, &mut footprint);
+    assert_eq!(rt; tried, Tried::Worn(Loc(2)));
+    assert_eq!(rt; footprint.reads.len(), 1);
+    assert!(rt; footprint.puts.is_empty());
+    let (_, tried) = attempt(Shown { version: None }, &Take { at: 1 }, &mut footprint);
+    assert_eq!(rt; tried, Tried::Busy);
+    assert_eq!(rt; footprint.reads.len(), 1);
+    let near = Shown {
+        version: Some(LAST_VERSION - 1),
+    };
+    let (_, tried) = attempt(near, &Take { at: 2 }, &mut footprint);
+    assert_eq!(rt; tried, Tried::Done(Reply::Value(5)));
+    assert_eq!(rt; footprint.puts.len(), 1);
     Ok(())
 }

@@ -2,7 +2,7 @@ use Rattle.std.proofs.Common.{Err, refl, sym, ap, ◌∙◌, arith}
 use Rattle.kc_model.specs.Store.{store_of}
 use Rattle.kc_xt.specs.declared.stop.Stop.{Stop}
 use Rattle.kc_xt.proofs.Commits.{commits}
-use Rattle.kc_top.specs.Commit.{run_on}
+use Rattle.kc_xt.specs.Commit.{run_on}
 use Rattle.kc_top.proofs.OnStore.{can_make, makes_nothing, answered, too_much, not_retried, not_busy}
 use Rattle.kc_top.proofs.commit.run_and_fill.Goals as goal
 
