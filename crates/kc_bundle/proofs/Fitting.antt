@@ -3,8 +3,7 @@ use Rattle.std.proofs.Common.{◌≡◌, ℕ, ◌≤◌, List, [], ◌∷◌, ar
 use Rattle.std.specs.Prelude.{None}
 use Rattle.kc_xt.specs.Meaning.{last_written}
 use Rattle.kc_xt.specs.Program.{replies}
-use Rattle.kc_xt.proofs.Singles.{one-meaning}
-use Rattle.kc_xt.proofs.Spared.{spared}
+use Rattle.kc_xt.proofs.Stay.{stays_one, stays_unwritten}
 use Rattle.kc_term.specs.Tree.{operations}
 use Rattle.kc_term.specs.Meaning.{greatest_end}
 use Rattle.kc_term.specs.Fit.{Each}
@@ -15,7 +14,7 @@ use Rattle.kc_bundle.specs.declared.operation.Command.TheVariants as command
 use Rattle.kc_bundle.specs.Script.{Names, LieFrom, AreSized, next_from}
 use Rattle.kc_bundle.specs.On.{IsOn, AllOn, CommandIsOn}
 use Rattle.kc_bundle.specs.Meaning.{op_program, op_meaning, op_end, command_meaning, command_end, CommandIsFit}
-use Rattle.kc_bundle.proofs.Own.{op_keeps_to, op_within, op_end_within, op_fits}
+use Rattle.kc_bundle.proofs.Own.{first_of, behind_of, op_stays, op_within, op_end_within, op_fits}
 
 pub each_on : (names : Names) {P : Op → Type 0} → ((o : Op) → IsOn names o → P o) → (os : List Op) → AllOn names os → Each P os
 each_on names f [] on = tt
@@ -35,14 +34,14 @@ module _ (names : Names) (lie : LieFrom 1 names) where
   command_fits within sized (command.Block t) on = record {
     few = on.0;
     each = each_on names (op_fits names lie within sized) (operations t) on.1;
-    single = each_on names (λ o h n m ks. one-meaning (op_program o replies) n m ks (op_keeps_to names sized o h).single) (operations t) on.1;
+    single = each_on names (λ o h. stays_one (first_of o) (behind_of o) (op_program o replies) (op_stays names sized o h)) (operations t) on.1;
   }
 
   module _ (sized : AreSized names) where
     -- ---- location 0
 
     op_spares_zero : (o : Op) → IsOn names o → (n : ℕ) (m : ℕ → ℕ) (ks : List ℕ) → last_written (op_meaning o n m ks).touches 0 ≡ None
-    op_spares_zero o on n m ks = spared 0 (op_program o replies) n m ks ((op_keeps_to names sized o on).spares 0 (let p = op_within names lie o on in omega (arith, p.0)))
+    op_spares_zero o on n m ks = stays_unwritten (first_of o) (behind_of o) (op_program o replies) (op_stays names sized o on) n m ks 0 (λ l lo hi e. let p = op_within names lie o on in omega (arith, p.0, lo, e))
 
     pub command_spares_zero : (c : Command) (n : ℕ) (m : ℕ → ℕ) (ks : List ℕ) → CommandIsOn names c → last_written (command_meaning c n m ks).touches 0 ≡ None
     command_spares_zero (command.One o) n m ks on = op_spares_zero o on n m ks

@@ -3,21 +3,19 @@ use Rattle.std.proofs.Common.{◌≡◌, ◌≢◌, ℕ, ◌+◌, ◌≤◌, ◌
 use Rattle.std.specs.Prelude.{None, reverse}
 use Rattle.std.proofs.lemmas.Bool.Decides.{nat_tests}
 use Rattle.kc_model.specs.declared.footprint.Loc.{Loc}
-use Rattle.kc_xt.specs.Meaning.{Touch, too_large, put, last_written, map_after}
+use Rattle.kc_xt.specs.Meaning.{too_large, put, map_after}
 use Rattle.kc_xt.specs.Program.{replies}
-use Rattle.kc_xt.proofs.Spared.{spared}
-use Rattle.kc_xt.proofs.Laws.{below-meaning}
-use Rattle.kc_xt.proofs.Written.{map_after-at, unwritten_above}
+use Rattle.kc_xt.proofs.Stay.{stays_outside}
 use Rattle.kc_loc.specs.declared.operation.LocOp.{LocOp}
 use Rattle.kc_loc.specs.declared.operation.LocOp.TheVariants as loc
 use Rattle.kc_loc.specs.Meaning.{loc_value}
 use Rattle.kc_loc.proofs.Values.{loc_has_value}
-use Rattle.kc_stack.proofs.Values.{stack_keeps}
-use Rattle.kc_queue.proofs.Values.{queue_has_value}
-use Rattle.kc_cells.proofs.MvarLaw.{mvar_keeps}
-use Rattle.kc_cells.proofs.PromiseLaw.{promise_keeps}
-use Rattle.kc_hash.proofs.Values.{hash_keeps}
-use Rattle.kc_cache.proofs.Values.{cache_keeps}
+use Rattle.kc_stack.proofs.Values.{stack_means}
+use Rattle.kc_queue.proofs.Values.{queue_means}
+use Rattle.kc_cells.proofs.MvarLaw.{mvar_means}
+use Rattle.kc_cells.proofs.PromiseLaw.{promise_means}
+use Rattle.kc_hash.proofs.Values.{hash_means}
+use Rattle.kc_cache.proofs.Values.{cache_means}
 use Rattle.kc_bundle.specs.declared.object.Object.{Object}
 use Rattle.kc_bundle.specs.declared.object.Object.TheVariants as object
 use Rattle.kc_bundle.specs.declared.operation.Op.{Op}
@@ -27,7 +25,7 @@ use Rattle.kc_bundle.specs.On.{IsOn, LocIsOn, IsLocation}
 use Rattle.kc_bundle.specs.Meaning.{op_program, op_meaning}
 use Rattle.kc_bundle.specs.State.{Content, number, items, place, pairs, Stands, AreWellFormed}
 use Rattle.kc_bundle.proofs.Having.{has_place}
-use Rattle.kc_bundle.proofs.Own.{first_of, behind_of, op_keeps_to}
+use Rattle.kc_bundle.proofs.Own.{first_of, behind_of, op_stays}
 use Rattle.kc_bundle.proofs.Standing.{stands_same}
 
 -- an object's cells stand for some content
@@ -59,16 +57,15 @@ one_changes o m w before behind keeps at (entry ∷ names) lie (inr has) (c ∷ 
     let rest = one_changes o m w before behind keeps (at + cells entry.1) names lie.1 has (cs, hs) in
     (c ∷ rest.0, (stands_same entry.1 m w c (λ l lo hi. before l (let first = lie.0 in omega (arith, hi, later, first))) h, rest.1))
 
-unwritten : (m : ℕ → ℕ) (ts : List Touch) (l : ℕ) → last_written ts l ≡ None → m l ≡ map_after m ts l
-unwritten m ts l h = let e = map_after-at m ts l in sym (rw h at e)
-
 -- an operation on one object that keeps that one well formed
 object_keeps : (names : Names) → LieFrom 1 names → AreSized names → (o : Op) (x : Object) → IsOn names o → HasObject names x → base x ≡ first_of o → base x + cells x ≡ behind_of o → (n : ℕ) (m : ℕ → ℕ) (ks : List ℕ) → (IsWell x m → IsWell x (map_after m (op_meaning o n m ks).touches))
     → AreWellFormed names m → AreWellFormed names (map_after m (op_meaning o n m ks).touches)
 object_keeps names lie sized o x on has first last n m ks keeps well =
-    let ts = (op_meaning o n m ks).touches in
-    let own = op_keeps_to names sized o on in
-    one_changes x m (map_after m ts) (λ l lt. unwritten m ts l (spared l (op_program o replies) n m ks (own.spares l (omega (arith, first, lt))))) (λ l le. unwritten m ts l (unwritten_above (behind_of o) ts l (below-meaning (behind_of o) (op_program o replies) n m ks own.below) (omega (arith, last, le)))) keeps 1 names lie has well
+    let same = stays_outside (first_of o) (behind_of o) (op_program o replies) (op_stays names sized o on) n m ks in
+    one_changes x m (map_after m (op_meaning o n m ks).touches)
+    (λ l lt. sym (same l (λ c lo hi e. omega (arith, first, lt, lo, e))))
+    (λ l le. sym (same l (λ c lo hi e. omega (arith, last, le, hi, e))))
+    keeps 1 names lie has well
 
 -- ---- locations
 
@@ -101,16 +98,10 @@ module _ (names : Names) (lie : LieFrom 1 names) (sized : AreSized names) where
 
   pub op_keeps : (o : Op) (n : ℕ) (m : ℕ → ℕ) (ks : List ℕ) → IsOn names o → AreWellFormed names m → (op_meaning o n m ks).outcome ≢ too_large → AreWellFormed names (map_after m (op_meaning o n m ks).touches)
   op_keeps (op.Loc o) n m ks on well ne = subst (AreWellFormed names) (sym (loc_has_value o n m ks ne).1) (value_keeps o m on well)
-  op_keeps (op.Stack o) n m ks on well ne = object_keeps names lie sized (op.Stack o) (object.Stack o.stack) on on refl (omega arith) n m ks
-      (λ (c, (xs, h, e)). let k = stack_keeps o n m ks (xs, h) ne in (items (reverse k.0), (k.0, k.1, refl))) well
-  op_keeps (op.Queue o) n m ks on well ne = object_keeps names lie sized (op.Queue o) (object.Queue o.queue) on on refl (omega arith) n m ks
-      (λ (c, (xs, h, e)). let k = queue_has_value o n m ks xs h ne in (items _, (_, k.1, refl))) well
-  op_keeps (op.Mvar o) n m ks on well ne = object_keeps names lie sized (op.Mvar o) (object.Mvar o.mvar) on on refl refl n m ks
-      (λ (c, (v, h, e)). let k = mvar_keeps o n m ks (v, h) ne in (place k.0, (k.0, k.1, refl))) well
-  op_keeps (op.Promise o) n m ks on well ne = object_keeps names lie sized (op.Promise o) (object.Promise o.promise) on on refl refl n m ks
-      (λ (c, (v, h, e)). let k = promise_keeps o n m ks (v, h) ne in (place k.0, (k.0, k.1, refl))) well
+  op_keeps (op.Stack o) n m ks on well ne = object_keeps names lie sized (op.Stack o) (object.Stack o.stack) on on refl (omega arith) n m ks (λ (c, (xs, h, e)). (items _, (_, (stack_means o xs n m ks h ne).1, refl))) well
+  op_keeps (op.Queue o) n m ks on well ne = object_keeps names lie sized (op.Queue o) (object.Queue o.queue) on on refl (omega arith) n m ks (λ (c, (xs, h, e)). (items _, (_, (queue_means o xs n m ks h ne).1, refl))) well
+  op_keeps (op.Mvar o) n m ks on well ne = object_keeps names lie sized (op.Mvar o) (object.Mvar o.mvar) on on refl refl n m ks (λ (c, (v, h, e)). (place _, (_, (mvar_means o v n m ks h ne).1, refl))) well
+  op_keeps (op.Promise o) n m ks on well ne = object_keeps names lie sized (op.Promise o) (object.Promise o.promise) on on refl refl n m ks (λ (c, (v, h, e)). (place _, (_, (promise_means o v n m ks h ne).1, refl))) well
   op_keeps (op.Acc o) n m ks on well ne = object_keeps names lie sized (op.Acc o) (object.Acc o.acc) on on refl refl n m ks (λ h. (number _, (_, refl, refl))) well
-  op_keeps (op.Hash o) n m ks on well ne = object_keeps names lie sized (op.Hash o) (object.Hash o.hash) on on refl (omega arith) n m ks
-      (λ (c, (ps, h, e)). let k = hash_keeps o n m ks (ps, h) ne in (pairs k.0, (k.0, k.1, refl))) well
-  op_keeps (op.Cache o) n m ks on well ne = object_keeps names lie sized (op.Cache o) (object.Cache o.cache) on on refl (omega arith) n m ks
-      (λ (c, (ps, h, e)). let k = cache_keeps o n m ks (ps, h) ne in (pairs k.0, (k.0, k.1, refl))) well
+  op_keeps (op.Hash o) n m ks on well ne = object_keeps names lie sized (op.Hash o) (object.Hash o.hash) on on refl (omega arith) n m ks (λ (c, (ps, h, e)). (pairs _, (_, (hash_means o ps n m ks h ne).1, refl))) well
+  op_keeps (op.Cache o) n m ks on well ne = object_keeps names lie sized (op.Cache o) (object.Cache o.cache) on on refl (omega arith) n m ks (λ (c, (ps, h, e)). (pairs _, (_, (cache_means o ps n m ks h ne).1, refl))) well

@@ -1,21 +1,17 @@
 -- Which cells an operation keeps to.
 use Rattle.std.proofs.Common.{◌≡◌, ◌≢◌, ℕ, ◌+◌, ◌<◌, ◌≤◌, arith}
 use Rattle.kc_model.specs.declared.footprint.Loc.{Loc}
-use Rattle.kc_xt.specs.Program.{Program, replies}
-use Rattle.kc_xt.specs.Single.{EndsInOne}
+use Rattle.kc_xt.specs.Program.{replies}
 use Rattle.kc_xt.specs.Stays.{Stays}
-use Rattle.kc_xt.proofs.Laws.{Below}
-use Rattle.kc_xt.proofs.Spared.{Spares}
-use Rattle.kc_xt.proofs.Stay.{stays_below, stays_spares, stays_single}
 use Rattle.kc_loc.specs.declared.operation.LocOp.{LocOp}
 use Rattle.kc_loc.specs.declared.operation.LocOp.TheVariants as loc
 use Rattle.kc_loc.specs.Meaning.{loc_begin, loc_last}
 use Rattle.kc_loc.proofs.LocLaw.{loc_stays}
-use Rattle.kc_stack.proofs.StackLaw.{stack_below, stack_spares, stack_single}
-use Rattle.kc_queue.proofs.QueueLaw.{act_below as queue_act_below, queue_spares, queue_single}
-use Rattle.kc_cells.proofs.MvarLaw.{mvar_below, mvar_spares, mvar_single}
-use Rattle.kc_cells.proofs.PromiseLaw.{promise_below, promise_spares, promise_single}
-use Rattle.kc_cells.proofs.AccLaw.{act_below as acc_act_below, acc_spares, acc_single}
+use Rattle.kc_stack.proofs.StackLaw.{stack_stays}
+use Rattle.kc_queue.proofs.QueueLaw.{queue_stays}
+use Rattle.kc_cells.proofs.MvarLaw.{mvar_stays}
+use Rattle.kc_cells.proofs.PromiseLaw.{promise_stays}
+use Rattle.kc_cells.proofs.AccLaw.{acc_stays}
 use Rattle.kc_hash.proofs.HashLaw.{hash_stays}
 use Rattle.kc_cache.proofs.CacheLaw.{cache_stays}
 use Rattle.kc_stack.specs.Meaning.{cells_end as stack_cells_end}
@@ -54,29 +50,16 @@ behind_of (op.Acc o) = acc_cells_end o.acc
 behind_of (op.Hash o) = hash_cells_end o.hash
 behind_of (op.Cache o) = cache_cells_end o.cache
 
--- a program touches nothing behind these cells, writes nothing before them, and its ends are one reply or retry
-pub record Keeps (lo hi : ℕ) (p : Program) : Type 0 where
-  pub below : Below hi p
-  pub spares : (l : ℕ) → l < lo → Spares l p
-  pub single : EndsInOne p
-
-keeps_by : (lo hi : ℕ) (p : Program) → Stays lo hi p → Keeps lo hi p
-keeps_by lo hi p h = record {
-  below = stays_below lo hi p h;
-  spares = λ l lt. stays_spares lo hi l (λ c le _ e. omega (arith, lt, le, e)) p h;
-  single = stays_single lo hi p h;
-}
-
-module _ (names : Names) (sized : AreSized names) where
-  pub op_keeps_to : (o : Op) → IsOn names o → Keeps (first_of o) (behind_of o) (op_program o replies)
-  op_keeps_to (op.Loc o) on = keeps_by _ _ _ (loc_stays o)
-  op_keeps_to (op.Stack o) on = record { below = stack_below o; spares = stack_spares o; single = stack_single o }
-  op_keeps_to (op.Queue o) on = record { below = queue_act_below o.queue o.act (let z = has_sizes names (object.Queue o.queue) sized on in omega (arith, z.0)); spares = queue_spares o; single = queue_single o }
-  op_keeps_to (op.Mvar o) on = record { below = mvar_below o; spares = mvar_spares o; single = mvar_single o }
-  op_keeps_to (op.Promise o) on = record { below = promise_below o; spares = promise_spares o; single = promise_single o }
-  op_keeps_to (op.Acc o) on = record { below = acc_act_below o.acc o.act (let z = has_sizes names (object.Acc o.acc) sized on in omega (arith, z.0)); spares = acc_spares o; single = acc_single o }
-  op_keeps_to (op.Hash o) on = keeps_by _ _ _ (hash_stays o (has_sizes names (object.Hash o.hash) sized on).0)
-  op_keeps_to (op.Cache o) on = keeps_by _ _ _ (cache_stays o (has_sizes names (object.Cache o.cache) sized on).0)
+-- it keeps to these
+pub op_stays : (names : Names) → AreSized names → (o : Op) → IsOn names o → Stays (first_of o) (behind_of o) (op_program o replies)
+op_stays names sized (op.Loc o) on = loc_stays o
+op_stays names sized (op.Stack o) on = stack_stays o
+op_stays names sized (op.Queue o) on = queue_stays o
+op_stays names sized (op.Mvar o) on = mvar_stays o
+op_stays names sized (op.Promise o) on = promise_stays o
+op_stays names sized (op.Acc o) on = acc_stays o
+op_stays names sized (op.Hash o) on = hash_stays o (has_sizes names (object.Hash o.hash) sized on).0
+op_stays names sized (op.Cache o) on = cache_stays o (has_sizes names (object.Cache o.cache) sized on).0
 
 module _ (names : Names) (lie : LieFrom 1 names) where
   -- a location's place
@@ -123,10 +106,10 @@ module _ (names : Names) (lie : LieFrom 1 names) where
   module _ (within : next_from 1 names ≤ 65536) (sized : AreSized names) where
     pub op_fits : (o : Op) → IsOn names o → OpIsFit o
     op_fits (op.Loc o) on = omega (arith, within, (op_within (op.Loc o) on).1)
-    op_fits (op.Stack o) on = omega (arith, within, (op_within (op.Stack o) on).1)
-    op_fits (op.Queue o) on = (let s = has_sizes names (object.Queue o.queue) sized on in omega (arith, s.0), omega (arith, within, (op_within (op.Queue o) on).1))
-    op_fits (op.Mvar o) on = omega (arith, within, (op_within (op.Mvar o) on).1)
-    op_fits (op.Promise o) on = omega (arith, within, (op_within (op.Promise o) on).1)
-    op_fits (op.Acc o) on = (let s = has_sizes names (object.Acc o.acc) sized on in omega (arith, s.0), omega (arith, within, (op_within (op.Acc o) on).1))
+    op_fits (op.Stack o) on = tt
+    op_fits (op.Queue o) on = tt
+    op_fits (op.Mvar o) on = tt
+    op_fits (op.Promise o) on = tt
+    op_fits (op.Acc o) on = tt
     op_fits (op.Hash o) on = ((has_sizes names (object.Hash o.hash) sized on).0, omega (arith, within, (op_within (op.Hash o) on).1))
     op_fits (op.Cache o) on = ((has_sizes names (object.Cache o.cache) sized on).0, omega (arith, within, (op_within (op.Cache o) on).1))

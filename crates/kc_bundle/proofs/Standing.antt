@@ -8,14 +8,10 @@ use Rattle.kc_stack.specs.Content.{StandsFor as StackStands}
 use Rattle.kc_queue.specs.declared.queue.Queue.{Queue}
 use Rattle.kc_queue.specs.Meaning.{head_cell, count_cell, ring_cell, head_in, back_of, counted as queue_counted, StandsFor as QueueStands}
 use Rattle.kc_cells.specs.OnePlace.{held, Holds}
-use Rattle.kc_stack.proofs.Values.{stack_opens}
-use Rattle.kc_stack.proofs.Standing.{stack_same}
-use Rattle.kc_queue.proofs.Values.{opened_empty}
-use Rattle.kc_queue.proofs.Standing.{queue_same}
-use Rattle.kc_cells.proofs.OnePlaces.{holds_opened}
-use Rattle.kc_cells.proofs.MvarLaw.{mvar_same}
-use Rattle.kc_cells.proofs.PromiseLaw.{promise_same}
-use Rattle.kc_cells.proofs.AccLaw.{acc_opens, acc_same}
+use Rattle.kc_stack.proofs.Standing.{stack_own, stack_opens}
+use Rattle.kc_queue.proofs.Standing.{queue_own, queue_opens}
+use Rattle.kc_cells.proofs.OnePlaces.{place_own, place_opens}
+use Rattle.kc_cells.proofs.AccLaw.{acc_own, acc_opens}
 use Rattle.kc_hash.proofs.Kept.{same_cells}
 use Rattle.kc_hash.proofs.Sweeps.{shows as table_shows}
 use Rattle.kc_hash.proofs.Opened.{hash_opens}
@@ -34,11 +30,11 @@ SameAt o m w = (l : ℕ) → base o ≤ l → l < base o + cells o → m l ≡ w
 
 pub stands_same : (o : Object) (m w : ℕ → ℕ) (c : Content) → SameAt o m w → Stands o m c → Stands o w c
 stands_same (object.Loc at value) m w c same h = h ∙ ap number (same at.0 (omega arith) (omega arith))
-stands_same (object.Stack s) m w c same (xs, h, e) = (xs, stack_same s m w xs (λ l lo hi. same l lo (omega (arith, hi))) h, e)
-stands_same (object.Queue q) m w c same (xs, h, e) = (xs, queue_same q m w xs (λ l lo hi. same l lo (omega (arith, hi))) h, e)
-stands_same (object.Mvar x) m w c same (v, h, e) = (v, mvar_same x m w v same h, e)
-stands_same (object.Promise p) m w c same (v, h, e) = (v, promise_same p m w v same h, e)
-stands_same (object.Acc a) m w c same (t, h, e) = (t, acc_same a m w t same h, e)
+stands_same (object.Stack s) m w c same (xs, h, e) = (xs, stack_own s m w xs (λ l lo hi. same l lo (omega (arith, hi))) h, e)
+stands_same (object.Queue q) m w c same (xs, h, e) = (xs, queue_own q m w xs (λ l lo hi. same l lo (omega (arith, hi))) h, e)
+stands_same (object.Mvar x) m w c same (v, h, e) = (v, place_own x.base.0 m w v same h, e)
+stands_same (object.Promise p) m w c same (v, h, e) = (v, place_own p.base.0 m w v same h, e)
+stands_same (object.Acc a) m w c same (t, h, e) = (t, acc_own a m w t same h, e)
 stands_same (object.Hash x) m w c same (ps, h, e) = (ps, same_cells x m ps h w (λ l lo hi. same l lo (omega (arith, hi))), e)
 stands_same (object.Cache x) m w c same (ps, h, e) = (ps, cache_same x m w ps (λ l lo hi. same l lo (omega (arith, hi))) h, e)
 
@@ -49,19 +45,19 @@ stack_shows s m xs h =
     let count : counted s (m s.base.0) ≡ length xs = omega (arith, h.count, h.within) in
     let turned = length-reverse xs in
     ext_get_or 0 (stack_shown s m) (reverse xs) (length-values_from (from_top s m) 0 _ ∙ count ∙ sym turned) (λ i lt.
-        let lt' : i < counted s (m s.base.0) = omega (arith, lt, length-values_from (from_top s m) 0 (counted s (m s.base.0))) in
-        let below : i < length xs = omega (arith, lt', count) in
-        let at : s.base.0 + counted s (m s.base.0) - (0 + i) ≡ s.base.0 + 1 + (length xs - 1 - i) = omega (arith, count, below) in
-        value_at (from_top s m) 0 _ i lt' ∙ ap m at ∙ h.cells (length xs - 1 - i) (omega (arith, below)) ∙ sym (get_or-reverse xs i 0 below))
+    let lt' : i < counted s (m s.base.0) = omega (arith, lt, length-values_from (from_top s m) 0 (counted s (m s.base.0))) in
+    let below : i < length xs = omega (arith, lt', count) in
+    let at : s.base.0 + counted s (m s.base.0) - (0 + i) ≡ s.base.0 + 1 + (length xs - 1 - i) = omega (arith, count, below) in
+    value_at (from_top s m) 0 _ i lt' ∙ ap m at ∙ h.cells (length xs - 1 - i) (omega (arith, below)) ∙ sym (get_or-reverse xs i 0 below))
 
 queue_shows : (q : Queue) (m : ℕ → ℕ) (xs : List ℕ) → QueueStands q m xs → queue_shown q m ≡ xs
 queue_shows q m xs h =
     let count : queue_counted q (m (count_cell q)) ≡ length xs = omega (arith, h.count, h.within) in
     let head : head_in q (m (head_cell q)) ≡ m (head_cell q) = ap (λ t. cond t (m (head_cell q)) 0) (lt-ltb _ _ h.head) in
     ext_get_or 0 (queue_shown q m) xs (length-values_from (from_front q m) 0 _ ∙ count) (λ i lt.
-        let lt' : i < queue_counted q (m (count_cell q)) = omega (arith, lt, length-values_from (from_front q m) 0 (queue_counted q (m (count_cell q)))) in
-        let start : 0 + i ≡ i = omega arith in
-        value_at (from_front q m) 0 _ i lt' ∙ ap (from_front q m) start ∙ ap (λ n. m (ring_cell q (back_of q n i))) head ∙ h.ring i (omega (arith, lt', count)))
+    let lt' : i < queue_counted q (m (count_cell q)) = omega (arith, lt, length-values_from (from_front q m) 0 (queue_counted q (m (count_cell q)))) in
+    let start : 0 + i ≡ i = omega arith in
+    value_at (from_front q m) 0 _ i lt' ∙ ap (from_front q m) start ∙ ap (λ n. m (ring_cell q (back_of q n i))) head ∙ h.ring i (omega (arith, lt', count)))
 
 place_shows : (base : ℕ) (m : ℕ → ℕ) (v : Option ℕ) → Holds base m v → held base m ≡ v
 place_shows base m None h = ap (λ t. cond t None (Some (m (base + 1)))) (eq-eqb _ _ h)
@@ -100,9 +96,9 @@ stands_opened (object.Loc at value) m sized h =
     let e : at.0 + 0 ≡ at.0 = omega arith in
     ap number (sym (h 0 (omega arith)) ∙ ap m e)
 stands_opened (object.Stack s) m sized h = ([], stack_opens s m h, refl)
-stands_opened (object.Queue q) m sized h = ([], opened_empty q m (record { some = omega (arith, sized.0); opens = h }), refl)
-stands_opened (object.Mvar x) m sized h = (None, holds_opened x.base.0 m h, refl)
-stands_opened (object.Promise p) m sized h = (None, holds_opened p.base.0 m h, refl)
+stands_opened (object.Queue q) m sized h = ([], queue_opens q m h, refl)
+stands_opened (object.Mvar x) m sized h = (None, place_opens x.base.0 m h, refl)
+stands_opened (object.Promise p) m sized h = (None, place_opens p.base.0 m h, refl)
 stands_opened (object.Acc a) m sized h = (0, acc_opens a m h, refl)
 stands_opened (object.Hash x) m sized h = ([], hash_opens x m h sized.0 sized.2, refl)
 stands_opened (object.Cache x) m sized h = ([], cache_opens x m sized.0 sized.2 h, refl)

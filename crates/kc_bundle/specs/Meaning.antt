@@ -1,16 +1,16 @@
 -- What commands mean, and what a thread commits.
-use Rattle.std.specs.Prelude.{ℕ, ◌==◌, cond}
+use Rattle.std.specs.Prelude.{ℕ, ◌==◌, ⊤, cond}
 use Rattle.kc_model.specs.declared.reply.Reply.{Reply}
 use Rattle.kc_model.specs.declared.reply.Reply.TheVariants as reply
 use Rattle.kc_xt.specs.Meaning.{Meaning, first_meaning}
 use Rattle.kc_xt.specs.Program.{Program, read, replies, retries, meaning}
 use Rattle.kc_loc.specs.declared.operation.LocOp.TheVariants as loc
 use Rattle.kc_loc.specs.Meaning.{loc_program, loc_meaning, loc_end, LocIsFit}
-use Rattle.kc_stack.specs.Meaning.{stack_program, stack_end, StackIsFit}
-use Rattle.kc_queue.specs.Meaning.{queue_program, queue_end, QueueIsFit}
-use Rattle.kc_cells.specs.Mvar.{mvar_program, mvar_end, MvarIsFit}
-use Rattle.kc_cells.specs.Promise.{promise_program, promise_end, PromiseIsFit}
-use Rattle.kc_cells.specs.Accumulator.{acc_program, acc_end, AccIsFit}
+use Rattle.kc_stack.specs.Meaning.{stack_program, stack_end}
+use Rattle.kc_queue.specs.Meaning.{queue_program, queue_end}
+use Rattle.kc_cells.specs.Mvar.{mvar_program, mvar_end}
+use Rattle.kc_cells.specs.Promise.{promise_program, promise_end}
+use Rattle.kc_cells.specs.Accumulator.{acc_program, acc_end}
 use Rattle.kc_hash.specs.Meaning.{hash_program, hash_end, HashIsFit}
 use Rattle.kc_cache.specs.Meaning.{cache_program, cache_end, CacheIsFit}
 use Rattle.kc_term.specs.Tree.{operations}
@@ -50,11 +50,11 @@ op_end (op.Cache o) = cache_end o
 
 abbrev pub OpIsFit : Op → Type 0
 OpIsFit (op.Loc o) = LocIsFit o
-OpIsFit (op.Stack o) = StackIsFit o
-OpIsFit (op.Queue o) = QueueIsFit o
-OpIsFit (op.Mvar o) = MvarIsFit o
-OpIsFit (op.Promise o) = PromiseIsFit o
-OpIsFit (op.Acc o) = AccIsFit o
+OpIsFit (op.Stack o) = ⊤
+OpIsFit (op.Queue o) = ⊤
+OpIsFit (op.Mvar o) = ⊤
+OpIsFit (op.Promise o) = ⊤
+OpIsFit (op.Acc o) = ⊤
 OpIsFit (op.Hash o) = HashIsFit o
 OpIsFit (op.Cache o) = CacheIsFit o
 

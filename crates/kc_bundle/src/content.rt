@@ -56,8 +56,7 @@ pub(crate) fn put_place<K: Sink>(pen: &mut Pen<K>, held: Option<u32>)
 
 /// The items, from the top.
 pub(crate) fn put_stack<K: Sink>(pen: &mut Pen<K>, store: &PlainStore, stack: Stack)
-    requires within { stack_cells_end stack ≤ length store.now }
-    requires fits { stack_cells_end stack ≤ 65536 }
+    requires { stack_cells_end stack ≤ length store.now }
     ensures { Puts K.written K.faults K.write_gives pen.old pen.new (flat_map number_text (stack_shown stack (values (store_of store.now)))) }
 {
     for i in 0..stack.count(store) {
@@ -67,8 +66,7 @@ pub(crate) fn put_stack<K: Sink>(pen: &mut Pen<K>, store: &PlainStore, stack: St
 
 /// The items, from the front.
 pub(crate) fn put_queue<K: Sink>(pen: &mut Pen<K>, store: &PlainStore, queue: Queue)
-    requires within { queue_cells_end queue ≤ length store.now }
-    requires fits { queue_cells_end queue ≤ 65536 }
+    requires { queue_cells_end queue ≤ length store.now }
     ensures { Puts K.written K.faults K.write_gives pen.old pen.new (flat_map number_text (queue_shown queue (values (store_of store.now)))) }
 {
     for i in 0..queue.count(store) {

@@ -13,7 +13,9 @@ mod state;
 mod tests;
 
 pub use bundle::Bundle;
-pub use laws::{contents_are_one, fits, keeps_well_formed, opens_well_formed, shows_its_contents, spares_zero};
+pub use laws::{
+    contents_are_one, fits, keeps_well_formed, opens_well_formed, shows_its_contents, spares_zero,
+};
 pub use object::Object;
 pub use operation::{Command, Op};
 pub use place::cells;

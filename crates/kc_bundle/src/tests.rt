@@ -163,10 +163,7 @@ fn a_command_is_one_operation_or_a_block(rt: HostRuntime) -> Result<(), Fail> {
         return Err(Fail::from("too few locations"));
     }
     let mut xt = Xt::new(PlainPeek::new(&store));
-    let stack = Stack {
-        base: Loc(1),
-        cap: 2,
-    };
+    let stack = Stack::layout(Loc(1), 2);
     let op = |act: StackAct| Op::Stack(StackOp { stack, act });
     let push = Command::One(op(StackAct::Push(4)));
     let pop = Command::Block(Term::op(op(StackAct::PopWait)));

@@ -1,5 +1,5 @@
 -- What a thread commits leaves cells that stand for contents.
-use Rattle.std.proofs.Common.{◌≡◌, ◌≢◌, ℕ, ◌≤◌, ◌==◌, List, [], ◌∷◌, ◌++◌, Option, Some, None, refl, sym, ap, subst, ◌∙◌}
+use Rattle.std.proofs.Common.{arith, ◌≡◌, ◌≢◌, ℕ, ◌≤◌, ◌==◌, List, [], ◌∷◌, ◌++◌, Option, Some, None, refl, sym, ap, subst, ◌∙◌}
 use Rattle.std.proofs.Math.Path.{fun_ext}
 use Rattle.std.specs.Option.{option_map, unwrap_or}
 use Rattle.kc_model.specs.declared.footprint.TheConstants.{MOST}
@@ -11,11 +11,11 @@ use Rattle.kc_model.specs.Store.{Store, after, cell_after}
 use Rattle.kc_xt.specs.Meaning.{Outcome, replied, retried, too_large, Meaning, Run, Touch, last_written, given_up, map_after, values, else_run, touched_after}
 use Rattle.kc_xt.specs.Program.{replies, retries, meaning}
 use Rattle.kc_xt.proofs.Spared.{spared, spares_if, spared-append, written-given_up}
-use Rattle.kc_xt.proofs.Laws.{below-meaning}
-use Rattle.kc_xt.proofs.Written.{map_after-at, unwritten_above}
+use Rattle.kc_xt.proofs.Written.{map_after-at}
+use Rattle.kc_xt.proofs.Stay.{stays_unwritten}
 use Rattle.kc_loc.specs.declared.operation.LocOp.TheVariants as loc
 use Rattle.kc_loc.specs.Meaning.{loc_program}
-use Rattle.kc_loc.proofs.LocLaw.{loc_below}
+use Rattle.kc_loc.proofs.LocLaw.{loc_stays}
 use Rattle.kc_bundle.specs.declared.operation.Command.{Command}
 use Rattle.kc_bundle.specs.Script.{Names, Script, LieFrom, AreSized}
 use Rattle.kc_bundle.specs.On.{CommandIsOn, CommandsAreOn}
@@ -96,7 +96,7 @@ module _ (names : Names) (lie : LieFrom 1 names) (sized : AreSized names) where
 
   -- an end writes location 0 alone
   end_unwritten : (s : Store) (a : Answer) (l : ℕ) → 1 ≤ l → last_written (kept a (run_on (end_meaning 0) s).touches) l ≡ None
-  end_unwritten s (answer.Reply b) l le = unwritten_above 1 (run_on (end_meaning 0) s).touches l (below-meaning 1 (loc_program (loc.Decr (record { 0 = 0 })) replies) MOST (values s) [] (loc_below (loc.Decr (record { 0 = 0 })))) le
+  end_unwritten s (answer.Reply b) l le = stays_unwritten 0 1 (loc_program (loc.Decr (record { 0 = 0 })) replies) (loc_stays (loc.Decr (record { 0 = 0 }))) MOST (values s) [] l (λ c lo hi e. omega (arith, hi, e, le))
   end_unwritten s answer.TooLarge l le = written-given_up (run_on (end_meaning 0) s).touches l
 
   end_formed : (s : Store) (r : Record) → IsCommit (end_meaning 0) s r → AreWellFormed names (values s) → AreWellFormed names (values (after r.footprint s))

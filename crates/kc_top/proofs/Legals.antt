@@ -1,12 +1,12 @@
 -- The order of a run is a legal list of its records.
-use Rattle.std.proofs.Common.{◌≡◌, ℕ, List, [], ◌∷◌, Some, subst, ap}
+use Rattle.std.proofs.Common.{ℕ, List, [], ◌∷◌, subst, ap}
 use Rattle.std.specs.Option.{option_map}
 use Rattle.kc_model.specs.Store.{Store, after}
 use Rattle.kc_bundle.specs.declared.operation.Command.{Command}
 use Rattle.kc_bundle.specs.Script.{Script}
 use Rattle.kc_history.specs.declared.record.Record.{Record}
 use Rattle.kc_history.specs.declared.record.Place.{Place}
-use Rattle.kc_history.specs.Records.{record_at, footprint_at}
+use Rattle.kc_history.specs.Records.{footprint_at}
 use Rattle.kc_history.specs.Order.{NoneLeft, Legal, Chooses, more, raised}
 use Rattle.kc_top.specs.Run.{Replays, IsRun, opening_store}
 use Rattle.kc_top.proofs.Runs.{commit_finds}

@@ -26,9 +26,7 @@ impl<'a> Transact for Ask<'a> {
     ghost end = { λ ask. ask_end ask.live.0 ask.command.now };
 
     fn bound(&self) -> u32 {
-        self.command
-            .bound()
-            .max(self.live.0.saturating_add(1))
+        self.command.bound().max(self.live.0.saturating_add(1))
     }
 
     fn run<P: Peek>(&self, xt: &mut Xt<P>) -> Result<Reply, Stop> {
