@@ -1,5 +1,5 @@
 -- How steps of a log follow one another.
-use Rattle.std.proofs.Common.{◌≡◌, ℕ, ◌+◌, Bool, true, false, cond, List, [], ◌∷◌, ◌++◌, refl, sym, ap, ◌∙◌, subst, append_assoc, arith}
+use Rattle.std.proofs.Common.{◌≡◌, ℕ, Bool, true, false, cond, List, [], ◌∷◌, ◌++◌, refl, sym, ap, ◌∙◌, subst, append_assoc, arith}
 use Rattle.std.specs.Prelude.{Result, Ok, Err, MatchResult, IsErrAnd}
 use Rattle.std.proofs.lemmas.Result.{err_from_is_err_and}
 use Rattle.kc_model.specs.declared.footprint.Seen.{Seen}
@@ -8,9 +8,8 @@ use Rattle.kc_xt.specs.declared.stop.Stop.TheVariants.{Retry, TooLarge, Busy}
 use Rattle.kc_xt.specs.declared.line.Line.{Line}
 use Rattle.kc_xt.proofs.Rooms.{more, room_both, room_first, room_then, stops_first, stops_then}
 use Rattle.kc_xt.proofs.Lines.{grown-append}
-use Rattle.kc_xt.specs.Program.{Program, ends, read, write, writes, retries, exchanges, swaps, fetches_and_adds, wrapped}
+use Rattle.kc_xt.specs.Program.{Program, ends, read, write, writes, retries}
 use Rattle.kc_xt.specs.Peeks.{Looks, Gives}
-use Rattle.kc_xt.specs.Lines.{Keeps}
 use Rattle.kc_xt.specs.Log.{Log}
 use Rattle.kc_xt.specs.Steps.{Ended, on_log, having_looked, LooksStop, stopping, Comes, Stops, Does, Goes}
 
@@ -136,10 +135,6 @@ module _ {P : Type 0} {gives : Gives P} where
   pub goes_to : {A : Type 0} {f : (A → Program) → Program} {g : (A → Program) → Program} {x y z : Log P} {r : Result A Stop} → Goes gives f x g y → Does gives g y r z → Does gives f x r z
   goes_to {z = z} {r = r} h d = record { steps = λ k. follows z (h.steps k) r k (d.steps k) }
 
-  -- so far, and then a test that holds
-  pub goes_true : {A : Type 0} {f : (A → Program) → Program} (t : Bool) (g h : (A → Program) → Program) {x y : Log P} → Goes gives f x (λ k. cond t (g k) (h k)) y → t ≡ true → Goes gives f x g y
-  goes_true {f = f} t g h {x = x} {y = y} s e = let Q : Bool → Type 0 = λ t. Goes gives f x (λ k. cond t (g k) (h k)) y in subst Q e s
-
   -- so far, and then a test that does not hold
   pub goes_false : {A : Type 0} {f : (A → Program) → Program} (t : Bool) (g h : (A → Program) → Program) {x y : Log P} → Goes gives f x (λ k. cond t (g k) (h k)) y → t ≡ false → Goes gives f x h y
   goes_false {f = f} t g h {x = x} {y = y} s e = let Q : Bool → Type 0 = λ t. Goes gives f x (λ k. cond t (g k) (h k)) y in subst Q e s
@@ -155,32 +150,3 @@ module _ {P : Type 0} {gives : Gives P} where
   -- so far, and then a further part
   pub goes_on : {A : Type 0} {f g h : (A → Program) → Program} {x y z : Log P} → Goes gives f x g y → Goes gives g y h z → Goes gives f x h z
   goes_on d e = record { steps = λ k. after (d.steps k) (e.steps k) }
-
-  -- the other calls of a log, and what comes behind them. Behind a compare_and_set write then_call {g = ..} and stop_call.
-  pub then_exchange : {B : Type 0} {l w v : ℕ} {g : ℕ → (B → Program) → Program} {x y z : Log P} {r : Result B Stop} → Does gives (exchanges l w) x (Ok v) y → Does gives (g v) y r z → Does gives (λ k. read l (λ v. write l w (g v k))) x r z
-  then_exchange {g = g} {z = z} {r = r} h d = record { steps = λ k. follows z (h.steps (λ v. g v k)) r k (d.steps k) }
-
-  -- an exchange that stopped
-  pub stop_exchange : {B : Type 0} {l w : ℕ} {g : ℕ → (B → Program) → Program} {e : Stop} {x y : Log P} → Does gives (exchanges l w) x (Err e) y → Does gives (λ k. read l (λ v. write l w (g v k))) x (Err e) y
-  stop_exchange {g = g} h = record { steps = λ k. h.steps (λ v. g v k) }
-
-  -- a fetch_add, and what comes behind it
-  pub then_fetch_add : {B : Type 0} {l v : ℕ} (n : ℕ) {g : ℕ → (B → Program) → Program} {x y z : Log P} {r : Result B Stop} → Does gives (fetches_and_adds l n) x (Ok v) y → Does gives (g v) y r z → Does gives (λ k. read l (λ v. write l (wrapped (v + n)) (g v k))) x r z
-  then_fetch_add n {g = g} {z = z} {r = r} h d = record { steps = λ k. follows z (h.steps (λ v. g v k)) r k (d.steps k) }
-
-  -- a fetch_add that stopped
-  pub stop_fetch_add : {B : Type 0} {l : ℕ} (n : ℕ) {g : ℕ → (B → Program) → Program} {e : Stop} {x y : Log P} → Does gives (fetches_and_adds l n) x (Err e) y → Does gives (λ k. read l (λ v. write l (wrapped (v + n)) (g v k))) x (Err e) y
-  stop_fetch_add n {g = g} h = record { steps = λ k. h.steps (λ v. g v k) }
-
-  -- a swap, and what comes behind it
-  pub then_swap : {C : Type 0} {a b : ℕ} {u : Unit {0}} {g : (C → Program) → Program} {x y z : Log P} {r : Result C Stop} → Does gives (swaps a b) x (Ok u) y → Does gives g y r z → Does gives (λ k. read a (λ v. read b (λ w. write a w (write b v (g k))))) x r z
-  then_swap {g = g} {z = z} {r = r} h d = record { steps = λ k. follows z (h.steps (λ _. g k)) r k (d.steps k) }
-
-  -- a swap that stopped
-  pub stop_swap : {C : Type 0} {a b : ℕ} {g : (C → Program) → Program} {e : Stop} {x y : Log P} → Does gives (swaps a b) x (Err e) y → Does gives (λ k. read a (λ v. read b (λ w. write a w (write b v (g k))))) x (Err e) y
-  stop_swap {g = g} h = record { steps = λ k. h.steps (λ _. g k) }
-
--- a call takes no line away, however it ends
-pub does_keep : {P A : Type 0} {gives : Gives P} {f : (A → Program) → Program} {x y : Log P} (r : Result A Stop) → Does gives f x r y → Keeps x.lines y.lines
-does_keep (Ok a) d = (d.steps (λ _. retries)).keeps
-does_keep (Err e) d = (d.steps (λ _. retries)).keeps

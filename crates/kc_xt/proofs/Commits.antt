@@ -16,17 +16,18 @@ use Rattle.kc_xt.specs.declared.line.Line.{Line}
 use Rattle.kc_xt.specs.declared.peek.PeekBusy.{PeekBusy}
 use Rattle.kc_xt.specs.declared.stop.Stop.{Stop}
 use Rattle.kc_xt.specs.declared.stop.Stop.TheVariants.{Retry, TooLarge, Busy}
-use Rattle.kc_xt.specs.Meaning.{Touch, Meaning, AllBelow, is_touched, last_written, values, Makes, CanMake, answers}
+use Rattle.kc_xt.specs.Meaning.{Touch, Meaning, AllBelow, is_touched, last_written, values, Makes, CanMake, answers, given_up}
 use Rattle.kc_xt.specs.Lines.{look, locations, line_at, seen_at, after_at, with_line, seen_line, with_after, bare, with_looks, looked_at, with_wrote, with_touches, seens, puts, put_line, CanPut}
 use Rattle.kc_xt.specs.Log.{Log, empty_log}
 use Rattle.kc_xt.specs.Peeks.{Gives, Looks, PlainLooks}
-use Rattle.kc_xt.specs.Commit.{Shows}
+use Rattle.kc_xt.specs.Commit.{Shows, Filled}
 use Rattle.kc_xt.specs.Law.{Obeys, LooksTo, Commits, ending}
 use Rattle.kc_xt.proofs.Options.{some_is, none≢some, or_assoc, or_test, or_none, or_nothing}
 use Rattle.kc_xt.proofs.Lines.{seen_at-line_at, seen_at-with_line, seen_at-with_after, after_at-with_line, after_at-with_after, locations-with_after}
 use Rattle.kc_xt.proofs.Places.{rising-with_line, rising-tail}
 use Rattle.kc_xt.proofs.Footprints.{puts_rise, first_put}
 use Rattle.kc_xt.proofs.Rooms.{ends_under_own}
+use Rattle.kc_xt.proofs.Spared.{touched-given_up, written-given_up}
 use Rattle.kc_xt.proofs.Touching.{missing, line_at-looked_at, by_line, there_is}
 
 -- each line saw what the store shows
@@ -233,17 +234,28 @@ can_put s ts ls rise at can p h = go (last_written ts p.loc.0) refl (sym (at p.l
     go None e q = absurd (none≢some p q)
     go (Some v) e q = subst (λ (t : Put). t.version < LAST_VERSION) (some_is (put_of s p.loc.0 v) p q) (can p.loc.0 v e)
 
--- lines that touches left on an empty log, and their footprint
-makes : (s : Store) (ts : List Touch) (ls : List Line) (f : Footprint) → AllShown s ls → ls ≡ with_touches s [] ts → f.reads.items ≡ seens ls → f.puts.items ≡ puts ls → (CanPut ls → IsWellMade f) → CanMake s ts → Makes s ts f
-makes s ts ls f all left er ep made can =
-    let rise : IsRising (locations ls) = rw left (rising-with_touches s [] ts tt) in
-    let at : (l : ℕ) → put_at (puts ls) l ≡ option_map (put_of s l) (last_written ts l) =
-    λ l. put_at-puts s ls l rise all ∙ ap (option_map (put_of s l)) (ap (λ zs. after_at zs l) left ∙ after_at-with_touches s [] ts l ∙ or_nothing (last_written ts l)) in
-    record {
-      well_made = made (can_put s ts ls rise at can);
-      reads = λ l. ap (λ es. read_at es l) er ∙ read_at-seens s ls l ∙ ap (λ zs. seen_at zs l) left ∙ seen_at-with_touches s [] ts l;
-      puts = λ l. ap (λ ps. put_at ps l) ep ∙ at l;
-    }
+-- ---- what lines that touches left make of a footprint
+
+module _ (s : Store) (ts : List Touch) (ls : List Line) (f : Footprint) (all : AllShown s ls) (left : ls ≡ with_touches s [] ts) where
+  pub rises : IsRising (locations ls)
+  rises = rw left (rising-with_touches s [] ts tt)
+
+  pub written : (l : ℕ) → after_at ls l ≡ last_written ts l
+  written l = ap (λ zs. after_at zs l) left ∙ after_at-with_touches s [] ts l ∙ or_nothing (last_written ts l)
+
+  pub makes_all : Filled ls (puts ls) f → Makes s ts f
+  makes_all filled = record {
+    well_made = filled.made;
+    reads = λ l. ap (λ es. read_at es l) filled.reads ∙ read_at-seens s ls l ∙ ap (λ zs. seen_at zs l) left ∙ seen_at-with_touches s [] ts l;
+    puts = λ l. ap (λ ps. put_at ps l) filled.puts ∙ put_at-puts s ls l rises all ∙ ap (option_map (put_of s l)) (written l);
+  }
+
+  pub makes_reads : Filled ls [] f → Makes s (given_up ts) f
+  makes_reads filled = record {
+    well_made = filled.made;
+    reads = λ l. rw (touched-given_up ts l) (ap (λ es. read_at es l) filled.reads ∙ read_at-seens s ls l ∙ ap (λ zs. seen_at zs l) left ∙ seen_at-with_touches s [] ts l);
+    puts = λ l. rw (filled.puts, written-given_up ts l) refl;
+  }
 
 -- what ends by itself is answered as it ends
 as_answered : (r : Result Reply Stop) → r ≢ Err Busy → r ≡ answers (ending r)
@@ -269,6 +281,9 @@ commits {m} {bound} {r} {y} cells o f er ep made =
     let below : LinesBelow bound y.lines = rw run.lines (below-with_touches s bound [] (m MOST (values s) []).touches run.below tt) in
     record {
       answer = as_answered r (plain_not_busy cells o) ∙ ap answers (sym run.answer);
-      makes = makes s (m MOST (values s) []).touches y.lines f all run.lines er ep made;
+      makes = λ can.
+          let ts = (m MOST (values s) []).touches in
+          let puts_at : (l : ℕ) → put_at (puts y.lines) l ≡ option_map (put_of s l) (last_written ts l) = λ l. put_at-puts s y.lines l (rises s ts y.lines f all run.lines) all ∙ ap (option_map (put_of s l)) (written s ts y.lines f all run.lines l) in
+          makes_all s ts y.lines f all run.lines (record { reads = er; puts = ep; made = made (can_put s ts y.lines (rises s ts y.lines f all run.lines) puts_at can) });
       within = λ e h. reads_below s bound y.lines e below (rw er at h);
     }

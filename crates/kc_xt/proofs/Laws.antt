@@ -1,5 +1,5 @@
 -- From steps to the law of a transaction.
-use Rattle.std.proofs.Common.{◌≡◌, ◌≢◌, ℕ, ◌<◌, Bool, true, false, cond, List, [], ◌∷◌, refl, sym, ap, ◌∙◌, append-nil}
+use Rattle.std.proofs.Common.{◌≡◌, ◌≢◌, ℕ, ◌<◌, Bool, true, false, cond, List, [], ◌∷◌, sym, ap, ◌∙◌, append-nil}
 use Rattle.std.specs.Prelude.{Result, Ok, Err, MatchResult}
 use Rattle.kc_model.specs.declared.reply.Reply.{Reply}
 use Rattle.kc_model.specs.declared.footprint.Seen.{Seen}
@@ -81,8 +81,3 @@ below_if b false p q h g = g
 -- what does a program obeys its meaning
 pub law_of : {P : Type 0} (gives : Gives P) (f : (Reply → Program) → Program) (bound : ℕ) → Below bound (f replies) → TouchesFirst (f replies) → {x y : Log P} (r : Result Reply Stop) → Does gives f x r y → Obeys gives (meaning (f replies)) bound x r y
 law_of gives f bound b t {x} {y} r d = obeys gives (f replies) bound b t x r y (d.steps replies)
-
--- each side may rely on the test
-pub below_test : (b : ℕ) (t : Bool) (p q : Program) → (t ≡ true → Below b p) → (t ≡ false → Below b q) → Below b (cond t p q)
-below_test b true p q h g = h refl
-below_test b false p q h g = g refl

@@ -1,5 +1,4 @@
 pub mod Options
-pub mod Outcomes
 pub mod Lines
 pub mod Places
 pub mod Rooms

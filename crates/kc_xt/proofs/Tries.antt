@@ -1,7 +1,6 @@
 -- What comes of a run on the empty log.
 use Rattle.std.proofs.Common.{◌≡◌, ◌≢◌, ℕ, zero, suc, ◌<◌, ◌≤◌, Bool, true, false, cond, List, [], ◌∷◌, length, refl, sym, ap, ◌∙◌, subst, arith}
 use Rattle.std.specs.Prelude.{◌==◌, ◌&&◌, Option, Some, None, is_some, nat_lt, Contains, Result, Ok, Err}
-use Rattle.std.specs.Option.{option_map}
 use Rattle.std.proofs.lemmas.Bool.Decides.{nat_tests}
 use Rattle.kc_model.specs.declared.footprint.TheConstants.{LAST_VERSION, MOST}
 use Rattle.kc_model.specs.declared.footprint.Footprint.{Footprint}
@@ -10,7 +9,7 @@ use Rattle.kc_model.specs.declared.footprint.Seen.{Seen}
 use Rattle.kc_model.specs.declared.plain_store.Cell.{Cell}
 use Rattle.kc_model.specs.declared.reply.Answer.TheVariants as answer
 use Rattle.kc_model.specs.declared.reply.Reply.{Reply}
-use Rattle.kc_model.specs.Footprint.{IsWellMade, IsBelow, read_at, put_at}
+use Rattle.kc_model.specs.Footprint.{IsWellMade, IsBelow, read_at}
 use Rattle.kc_model.specs.Rising.{IsRising, IsRisingAbove}
 use Rattle.kc_model.specs.Store.{Store, Finds, store_of, zero_cell}
 use Rattle.kc_model.proofs.Footprints.{read_at-contained}
@@ -21,15 +20,14 @@ use Rattle.kc_xt.specs.declared.stop.Stop.{Stop}
 use Rattle.kc_xt.specs.declared.stop.Stop.TheVariants.{Retry, TooLarge, Busy}
 use Rattle.kc_xt.specs.Commit.{Answers, Waits, Wears, Came, PutsWhereDone, Settles, Filled, Shows, Looked, LooksIn, room_of, run_on, answer_of}
 use Rattle.kc_xt.specs.Law.{Obeys, IsRun, EndsUnder}
-use Rattle.kc_xt.specs.Lines.{look, locations, line_at, seen_at, after_at, bare, with_looks, with_touches, seens, puts, worn_of}
+use Rattle.kc_xt.specs.Lines.{look, locations, line_at, after_at, bare, with_looks, seens, puts, worn_of}
 use Rattle.kc_xt.specs.Log.{Log, empty_log}
-use Rattle.kc_xt.specs.Meaning.{Touch, Meaning, Makes, values, given_up, last_written}
+use Rattle.kc_xt.specs.Meaning.{Meaning, values}
 use Rattle.kc_xt.specs.Peeks.{Gives, Looks, PlainLooks}
-use Rattle.kc_xt.proofs.Commits.{AllShown, LinesBelow, seen_at-with_touches, after_at-with_touches, rising-with_touches, shown-with_looks, shown-bare, shown_at, read_at-seens, put_at-puts, put_of, below-with_touches, reads_below, all_looked, err≢ok}
-use Rattle.kc_xt.proofs.Options.{some_is, none≢some, or_nothing}
+use Rattle.kc_xt.proofs.Commits.{makes_all, makes_reads, rises, written, AllShown, LinesBelow, shown-with_looks, shown-bare, shown_at, below-with_touches, reads_below, all_looked, err≢ok}
+use Rattle.kc_xt.proofs.Options.{some_is, none≢some}
 use Rattle.kc_xt.proofs.Places.{rising-tail}
 use Rattle.kc_xt.proofs.Rooms.{ends_under_own, length-bare, length-with_looks}
-use Rattle.kc_xt.proofs.Spared.{touched-given_up, written-given_up}
 
 -- ---- a store that has what a footprint read
 
@@ -55,29 +53,6 @@ found_where_shown : (s : Store) (ls : List Line) (e : Seen) → AllShown s ls �
 found_where_shown s [] e h (k, lt, q) = absurd (omega arith)
 found_where_shown s (b ∷ bs) e (h, hs) (zero, lt, q) = subst (λ (t : Seen). s t.loc.0 ≡ record { version = t.version; value = t.value }) q (ap (λ (t : Seen). let c : Cell = record { version = t.version; value = t.value } in c) (sym h))
 found_where_shown s (b ∷ bs) e (h, hs) (suc k, lt, q) = found_where_shown s bs e hs (k, omega arith, q)
-
--- ---- what lines that touches left make of a footprint
-
-module _ (s : Store) (ts : List Touch) (ls : List Line) (f : Footprint) (all : AllShown s ls) (left : ls ≡ with_touches s [] ts) where
-  rises : IsRising (locations ls)
-  rises = rw left (rising-with_touches s [] ts tt)
-
-  written : (l : ℕ) → after_at ls l ≡ last_written ts l
-  written l = ap (λ zs. after_at zs l) left ∙ after_at-with_touches s [] ts l ∙ or_nothing (last_written ts l)
-
-  pub makes_all : Filled ls (puts ls) f → Makes s ts f
-  makes_all filled = record {
-    well_made = filled.made;
-    reads = λ l. ap (λ es. read_at es l) filled.reads ∙ read_at-seens s ls l ∙ ap (λ zs. seen_at zs l) left ∙ seen_at-with_touches s [] ts l;
-    puts = λ l. ap (λ ps. put_at ps l) filled.puts ∙ put_at-puts s ls l rises all ∙ ap (option_map (put_of s l)) (written l);
-  }
-
-  pub makes_reads : Filled ls [] f → Makes s (given_up ts) f
-  makes_reads filled = record {
-    well_made = filled.made;
-    reads = λ l. rw (touched-given_up ts l) (ap (λ es. read_at es l) filled.reads ∙ read_at-seens s ls l ∙ ap (λ zs. seen_at zs l) left ∙ seen_at-with_touches s [] ts l);
-    puts = λ l. rw (filled.puts, written-given_up ts l) refl;
-  }
 
 -- ---- worn lines
 
