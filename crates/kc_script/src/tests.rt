@@ -21,29 +21,10 @@ const X: Loc = Loc(1);
 
 const Y: Loc = Loc(2);
 
-const STACK: Stack = Stack {
-    base: Loc(3),
-    cap: 3,
-};
-
-const QUEUE: Queue = Queue {
-    base: Loc(7),
-    cap: 4,
-};
-
 const TABLE: Hash = Hash {
     base: Loc(13),
     buckets: 2,
     cap: 3,
-};
-
-const MVAR: Mvar = Mvar { base: Loc(26) };
-
-const PROMISE: Promise = Promise { base: Loc(28) };
-
-const ACC: Accumulator = Accumulator {
-    base: Loc(30),
-    cells: 2,
 };
 
 fn read(rt: &HostRuntime, text: &str) -> Result<Bundle, ScriptError>
@@ -107,8 +88,10 @@ fn commands_on_locations_are_read(rt: HostRuntime) {
 #[test]
 fn commands_on_stacks_and_queues_are_read(rt: HostRuntime) {
     let lines = "push s 1\npop s\npopw s\ntop s\nlen s\nenq q 2\ndeq q\ndeqw q\nfront q\nlen q";
-    let stacked = |act| Op::Stack(StackOp { stack: STACK, act });
-    let queued = |act| Op::Queue(QueueOp { queue: QUEUE, act });
+    let stack = Stack::layout(Loc(3), 3);
+    let queue = Queue::layout(Loc(7), 4);
+    let stacked = |act| Op::Stack(StackOp { stack, act });
+    let queued = |act| Op::Queue(QueueOp { queue, act });
     let ops = [
         stacked(StackAct::Push(1)),
         stacked(StackAct::Pop),
@@ -128,13 +111,13 @@ fn commands_on_stacks_and_queues_are_read(rt: HostRuntime) {
 fn commands_on_tables_and_cells_are_read(rt: HostRuntime) {
     let lines =
         "put t 1 2\nfind t 1\ndel t 1\nlen t\nmput m 3\nmtake m\nmpeek m\nresolve p 4\nawait p\nresolved p\nbump a 5\ntotal a";
+    let mvar = Mvar::layout(Loc(26));
+    let promise = Promise::layout(Loc(28));
+    let acc = Accumulator::layout(Loc(30), 2);
     let tabled = |act| Op::Hash(HashOp { hash: TABLE, act });
-    let held = |act| Op::Mvar(MvarOp { mvar: MVAR, act });
-    let promised = |act| Op::Promise(PromiseOp {
-        promise: PROMISE,
-        act,
-    });
-    let summed = |act| Op::Acc(AccOp { acc: ACC, act });
+    let held = |act| Op::Mvar(MvarOp { mvar, act });
+    let promised = |act| Op::Promise(PromiseOp { promise, act });
+    let summed = |act| Op::Acc(AccOp { acc, act });
     let ops = [
         tabled(HashAct::Put(1, 2)),
         tabled(HashAct::Find(1)),
