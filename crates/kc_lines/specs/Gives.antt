@@ -14,7 +14,17 @@ abbrev pub Gives : {X Y : Type 0} → (X → Y) → Result X Complaint → Resul
 Gives view (Ok x) read = read ≡ Ok (view x)
 Gives view (Err e) read = Fails e read
 
+-- what a function that takes no memory returned, seen by view, is what the grammar gives
+abbrev pub Reads : {X Y : Type 0} → (X → Y) → Result X Why → Result Y Why → Type 0
+Reads view (Ok x) read = read ≡ Ok (view x)
+Reads view (Err e) read = read ≡ Err e
+
 -- it brought a reader to the state that the grammar gives
 abbrev pub Reaches : {X Y : Type 0} → Y → Result X Complaint → Result Y Why → Type 0
 Reaches new (Ok x) read = read ≡ Ok new
 Reaches new (Err e) read = Fails e read
+
+-- it brought a reader there, and takes no memory
+abbrev pub Arrives : {X Y : Type 0} → Y → Result X Why → Result Y Why → Type 0
+Arrives new (Ok x) read = read ≡ Ok new
+Arrives new (Err e) read = read ≡ Err e

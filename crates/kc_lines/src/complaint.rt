@@ -1,14 +1,23 @@
 ghost use Rattle.std.specs.Prelude.{◌≡◌};
-ghost use Rattle.kc_lines.specs.declared.complaint.Complaint.TheVariants.{NoMemory};
+ghost use Rattle.kc_lines.specs.declared.complaint.Complaint.TheVariants.{Here, NoMemory};
 
 use crate::fault::Why;
 use std::alloc::{AllocError, AllocFailed};
 
-/// Why reading stopped: something is wrong with the line that is read, or memory ran out.
+/// Why reading stopped, where it takes memory: something is wrong with the line that is read, or memory ran out. What
+/// takes none answers a `Why`.
 #[derive(Clone, Copy, Debug, PartialEq, Eq)]
 pub enum Complaint {
     Here(Why),
     NoMemory,
+}
+
+impl From<Why> for Complaint {
+    ghost from_gives = { λ why e. e ≡ Here why };
+
+    fn from(why: Why) -> Self {
+        Complaint::Here(why)
+    }
 }
 
 impl From<AllocError> for Complaint {

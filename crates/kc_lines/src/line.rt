@@ -1,37 +1,28 @@
 //! The tests of a line that look at its words alone.
 
 ghost use Rattle.std.specs.Prelude.{◌≡◌, ◌<◌, Err, map, length, OnOk};
-ghost use Rattle.kc_lines.specs.Gives.{Gives};
 ghost use Rattle.kc_lines.specs.Tests.{wants, counted, word_at, number_to};
 
-use crate::complaint::Complaint;
 use crate::fault::Why;
 use crate::words::number_of;
 
-/// Refuses the line for this reason.
-pub fn complain<T>(why: Why) -> Result<T, Complaint>
-    ensures { result ≡ Err (Complaint.Here why) }
-{
-    Err(Complaint::Here(why))
-}
-
 /// Refuses the line for this reason, unless the test holds.
-pub fn wants(test: bool, why: Why) -> Result<(), Complaint>
-    ensures { Gives (λ x. x) result (wants test why) }
+pub fn wants(test: bool, why: Why) -> Result<(), Why>
+    ensures { result ≡ wants test why }
 {
-    if test { Ok(()) } else { complain(why) }
+    if test { Ok(()) } else { Err(why) }
 }
 
 /// Refuses a line with fewer or more words behind its first than this many.
-pub fn counted(count: usize, args: &[&[u8]]) -> Result<(), Complaint>
-    ensures gives { Gives (λ x. x) result (counted count (map (λ word. word.now) args.now)) }
+pub fn counted(count: usize, args: &[&[u8]]) -> Result<(), Why>
+    ensures is { result ≡ counted count (map (λ word. word.now) args.now) }
     ensures count { OnOk result (length args.now ≡ count) }
 {
     if args.len() < count {
-        return complain(Why::MissingWord);
+        return Err(Why::MissingWord);
     }
     if args.len() > count {
-        return complain(Why::ExtraWord);
+        return Err(Why::ExtraWord);
     }
     Ok(())
 }
@@ -46,11 +37,11 @@ pub fn word_at<'a>(args: &[&'a [u8]], i: usize) -> &'a [u8]
 
 /// The number that the word spells, up to this one.
 #[tactic(auto, unfolding(crate::specs::Tests::number_to))]
-pub fn number_to(most: u32, word: &[u8]) -> Result<u32, Complaint>
-    ensures { Gives (λ n. n) result (number_to most word.now) }
+pub fn number_to(most: u32, word: &[u8]) -> Result<u32, Why>
+    ensures { result ≡ number_to most word.now }
 {
     match number_of(word, most) {
         Some(n) => Ok(n),
-        None => complain(Why::BadNumber),
+        None => Err(Why::BadNumber),
     }
 }

@@ -2,13 +2,13 @@
 
 ghost use Rattle.std.specs.Prelude.{◌≡◌, ◌≤◌, ◌∷◌, [], reverse, map, IfOk, OnOk, IfSome, IfNone, Ok};
 ghost use Rattle.kc_term.specs.Tree.{op, seq, first, trees};
-ghost use Rattle.kc_lines.specs.Gives.{Gives, Reaches};
+ghost use Rattle.kc_lines.specs.Gives.{Gives, Reads, Reaches};
 ghost use Rattle.kc_script.specs.Blocks.{good, sequence, either, nest, block_of, in_block, counted_up, with_op, with_block, op_line, level_here, atomic_line, or_at, end_at};
 ghost use Rattle.kc_script.specs.Reading.{lists, open_of, place_of, nowhere};
 
 use crate::reader::{Open, Thread};
 use kc_bundle::{Command, Op};
-use kc_lines::{Complaint, Limit, Why, complain, counted, wants};
+use kc_lines::{Complaint, Limit, Why, counted, wants};
 use kc_term::{Term, TermError};
 use std::alloc::{AllocError, Global};
 use std::mem;
@@ -34,12 +34,12 @@ pub fn begin_thread(alloc: Global) -> Thread
 }
 
 #[tactic(auto, unfolding(crate::specs::Blocks::sequence))]
-fn sequence(parts: Vec<Term<Op>>) -> Result<Term<Op>, Complaint>
-    ensures { Gives (λ t. t) result (sequence parts.items) }
+fn sequence(parts: Vec<Term<Op>>) -> Result<Term<Op>, Why>
+    ensures { Reads (λ t. t) result (sequence parts.items) }
 {
     match Term::seq(parts) {
         Ok(term) => Ok(term),
-        Err(_) => complain(Why::TooMany(Limit::Block)),
+        Err(_) => Err(Why::TooMany(Limit::Block)),
     }
 }
 
@@ -49,7 +49,7 @@ fn either(alloc: Global, a: Term<Op>, b: Term<Op>) -> Result<Term<Op>, Complaint
 {
     match Term::first(alloc, a, b) {
         Ok(term) => Ok(term),
-        Err(TermError::TooDeep { .. }) => complain(Why::TooMany(Limit::Depth)),
+        Err(TermError::TooDeep { .. }) => Err(Complaint::Here(Why::TooMany(Limit::Depth))),
         Err(TermError::NoMemory { .. }) => Err(Complaint::NoMemory),
     }
 }
@@ -79,8 +79,8 @@ pub fn in_block(place: &Thread) -> bool
 
 // Room for one more command or block where the lines stand, and how many the outermost block then has.
 #[tactic(auto, unfolding(crate::specs::Blocks::counted_up))]
-fn counted_up(place: &Thread) -> Result<u32, Complaint>
-    ensures gives { Gives (λ n. n) result (counted_up (place_of place.now) (place_of place.now).open_blocks) }
+fn counted_up(place: &Thread) -> Result<u32, Why>
+    ensures is { result ≡ counted_up (place_of place.now) (place_of place.now).open_blocks }
     ensures within { IfOk result (λ n. n ≤ 16) }
 {
     match place.open_blocks.last() {
@@ -171,7 +171,7 @@ pub fn or_line(alloc: Global, place: &mut Thread, args: &[&[u8]]) -> Result<(), 
     ensures { Reaches (place_of place.new) result (or_at (place_of place.old) (place_of place.old).open_blocks (map (λ word. word.now) args.now)) }
 {
     let Some(mut b) = innermost(&mut place.open_blocks) else {
-        return complain(Why::StrayWord);
+        return Err(Complaint::Here(Why::StrayWord));
     };
     counted(0, args)?;
     wants(b.level < MOST_LEVEL, Why::TooMany(Limit::Depth))?;
@@ -204,7 +204,7 @@ pub fn end_line(alloc: Global, place: &mut Thread, args: &[&[u8]]) -> Result<(),
     ensures { Reaches (place_of place.new) result (end_at (place_of place.old) (place_of place.old).open_blocks (map (λ word. word.now) args.now)) }
 {
     let Some(b) = innermost(&mut place.open_blocks) else {
-        return complain(Why::StrayWord);
+        return Err(Complaint::Here(Why::StrayWord));
     };
     counted(0, args)?;
     let block = block_of(alloc, b)?;

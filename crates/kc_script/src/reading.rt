@@ -3,7 +3,7 @@
 ghost use Rattle.std.specs.Prelude.{◌≡◌, ◌≤◌, ◌+◌, map, None, OnOk};
 ghost use Rattle.kc_bundle.specs.Script.{script_of, names_of};
 ghost use Rattle.kc_lines.specs.Words.{words};
-ghost use Rattle.kc_lines.specs.Gives.{Gives, Reaches};
+ghost use Rattle.kc_lines.specs.Gives.{Gives, Arrives, Reaches};
 ghost use Rattle.kc_verbs.specs.Objects.{object_of};
 ghost use Rattle.kc_verbs.specs.Declaring.{IsAt};
 ghost use Rattle.kc_script.specs.Blocks.{in_block};
@@ -14,7 +14,7 @@ use crate::reader::Reader;
 use indexmap::IndexMap;
 use kc_bundle::{Bundle, Object, cells};
 use kc_lines::{
-    Complaint, Limit, Why, complain, counted, is_skipped, lines_of, wants, word_at, words_of,
+    Complaint, Limit, Why, counted, is_skipped, lines_of, wants, word_at, words_of,
 };
 use kc_verbs::{Kind, Verb, Word, add, declare, say, word_of};
 use std::alloc::{AllocError, Global};
@@ -63,7 +63,7 @@ fn said_line(reader: &mut Reader, verb: Verb, args: &[&[u8]]) -> Result<(), Comp
     ensures { Reaches (state_of reader.new) result (said_line (state_of reader.old) verb (map (λ word. word.now) args.now)) }
 {
     let Some(thread) = reader.thread else {
-        return complain(Why::StrayWord);
+        return Err(Complaint::Here(Why::StrayWord));
     };
     let operation = say(thread, &reader.objects, verb, args)?;
     op_line(&mut reader.place, operation)
@@ -74,7 +74,7 @@ fn begun_block(reader: &mut Reader, args: &[&[u8]]) -> Result<(), Complaint>
     ensures { Reaches (state_of reader.new) result (begun_block (state_of reader.old) (map (λ word. word.now) args.now)) }
 {
     if reader.thread.is_none() {
-        return complain(Why::StrayWord);
+        return Err(Complaint::Here(Why::StrayWord));
     }
     atomic_line(reader.alloc, &mut reader.place, args)
 }
@@ -90,8 +90,8 @@ fn close_thread(reader: &mut Reader) -> Result<(), AllocError>
     Ok(())
 }
 
-fn no_block(reader: &Reader) -> Result<(), Complaint>
-    ensures { Gives (λ x. x) result (no_block (state_of reader.now)) }
+fn no_block(reader: &Reader) -> Result<(), Why>
+    ensures { result ≡ no_block (state_of reader.now) }
 {
     wants(!in_block(&reader.place), Why::UnclosedBlock)
 }
@@ -124,7 +124,7 @@ fn worded_line(reader: &mut Reader, word: Option<Word>, args: &[&[u8]]) -> Resul
     ensures { Reaches (state_of reader.new) result (worded_line (state_of reader.old) word (map (λ word. word.now) args.now)) }
 {
     match word {
-        None => complain(Why::UnknownWord),
+        None => Err(Complaint::Here(Why::UnknownWord)),
         Some(Word::Thread) => thread_line(reader, args),
         Some(Word::Atomic) => begun_block(reader, args),
         Some(Word::Or) => or_line(reader.alloc, &mut reader.place, args),
@@ -135,8 +135,8 @@ fn worded_line(reader: &mut Reader, word: Option<Word>, args: &[&[u8]]) -> Resul
 }
 
 #[tactic(auto, unfolding(crate::specs::Reading::header_line))]
-fn header_line(reader: &mut Reader, words: &[&[u8]]) -> Result<(), Complaint>
-    ensures { Reaches (state_of reader.new) result (header_line (state_of reader.old) (map (λ word. word.now) words.now)) }
+fn header_line(reader: &mut Reader, words: &[&[u8]]) -> Result<(), Why>
+    ensures { Arrives (state_of reader.new) result (header_line (state_of reader.old) (map (λ word. word.now) words.now)) }
 {
     wants(words.len() == 2, Why::Header)?;
     wants(word_at(words, 0) == b"kcas".as_slice(), Why::Header)?;
@@ -150,12 +150,13 @@ fn content_line(reader: &mut Reader, words: &[&[u8]]) -> Result<(), Complaint>
     ensures { Reaches (state_of reader.new) result (content_line (state_of reader.old) (map (λ word. word.now) words.now)) }
 {
     match words {
-        [] => complain(Why::UnknownWord),
+        [] => Err(Complaint::Here(Why::UnknownWord)),
         [first, args @ ..] => {
             if reader.begun {
                 worded_line(reader, word_of(first), args)
             } else {
-                header_line(reader, words)
+                header_line(reader, words)?;
+                Ok(())
             }
         }
     }

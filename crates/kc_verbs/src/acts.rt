@@ -1,7 +1,6 @@
 //! What a command does to an object, by the words behind the object's name.
 
 ghost use Rattle.std.specs.Prelude.{◌≡◌, map, length};
-ghost use Rattle.kc_lines.specs.Gives.{Gives};
 ghost use Rattle.kc_verbs.specs.Saying.{stack_arity, queue_arity, table_arity, cache_arity, mvar_arity, promise_arity, acc_arity, stack_act, queue_act, table_act, cache_act, mvar_act, promise_act, acc_act};
 
 use crate::named::value_at;
@@ -9,14 +8,14 @@ use crate::verb::{AccWord, CacheWord, MvarWord, PromiseWord, QueueWord, StackWor
 use kc_cache::CacheAct;
 use kc_cells::{AccAct, MvarAct, PromiseAct};
 use kc_hash::HashAct;
-use kc_lines::Complaint;
+use kc_lines::Why;
 use kc_queue::QueueAct;
 use kc_stack::StackAct;
 
 #[tactic(auto, unfolding(crate::specs::Saying::stack_act))]
-pub fn stack_act(word: StackWord, args: &[&[u8]]) -> Result<StackAct, Complaint>
+pub fn stack_act(word: StackWord, args: &[&[u8]]) -> Result<StackAct, Why>
     requires { length args.now ≡ stack_arity word }
-    ensures { Gives (λ act. act) result (stack_act word (map (λ word. word.now) args.now)) }
+    ensures { result ≡ stack_act word (map (λ word. word.now) args.now) }
 {
     match word {
         StackWord::Push => Ok(StackAct::Push(value_at(args, 1)?)),
@@ -27,9 +26,9 @@ pub fn stack_act(word: StackWord, args: &[&[u8]]) -> Result<StackAct, Complaint>
 }
 
 #[tactic(auto, unfolding(crate::specs::Saying::queue_act))]
-pub fn queue_act(word: QueueWord, args: &[&[u8]]) -> Result<QueueAct, Complaint>
+pub fn queue_act(word: QueueWord, args: &[&[u8]]) -> Result<QueueAct, Why>
     requires { length args.now ≡ queue_arity word }
-    ensures { Gives (λ act. act) result (queue_act word (map (λ word. word.now) args.now)) }
+    ensures { result ≡ queue_act word (map (λ word. word.now) args.now) }
 {
     match word {
         QueueWord::Enq => Ok(QueueAct::Enq(value_at(args, 1)?)),
@@ -40,9 +39,9 @@ pub fn queue_act(word: QueueWord, args: &[&[u8]]) -> Result<QueueAct, Complaint>
 }
 
 #[tactic(auto, unfolding(crate::specs::Saying::table_act))]
-pub fn table_act(word: TableWord, args: &[&[u8]]) -> Result<HashAct, Complaint>
+pub fn table_act(word: TableWord, args: &[&[u8]]) -> Result<HashAct, Why>
     requires { length args.now ≡ table_arity word }
-    ensures { Gives (λ act. act) result (table_act word (map (λ word. word.now) args.now)) }
+    ensures { result ≡ table_act word (map (λ word. word.now) args.now) }
 {
     match word {
         TableWord::Put => Ok(HashAct::Put(value_at(args, 1)?, value_at(args, 2)?)),
@@ -52,9 +51,9 @@ pub fn table_act(word: TableWord, args: &[&[u8]]) -> Result<HashAct, Complaint>
 }
 
 #[tactic(auto, unfolding(crate::specs::Saying::cache_act))]
-pub fn cache_act(word: CacheWord, args: &[&[u8]]) -> Result<CacheAct, Complaint>
+pub fn cache_act(word: CacheWord, args: &[&[u8]]) -> Result<CacheAct, Why>
     requires { length args.now ≡ cache_arity word }
-    ensures { Gives (λ act. act) result (cache_act word (map (λ word. word.now) args.now)) }
+    ensures { result ≡ cache_act word (map (λ word. word.now) args.now) }
 {
     match word {
         CacheWord::CPut => Ok(CacheAct::CPut(value_at(args, 1)?, value_at(args, 2)?)),
@@ -65,9 +64,9 @@ pub fn cache_act(word: CacheWord, args: &[&[u8]]) -> Result<CacheAct, Complaint>
 }
 
 #[tactic(auto, unfolding(crate::specs::Saying::mvar_act))]
-pub fn mvar_act(word: MvarWord, args: &[&[u8]]) -> Result<MvarAct, Complaint>
+pub fn mvar_act(word: MvarWord, args: &[&[u8]]) -> Result<MvarAct, Why>
     requires { length args.now ≡ mvar_arity word }
-    ensures { Gives (λ act. act) result (mvar_act word (map (λ word. word.now) args.now)) }
+    ensures { result ≡ mvar_act word (map (λ word. word.now) args.now) }
 {
     match word {
         MvarWord::Put => Ok(MvarAct::Put(value_at(args, 1)?)),
@@ -77,9 +76,9 @@ pub fn mvar_act(word: MvarWord, args: &[&[u8]]) -> Result<MvarAct, Complaint>
 }
 
 #[tactic(auto, unfolding(crate::specs::Saying::promise_act))]
-pub fn promise_act(word: PromiseWord, args: &[&[u8]]) -> Result<PromiseAct, Complaint>
+pub fn promise_act(word: PromiseWord, args: &[&[u8]]) -> Result<PromiseAct, Why>
     requires { length args.now ≡ promise_arity word }
-    ensures { Gives (λ act. act) result (promise_act word (map (λ word. word.now) args.now)) }
+    ensures { result ≡ promise_act word (map (λ word. word.now) args.now) }
 {
     match word {
         PromiseWord::Resolve => Ok(PromiseAct::Resolve(value_at(args, 1)?)),
@@ -90,9 +89,9 @@ pub fn promise_act(word: PromiseWord, args: &[&[u8]]) -> Result<PromiseAct, Comp
 
 /// Threads are numbered from 0 here.
 #[tactic(auto, unfolding(crate::specs::Saying::acc_act))]
-pub fn acc_act(thread: u32, word: AccWord, args: &[&[u8]]) -> Result<AccAct, Complaint>
+pub fn acc_act(thread: u32, word: AccWord, args: &[&[u8]]) -> Result<AccAct, Why>
     requires { length args.now ≡ acc_arity word }
-    ensures { Gives (λ act. act) result (acc_act thread word (map (λ word. word.now) args.now)) }
+    ensures { result ≡ acc_act thread word (map (λ word. word.now) args.now) }
 {
     match word {
         AccWord::Bump => Ok(AccAct::Bump(thread, value_at(args, 1)?)),

@@ -2,7 +2,7 @@
 
 ghost use Rattle.std.specs.Prelude.{◌≡◌, ◌≤◌, map, length, None, IfOk};
 ghost use Rattle.kc_bundle.specs.Script.{names_of, next_from};
-ghost use Rattle.kc_lines.specs.Gives.{Gives};
+ghost use Rattle.kc_lines.specs.Gives.{Reads};
 ghost use Rattle.kc_verbs.specs.Objects.{object_of, new_name};
 ghost use Rattle.kc_verbs.specs.Declaring.{fields, size_to, loc_at, stack_at, queue_at, table_at, cache_at, mvar_at, promise_at, acc_at, object_at, declare, IsAt};
 
@@ -13,9 +13,7 @@ use kc_bundle::Object;
 use kc_cache::Cache;
 use kc_cells::{Accumulator, Mvar, Promise};
 use kc_hash::Hash;
-use kc_lines::{
-    Complaint, Limit, Why, as_name, complain, counted, number_of, number_to, wants, word_at,
-};
+use kc_lines::{Limit, Why, as_name, counted, number_of, number_to, wants, word_at};
 use kc_model::Loc;
 use kc_queue::Queue;
 use kc_stack::Stack;
@@ -44,23 +42,23 @@ fn fields(kind: Kind) -> usize
 
 // The name that the word is, if no object has it.
 #[tactic(auto, unfolding(crate::specs::Objects::new_name))]
-fn new_name<'a>(objects: &IndexMap<String, Object>, word: &'a [u8]) -> Result<&'a str, Complaint>
-    ensures gives { Gives (λ name. name.now) result (new_name (names_of objects.now) word.now) }
+fn new_name<'a>(objects: &IndexMap<String, Object>, word: &'a [u8]) -> Result<&'a str, Why>
+    ensures gives { Reads (λ name. name.now) result (new_name (names_of objects.now) word.now) }
     ensures new { IfOk result (λ name. object_of (names_of objects.now) name.now ≡ None) }
 {
     let Some(name) = as_name(word) else {
-        return complain(Why::BadName);
+        return Err(Why::BadName);
     };
     if find(objects, name).is_some() {
-        return complain(Why::RepeatedName);
+        return Err(Why::RepeatedName);
     }
     Ok(name)
 }
 
 // A size from 1 to this one.
 #[tactic(auto, unfolding(crate::specs::Declaring::size_to, kc_lines::specs::Tests::number_to))]
-fn size_to(most: u32, word: &[u8]) -> Result<u32, Complaint>
-    ensures gives { Gives (λ n. n) result (size_to most word.now) }
+fn size_to(most: u32, word: &[u8]) -> Result<u32, Why>
+    ensures gives { result ≡ size_to most word.now }
     ensures some { IfOk result (λ n. 1 ≤ n) }
     ensures most { IfOk result (λ n. n ≤ most) }
 {
@@ -69,118 +67,118 @@ fn size_to(most: u32, word: &[u8]) -> Result<u32, Complaint>
             wants(n >= 1, Why::BadNumber)?;
             Ok(n)
         }
-        None => complain(Why::BadNumber),
+        None => Err(Why::BadNumber),
     }
 }
 
-fn loc_at(at: Loc, value: u32) -> Result<Object, Complaint>
+fn loc_at(at: Loc, value: u32) -> Result<Object, Why>
     requires at { at.0 ≤ 65536 }
-    ensures gives { Gives (λ o. o) result (loc_at at.0 value) }
+    ensures gives { result ≡ loc_at at.0 value }
     ensures placed { IfOk result (IsAt at.0) }
 {
     if at.0 + 1 > END {
-        return complain(Why::TooMany(Limit::Locations));
+        return Err(Why::TooMany(Limit::Locations));
     }
     Ok(Object::Loc { at, value })
 }
 
-fn stack_at(at: Loc, cap: u32) -> Result<Object, Complaint>
+fn stack_at(at: Loc, cap: u32) -> Result<Object, Why>
     requires at { at.0 ≤ 65536 }
     requires some { 1 ≤ cap }
     requires most { cap ≤ 4096 }
-    ensures gives { Gives (λ o. o) result (stack_at at.0 cap) }
+    ensures gives { result ≡ stack_at at.0 cap }
     ensures placed { IfOk result (IsAt at.0) }
 {
     if at.0 + 1 + cap > END {
-        return complain(Why::TooMany(Limit::Locations));
+        return Err(Why::TooMany(Limit::Locations));
     }
     Ok(Object::Stack(Stack::layout(at, cap)))
 }
 
-fn queue_at(at: Loc, cap: u32) -> Result<Object, Complaint>
+fn queue_at(at: Loc, cap: u32) -> Result<Object, Why>
     requires at { at.0 ≤ 65536 }
     requires some { 1 ≤ cap }
     requires most { cap ≤ 4096 }
-    ensures gives { Gives (λ o. o) result (queue_at at.0 cap) }
+    ensures gives { result ≡ queue_at at.0 cap }
     ensures placed { IfOk result (IsAt at.0) }
 {
     if at.0 + 2 + cap > END {
-        return complain(Why::TooMany(Limit::Locations));
+        return Err(Why::TooMany(Limit::Locations));
     }
     Ok(Object::Queue(Queue::layout(at, cap)))
 }
 
-fn table_at(at: Loc, buckets: u32, cap: u32) -> Result<Object, Complaint>
+fn table_at(at: Loc, buckets: u32, cap: u32) -> Result<Object, Why>
     requires at { at.0 ≤ 65536 }
     requires some_buckets { 1 ≤ buckets }
     requires most_buckets { buckets ≤ 1024 }
     requires some { 1 ≤ cap }
     requires most { cap ≤ 4096 }
-    ensures gives { Gives (λ o. o) result (table_at at.0 buckets cap) }
+    ensures gives { result ≡ table_at at.0 buckets cap }
     ensures placed { IfOk result (IsAt at.0) }
 {
     if at.0 + 2 + buckets + 3 * cap > END {
-        return complain(Why::TooMany(Limit::Locations));
+        return Err(Why::TooMany(Limit::Locations));
     }
     Ok(Object::Hash(Hash::layout(at, buckets, cap)))
 }
 
-fn cache_at(at: Loc, buckets: u32, cap: u32) -> Result<Object, Complaint>
+fn cache_at(at: Loc, buckets: u32, cap: u32) -> Result<Object, Why>
     requires at { at.0 ≤ 65536 }
     requires some_buckets { 1 ≤ buckets }
     requires most_buckets { buckets ≤ 1024 }
     requires some { 1 ≤ cap }
     requires most { cap ≤ 4096 }
-    ensures gives { Gives (λ o. o) result (cache_at at.0 buckets cap) }
+    ensures gives { result ≡ cache_at at.0 buckets cap }
     ensures placed { IfOk result (IsAt at.0) }
 {
     if at.0 + 6 + buckets + 7 * cap > END {
-        return complain(Why::TooMany(Limit::Locations));
+        return Err(Why::TooMany(Limit::Locations));
     }
     Ok(Object::Cache(Cache::layout(at, buckets, cap)))
 }
 
-fn mvar_at(at: Loc) -> Result<Object, Complaint>
+fn mvar_at(at: Loc) -> Result<Object, Why>
     requires at { at.0 ≤ 65536 }
-    ensures gives { Gives (λ o. o) result (mvar_at at.0) }
+    ensures gives { result ≡ mvar_at at.0 }
     ensures placed { IfOk result (IsAt at.0) }
 {
     if at.0 + 2 > END {
-        return complain(Why::TooMany(Limit::Locations));
+        return Err(Why::TooMany(Limit::Locations));
     }
     Ok(Object::Mvar(Mvar::layout(at)))
 }
 
-fn promise_at(at: Loc) -> Result<Object, Complaint>
+fn promise_at(at: Loc) -> Result<Object, Why>
     requires at { at.0 ≤ 65536 }
-    ensures gives { Gives (λ o. o) result (promise_at at.0) }
+    ensures gives { result ≡ promise_at at.0 }
     ensures placed { IfOk result (IsAt at.0) }
 {
     if at.0 + 2 > END {
-        return complain(Why::TooMany(Limit::Locations));
+        return Err(Why::TooMany(Limit::Locations));
     }
     Ok(Object::Promise(Promise::layout(at)))
 }
 
-fn acc_at(at: Loc, cells: u32) -> Result<Object, Complaint>
+fn acc_at(at: Loc, cells: u32) -> Result<Object, Why>
     requires at { at.0 ≤ 65536 }
     requires some { 1 ≤ cells }
     requires most { cells ≤ 32 }
-    ensures gives { Gives (λ o. o) result (acc_at at.0 cells) }
+    ensures gives { result ≡ acc_at at.0 cells }
     ensures placed { IfOk result (IsAt at.0) }
 {
     if at.0 + cells > END {
-        return complain(Why::TooMany(Limit::Locations));
+        return Err(Why::TooMany(Limit::Locations));
     }
     Ok(Object::Acc(Accumulator::layout(at, cells)))
 }
 
 // The object that begins at a location, with the numbers behind its name.
 #[tactic(auto, unfolding(crate::specs::Declaring::object_at))]
-fn object_at(at: Loc, kind: Kind, args: &[&[u8]]) -> Result<Object, Complaint>
+fn object_at(at: Loc, kind: Kind, args: &[&[u8]]) -> Result<Object, Why>
     requires at { at.0 ≤ 65536 }
     requires counted { length args.now ≡ fields kind }
-    ensures gives { Gives (λ o. o) result (object_at at.0 kind (map (λ word. word.now) args.now)) }
+    ensures gives { result ≡ object_at at.0 kind (map (λ word. word.now) args.now) }
     ensures placed { IfOk result (IsAt at.0) }
 {
     match kind {
@@ -208,10 +206,10 @@ pub fn declare<'a>(
     next: u32,
     kind: Kind,
     args: &[&'a [u8]],
-) -> Result<(&'a str, Object), Complaint>
+) -> Result<(&'a str, Object), Why>
     requires follows { next ≡ next_from 1 (names_of objects.now) }
     requires within { next ≤ 65536 }
-    ensures gives { Gives (λ entry. (entry.0.now, entry.1)) result (declare (names_of objects.now) kind (map (λ word. word.now) args.now)) }
+    ensures gives { Reads (λ entry. (entry.0.now, entry.1)) result (declare (names_of objects.now) kind (map (λ word. word.now) args.now)) }
     ensures new { IfOk result (λ entry. object_of (names_of objects.now) entry.0.now ≡ None) }
     ensures placed { IfOk result (λ entry. IsAt next entry.1) }
 {

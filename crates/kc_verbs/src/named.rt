@@ -1,10 +1,9 @@
 //! Numbers, and the words for functions and relations.
 
 ghost use Rattle.std.specs.Prelude.{◌≡◌, ◌<◌, map, length};
-ghost use Rattle.kc_lines.specs.Gives.{Gives};
 ghost use Rattle.kc_verbs.specs.Saying.{value_at, fun_named, fun_of, fun_at, rel_named};
 
-use kc_lines::{Complaint, Why, complain, number_to, word_at};
+use kc_lines::{Why, number_to, word_at};
 use kc_loc::{Fun, Rel};
 
 /// A word for a function.
@@ -20,17 +19,17 @@ pub enum FunWord {
 
 /// The number of 32 bits at the index.
 #[tactic(auto, unfolding(crate::specs::Saying::value_at))]
-pub fn value_at(args: &[&[u8]], i: usize) -> Result<u32, Complaint>
+pub fn value_at(args: &[&[u8]], i: usize) -> Result<u32, Why>
     requires { i < length args.now }
-    ensures { Gives (λ n. n) result (value_at (map (λ word. word.now) args.now) i) }
+    ensures { result ≡ value_at (map (λ word. word.now) args.now) i }
 {
     number_to(u32::MAX, word_at(args, i))
 }
 
 // The function that the word names.
 #[tactic(auto, unfolding(crate::specs::Saying::fun_named))]
-fn fun_named(word: &[u8]) -> Result<FunWord, Complaint>
-    ensures { Gives (λ fun. fun) result (fun_named word.now) }
+fn fun_named(word: &[u8]) -> Result<FunWord, Why>
+    ensures { result ≡ fun_named word.now }
 {
     if word == b"add".as_slice() {
         return Ok(FunWord::Add);
@@ -50,7 +49,7 @@ fn fun_named(word: &[u8]) -> Result<FunWord, Complaint>
     if word == b"xor".as_slice() {
         return Ok(FunWord::Xor);
     }
-    complain(Why::UnknownWord)
+    Err(Why::UnknownWord)
 }
 
 // The function with its number.
@@ -69,8 +68,8 @@ fn fun_of(fun: FunWord, n: u32) -> Fun
 
 /// The relation that the word names.
 #[tactic(auto, unfolding(crate::specs::Saying::rel_named))]
-pub fn rel_named(word: &[u8]) -> Result<Rel, Complaint>
-    ensures { Gives (λ rel. rel) result (rel_named word.now) }
+pub fn rel_named(word: &[u8]) -> Result<Rel, Why>
+    ensures { result ≡ rel_named word.now }
 {
     if word == b"eq".as_slice() {
         return Ok(Rel::Eq);
@@ -90,14 +89,14 @@ pub fn rel_named(word: &[u8]) -> Result<Rel, Complaint>
     if word == b"ge".as_slice() {
         return Ok(Rel::Ge);
     }
-    complain(Why::UnknownWord)
+    Err(Why::UnknownWord)
 }
 
 /// The function and its number that stand behind the name.
 #[tactic(auto, unfolding(crate::specs::Saying::fun_at))]
-pub fn fun_at(args: &[&[u8]]) -> Result<Fun, Complaint>
+pub fn fun_at(args: &[&[u8]]) -> Result<Fun, Why>
     requires { 2 < length args.now }
-    ensures { Gives (λ fun. fun) result (fun_at (map (λ word. word.now) args.now)) }
+    ensures { result ≡ fun_at (map (λ word. word.now) args.now) }
 {
     let fun = fun_named(word_at(args, 1))?;
     let n = value_at(args, 2)?;

@@ -2,7 +2,6 @@
 
 ghost use Rattle.std.specs.Prelude.{◌≡◌, ◌++◌, ◌∷◌, [], None, OnOk, OnErr};
 ghost use Rattle.kc_bundle.specs.Script.{names_of};
-ghost use Rattle.kc_lines.specs.Gives.{Gives};
 ghost use Rattle.kc_verbs.specs.Objects.{object_of, used, as_loc, as_stack, as_queue, as_table, as_cache, as_mvar, as_promise, as_acc};
 
 use indexmap::IndexMap;
@@ -10,7 +9,7 @@ use kc_bundle::Object;
 use kc_cache::Cache;
 use kc_cells::{Accumulator, Mvar, Promise};
 use kc_hash::Hash;
-use kc_lines::{Complaint, Why, as_name, complain};
+use kc_lines::{Why, as_name};
 use kc_model::Loc;
 use kc_queue::Queue;
 use kc_stack::Stack;
@@ -40,86 +39,86 @@ pub fn add(
 
 /// The object that the word names.
 #[tactic(auto, unfolding(crate::specs::Objects::used))]
-pub fn used(objects: &IndexMap<String, Object>, word: &[u8]) -> Result<Object, Complaint>
-    ensures { Gives (λ object. object) result (used (names_of objects.now) word.now) }
+pub fn used(objects: &IndexMap<String, Object>, word: &[u8]) -> Result<Object, Why>
+    ensures { result ≡ used (names_of objects.now) word.now }
 {
     let Some(name) = as_name(word) else {
-        return complain(Why::UnknownName);
+        return Err(Why::UnknownName);
     };
     match find(objects, name) {
         Some(object) => Ok(object),
-        None => complain(Why::UnknownName),
+        None => Err(Why::UnknownName),
     }
 }
 
-pub fn as_loc(object: Object) -> Result<Loc, Complaint>
-    ensures { Gives (λ x. x) result (as_loc object) }
+pub fn as_loc(object: Object) -> Result<Loc, Why>
+    ensures { result ≡ as_loc object }
 {
     match object {
         Object::Loc { at, .. } => Ok(at),
-        _ => complain(Why::WrongKind),
+        _ => Err(Why::WrongKind),
     }
 }
 
-pub fn as_stack(object: Object) -> Result<Stack, Complaint>
-    ensures { Gives (λ x. x) result (as_stack object) }
+pub fn as_stack(object: Object) -> Result<Stack, Why>
+    ensures { result ≡ as_stack object }
 {
     match object {
         Object::Stack(stack) => Ok(stack),
-        _ => complain(Why::WrongKind),
+        _ => Err(Why::WrongKind),
     }
 }
 
-pub fn as_queue(object: Object) -> Result<Queue, Complaint>
-    ensures { Gives (λ x. x) result (as_queue object) }
+pub fn as_queue(object: Object) -> Result<Queue, Why>
+    ensures { result ≡ as_queue object }
 {
     match object {
         Object::Queue(queue) => Ok(queue),
-        _ => complain(Why::WrongKind),
+        _ => Err(Why::WrongKind),
     }
 }
 
-pub fn as_table(object: Object) -> Result<Hash, Complaint>
-    ensures { Gives (λ x. x) result (as_table object) }
+pub fn as_table(object: Object) -> Result<Hash, Why>
+    ensures { result ≡ as_table object }
 {
     match object {
         Object::Hash(hash) => Ok(hash),
-        _ => complain(Why::WrongKind),
+        _ => Err(Why::WrongKind),
     }
 }
 
-pub fn as_cache(object: Object) -> Result<Cache, Complaint>
-    ensures { Gives (λ x. x) result (as_cache object) }
+pub fn as_cache(object: Object) -> Result<Cache, Why>
+    ensures { result ≡ as_cache object }
 {
     match object {
         Object::Cache(cache) => Ok(cache),
-        _ => complain(Why::WrongKind),
+        _ => Err(Why::WrongKind),
     }
 }
 
-pub fn as_mvar(object: Object) -> Result<Mvar, Complaint>
-    ensures { Gives (λ x. x) result (as_mvar object) }
+pub fn as_mvar(object: Object) -> Result<Mvar, Why>
+    ensures { result ≡ as_mvar object }
 {
     match object {
         Object::Mvar(mvar) => Ok(mvar),
-        _ => complain(Why::WrongKind),
+        _ => Err(Why::WrongKind),
     }
 }
 
-pub fn as_promise(object: Object) -> Result<Promise, Complaint>
-    ensures { Gives (λ x. x) result (as_promise object) }
+pub fn as_promise(object: Object) -> Result<Promise, Why>
+    ensures { result ≡ as_promise object }
 {
     match object {
         Object::Promise(promise) => Ok(promise),
-        _ => complain(Why::WrongKind),
+        _ => Err(Why::WrongKind),
     }
 }
 
-pub fn as_acc(object: Object) -> Result<Accumulator, Complaint>
-    ensures { Gives (λ x. x) result (as_acc object) }
+pub fn as_acc(object: Object) -> Result<Accumulator, Why>
+    ensures { result ≡ as_acc object }
 {
     match object {
         Object::Acc(acc) => Ok(acc),
-        _ => complain(Why::WrongKind),
+        _ => Err(Why::WrongKind),
     }
 }

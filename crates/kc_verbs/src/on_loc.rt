@@ -2,7 +2,6 @@
 
 ghost use Rattle.std.specs.Prelude.{◌≡◌, map, length};
 ghost use Rattle.kc_bundle.specs.Script.{names_of};
-ghost use Rattle.kc_lines.specs.Gives.{Gives};
 ghost use Rattle.kc_verbs.specs.Saying.{loc_arity, loc_named, loc_op};
 
 use crate::named::{fun_at, rel_named, value_at};
@@ -10,14 +9,14 @@ use crate::objects::{as_loc, used};
 use crate::verb::LocWord;
 use indexmap::IndexMap;
 use kc_bundle::Object;
-use kc_lines::{Complaint, word_at};
+use kc_lines::{Why, word_at};
 use kc_loc::LocOp;
 use kc_model::Loc;
 
 // The location that the word names.
 #[tactic(auto, unfolding(crate::specs::Saying::loc_named))]
-fn loc_named(objects: &IndexMap<String, Object>, word: &[u8]) -> Result<Loc, Complaint>
-    ensures { Gives (λ at. at) result (loc_named (names_of objects.now) word.now) }
+fn loc_named(objects: &IndexMap<String, Object>, word: &[u8]) -> Result<Loc, Why>
+    ensures { result ≡ loc_named (names_of objects.now) word.now }
 {
     let object = used(objects, word)?;
     as_loc(object)
@@ -30,9 +29,9 @@ pub fn loc_op(
     word: LocWord,
     at: Loc,
     args: &[&[u8]],
-) -> Result<LocOp, Complaint>
+) -> Result<LocOp, Why>
     requires { length args.now ≡ loc_arity word }
-    ensures { Gives (λ o. o) result (loc_op (names_of objects.now) word at (map (λ word. word.now) args.now)) }
+    ensures { result ≡ loc_op (names_of objects.now) word at (map (λ word. word.now) args.now) }
 {
     match word {
         LocWord::Get => Ok(LocOp::Get(at)),

@@ -2,7 +2,6 @@
 
 ghost use Rattle.std.specs.Prelude.{◌≡◌, map, length};
 ghost use Rattle.kc_bundle.specs.Script.{names_of};
-ghost use Rattle.kc_lines.specs.Gives.{Gives};
 ghost use Rattle.kc_verbs.specs.Saying.{loc_arity, stack_arity, queue_arity, table_arity, cache_arity, mvar_arity, promise_arity, acc_arity, arity, length_of, op_on, say};
 
 use crate::acts::{acc_act, cache_act, mvar_act, promise_act, queue_act, stack_act, table_act};
@@ -18,7 +17,7 @@ use kc_bundle::{Object, Op};
 use kc_cache::{CacheAct, CacheOp};
 use kc_cells::{AccOp, MvarOp, PromiseOp};
 use kc_hash::{HashAct, HashOp};
-use kc_lines::{Complaint, Why, complain, counted, word_at};
+use kc_lines::{Why, counted, word_at};
 use kc_queue::{QueueAct, QueueOp};
 use kc_stack::{StackAct, StackOp};
 
@@ -112,8 +111,8 @@ fn arity(verb: Verb) -> usize
     }
 }
 
-fn length_of(object: Object) -> Result<Op, Complaint>
-    ensures { Gives (λ o. o) result (length_of object) }
+fn length_of(object: Object) -> Result<Op, Why>
+    ensures { result ≡ length_of object }
 {
     match object {
         Object::Stack(stack) => Ok(Op::Stack(StackOp {
@@ -132,7 +131,7 @@ fn length_of(object: Object) -> Result<Op, Complaint>
             cache,
             act: CacheAct::Len,
         })),
-        _ => complain(Why::WrongKind),
+        _ => Err(Why::WrongKind),
     }
 }
 
@@ -144,9 +143,9 @@ fn op_on(
     verb: Verb,
     object: Object,
     args: &[&[u8]],
-) -> Result<Op, Complaint>
+) -> Result<Op, Why>
     requires { length args.now ≡ arity verb }
-    ensures { Gives (λ o. o) result (op_on thread (names_of objects.now) verb object (map (λ word. word.now) args.now)) }
+    ensures { result ≡ op_on thread (names_of objects.now) verb object (map (λ word. word.now) args.now) }
 {
     match verb {
         Verb::OnLoc(word) => {
@@ -199,8 +198,8 @@ pub fn say(
     objects: &IndexMap<String, Object>,
     verb: Verb,
     args: &[&[u8]],
-) -> Result<Op, Complaint>
-    ensures { Gives (λ o. o) result (say thread (names_of objects.now) verb (map (λ word. word.now) args.now)) }
+) -> Result<Op, Why>
+    ensures { result ≡ say thread (names_of objects.now) verb (map (λ word. word.now) args.now) }
 {
     counted(arity(verb), args)?;
     let object = used(objects, word_at(args, 0))?;
