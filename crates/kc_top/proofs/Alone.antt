@@ -48,7 +48,7 @@ spares_live names c s lie sized on =
 
 -- where a commit doesn't, it stays
 pub still_lives : (m : Meaning) (s e : Store) (r : Record) → IsCommit m s r → last_written (run_on m s).touches 0 ≡ None → e ≡ after r.footprint s → OneLives s → OneLives e
-still_lives m s e r commit spares end one = rw (end, commit.makes.puts 0, by_answer r.answer) one
+still_lives m s e r commit spares end one = rw (end, (commit.answers.makes s commit.finds).puts 0, by_answer r.answer) one
   where
     by_answer : (a : Answer) → last_written (kept a (run_on m s).touches) 0 ≡ None
     by_answer (answer.Reply b) = spares

@@ -41,7 +41,7 @@ one_left s l (Some v) = refl
 left_by : (m : Meaning) (s : Store) (r : Record) → IsCommit m s r → values (after r.footprint s) ≡ map_after (values s) (kept r.answer (run_on m s).touches)
 left_by m s r commit = fun_ext (λ l.
     let ts : List Touch = kept r.answer (run_on m s).touches in
-    ap (λ (p : Option Put). (cell_after p (s l)).value) (commit.makes.puts l) ∙ one_left s l (last_written ts l) ∙ sym (map_after-at (values s) ts l))
+    ap (λ (p : Option Put). (cell_after p (s l)).value) ((commit.answers.makes s commit.finds).puts l) ∙ one_left s l (last_written ts l) ∙ sym (map_after-at (values s) ts l))
 
 -- touches that write nothing leave the map as it was
 nothing_left : (m : ℕ → ℕ) (ts : List Touch) → ((l : ℕ) → last_written ts l ≡ None) → map_after m ts ≡ m
@@ -92,7 +92,7 @@ module _ (names : Names) (lie : LieFrom 1 names) (sized : AreSized names) where
             subst (λ (d : Answer). AreWellFormed names (map_after (values s) (kept d ts))) (answered_large a given) (subst (AreWellFormed names) (sym (given_up_left (values s) ts)) formed)
 
   command_formed : (c : Command) (s : Store) (r : Record) → CommandIsOn names c → IsCommit (thread_meaning 0 c) s r → AreWellFormed names (values s) → AreWellFormed names (values (after r.footprint s))
-  command_formed c s r on commit formed = subst (AreWellFormed names) (sym (left_by (thread_meaning 0 c) s r commit)) (asked_formed c s r.answer on commit.answer formed)
+  command_formed c s r on commit formed = subst (AreWellFormed names) (sym (left_by (thread_meaning 0 c) s r commit)) (asked_formed c s r.answer on (commit.answers.run s commit.finds) formed)
 
   -- an end writes location 0 alone
   end_unwritten : (s : Store) (a : Answer) (l : ℕ) → 1 ≤ l → last_written (kept a (run_on (end_meaning 0) s).touches) l ≡ None

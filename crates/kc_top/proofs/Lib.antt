@@ -1,4 +1,3 @@
-pub mod OnStore
 pub mod Asks
 pub mod Alone
 pub mod Formed

@@ -18,19 +18,18 @@ use Rattle.kc_history.proofs.Choice.{some_is}
 use Rattle.kc_history.proofs.Ready.{same_or, alone_canonical}
 use Rattle.kc_top.specs.Commit.{IsCommit}
 use Rattle.kc_top.specs.Run.{Replays, IsRun, meanings, meaning_at, opening_store}
-use Rattle.kc_top.proofs.OnStore.{makes_finds}
 use Rattle.kc_top.specs.Thread.{Commits, RunsOne, own_places}
 
 -- a commit's reads are what stands
 pub commit_finds : (m : Meaning) (s : Store) (r : Record) → IsCommit m s r → Finds r.footprint s
-commit_finds m s r commit = makes_finds s _ r.footprint commit.makes
+commit_finds m s r commit = commit.finds
 
 -- each commit puts what it reads
 commits_put : (ms : List Meaning) (s e : Store) (rs : List Record) → Commits ms s rs e → (k : ℕ) (r : Record) → slice_get rs k ≡ Some r → PutsWhatItReads r.footprint
 commits_put [] s e [] c k r h = absurd (cc)
 commits_put [] s e (q ∷ rs) c k r h = absurd c
 commits_put (m ∷ ms) s e [] c k r h = absurd c
-commits_put (m ∷ ms) s e (q ∷ rs) c zero r h = subst (λ (t : Record). PutsWhatItReads t.footprint) (some_is q r h) c.0.makes.well_made.puts_read
+commits_put (m ∷ ms) s e (q ∷ rs) c zero r h = subst (λ (t : Record). PutsWhatItReads t.footprint) (some_is q r h) c.0.answers.well_made.puts_read
 commits_put (m ∷ ms) s e (q ∷ rs) c (suc k) r h = commits_put ms (after q.footprint s) e rs c.1 k r h
 
 -- one index on

@@ -1,8 +1,8 @@
 -- What a record is, and what its commit did.
-use Rattle.std.specs.Prelude.{◌≡◌, ℕ, ◌≤◌, Some}
-use Rattle.kc_model.specs.Store.{Store}
-use Rattle.kc_xt.specs.Commit.{answer_of, kept, run_on}
-use Rattle.kc_xt.specs.Meaning.{Meaning, Makes}
+use Rattle.std.specs.Prelude.{◌≡◌, ℕ, ◌≤◌}
+use Rattle.kc_model.specs.Store.{Store, Finds}
+use Rattle.kc_xt.specs.Commit.{Answers}
+use Rattle.kc_xt.specs.Meaning.{Meaning}
 use Rattle.kc_history.specs.declared.record.Mark.{Mark}
 use Rattle.kc_history.specs.declared.record.Record.{Record}
 
@@ -13,10 +13,10 @@ pub record Label : Type 0 where
 abbrev pub label : Record → Label
 label r = record { thread = r.thread; mark = r.mark }
 
--- the record is the meaning's commit on the store
+-- The record is the meaning's commit on the store: its reads stand there, and wherever they stand its answer is the meaning's, and its footprint is the one that is made there.
 pub record IsCommit (m : Meaning) (s : Store) (r : Record) : Type 0 where
-  pub answer : answer_of (run_on m s).outcome ≡ Some r.answer
-  pub makes : Makes s (kept r.answer (run_on m s).touches) r.footprint
+  pub finds : Finds r.footprint s
+  pub answers : Answers m r.answer r.footprint
 
 -- no version is above this one
 abbrev pub VersionsTo : ℕ → Store → Type 0

@@ -8,7 +8,7 @@ ghost use Rattle.kc_top.specs.Run.{labels, meanings};
 ghost use Rattle.kc_top.specs.Thread.{CanRunOn, Commits, own_places};
 
 use crate::ask::Ask;
-use crate::commit::commit;
+use crate::commit::commit_to;
 use kc_bundle::Command;
 use kc_history::{Mark, Place, Record};
 use kc_loc::LocOp;
@@ -56,7 +56,7 @@ pub fn run_thread(store: &mut PlainStore, commands: &[Command], records: &mut [R
 {
     run_commands(store, commands, records);
     let last = commands.len();
-    commit(store, &LocOp::Decr(LIVE), &mut records[last]);
+    commit_to(store, &LocOp::Decr(LIVE), &mut records[last]);
 }
 
 fn run_commands(store: &mut PlainStore, commands: &[Command], records: &mut [Record])
@@ -73,6 +73,6 @@ fn run_commands(store: &mut PlainStore, commands: &[Command], records: &mut [Rec
             command: &commands[i],
             live: LIVE,
         };
-        commit(store, &ask, &mut records[i]);
+        commit_to(store, &ask, &mut records[i]);
     }
 }
