@@ -1,4 +1,4 @@
-//! Runs each script of `examples/`, and says whether its text and its exit number are those that stand beside it.
+//! Runs each script of `examples/`, of which `data/` is the copy that the gate lets a program read, and says whether its text and its exit number are those that stand beside it.
 #![tactic(auto)]
 
 use kc_model::{FrailSink, FrailSource};
