@@ -3,8 +3,7 @@
 
 use kc_model::{FrailSink, FrailSource};
 use kc_top::kcas_main;
-use std::fs;
-use std::io;
+use std::{fs, io};
 
 // The name of each script, and its exit number.
 const EXAMPLES: [(&str, u8); 16] = [

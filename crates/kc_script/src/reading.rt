@@ -13,9 +13,7 @@ use crate::blocks::{atomic_line, begin_thread, end_line, in_block, op_line, or_l
 use crate::reader::Reader;
 use indexmap::IndexMap;
 use kc_bundle::{Bundle, Object, cells};
-use kc_lines::{
-    Complaint, Limit, Why, counted, is_skipped, lines_of, wants, word_at, words_of,
-};
+use kc_lines::{Complaint, Limit, Why, counted, is_skipped, lines_of, wants, word_at, words_of};
 use kc_verbs::{Kind, Verb, Word, add, declare, say, word_of};
 use std::alloc::{AllocError, Global};
 use std::mem;

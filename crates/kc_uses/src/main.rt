@@ -34,7 +34,12 @@ fn main(rt: HostRuntime) -> io::Result<()> {
 }
 
 // Commits a transaction, and prints what came of it.
-fn run<T: Transact>(rt: &impl Print, what: &str, store: &mut PlainStore, transaction: &T) -> io::Result<()>
+fn run<T: Transact>(
+    rt: &impl Print,
+    what: &str,
+    store: &mut PlainStore,
+    transaction: &T,
+) -> io::Result<()>
     requires fit { T.is_fit transaction.now }
     requires within { T.end transaction.now ≤ length store.old }
     ensures { length store.new ≡ length store.old }
@@ -101,7 +106,12 @@ fn wait_for_a_job(rt: &impl Print, server: &Server, store: &mut PlainStore) -> i
 }
 
 // Alternatives: an urgent job, or else any job.
-fn take_the_first_job(rt: &impl Print, alloc: Global, server: &Server, store: &mut PlainStore) -> io::Result<()>
+fn take_the_first_job(
+    rt: &impl Print,
+    alloc: Global,
+    server: &Server,
+    store: &mut PlainStore,
+) -> io::Result<()>
     requires { HasServer server.now (length store.old) }
     ensures { length store.new ≡ length store.old }
 {
