@@ -1,0 +1,5 @@
+pub mod Room
+pub mod Words
+pub mod Steps
+pub mod Accesses
+pub mod Runs

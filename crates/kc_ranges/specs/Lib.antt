@@ -1,0 +1,4 @@
+pub mod Room
+pub mod Ranges
+pub mod Seats
+pub mod Possible
