@@ -1,6 +1,6 @@
 -- What a seat touches is there, and what it touches it with is in its range, where what it remembers is.
-use Rattle.std.proofs.Common.{◌≡◌, ◌≢◌, ℕ, zero, suc, ◌+◌, ◌<◌, ◌≤◌, ◌^◌, ◌/◌, ◌%◌, Bool, true, false, List, [], ◌∷◌, length, Option, None, Some, refl, sym, subst, arith, if◌then◌else◌}
-use Rattle.std.specs.Prelude.{slice_get, nat_lt, get_or, All}
+use Rattle.std.proofs.Common.{◌≡◌, ◌≢◌, ℕ, zero, suc, ◌+◌, ◌<◌, ◌≤◌, ◌^◌, ◌/◌, ◌%◌, Bool, true, false, List, [], ◌∷◌, length, Some, refl, sym, subst, arith, if◌then◌else◌}
+use Rattle.std.specs.Prelude.{slice_get, nat_lt, All}
 use Rattle.std.specs.Int.Count.{under, count_trailing_zeros}
 use Rattle.std.proofs.lemmas.Option.{slice_get_within, get_or_from_slice_get}
 use Rattle.std.proofs.lemmas.List.Elements.{All-get_or}
@@ -12,9 +12,7 @@ use Rattle.kc_words.specs.declared.words.Reference.{Reference}
 use Rattle.kc_words.specs.declared.words.Mode.{Mode}
 use Rattle.kc_words.specs.declared.words.First.{First}
 use Rattle.kc_words.specs.declared.words.Phase.{Phase}
-use Rattle.kc_words.specs.declared.words.Phase.TheVariants.{Active, Succeeded, Failed, Crossed, Halted}
-use Rattle.kc_words.specs.declared.access.Access.{Access}
-use Rattle.kc_words.specs.declared.access.Access.TheVariants as access
+use Rattle.kc_words.specs.declared.words.Phase.TheVariants.{Halted}
 use Rattle.kc_steps.specs.declared.line.Line.{Line}
 use Rattle.kc_steps.specs.declared.look.LookStep.{LookStep}
 use Rattle.kc_steps.specs.declared.look.LookStep.TheVariants as look
@@ -49,7 +47,7 @@ use Rattle.kc_seats.specs.Fits.{StepFits, AidFits, OwnFits, WorkFits}
 use Rattle.kc_seats.specs.Formed.{OwnIsFormed, IsCopy, WorkIsFormed, LeaveIsFormed, HangStands}
 use Rattle.kc_seats.specs.Made.{IsWellMadeIntent, IsWellMadeLine, IntentIsMade, ReadsAreMade}
 use Rattle.kc_seats.specs.Seated.{WorkSearches}
-use Rattle.kc_ranges.specs.Ranges.{HandleIn, ReferenceIn, CallersIn, LineIn, AccessIn}
+use Rattle.kc_ranges.specs.Ranges.{HandleIn, ReferenceIn, LineIn, AccessIn}
 use Rattle.kc_ranges.specs.Seats.{LookIn, PassIn, AidIn, CopyIn, OwnIn, HangIn, WorkIn}
 
 -- ---- lists, versions, bits

@@ -1,5 +1,5 @@
 -- Counts of holds have room: there are at most three to a seat, and who gives one back has it.
-use Rattle.std.proofs.Common.{◌≡◌, ℕ, zero, suc, ◌+◌, ◌*◌, ◌<◌, ◌≤◌, ◌==◌, Bool, true, false, List, Option, None, Some, refl, sym, ap, ◌∙◌, subst, arith, if◌then◌else◌}
+use Rattle.std.proofs.Common.{◌≡◌, ℕ, zero, suc, ◌*◌, ◌<◌, ◌≤◌, ◌==◌, Bool, true, false, List, Option, None, Some, refl, arith, if◌then◌else◌}
 use Rattle.std.specs.Prelude.{nat_lt, slice_get}
 use Rattle.std.proofs.lemmas.Bool.Decides.{nat_tests}
 use borrow.Author.Tests.{eq-eqb}
@@ -11,8 +11,6 @@ use Rattle.kc_words.specs.declared.access.Access.TheVariants as access
 use Rattle.kc_model.specs.declared.footprint.Loc.{Loc}
 use Rattle.kc_model.specs.declared.footprint.Seen.{Seen}
 use Rattle.kc_steps.specs.declared.line.Line.{Line}
-use Rattle.kc_steps.specs.declared.line.Intent.{Intent}
-use Rattle.kc_steps.specs.declared.look.Look.{Look}
 use Rattle.kc_steps.specs.declared.look.LookStep.{LookStep}
 use Rattle.kc_steps.specs.declared.look.LookStep.TheVariants as look
 use Rattle.kc_steps.specs.declared.pass.PassStep.{PassStep}
@@ -27,22 +25,20 @@ use Rattle.kc_steps.specs.declared.commit.OwnStep.{OwnStep}
 use Rattle.kc_steps.specs.declared.commit.OwnStep.TheVariants as own
 use Rattle.kc_machine.specs.declared.hang.HangStep.{HangStep}
 use Rattle.kc_machine.specs.declared.hang.HangStep.TheVariants as hang
-use Rattle.kc_machine.specs.Waits.{Hang, Leave}
 use Rattle.kc_machine.specs.declared.hang.LeaveStep.{LeaveStep}
 use Rattle.kc_machine.specs.declared.hang.LeaveStep.TheVariants as leave
 use Rattle.kc_machine.specs.Works.{Work}
 use Rattle.kc_machine.specs.Works as work
-use Rattle.kc_machine.specs.declared.seat.Seat.{Seat}
 use Rattle.kc_steps.specs.Looks.{look_access}
 use Rattle.kc_steps.specs.Passes.{pass_access, install_access, check_access, release_at}
 use Rattle.kc_steps.specs.Aids.{aid_access}
 use Rattle.kc_steps.specs.Commits.{own_access, stage_access, fill_first, fill_second, wake_access}
-use Rattle.kc_machine.specs.Hangs.{hang_access_of, hang_access_at, leave_access_at, clear_access, read_of}
+use Rattle.kc_machine.specs.Hangs.{hang_access_of, leave_access_at, clear_access, read_of}
 use Rattle.kc_machine.specs.Seats.{work_access, access_of}
-use Rattle.kc_machine.specs.Machine.{State, Opening, run, room}
+use Rattle.kc_machine.specs.Machine.{State}
 use Rattle.kc_effects.specs.Stands.{Stand, stand, works, resting, Runs, Owns, Waits, Over, At, Passes}
 use Rattle.kc_effects.specs.Holds.{Hold, NoHold, Proper, Stray, on, one_at, dropping, holds_on, own_hold, check_hold, aid_hold, look_hold, total}
-use Rattle.kc_effects.specs.Claims.{HoldsAreCounted, held_by_seats}
+use Rattle.kc_effects.specs.Claims.{HoldsAreCounted}
 use Rattle.kc_effects.proofs.Sums.{total_part}
 use Rattle.kc_pool.specs.Counts.{one_if_held, holds_of, AtMostThree}
 use Rattle.kc_ranges.specs.Room.{AddsHaveRoom, SubtractsHaveRoom}

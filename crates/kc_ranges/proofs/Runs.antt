@@ -1,7 +1,6 @@
 -- Words and seats stay in their ranges through every schedule of well-made tasks, so each step is possible.
-use Rattle.std.proofs.Common.{◌≡◌, ℕ, zero, suc, ◌+◌, ◌*◌, ◌-◌, ◌<◌, ◌≤◌, ◌∙◌, ◌&&◌, Bool, true, false, List, [], ◌∷◌, ◌++◌, All, refl, sym, ap, subst, arith, if◌then◌else◌}
+use Rattle.std.proofs.Common.{◌≡◌, ℕ, ◌-◌, ◌<◌, ◌∙◌, Bool, true, false, List, [], ◌∷◌, ◌++◌, All, refl, sym, subst, arith, if◌then◌else◌}
 use Rattle.std.specs.Prelude.{nat_lt}
-use Rattle.std.proofs.lemmas.Bool.Decides.{nat_tests}
 use Rattle.std.proofs.lemmas.List.Elements.{All-nil, All-head, All-tail, All-push}
 use borrow.Author.Tests.{ltb-true}
 use Rattle.kc_words.specs.declared.access.Grip.{Grip}
@@ -13,8 +12,8 @@ use Rattle.kc_steps.specs.declared.task.Event.TheVariants.{Begin, Step, Halt}
 use Rattle.kc_machine.specs.declared.seat.Seat.{Seat}
 use Rattle.kc_machine.specs.Works.{Work}
 use Rattle.kc_machine.specs.Works as work
-use Rattle.kc_machine.specs.Seats.{work_access, access_of, answer_of, begun, halted, is_idle}
-use Rattle.kc_machine.specs.Machine.{World, State, Opening, put, touched, found_at, room, possible, stepped, happened, event_of, seat_of, run_from, run, opened, pool_size}
+use Rattle.kc_machine.specs.Seats.{work_access, access_of, answer_of, is_idle}
+use Rattle.kc_machine.specs.Machine.{State, Opening, put, touched, found_at, room, possible, stepped, happened, event_of, seat_of, run_from, run, opened, pool_size}
 use Rattle.kc_machine.specs.Schedules.{BeginsWellMade, IsSchedule}
 use Rattle.kc_machine.proofs.Functions.{put_cases}
 use Rattle.kc_model.specs.declared.footprint.Seen.{Seen}
@@ -31,7 +30,6 @@ use Rattle.kc_steps.specs.declared.commit.Stage.TheVariants.{Scan, Take, Own}
 use Rattle.kc_machine.specs.declared.hang.HangStep.{HangStep}
 use Rattle.kc_machine.specs.declared.hang.HangStep.TheVariants as hang
 use Rattle.kc_effects.specs.Stands.{Stand, Waits, resting, aids, owns, commits, hangs, works, stand}
-use Rattle.kc_effects.specs.Holds.{total}
 use Rattle.kc_effects.proofs.Sums.{total_part}
 use Rattle.kc_effects.proofs.PoolLaws.{holds_counted}
 use Rattle.kc_seats.proofs.FitSeats.{fit_always}
@@ -100,7 +98,6 @@ works_calls t (work.Hang h) = hangs_calls t h.reads.items h.step
 works_calls t (work.Leave l) = refl
 
 module _ (o : Opening) where
-
   called : (es : List Event) → IsSchedule o es → (k : ℕ) → k < o.callers → ((run o es).seats k).calls < 281474976710656
   called es w k l =
       let m = run o es in

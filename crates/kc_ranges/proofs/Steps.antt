@@ -1,6 +1,6 @@
 -- A seat that finds what is in range remembers what is in range.
 use Rattle.std.proofs.Common.{◌≡◌, ℕ, ◌+◌, ◌-◌, ◌<◌, ◌≤◌, ◌==◌, ◌&&◌, Bool, true, false, List, [], ◌∷◌, ◌++◌, length, Option, None, Some, refl, arith, if◌then◌else◌}
-use Rattle.std.specs.Prelude.{slice_get, nat_lt, bit_or, bit_and, All}
+use Rattle.std.specs.Prelude.{slice_get, nat_lt, bit_or, bit_and}
 use Rattle.std.proofs.lemmas.Nat.{or_lt, and_le_l, pow_pos}
 use Rattle.std.proofs.lemmas.Option.{slice_get_within}
 use Rattle.std.proofs.lemmas.List.Elements.{All-nil, All-push}
@@ -19,7 +19,6 @@ use Rattle.kc_words.specs.declared.access.Found.TheVariants as found
 use Rattle.kc_steps.specs.declared.task.Task.{Task}
 use Rattle.kc_steps.specs.declared.task.Task.TheVariants as task
 use Rattle.kc_steps.specs.declared.line.Line.{Line}
-use Rattle.kc_steps.specs.declared.line.Intent.{Intent}
 use Rattle.kc_steps.specs.declared.line.Pick.TheVariants.{Installed, Checked, Put}
 use Rattle.kc_steps.specs.declared.look.Look.{Look}
 use Rattle.kc_steps.specs.declared.look.LookStep.{LookStep}
@@ -58,7 +57,7 @@ use Rattle.kc_steps.specs.Passes.{check_or_decide, from_check, install_or_check,
 use Rattle.kc_steps.specs.Aids.{aid_copy, copy_owner, copy_line, aid_next, hold_next, owner_or_first, status_next, first_next, second_next, load_next, owner_next, load_first_next, load_second_next, after_pass, drop_or_release, leave_next}
 use Rattle.kc_steps.specs.Commits.{own_next, stage_next, tells_or_goes, fill_or_start, fill_next, after_own_pass, onward_or_back, aid_or_back, finished, wake_or_drop, wake_or_signal, wake_next, owed_next, copy_by_own, copy_by, loaded, gone_on, onward_by, commit_next, after_scan}
 use Rattle.kc_steps.specs.Halts.{halted_pass, halted_aid_pass, halted_own, unowned, halted_at}
-use Rattle.kc_machine.specs.Hangs.{set_or_look, after_set, clear_or_changed, after_clear, look_or_end, look_goes_on, look_of, hang_next, hang_step, hangs_on, onward_of, leaves_on, unblocks_or_tells, next_read}
+use Rattle.kc_machine.specs.Hangs.{set_or_look, after_set, clear_or_changed, after_clear, look_or_end, look_goes_on, look_of, hang_next, hangs_on, onward_of, leaves_on, unblocks_or_tells}
 use Rattle.kc_machine.specs.Seats.{answer_of, answer_by, after, begun, begun_idle, is_idle, working, halted, halted_by, ended}
 use Rattle.kc_machine.specs.Seats.{hanging as hanging_of}
 use Rattle.kc_machine.specs.Machine.{Opening, pool_size}

@@ -1,6 +1,6 @@
 -- What a step touches a word with leaves the words in their ranges.
-use Rattle.std.proofs.Common.{◌≡◌, ◌<◌, ◌≤◌, ◌+◌, ◌*◌, ◌%◌, ◌^◌, ◌/◌, ℕ, zero, suc, Bool, true, false, refl, sym, subst, arith, if◌then◌else◌, Option, None, Some}
-use Rattle.std.specs.Prelude.{nat_lt, bit_or, bit_and}
+use Rattle.std.proofs.Common.{◌<◌, ◌*◌, ◌%◌, ◌^◌, ℕ, Bool, true, false, arith, if◌then◌else◌, Option, None, Some}
+use Rattle.std.specs.Prelude.{nat_lt}
 use Rattle.std.specs.Int.{bit_not, w64}
 use Rattle.std.proofs.lemmas.Nat.{or_lt, and_le_l, pow_pos}
 use Rattle.std.proofs.Math.Nat.{mod-le}

@@ -1,5 +1,5 @@
 -- In which range the numbers lie that stand in words, that a step touches a word with, and that a seat remembers.
-use Rattle.std.specs.Prelude.{◌<◌, ◌≤◌, ◌^◌, ℕ, length, All, Option, None, Some}
+use Rattle.std.specs.Prelude.{◌<◌, ◌≤◌, ◌^◌, ℕ}
 use Rattle.kc_model.specs.declared.footprint.TheConstants.{LAST_VERSION, MOST}
 use Rattle.kc_model.specs.declared.word.Word.{Word}
 use Rattle.kc_model.specs.declared.word.Word.TheVariants.{Plain, Ref}
@@ -24,7 +24,7 @@ use Rattle.kc_words.specs.declared.access.Found.TheVariants as found
 use Rattle.kc_words.specs.Packing.{phase_line}
 use Rattle.kc_steps.specs.declared.line.Line.{Line}
 use Rattle.kc_steps.specs.Looks.{reference_of}
-use Rattle.kc_machine.specs.Machine.{World, State, Opening, pool_size}
+use Rattle.kc_machine.specs.Machine.{World, Opening, pool_size}
 
 -- ---- what stands in words
 

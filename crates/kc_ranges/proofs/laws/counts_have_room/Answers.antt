@@ -1,4 +1,3 @@
-use Rattle.std.proofs.Common.{arith}
 use Rattle.kc_machine.specs.Machine.{run}
 use Rattle.kc_effects.proofs.PoolLaws.{holds_counted}
 use Rattle.kc_pool.proofs.LifeLaws.{three_holds}
