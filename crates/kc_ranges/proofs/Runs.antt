@@ -39,11 +39,14 @@ use Rattle.kc_seats.proofs.SeatedSteps.{seats_stay, searches_in_range}
 use Rattle.kc_pool.proofs.LifeLaws.{generations_fit, calls_fit, three_holds}
 use Rattle.kc_ranges.specs.Ranges.{WorldIn, AccessIn}
 use Rattle.kc_ranges.specs.Seats.{WorkIn, SeatsIn}
-use Rattle.kc_ranges.specs.Possible.{StepsArePossible}
+use Rattle.kc_claims.specs.Claims.{owed_by}
+use Rattle.kc_ranges.specs.Callers.{AwaitersAreCallers, OwedAreCallers}
+use Rattle.kc_ranges.specs.Possible.{StepsArePossible, StepsHappen, one_step}
 use Rattle.kc_ranges.proofs.Room.{total_most, lt_is, adds_room, subtracts_room}
 use Rattle.kc_ranges.proofs.Words.{touched_in, found_in, opened_in}
 use Rattle.kc_ranges.proofs.Steps.{answer_in, begun_in, halted_in}
 use Rattle.kc_ranges.proofs.Accesses.{work_touches}
+use Rattle.kc_ranges.proofs.Callers.{caller_of, owed_in}
 
 -- ---- the shape of a machine stays
 
@@ -212,3 +215,20 @@ steps_possible o es w k l i =
     has_room d (grip.Take g) e = refl
     has_room d grip.Add e = adds_room (run o es) (holds_counted o es) (three_holds o es) d (let c = (shape_from (opened o) es).2 in let b = w.0.callers in omega arith)
     has_room d grip.Subtract e = subtracts_room (run o es) (holds_counted o es) k d (let c = (shape_from (opened o) es).2 in omega arith) e
+
+pub steps_happen : (o : Opening) (es : List Event) → IsSchedule o es → StepsHappen o es
+steps_happen o es w k l i = run_push o (opened o) es (Step k) ∙ here (lt_is k (run o es).callers (let c = (shape_from (opened o) es).2 in omega arith)) (steps_possible o es w k l i).0
+  where
+    here : nat_lt k (run o es).callers ≡ true → possible (run o es) (access_of ((run o es).seats k)) ≡ true → event_of (run o es) (Step k) ≡ one_step (run o es) k
+    here a b = rw a (rw b refl)
+
+-- ---- callers
+
+pub awaiters_callers : (o : Opening) (es : List Event) → IsSchedule o es → AwaitersAreCallers (run o es)
+awaiters_callers o es w l c e = let b = caller_of ((run o es).world.awaiters l) o.callers c ((words_in o es w).awaiters l) e in let s = (shape_from (opened o) es).2 in omega arith
+
+pub owed_callers : (o : Opening) (es : List Event) → IsSchedule o es → OwedAreCallers (run o es)
+owed_callers o es w k c l e =
+    let s = (shape_from (opened o) es).2 in
+    let b = caller_of (owed_by (stand ((run o es).seats k)).own) o.callers c (owed_in o ((run o es).seats k) (seats_in o es w k (omega arith))) e in
+    omega arith

@@ -3,4 +3,7 @@
 
 mod laws;
 
-pub use laws::{counts_have_room, steps_are_possible, words_and_seats_are_in_range};
+pub use laws::{
+    counts_have_room, only_callers_are_woken, ranges_fit_bits, steps_are_possible,
+    words_and_seats_are_in_range,
+};
