@@ -34,7 +34,7 @@ use Rattle.kc_machine.specs.declared.hang.LeaveStep.{LeaveStep}
 use Rattle.kc_machine.specs.declared.hang.LeaveStep.TheVariants as leave
 use Rattle.kc_machine.specs.Works.{Work}
 use Rattle.kc_machine.specs.Works as work
-use Rattle.kc_steps.specs.Lines.{next_version, resolved_version, succeeds}
+use Rattle.kc_steps.specs.Lines.{next_version, resolved_version, succeeds, first_of}
 use Rattle.kc_steps.specs.Looks.{look_access}
 use Rattle.kc_steps.specs.Passes.{pass_access, install_access, check_access, release_access, release_at}
 use Rattle.kc_steps.specs.Aids.{aid_access}
@@ -43,12 +43,12 @@ use Rattle.kc_machine.specs.Hangs.{hang_access_of, hang_access_at, leave_access_
 use Rattle.kc_machine.specs.Seats.{work_access, is_idle}
 use Rattle.kc_machine.specs.Machine.{Opening, pool_size}
 use Rattle.kc_machine.specs.Schedules.{AreBelow}
-use Rattle.kc_seats.specs.Fits.{StepFits, AidFits, OwnFits, WorkFits}
-use Rattle.kc_seats.specs.Formed.{OwnIsFormed, IsCopy, WorkIsFormed, LeaveIsFormed, HangStands}
+use Rattle.kc_seats.specs.Fits.{StepFits, AidFits, OwnFits, WorkFits, StageFits}
+use Rattle.kc_seats.specs.Formed.{OwnIsFormed, IsCopy, WorkIsFormed, LeaveIsFormed, HangStands, StageIsFormed}
 use Rattle.kc_seats.specs.Made.{IsWellMadeIntent, IsWellMadeLine, IntentIsMade, ReadsAreMade}
-use Rattle.kc_seats.specs.Seated.{WorkSearches}
+use Rattle.kc_seats.specs.Seated.{WorkSearches, StageSearches}
 use Rattle.kc_ranges.specs.Ranges.{HandleIn, ReferenceIn, LineIn, AccessIn}
-use Rattle.kc_ranges.specs.Seats.{LookIn, PassIn, AidIn, CopyIn, OwnIn, HangIn, WorkIn}
+use Rattle.kc_ranges.specs.Seats.{LookIn, PassIn, AidIn, CopyIn, OwnIn, HangIn, WorkIn, StageIn}
 
 -- ---- lists, versions, bits
 
@@ -91,7 +91,7 @@ module _ (o : Opening) where
 
   module _ (h : Handle) (own : HandleIn o h) (xs : List Line) (few : length xs ≤ 64) (lines : (k : ℕ) (x : Line) → slice_get xs k ≡ Some x → (x.seen.loc.0 < o.locations) × (x.seen.version ≤ 2147483647)) where
     release_in : (k : ℕ) (p : Phase) (x : Line) → k < 64 → x.seen.loc.0 < o.locations → x.seen.version ≤ 2147483647 → AccessIn o (release_access h k p x)
-    release_in k p x l a v = (a, ((own, l), version_fits (Rattle.kc_steps.specs.Lines.first_of x) p v))
+    release_in k p x l a v = (a, ((own, l), version_fits (first_of x) p v))
 
     pass_touches : (halted : Bool) (out : AfterCheck) (m : Mode) (p : PassStep) → StepFits halted out m xs p → PassIn o p → AccessIn o (pass_access h xs p)
     pass_touches halted out m (Install k) a y =
@@ -170,8 +170,8 @@ module _ (o : Opening) where
         let x = is_there reads k w.1 in
         subst (λ q. AccessIn o (clear_access caller q)) (sym x.1) (read_below reads k x.0 x.1 b, seated)
 
-    stage_touches : (c : Commit) (x : Stage) → IsWellMadeIntent o.locations c.intent → CopyIn o c.copy → IsCopy c.copy → Rattle.kc_seats.specs.Fits.StageFits c.halted c.intent c.copy x
-        → Rattle.kc_seats.specs.Formed.StageIsFormed calls c.intent x → Rattle.kc_seats.specs.Seated.StageSearches (pool_size o.callers) x → Rattle.kc_ranges.specs.Seats.StageIn o c.copy x → AccessIn o (stage_access caller calls c x)
+    stage_touches : (c : Commit) (x : Stage) → IsWellMadeIntent o.locations c.intent → CopyIn o c.copy → IsCopy c.copy → StageFits c.halted c.intent c.copy x
+        → StageIsFormed calls c.intent x → StageSearches (pool_size o.callers) x → StageIn o c.copy x → AccessIn o (stage_access caller calls c x)
     stage_touches c (Scan d worn) m n f a b q z = (q, tt)
     stage_touches c (Take d g) m n f a b q z = (q.0, q.1)
     stage_touches c (Own h step) m n f a b q z = own_touches c m n f h z.0 step a b.1 z.1

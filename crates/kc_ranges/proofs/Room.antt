@@ -36,8 +36,8 @@ use Rattle.kc_steps.specs.Commits.{own_access, stage_access, fill_first, fill_se
 use Rattle.kc_machine.specs.Hangs.{hang_access_of, leave_access_at, clear_access, read_of}
 use Rattle.kc_machine.specs.Seats.{work_access, access_of}
 use Rattle.kc_machine.specs.Machine.{State}
-use Rattle.kc_effects.specs.Stands.{Stand, stand, works, resting, Runs, Owns, Waits, Over, At, Passes}
-use Rattle.kc_effects.specs.Holds.{Hold, NoHold, Proper, Stray, on, one_at, dropping, holds_on, own_hold, check_hold, aid_hold, look_hold, total}
+use Rattle.kc_effects.specs.Stands.{Stand, stand, works, resting, Waits, aids, owns, hangs, commits}
+use Rattle.kc_effects.specs.Holds.{Hold, NoHold, Proper, Stray, on, one_at, dropping, holds_on, own_hold, check_hold, aid_hold, look_hold, total, step_hold, look_step_hold}
 use Rattle.kc_effects.specs.Claims.{HoldsAreCounted}
 use Rattle.kc_effects.proofs.Sums.{total_part}
 use Rattle.kc_pool.specs.Counts.{one_if_held, holds_of, AtMostThree}
@@ -86,7 +86,7 @@ dropped d r true e = one_here d r.handle.descriptor (let q : r.handle.descriptor
 dropped d r false e = one_here d r.handle.descriptor (let q : r.handle.descriptor ≡ d = cc in q)
 
 -- a pass gives back what its check holds
-pass_back : (d : ℕ) (h : Handle) (xs : List Line) (p : PassStep) → pass_access h xs p ≡ back d → on d (Rattle.kc_effects.specs.Holds.step_hold p) ≡ 1
+pass_back : (d : ℕ) (h : Handle) (xs : List Line) (p : PassStep) → pass_access h xs p ≡ back d → on d (step_hold p) ≡ 1
 pass_back d h xs (Install k) e = absurd (go (slice_get xs k) e)
   where
     go : (o : Option Line) → install_access h k o ≡ back d → ⊥
@@ -108,7 +108,7 @@ pass_back d h xs (Release k p) e = absurd (go (slice_get xs k) e)
     go None e = absurd (cc)
     go (Some x) e = absurd (cc)
 
-look_back : (d : ℕ) (l : Loc) (s : LookStep) → look_access l s ≡ back d → on d (Rattle.kc_effects.specs.Holds.look_step_hold s) ≡ 1
+look_back : (d : ℕ) (l : Loc) (s : LookStep) → look_access l s ≡ back d → on d (look_step_hold s) ≡ 1
 look_back d l look.Load e = absurd (cc)
 look_back d l (look.Hold r) e = absurd (cc)
 look_back d l (look.Status r) e = absurd (cc)
@@ -116,7 +116,7 @@ look_back d l (look.First r p) e = absurd (cc)
 look_back d l (look.Second r p f) e = absurd (cc)
 look_back d l (look.Drop r stray seen) e = dropped d r stray e
 
-aid_back : (d : ℕ) (t : Stand) (r : Reference) (c : Aided) (a : AidStep) → aid_access r c.lines.items a ≡ back d → 1 ≤ holds_on d (Rattle.kc_effects.specs.Stands.aids t r c a)
+aid_back : (d : ℕ) (t : Stand) (r : Reference) (c : Aided) (a : AidStep) → aid_access r c.lines.items a ≡ back d → 1 ≤ holds_on d (aids t r c a)
 aid_back d t r c aid.Hold e = absurd (cc)
 aid_back d t r c aid.Status e = absurd (cc)
 aid_back d t r c (aid.First p) e = absurd (cc)
@@ -129,7 +129,7 @@ aid_back d t r c (aid.Pass p) e = let q = pass_back d r.handle c.lines.items p e
 aid_back d t r c (aid.Leave o) e = absurd (cc)
 aid_back d t r c (aid.Drop stray o) e = let q = dropped d r stray e in omega arith
 
-own_back : (d caller calls : ℕ) (t : Stand) (c : Commit) (h : Handle) (s : OwnStep) → own_access caller calls c h s ≡ back d → 1 ≤ holds_on d (Rattle.kc_effects.specs.Stands.owns t c.intent c.copy h s)
+own_back : (d caller calls : ℕ) (t : Stand) (c : Commit) (h : Handle) (s : OwnStep) → own_access caller calls c h s ≡ back d → 1 ≤ holds_on d (owns t c.intent c.copy h s)
 own_back d caller calls t c h own.FillOwner e = absurd (cc)
 own_back d caller calls t c h (own.FillFirst k) e = absurd (go (slice_get c.intent.lines.items k) e)
   where
@@ -153,7 +153,7 @@ own_back d caller calls t c h (own.Wake k owed) e = absurd (go (slice_get c.inte
 own_back d caller calls t c h (own.Signal owed) e = absurd (cc)
 own_back d caller calls t c h (own.Drop p) e = let q = one_here d h.descriptor (let z : h.descriptor ≡ d = cc in z) in omega arith
 
-hang_back : (d caller : ℕ) (t : Stand) (reads : List Seen) (s : HangStep) (o : Option Seen) → hang_access_of caller s o ≡ back d → 1 ≤ holds_on d (Rattle.kc_effects.specs.Stands.hangs t reads s)
+hang_back : (d caller : ℕ) (t : Stand) (reads : List Seen) (s : HangStep) (o : Option Seen) → hang_access_of caller s o ≡ back d → 1 ≤ holds_on d (hangs t reads s)
 hang_back d caller t reads (hang.Set k) None e = absurd (cc)
 hang_back d caller t reads (hang.Set k) (Some x) e = absurd (cc)
 hang_back d caller t reads (hang.Look k s) None e = absurd (cc)
@@ -166,7 +166,7 @@ work_back d caller calls t work.Idle e = absurd (cc)
 work_back d caller calls t (work.Look l) e = let q = look_back d l.loc l.step e in omega arith
 work_back d caller calls t (work.Commit c) e = go c.stage e
   where
-    go : (s : Stage) → stage_access caller calls c s ≡ back d → 1 ≤ holds_on d (Rattle.kc_effects.specs.Stands.commits (record t { halted = c.halted }) c.intent c.copy s)
+    go : (s : Stage) → stage_access caller calls c s ≡ back d → 1 ≤ holds_on d (commits (record t { halted = c.halted }) c.intent c.copy s)
     go (Scan a b) e = absurd (cc)
     go (Take a b) e = absurd (cc)
     go (Own h s) e = own_back d caller calls (record t { halted = c.halted }) c h s e

@@ -53,9 +53,10 @@ use Rattle.kc_machine.specs.Works as work
 use Rattle.kc_machine.specs.declared.seat.Seat.{Seat}
 use Rattle.kc_steps.specs.Lines.{next_line, after_line, resolved_version, joined}
 use Rattle.kc_steps.specs.Looks.{look_next, looks_on, told_by, reference_of, halts_at_once, look_halted_at}
+use Rattle.kc_steps.specs.Looks as looks
 use Rattle.kc_steps.specs.Passes.{check_or_decide, from_check, install_or_check, from_install, release_or_finish, from_release, fits, refers_to, install_found, check_found, check_hold_next, crossed_or_first, check_status_next, agrees_or_fails, check_first_found, check_drop_next, decided_as, decide_next, pass_next}
 use Rattle.kc_steps.specs.Aids.{aid_copy, copy_owner, copy_line, aid_next, hold_next, owner_or_first, status_next, first_next, second_next, load_next, owner_next, load_first_next, load_second_next, after_pass, drop_or_release, leave_next}
-use Rattle.kc_steps.specs.Commits.{own_next, stage_next, tells_or_goes, fill_or_start, fill_next, after_own_pass, onward_or_back, aid_or_back, finished, wake_or_drop, wake_or_signal, wake_next, owed_next, copy_by_own, copy_by, loaded, gone_on, onward_by, commit_next, after_scan}
+use Rattle.kc_steps.specs.Commits.{own_next, stage_next, tells_or_goes, fill_or_start, fill_next, after_own_pass, onward_or_back, aid_or_back, finished, wake_or_drop, wake_or_signal, wake_next, owed_next, copy_by_own, copy_by, loaded, gone_on, onward_by, after_scan, take_next}
 use Rattle.kc_steps.specs.Halts.{halted_pass, halted_aid_pass, halted_own, unowned, halted_at}
 use Rattle.kc_machine.specs.Hangs.{set_or_look, after_set, clear_or_changed, after_clear, look_or_end, look_goes_on, look_of, hang_next, hangs_on, onward_of, leaves_on, unblocks_or_tells}
 use Rattle.kc_machine.specs.Seats.{answer_of, answer_by, after, begun, begun_idle, is_idle, working, halted, halted_by, ended}
@@ -68,6 +69,10 @@ use Rattle.kc_seats.specs.Seated.{StageSearches, WorkSearches}
 use Rattle.kc_seats.proofs.Searches.{scanned}
 use Rattle.kc_ranges.specs.Ranges.{HandleIn, ReferenceIn, CallersIn, FirstIn, LineIn, FoundIn}
 use Rattle.kc_ranges.specs.Seats.{OnwardIn, LookIn, AfterIn, PassIn, LoadsOn, AidIn, CopyIn, OwnIn, StageIn, HangIn, WorkIn}
+
+if_in : {A : Type 0} (P : A → Type 0) (b : Bool) (x y : A) → P x → P y → P (if b then x else y)
+if_in P true x y p q = p
+if_in P false x y p q = q
 
 module _ (o : Opening) where
   -- ---- passes
@@ -100,37 +105,21 @@ module _ (o : Opening) where
       go (Some j) = tt
 
   installed_in : (h : Handle) (m : Mode) (xs : List Line) (k : ℕ) (f : Found) (x : Option Line) → k < 64 → FoundIn o f → PassNextIn (install_found h m xs k f x)
-  installed_in h m xs k (found.Word (Plain v y)) (Some x) l i = go (fits v y x)
-    where
-      go : (b : Bool) → PassNextIn (if b then pass.Goes (from_install m xs (after_line k)) else pass.Goes (Decide (Failed k)))
-      go true = from_install_in m xs (after_line k)
-      go false = l
-  installed_in h m xs k (found.Word (Ref g d j)) (Some x) l i = go (refers_to h k (reference_of g d j))
-    where
-      go : (b : Bool) → PassNextIn (if b then pass.Goes (from_install m xs (after_line k)) else pass.Met k (reference_of g d j))
-      go true = from_install_in m xs (after_line k)
-      go false = i
+  installed_in h m xs k (found.Word (Plain v y)) (Some x) l i = if_in PassNextIn (fits v y x) _ _ (from_install_in m xs (after_line k)) l
+  installed_in h m xs k (found.Word (Ref g d j)) (Some x) l i = if_in PassNextIn (refers_to h k (reference_of g d j)) _ _ (from_install_in m xs (after_line k)) i
   installed_in h m xs k (found.Word (Plain v y)) None l i = tt
   installed_in h m xs k (found.Word (Ref g d j)) None l i = tt
   installed_in h m xs k _ x l i = tt
 
   checked_in : (m : Mode) (xs : List Line) (k : ℕ) (f : Found) (x : Option Line) → k < 64 → FoundIn o f → PassIn o (check_found m xs k f x)
-  checked_in m xs k (found.Word (Plain v y)) (Some x) l i = go (fits v y x)
-    where
-      go : (b : Bool) → PassIn o (if b then from_check m xs (after_line k) else Decide (Failed k))
-      go true = from_check_in m xs (after_line k)
-      go false = l
+  checked_in m xs k (found.Word (Plain v y)) (Some x) l i = if_in (PassIn o) (fits v y x) _ _ (from_check_in m xs (after_line k)) l
   checked_in m xs k (found.Word (Ref g d j)) (Some x) l i = i
   checked_in m xs k (found.Word (Plain v y)) None l i = tt
   checked_in m xs k (found.Word (Ref g d j)) None l i = tt
   checked_in m xs k _ x l i = tt
 
   held_in : (k : ℕ) (r : Reference) (f : Found) → ReferenceIn o r → PassIn o (check_hold_next k r f)
-  held_in k r (found.Control c) y = go (c.generation == r.handle.generation)
-    where
-      go : (b : Bool) → PassIn o (if b then CheckStatus k r else CheckDrop k r true checked.Again)
-      go true = y
-      go false = (y, tt)
+  held_in k r (found.Control c) y = if_in (PassIn o) (c.generation == r.handle.generation) (CheckStatus k r) (CheckDrop k r true checked.Again) y (y, tt)
   held_in k r _ y = y
 
   crossed_in : (k : ℕ) (r : Reference) (p : Phase) → k < 64 → ReferenceIn o r → PassIn o (crossed_or_first k r p)
@@ -197,11 +186,7 @@ module _ (o : Opening) where
   after_pass_in a pass.Left y = tt
 
   aid_held_in : (r : Reference) (a : Aided) (f : Found) → AidIn o a (hold_next r f)
-  aid_held_in r a (found.Control c) = go (c.generation == r.handle.generation)
-    where
-      go : (b : Bool) → AidIn o a (if b then aid.Status else aid.Drop true None)
-      go true = tt
-      go false = tt
+  aid_held_in r a (found.Control c) = if_in (AidIn o a) (c.generation == r.handle.generation) aid.Status (aid.Drop true None) tt tt
   aid_held_in r a _ = tt
 
   aid_status_in : (a : Aided) (f : Found) → AidIn o a (status_next f)
@@ -266,11 +251,7 @@ module _ (o : Opening) where
   owner_copied a _ i y = y
 
   line_copied : (a : Aided) (x : First) (f : Found) → FirstIn x → FoundIn o f → CopyIn o a → CopyIn o (copy_line a x f)
-  line_copied a x (found.Second s) v i y = go (length a.lines.items == 64)
-    where
-      go : (b : Bool) → CopyIn o (if b then a else record a { lines = record { items = a.lines.items ++ joined x s ∷ [] } })
-      go true = y
-      go false = (All-push (LineIn o) a.lines.items (joined x s) y.0 (i, v), y.1)
+  line_copied a x (found.Second s) v i y = if_in (CopyIn o) (length a.lines.items == 64) a (record a { lines = record { items = a.lines.items ++ joined x s ∷ [] } }) y (All-push (LineIn o) a.lines.items (joined x s) y.0 (i, v), y.1)
   line_copied a x _ v i y = y
 
   aid_copied : (a : Aided) (step : AidStep) (f : Found) → FoundIn o f → AidIn o a step → CopyIn o a → CopyIn o (aid_copy a step f)
@@ -324,11 +305,7 @@ module _ (o : Opening) where
         go false (Some q) y = (y, tt)
 
     owed_in : (a : Aided) (n : ℕ) → CallersIn o n → OwnIn o a (owed_next n)
-    owed_in a n y = go (n == 0)
-      where
-        go : (b : Bool) → OwnIn o a (if b then own.Drop Succeeded else own.Signal n)
-        go true = tt
-        go false = y
+    owed_in a n y = if_in (OwnIn o a) (n == 0) (own.Drop Succeeded) (own.Signal n) tt y
 
     woken_in : (a : Aided) (k n : ℕ) (f : Found) → FoundIn o f → CallersIn o n → OwnIn o a (wake_next c.intent k n f)
     woken_in a k n (found.Callers x) i y = go (bit_or n x) (next_line Put c.intent.mode c.intent.lines.items (after_line k)) (or_lt o.callers n x y i)
@@ -370,12 +347,8 @@ module _ (o : Opening) where
       tells_in calls h (own.Signal n) f z i g y = (g, own_in h (own.Signal n) f z i y)
       tells_in calls h (own.Drop p) f z i g y = tt
 
-      taken_in : (a : Aided) (n d g : ℕ) (f : Found) → HandleIn o (record { descriptor = d; generation = g + 1 }) → NextIn a (Rattle.kc_steps.specs.Commits.take_next n d g f)
-      taken_in a n d g (found.Control c) y = go ((c.generation == g) && (c.holds == 0) && nat_lt g 1099511627775)
-        where
-          go : (b : Bool) → NextIn a (if b then next.Takes (Own (record { descriptor = d; generation = g + 1 }) own.FillOwner) else next.Goes (Scan (after_scan n d) 0))
-          go true = (y, tt)
-          go false = tt
+      taken_in : (a : Aided) (n d g : ℕ) (f : Found) → HandleIn o (record { descriptor = d; generation = g + 1 }) → NextIn a (take_next n d g f)
+      taken_in a n d g (found.Control c) y = if_in (NextIn a) ((c.generation == g) && (c.holds == 0) && nat_lt g 1099511627775) (next.Takes (Own (record { descriptor = d; generation = g + 1 }) own.FillOwner)) (next.Goes (Scan (after_scan n d) 0)) (y, tt) tt
       taken_in a n d g _ y = tt
 
       stage_in : (n calls : ℕ) (x : Stage) (f : Found) → StageFits c.halted c.intent c.copy x → StageSearches (pool_size o.callers) x → FoundIn o f → StageIn o c.copy x
@@ -390,32 +363,28 @@ module _ (o : Opening) where
   LookNextIn (looking.Goes step) = LookIn o step
   LookNextIn (looking.Saw seen) = Unit {0}
 
-  load_in : (l : Loc) (f : Found) → FoundIn o f → LookNextIn (Rattle.kc_steps.specs.Looks.load_next l f)
+  load_in : (l : Loc) (f : Found) → FoundIn o f → LookNextIn (looks.load_next l f)
   load_in l (found.Word (Plain v x)) i = tt
   load_in l (found.Word (Ref g d k)) i = i
   load_in l _ i = tt
 
-  look_held_in : (r : Reference) (f : Found) → ReferenceIn o r → LookNextIn (Rattle.kc_steps.specs.Looks.hold_next r f)
-  look_held_in r (found.Control c) y = go (c.generation == r.handle.generation)
-    where
-      go : (b : Bool) → LookNextIn (if b then looking.Goes (look.Status r) else looking.Goes (look.Drop r true None))
-      go true = y
-      go false = y
+  look_held_in : (r : Reference) (f : Found) → ReferenceIn o r → LookNextIn (looks.hold_next r f)
+  look_held_in r (found.Control c) y = if_in LookNextIn (c.generation == r.handle.generation) (looking.Goes (look.Status r)) (looking.Goes (look.Drop r true None)) y y
   look_held_in r _ y = y
 
-  look_status_in : (r : Reference) (f : Found) → ReferenceIn o r → LookNextIn (Rattle.kc_steps.specs.Looks.status_next r f)
+  look_status_in : (r : Reference) (f : Found) → ReferenceIn o r → LookNextIn (looks.status_next r f)
   look_status_in r (found.Status s) y = y
   look_status_in r _ y = y
 
-  look_first_in : (r : Reference) (p : Phase) (f : Found) → ReferenceIn o r → LookNextIn (Rattle.kc_steps.specs.Looks.first_next r p f)
+  look_first_in : (r : Reference) (p : Phase) (f : Found) → ReferenceIn o r → LookNextIn (looks.first_next r p f)
   look_first_in r p (found.First x) y = y
   look_first_in r p _ y = y
 
-  look_second_in : (l : Loc) (r : Reference) (p : Phase) (x : First) (f : Found) → ReferenceIn o r → LookNextIn (Rattle.kc_steps.specs.Looks.second_next l r p x f)
+  look_second_in : (l : Loc) (r : Reference) (p : Phase) (x : First) (f : Found) → ReferenceIn o r → LookNextIn (looks.second_next l r p x f)
   look_second_in l r p x (found.Second s) y = y
   look_second_in l r p x _ y = y
 
-  look_drop_in : (r : Reference) (stray : Bool) (seen : Option Seen) (f : Found) → ReferenceIn o r → LookNextIn (Rattle.kc_steps.specs.Looks.drop_next r stray seen f)
+  look_drop_in : (r : Reference) (stray : Bool) (seen : Option Seen) (f : Found) → ReferenceIn o r → LookNextIn (looks.drop_next r stray seen f)
   look_drop_in r stray None (found.Control c) y = tt
   look_drop_in r stray (Some x) (found.Control c) y = tt
   look_drop_in r stray seen _ y = y
@@ -453,11 +422,7 @@ module _ (o : Opening) where
 
     looks_on_in : (k v : ℕ) (n : LookNext) → LookNextIn n → HangNextIn (look_goes_on reads k v n)
     looks_on_in k v (looking.Goes step) y = y
-    looks_on_in k v (looking.Saw seen) y = go (seen.version == v)
-      where
-        go : (b : Bool) → HangNextIn (if b then look_or_end (after_line k) (slice_get reads (after_line k)) else hanging.Goes (hang.Clear 0 k))
-        go true = ends_in (after_line k) (slice_get reads (after_line k))
-        go false = tt
+    looks_on_in k v (looking.Saw seen) y = if_in HangNextIn (seen.version == v) _ (hanging.Goes (hang.Clear 0 k)) (ends_in (after_line k) (slice_get reads (after_line k))) tt
 
     looks_in : (k : ℕ) (step : LookStep) (f : Found) (x : Option Seen) → FoundIn o f → LookIn o step → HangNextIn (look_of reads k step f x)
     looks_in k step f None i y = y
@@ -506,19 +471,11 @@ module _ (o : Opening) where
     begins_in : (t : Task) → SeatIn s → SeatIn (begun_idle s t)
     begins_in (task.Look l) y = tt
     begins_in (task.Commit f mode) y = ((All-nil (LineIn o), omega arith), tt)
-    begins_in (task.Hang reads) y = go s.blocked
-      where
-        go : (b : Bool) → SeatIn (if b then s else working s (hanging_of reads.items))
-        go true = y
-        go false = tt
+    begins_in (task.Hang reads) y = if_in SeatIn s.blocked s (working s (hanging_of reads.items)) y tt
     begins_in (task.Leave reads) y = tt
 
     pub begun_in : (t : Task) → SeatIn s → SeatIn (begun s t)
-    begun_in t y = go (is_idle s.work)
-      where
-        go : (b : Bool) → SeatIn (if b then begun_idle s t else s)
-        go true = begins_in t y
-        go false = y
+    begun_in t y = if_in SeatIn (is_idle s.work) (begun_idle s t) s (begins_in t y) y
 
     look_halts : (l : Look) (step : LookStep) → LookIn o step → SeatIn (if halts_at_once step then ended s else record s { work = work.Look (look_halted_at l step) })
     look_halts l look.Load y = tt
