@@ -67,7 +67,8 @@ use Rattle.kc_seats.specs.Formed.{IsCopy, WorkIsFormed}
 use Rattle.kc_seats.specs.Made.{IntentIsMade}
 use Rattle.kc_seats.specs.Seated.{StageSearches, WorkSearches}
 use Rattle.kc_seats.proofs.Searches.{scanned}
-use Rattle.kc_ranges.specs.Ranges.{HandleIn, ReferenceIn, CallersIn, FirstIn, LineIn, FoundIn}
+use Rattle.kc_ranges.specs.Ranges.{HandleIn, ReferenceIn, CallersIn, FirstIn, LineIn}
+use Rattle.kc_ranges.proofs.Words.{FoundIn}
 use Rattle.kc_ranges.specs.Seats.{OnwardIn, LookIn, AfterIn, PassIn, LoadsOn, AidIn, CopyIn, OwnIn, StageIn, HangIn, WorkIn}
 
 if_in : {A : Type 0} (P : A → Type 0) (b : Bool) (x y : A) → P x → P y → P (if b then x else y)

@@ -16,11 +16,13 @@ use Rattle.kc_words.specs.declared.access.Bits.{Bits}
 use Rattle.kc_words.specs.declared.access.Bits.TheVariants as bits
 use Rattle.kc_words.specs.declared.access.Access.{Access}
 use Rattle.kc_words.specs.declared.access.Access.TheVariants as access
+use Rattle.kc_words.specs.declared.access.Found.{Found}
+use Rattle.kc_words.specs.declared.access.Found.TheVariants as found
 use Rattle.kc_machine.specs.Words.{word_is, status_is, stored_word, stored_status, stored_owner, stored_first, stored_second, bit_of, bits_after}
 use Rattle.kc_machine.specs.Machine.{World, Opening, put, put_some, put_line, found_at, touched, opened}
 use Rattle.kc_machine.proofs.Functions.{put_cases}
 use Rattle.kc_machine.specs.Schedules.{IsInRange}
-use Rattle.kc_ranges.specs.Ranges.{WordIn, CallersIn, StatusIn, OwnerIn, FirstIn, SecondIn, StoredIn, WorldIn, FoundIn, TouchIn, BitsIn, AccessIn}
+use Rattle.kc_ranges.specs.Ranges.{WordIn, CallersIn, StatusIn, OwnerIn, FirstIn, SecondIn, StoredIn, WorldIn, TouchIn, BitsIn, AccessIn}
 
 abbrev Stores : {A : Type 0} → (A → Type 0) → Option A → Type 0
 Stores P None = Unit {0}
@@ -89,6 +91,17 @@ touched_in o w (access.First d k t) y f = record { words = f.words; awaiters = f
 touched_in o w (access.Second d k t) y f = record { words = f.words; awaiters = f.awaiters; statuses = f.statuses; owners = f.owners; firsts = f.firsts; seconds = line_stays (SecondIn o) w.second d k _ (second_stored o t y.2) f.seconds }
 touched_in o w (access.Awaiters l b) y f = record { words = f.words; awaiters = λ j. put_cases (CallersIn o) w.awaiters l.0 _ j (λ q. bits_stay o b (w.awaiters l.0) y.1 (f.awaiters l.0)) (λ ne. f.awaiters j); statuses = f.statuses; owners = f.owners; firsts = f.firsts; seconds = f.seconds }
 touched_in o w (access.Signal c s) y f = record { words = f.words; awaiters = f.awaiters; statuses = f.statuses; owners = f.owners; firsts = f.firsts; seconds = f.seconds }
+
+-- what stands there
+abbrev pub FoundIn : Opening → Found → Type 0
+FoundIn o found.Nothing = Unit {0}
+FoundIn o (found.Word w) = WordIn o w
+FoundIn o (found.Control c) = Unit {0}
+FoundIn o (found.Status s) = StatusIn s
+FoundIn o (found.Owner x) = OwnerIn x
+FoundIn o (found.First f) = FirstIn f
+FoundIn o (found.Second s) = SecondIn o s
+FoundIn o (found.Callers x) = CallersIn o x
 
 pub found_in : (o : Opening) (w : World) (a : Access) → WorldIn o w → FoundIn o (found_at w a)
 found_in o w access.Nothing f = tt

@@ -19,8 +19,6 @@ use Rattle.kc_words.specs.declared.access.Bits.{Bits}
 use Rattle.kc_words.specs.declared.access.Bits.TheVariants as bits
 use Rattle.kc_words.specs.declared.access.Access.{Access}
 use Rattle.kc_words.specs.declared.access.Access.TheVariants as access
-use Rattle.kc_words.specs.declared.access.Found.{Found}
-use Rattle.kc_words.specs.declared.access.Found.TheVariants as found
 use Rattle.kc_words.specs.Packing.{phase_line}
 use Rattle.kc_steps.specs.declared.line.Line.{Line}
 use Rattle.kc_steps.specs.Looks.{reference_of}
@@ -49,13 +47,14 @@ PhaseIn p = phase_line p < MOST
 abbrev pub StatusIn : Status → Type 0
 StatusIn s = (s.generation ≤ LAST_GENERATION) × PhaseIn s.phase
 
+-- a caller's calls are at most the lives of all descriptors
 abbrev pub OwnerIn : Owner → Type 0
 OwnerIn x = (x.caller < 64) × (x.lines ≤ MOST) × (x.number < 2 ^ 48)
 
 abbrev pub FirstIn : First → Type 0
 FirstIn f = f.version ≤ LAST_VERSION
 
--- of a location that is there; a blank one says location 0
+-- of a location that is there; a blank one says location 0, also where none is
 abbrev pub SecondIn : Opening → Second → Type 0
 SecondIn o s = 0 < o.locations → s.loc < o.locations
 
@@ -74,16 +73,6 @@ pub record WorldIn (o : Opening) (w : World) : Type 0 where
   pub owners : (d : ℕ) → OwnerIn (w.owner d)
   pub firsts : (d k : ℕ) → FirstIn (w.first d k)
   pub seconds : (d k : ℕ) → SecondIn o (w.second d k)
-
-abbrev pub FoundIn : Opening → Found → Type 0
-FoundIn o found.Nothing = Unit {0}
-FoundIn o (found.Word w) = WordIn o w
-FoundIn o (found.Control c) = Unit {0}
-FoundIn o (found.Status s) = StatusIn s
-FoundIn o (found.Owner x) = OwnerIn x
-FoundIn o (found.First f) = FirstIn f
-FoundIn o (found.Second s) = SecondIn o s
-FoundIn o (found.Callers x) = CallersIn o x
 
 -- ---- what a step touches, and with what
 
