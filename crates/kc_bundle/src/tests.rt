@@ -49,10 +49,7 @@ fn a_location_shows_its_value(rt: HostRuntime) -> Result<(), Fail> {
 
 #[test]
 fn a_stack_is_shown_from_the_top(rt: HostRuntime) -> Result<(), Fail> {
-    let stack = Object::Stack(Stack {
-        base: Loc(1),
-        cap: 3,
-    });
+    let stack = Object::Stack(Stack::layout(Loc(1), 3));
     assert!(rt; shows(&rt, stack, &[0, 2, 7, 8, 9], "o 8 7\n")?);
     assert!(rt; shows(&rt, stack, &[0, 9, 7, 8, 9], "o 9 8 7\n")?);
     assert!(rt; shows(&rt, stack, &[0, 0, 7, 8, 9], "o\n")?);
@@ -61,10 +58,7 @@ fn a_stack_is_shown_from_the_top(rt: HostRuntime) -> Result<(), Fail> {
 
 #[test]
 fn a_queue_is_shown_from_the_front(rt: HostRuntime) -> Result<(), Fail> {
-    let queue = Object::Queue(Queue {
-        base: Loc(1),
-        cap: 3,
-    });
+    let queue = Object::Queue(Queue::layout(Loc(1), 3));
     assert!(rt; shows(&rt, queue, &[0, 2, 3, 7, 8, 9], "o 9 7 8\n")?);
     assert!(rt; shows(&rt, queue, &[0, 5, 2, 7, 8, 9], "o 7 8\n")?);
     Ok(())
@@ -72,8 +66,8 @@ fn a_queue_is_shown_from_the_front(rt: HostRuntime) -> Result<(), Fail> {
 
 #[test]
 fn a_place_is_shown_as_its_value_or_none(rt: HostRuntime) -> Result<(), Fail> {
-    let mvar = Object::Mvar(Mvar { base: Loc(1) });
-    let promise = Object::Promise(Promise { base: Loc(1) });
+    let mvar = Object::Mvar(Mvar::layout(Loc(1)));
+    let promise = Object::Promise(Promise::layout(Loc(1)));
     assert!(rt; shows(&rt, mvar, &[0, 0, 4], "o none\n")?);
     assert!(rt; shows(&rt, mvar, &[0, 1, 4], "o 4\n")?);
     assert!(rt; shows(&rt, promise, &[0, 0, 0], "o none\n")?);
@@ -83,10 +77,7 @@ fn a_place_is_shown_as_its_value_or_none(rt: HostRuntime) -> Result<(), Fail> {
 
 #[test]
 fn an_accumulator_is_shown_as_its_sum(rt: HostRuntime) -> Result<(), Fail> {
-    let acc = Object::Acc(Accumulator {
-        base: Loc(1),
-        cells: 2,
-    });
+    let acc = Object::Acc(Accumulator::layout(Loc(1), 2));
     assert!(rt; shows(&rt, acc, &[0, 4_294_967_295, 3], "o 2\n")?);
     Ok(())
 }
@@ -133,11 +124,11 @@ fn opens(rt: &HostRuntime, object: Object, values: &[u32]) -> Result<bool, Fail>
 fn objects_open_with_their_values(rt: HostRuntime) -> Result<(), Fail> {
     let base = Loc(1);
     assert!(rt; opens(&rt, Object::Loc { at: base, value: 5 }, &[0, 5])?);
-    assert!(rt; opens(&rt, Object::Stack(Stack { base, cap: 2 }), &[0, 0, 0, 0])?);
-    assert!(rt; opens(&rt, Object::Queue(Queue { base, cap: 1 }), &[0, 0, 0, 0])?);
-    assert!(rt; opens(&rt, Object::Mvar(Mvar { base }), &[0, 0, 0])?);
-    assert!(rt; opens(&rt, Object::Promise(Promise { base }), &[0, 0, 0])?);
-    assert!(rt; opens(&rt, Object::Acc(Accumulator { base, cells: 1 }), &[0, 0])?);
+    assert!(rt; opens(&rt, Object::Stack(Stack::layout(base, 2)), &[0, 0, 0, 0])?);
+    assert!(rt; opens(&rt, Object::Queue(Queue::layout(base, 1)), &[0, 0, 0, 0])?);
+    assert!(rt; opens(&rt, Object::Mvar(Mvar::layout(base)), &[0, 0, 0])?);
+    assert!(rt; opens(&rt, Object::Promise(Promise::layout(base)), &[0, 0, 0])?);
+    assert!(rt; opens(&rt, Object::Acc(Accumulator::layout(base, 1)), &[0, 0])?);
     let cache = Cache {
         base,
         buckets: 1,
