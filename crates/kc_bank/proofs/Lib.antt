@@ -1,0 +1,2 @@
+pub mod PayLemmas
+pub mod TermLemmas
