@@ -1,7 +1,8 @@
 //! Commits the bank's transactions one after another, and prints what each comes to.
 
 ghost use Rattle.std.specs.Prelude.{◌≡◌, ◌≤◌, IfOk, length};
-ghost use Rattle.kc_model.specs.Store.{after, store_of};
+ghost use Rattle.kc_bank.specs.Committed.{IsCommitted};
+ghost use Rattle.kc_model.specs.Store.{store_of};
 ghost use Rattle.kc_term.specs.Fit.{Each};
 ghost use Rattle.kc_term.specs.Tree.{operations};
 ghost use Rattle.kc_bank.specs.declared.bank.TheConstants.{BANK_CELLS};
@@ -113,10 +114,16 @@ impl Teller {
     fn commits<T: Transact>(&mut self, rt: &impl Print, transaction: &T) -> Result<()>
         requires fit { T.is_fit transaction.now }
         requires within { T.end transaction.now ≤ BANK_CELLS }
-        ensures { store_of self.new.store ≡ after self.new.footprint (store_of self.old.store) }
+        ensures { IsCommitted (T.meaning transaction.now)
+            (store_of self.old.store) self.old.footprint (store_of self.new.store) self.new.footprint }
     {
-        match commit(&mut self.store, transaction, &mut self.footprint) {
-            Tried::Done(reply) => tells(rt, &reply)?,
+        let tried = commit(&mut self.store, transaction, &mut self.footprint);
+        self.tells_tried(rt, &tried)
+    }
+
+    fn tells_tried(&self, rt: &impl Print, tried: &Tried) -> Result<()> {
+        match tried {
+            Tried::Done(reply) => tells(rt, reply)?,
             Tried::Later => self.tells_waited(rt)?,
             Tried::TooLarge => print!(rt; "too large")?,
             Tried::Busy => print!(rt; "busy")?,
