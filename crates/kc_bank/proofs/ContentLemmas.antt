@@ -1,4 +1,4 @@
-use Rattle.std.proofs.Common.{◌≡◌, ◌≢◌, ◌++◌, ◌+◌, ◌%◌, ◌^◌, ℕ, List, [], Option, Some, None, ap, refl, subst, sym}
+use Rattle.std.proofs.Common.{◌≡◌, ◌≢◌, ◌++◌, ◌+◌, ◌%◌, ◌^◌, ℕ, List, Option, Some, None, ap, refl, subst, sym}
 use Rattle.kc_hash.specs.Content.{StandsFor, hash_value, put_value, value_at}
 use Rattle.kc_hash.specs.Meaning.{hash_meaning}
 use Rattle.kc_hash.proofs.Values.{hash_means}
