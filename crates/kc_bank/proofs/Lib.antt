@@ -1,0 +1,4 @@
+pub mod ContentLemmas
+pub mod PayContent
+pub mod PayLemmas
+pub mod TermLemmas

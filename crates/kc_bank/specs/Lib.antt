@@ -1,0 +1,4 @@
+pub mod Bank
+pub mod Committed
+pub mod Content
+pub mod Places
