@@ -1,0 +1,39 @@
+//! What holds after every schedule of every opening. An empty body: the contract is the law.
+
+ghost use Rattle.std.specs.Prelude.{◌≡◌, ℕ, ◌<◌, ◌++◌, ◌∷◌, List, [], All, true, false};
+ghost use Rattle.kc_steps.specs.declared.task.Event.{Event};
+ghost use Rattle.kc_steps.specs.declared.task.Event.TheVariants.{Step};
+ghost use Rattle.kc_machine.specs.Machine.{Opening, run, run_from, possible, touched, found_at};
+ghost use Rattle.kc_machine.specs.Schedules.{BeginsWellMade, IsSchedule};
+ghost use Rattle.kc_machine.specs.Seats.{access_of, answer_of};
+ghost use Rattle.kc_claims.specs.Traces.{trace, trace_from, IsHonest};
+ghost use Rattle.kc_traces.specs.Parts.{NoneOf, GoesOnHonestly, IsNoStep};
+
+/// The run and the trace of a schedule that goes on are those of its second part from those of its first. It is meant, and
+/// honest, exactly where the first part is and the second one goes on so.
+pub fn schedules_join()
+    ensures run { (o : Opening) (xs ys : List Event) → run o (xs ++ ys) ≡ run_from (run o xs) ys }
+    ensures trace { (o : Opening) (xs ys : List Event) → trace o (xs ++ ys) ≡ trace_from (trace o xs) ys }
+    ensures made { (o : Opening) (xs ys : List Event) → IsSchedule o xs → All (BeginsWellMade o.locations) ys → IsSchedule o (xs ++ ys) }
+    ensures made_parts { (o : Opening) (xs ys : List Event) → IsSchedule o (xs ++ ys) → IsSchedule o xs × All (BeginsWellMade o.locations) ys }
+    ensures honest { (o : Opening) (xs ys : List Event) → IsHonest o xs → GoesOnHonestly o xs ys → IsHonest o (xs ++ ys) }
+    ensures honest_parts { (o : Opening) (xs ys : List Event) → IsHonest o (xs ++ ys) → IsHonest o xs × GoesOnHonestly o xs ys }
+{}
+
+/// Events of other seats leave a seat and its shadow as they were.
+pub fn others_leave_a_seat()
+    ensures seat { (o : Opening) (es more : List Event) (k : ℕ) → NoneOf k more → (run o (es ++ more)).seats k ≡ (run o es).seats k }
+    ensures shadow { (o : Opening) (es more : List Event) (k : ℕ) → NoneOf k more → (trace o (es ++ more)).shadows k ≡ (trace o es).shadows k }
+{}
+
+/// A step that is possible touches one word, and its seat answers to what stood there; one that isn't changes nothing.
+/// Beginnings and halts leave the words and the history.
+pub fn a_step_is_one_access()
+    ensures world { (o : Opening) (es : List Event) (k : ℕ) → k < o.callers → possible (run o es) (access_of ((run o es).seats k)) ≡ true
+        → (run o (es ++ Step k ∷ [])).world ≡ touched (run o es).world (access_of ((run o es).seats k)) }
+    ensures seat { (o : Opening) (es : List Event) (k : ℕ) → k < o.callers → possible (run o es) (access_of ((run o es).seats k)) ≡ true
+        → (run o (es ++ Step k ∷ [])).seats k ≡ answer_of ((run o es).seats k) (found_at (run o es).world (access_of ((run o es).seats k))) }
+    ensures idle { (o : Opening) (es : List Event) (k : ℕ) → possible (run o es) (access_of ((run o es).seats k)) ≡ false → run o (es ++ Step k ∷ []) ≡ run o es }
+    ensures words_stay { (o : Opening) (es more : List Event) → All IsNoStep more → (run o (es ++ more)).world ≡ (run o es).world }
+    ensures history_stays { (o : Opening) (es more : List Event) → All IsNoStep more → (trace o (es ++ more)).history ≡ (trace o es).history }
+{}
