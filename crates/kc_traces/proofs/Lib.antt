@@ -1,2 +1,5 @@
 pub mod Joins
 pub mod Others
+pub mod Moments
+pub mod Answers
+pub mod Known

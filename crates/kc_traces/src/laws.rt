@@ -1,12 +1,18 @@
 //! What holds after every schedule of every opening. An empty body: the contract is the law.
 
-ghost use Rattle.std.specs.Prelude.{◌≡◌, ℕ, ◌<◌, ◌++◌, ◌∷◌, List, [], All, true, false};
+ghost use Rattle.std.specs.Prelude.{◌≡◌, ℕ, ◌<◌, ◌≤◌, ◌++◌, ◌∷◌, List, [], All, true, false, Some, length};
+ghost use Rattle.kc_model.specs.declared.footprint.Seen.{Seen};
+ghost use Rattle.kc_model.specs.Store.{Store};
+ghost use Rattle.kc_steps.specs.declared.task.Task.{Task};
 ghost use Rattle.kc_steps.specs.declared.task.Event.{Event};
-ghost use Rattle.kc_steps.specs.declared.task.Event.TheVariants.{Step};
+ghost use Rattle.kc_steps.specs.declared.task.Event.TheVariants.{Begin, Step};
 ghost use Rattle.kc_machine.specs.Machine.{Opening, run, run_from, possible, touched, found_at};
 ghost use Rattle.kc_machine.specs.Schedules.{BeginsWellMade, IsSchedule};
-ghost use Rattle.kc_machine.specs.Seats.{access_of, answer_of};
-ghost use Rattle.kc_claims.specs.Traces.{trace, trace_from, IsHonest};
+ghost use Rattle.kc_machine.specs.Seats.{access_of, answer_of, begun, is_idle};
+ghost use Rattle.kc_claims.specs.Claims.{HistoriesGrow};
+ghost use Rattle.kc_claims.specs.Histories.{History, Grows, IsKnown, ending};
+ghost use Rattle.kc_claims.specs.Traces.{trace, trace_from, first_store, IsHonest};
+ghost use Rattle.kc_traces.specs.Moments.{AnswersWhenDone, BeginsNothing, IsMomentOf};
 ghost use Rattle.kc_traces.specs.Parts.{NoneOf, GoesOnHonestly, IsNoStep};
 
 /// The run and the trace of a schedule that goes on are those of its second part from those of its first. It is meant, and
@@ -36,4 +42,27 @@ pub fn a_step_is_one_access()
     ensures idle { (o : Opening) (es : List Event) (k : ℕ) → possible (run o es) (access_of ((run o es).seats k)) ≡ false → run o (es ++ Step k ∷ []) ≡ run o es }
     ensures words_stay { (o : Opening) (es more : List Event) → All IsNoStep more → (run o (es ++ more)).world ≡ (run o es).world }
     ensures history_stays { (o : Opening) (es more : List Event) → All IsNoStep more → (trace o (es ++ more)).history ≡ (trace o es).history }
+{}
+
+/// The moments that a seat's shadow keeps have the history at their clock, which is at most the length of the schedule.
+pub fn begun_is_a_moment()
+    ensures begun { (o : Opening) (es : List Event) (k : ℕ) → IsMomentOf o es ((trace o es).shadows k).begun }
+    ensures listening { (o : Opening) (es : List Event) (k : ℕ) → IsMomentOf o es ((trace o es).shadows k).listening }
+{}
+
+/// A seat has no answer exactly while its task runs, or where none was begun. An idle seat that begins a task has it from
+/// then until its next beginning, and the moment at which it began.
+pub fn no_answer_while_it_runs()
+    ensures answers { (o : Opening) (es : List Event) (k : ℕ) → AnswersWhenDone ((run o es).seats k) ((trace o es).shadows k).task }
+    ensures tasks { (o : Opening) (es more : List Event) (k : ℕ) (t : Task) → k < o.callers → is_idle ((run o es).seats k).work ≡ true → is_idle (begun ((run o es).seats k) t).work ≡ false → BeginsNothing k more
+        → (((trace o (es ++ Begin k t ∷ more)).shadows k).task ≡ Some t) × (((trace o (es ++ Begin k t ∷ more)).shadows k).begun ≡ record { clock = length es; history = (trace o es).history }) }
+{}
+
+/// What is known to a history stays known as it grows, and no version falls; so also as a schedule goes on, where its
+/// histories grow, which is a premise here.
+pub fn known_stays()
+    ensures known { (s : Store) (a b : History) (r : Seen) → Grows a b → IsKnown s a r → IsKnown s b r }
+    ensures versions { (s : Store) (a b : History) (l : ℕ) → Grows a b → (ending s a l).version ≤ (ending s b l).version }
+    ensures known_on { (o : Opening) (es more : List Event) → HistoriesGrow o (es ++ more) → (r : Seen) → IsKnown (first_store o) (trace o es).history r → IsKnown (first_store o) (trace o (es ++ more)).history r }
+    ensures versions_on { (o : Opening) (es more : List Event) → HistoriesGrow o (es ++ more) → (l : ℕ) → (ending (first_store o) (trace o es).history l).version ≤ (ending (first_store o) (trace o (es ++ more)).history l).version }
 {}

@@ -3,4 +3,7 @@
 
 mod laws;
 
-pub use laws::{a_step_is_one_access, others_leave_a_seat, schedules_join};
+pub use laws::{
+    a_step_is_one_access, begun_is_a_moment, known_stays, no_answer_while_it_runs,
+    others_leave_a_seat, schedules_join,
+};
