@@ -12,6 +12,7 @@ ghost use Rattle.kc_machine.specs.Seats.{access_of, answer_of, begun, is_idle};
 ghost use Rattle.kc_claims.specs.Claims.{HistoriesGrow};
 ghost use Rattle.kc_claims.specs.Histories.{History, Grows, IsKnown, ending};
 ghost use Rattle.kc_claims.specs.Traces.{trace, trace_from, first_store, IsHonest};
+ghost use Rattle.kc_traces.specs.Entries.{by, AreOfCallers};
 ghost use Rattle.kc_traces.specs.Moments.{AnswersWhenDone, BeginsNothing, IsMomentOf};
 ghost use Rattle.kc_traces.specs.Parts.{NoneOf, GoesOnHonestly, IsNoStep};
 
@@ -56,6 +57,16 @@ pub fn no_answer_while_it_runs()
     ensures answers { (o : Opening) (es : List Event) (k : ℕ) → AnswersWhenDone ((run o es).seats k) ((trace o es).shadows k).task }
     ensures tasks { (o : Opening) (es more : List Event) (k : ℕ) (t : Task) → k < o.callers → is_idle ((run o es).seats k).work ≡ true → is_idle (begun ((run o es).seats k) t).work ≡ false → BeginsNothing k more
         → (((trace o (es ++ Begin k t ∷ more)).shadows k).task ≡ Some t) × (((trace o (es ++ Begin k t ∷ more)).shadows k).begun ≡ record { clock = length es; history = (trace o es).history }) }
+{}
+
+/// Each entry's caller is below the number of callers, whatever the schedule: an entry is of the caller that owns what was decided.
+pub fn entries_are_of_callers()
+    ensures { (o : Opening) (es : List Event) → AreOfCallers o.callers (trace o es).history }
+{}
+
+/// While a seat is idle, the entries of its caller stay as they are.
+pub fn idle_seats_gain_no_entry()
+    ensures { (o : Opening) (es more : List Event) (k : ℕ) → is_idle ((run o es).seats k).work ≡ true → NoneOf k more → by k (trace o (es ++ more)).history ≡ by k (trace o es).history }
 {}
 
 /// What is known to a history stays known as it grows, and no version falls; so also as a schedule goes on, where its

@@ -1,0 +1,247 @@
+-- Whose entries a history gets.
+use Rattle.std.proofs.Common.{◌≡◌, ◌≢◌, ℕ, ◌<◌, ◌==◌, ◌&&◌, ◌++◌, ◌∙◌, Bool, true, false, List, [], ◌∷◌, All, cond, refl, sym, ap, subst, arith, append_assoc, append-nil, if◌then◌else◌, Option, Some}
+use Rattle.std.specs.Prelude.{nat_lt}
+use Rattle.std.specs.List.{filter}
+use Rattle.std.proofs.lemmas.List.Elements.{All-nil, All-head, All-tail, All-cons}
+use borrow.Author.Tests.{ltb-true, ne_eqb}
+use Rattle.kc_model.specs.declared.footprint.Seen.{Seen}
+use Rattle.kc_words.specs.declared.words.Handle.{Handle}
+use Rattle.kc_words.specs.declared.words.Owner.{Owner}
+use Rattle.kc_words.specs.declared.words.Phase.{Phase}
+use Rattle.kc_words.specs.declared.words.Phase.TheVariants.{Active, Succeeded, Failed, Crossed, Halted}
+use Rattle.kc_words.specs.declared.words.Reference.{Reference}
+use Rattle.kc_steps.specs.declared.line.Line.{Line}
+use Rattle.kc_steps.specs.declared.line.Intent.{Intent}
+use Rattle.kc_steps.specs.declared.aid.Aided.{Aided}
+use Rattle.kc_steps.specs.declared.aid.AidStep.{AidStep}
+use Rattle.kc_steps.specs.declared.aid.AidStep.TheVariants as aid
+use Rattle.kc_steps.specs.declared.commit.Commit.{Commit}
+use Rattle.kc_steps.specs.declared.commit.Stage.{Stage}
+use Rattle.kc_steps.specs.declared.commit.Stage.TheVariants as stage
+use Rattle.kc_steps.specs.declared.commit.OwnStep.{OwnStep}
+use Rattle.kc_steps.specs.declared.commit.OwnStep.TheVariants as own
+use Rattle.kc_steps.specs.declared.task.Event.{Event}
+use Rattle.kc_steps.specs.Passes.{status}
+use Rattle.kc_machine.specs.Words.{phase_is}
+use Rattle.kc_machine.specs.Works.{Work}
+use Rattle.kc_machine.specs.Works as work
+use Rattle.kc_machine.specs.declared.hang.HangStep.{HangStep}
+use Rattle.kc_machine.specs.declared.hang.HangStep.TheVariants as hang
+use Rattle.kc_machine.specs.declared.seat.Seat.{Seat}
+use Rattle.kc_machine.specs.Seats.{is_idle}
+use Rattle.kc_machine.specs.Machine.{World, State, Opening, event_of, seat_of, run}
+use Rattle.kc_effects.specs.Stands.{Stand, Own, NoOwn, Owns, Runs, Waits, Passing, NoPass, Over, Aiding, NoAid, Aids, Passes, Turn, At, stand, works, resting, commits, owns, aids, hangs}
+use Rattle.kc_effects.specs.Holds.{Proper, own_hold, aid_hold}
+use Rattle.kc_effects.proofs.Held.{Fits}
+use Rattle.kc_pool.specs.Owners.{OwnsLife, Undecided}
+use Rattle.kc_pool.specs.Filled.{task, owner_word, Stored, OwnerStored}
+use Rattle.kc_pool.proofs.LifeLaws.{active_owned}
+use Rattle.kc_seats.proofs.SeatedSteps.{seats_stay}
+use Rattle.kc_claims.specs.Histories.{History, Placed, inserted}
+use Rattle.kc_claims.specs.Traces.{Moment, Trace, is_success, decides, caller_for, number_for, entry_for, history_after, place_or, traced, trace, now}
+use Rattle.kc_claims.proofs.Follows.{trace_runs}
+use Rattle.kc_traces.specs.Parts.{NoneOf}
+use Rattle.kc_traces.specs.Entries.{by, AreOfCallers}
+use Rattle.kc_traces.proofs.Joins.{trace-append, every}
+use Rattle.kc_traces.proofs.Others.{run_shape, event_out, undecided, others_leave}
+use Rattle.kc_traces.proofs.Copies.{Copied, copies_after}
+use Rattle.kc_traces.proofs.Stood.{same_call}
+
+-- ---- insertions
+
+-- an entry of another caller
+by_other : (k : ℕ) (x : Placed) (h : History) → x.entry.caller ≢ k → by k (x ∷ h) ≡ by k h
+by_other k x h ne = ap (λ b. cond b (x ∷ by k h) (by k h)) (ne_eqb x.entry.caller k ne)
+
+by_inserted : (k : ℕ) (x : Placed) (h : History) → x.entry.caller ≢ k → by k (inserted x h) ≡ by k h
+by_inserted k x [] ne = by_other k x [] ne
+by_inserted k x (y ∷ h) ne = go (by_inserted k x h ne) (nat_lt x.place y.place)
+  where
+    go : by k (inserted x h) ≡ by k h → (b : Bool) → by k (if b then x ∷ y ∷ h else y ∷ inserted x h) ≡ by k (y ∷ h)
+    go r true = by_other k x (y ∷ h) ne
+    go r false = ap (λ z. cond (y.entry.caller == k) (y ∷ z) z) r
+
+all_inserted : (P : Placed → Type 0) (x : Placed) (h : History) → P x → All P h → All P (inserted x h)
+all_inserted P x [] p a = All-cons P x [] p a
+all_inserted P x (y ∷ h) p a = go (all_inserted P x h p (All-tail P y h a)) (nat_lt x.place y.place)
+  where
+    go : All P (inserted x h) → (b : Bool) → All P (if b then x ∷ y ∷ h else y ∷ inserted x h)
+    go r true = All-cons P x (y ∷ h) p a
+    go r false = All-cons P y (inserted x h) (All-head P y h a) r
+
+-- ---- who owns what is decided
+
+was_active : (p q : Phase) → (phase_is p Active && is_success q) ≡ true → p ≡ Active
+was_active Active q e = refl
+was_active Succeeded q e = absurd (cc)
+was_active (Failed k) q e = absurd (cc)
+was_active (Crossed k) q e = absurd (cc)
+was_active Halted q e = absurd (cc)
+
+-- an owner that has started it has stored its word
+stored : (w : World) (caller calls : ℕ) (x : Own) (y : Passing) (d g : ℕ) → own_hold x ≡ Proper d g → Undecided x y
+    → ((h : Handle) (i : Intent) → task x ≡ Some (h, i) → Stored OwnerStored x → w.owner h.descriptor ≡ owner_word caller calls i)
+    → ((w.owner d).caller ≡ caller) × ((w.owner d).number ≡ calls)
+stored w caller calls NoOwn y d g q u f = absurd u
+stored w caller calls (Owns h i step) y d g q u f = absurd u
+stored w caller calls (Runs h i) y d g q u f =
+    let e : h.descriptor ≡ d = cc in
+    let r = subst (λ z. w.owner z ≡ owner_word caller calls i) e (f h i refl tt) in
+    (ap (λ (z : Owner). z.caller) r, ap (λ (z : Owner). z.number) r)
+stored w caller calls (Waits h i j) y d g q u f =
+    let e : h.descriptor ≡ d = cc in
+    let r = subst (λ z. w.owner z ≡ owner_word caller calls i) e (f h i refl tt) in
+    (ap (λ (z : Owner). z.caller) r, ap (λ (z : Owner). z.number) r)
+
+-- an idle seat owns nothing
+unowning : (s : Seat) (d g : ℕ) → is_idle s.work ≡ true → own_hold (stand s).own ≡ Proper d g → ⊥
+unowning s d g = go s.work
+  where
+    go : (x : Work) → is_idle x ≡ true → own_hold (works (resting s) x).own ≡ Proper d g → ⊥
+    go work.Idle i q = absurd (cc)
+    go (work.Look l) i q = absurd (cc)
+    go (work.Commit c) i q = absurd (cc)
+    go (work.Hang h) i q = absurd (cc)
+    go (work.Leave l) i q = absurd (cc)
+
+module _ (o : Opening) (es : List Event) where
+  -- a caller whose seat owns a descriptor, at its call
+  pub record Entering (caller number : ℕ) : Type 0 where
+    pub within : caller < o.callers
+    pub owns : (d : ℕ) × (g : ℕ) × (own_hold (stand ((run o es).seats caller)).own ≡ Proper d g)
+    pub call : number ≡ ((run o es).seats caller).calls
+
+  module _ (v : World) where
+    abbrev Enters : (caller calls : ℕ) → Aiding → Passing → Type 0
+    Enters caller calls a NoPass = Unit {0}
+    Enters caller calls a (Over h m xs t) = decides (run o es).world v h ≡ true → Entering (caller_for caller a) (number_for calls a)
+
+    -- what was Active is owned by the caller of its owner word
+    active : (h : Handle) → decides (run o es).world v h ≡ true → Entering ((run o es).world.owner h.descriptor).caller ((run o es).world.owner h.descriptor).number
+    active h q =
+        let w = (run o es).world in
+        let p = was_active (w.status h.descriptor).phase (v.status h.descriptor).phase q in
+        let a = active_owned o es h.descriptor (w.status h.descriptor).generation (λ i. record { generation = (w.status h.descriptor).generation; phase = p i }) in
+        let s = (run o es).seats a.0 in
+        let c = (run_shape o es).2 in
+        let r = same_call s in
+        let f = ((copies_after o es).lives.filled a.0 a.1).0 in
+        let y = stored w (stand s).caller (stand s).calls (stand s).own (stand s).pass h.descriptor (w.status h.descriptor).generation a.2 a.3 f in
+        let to : (w.owner h.descriptor).caller ≡ a.0 = y.0 ∙ r.0 ∙ (seats_stay o es a.0).0 in
+        record {
+          within = let l = a.1 in omega arith;
+          owns = (h.descriptor, (w.status h.descriptor).generation, subst (λ k. own_hold (stand ((run o es).seats k)).own ≡ Proper h.descriptor (w.status h.descriptor).generation) (sym to) a.2);
+          call = y.1 ∙ r.1 ∙ ap (λ k. ((run o es).seats k).calls) (sym to);
+        }
+
+    module _ (j : ℕ) (l : j < o.callers) where
+      abbrev s : Seat
+      s = (run o es).seats j
+
+      own_pass : (h : Handle) → own_hold (stand s).own ≡ Proper h.descriptor h.generation → Entering s.caller s.calls
+      own_pass h q =
+          let c = (seats_stay o es j).0 in
+          record {
+            within = omega arith;
+            owns = (h.descriptor, h.generation, subst (λ k. own_hold (stand ((run o es).seats k)).own ≡ Proper h.descriptor h.generation) (sym c) q);
+            call = ap (λ k. ((run o es).seats k).calls) (sym c);
+          }
+
+      abbrev EntersAt : Stand → Type 0
+      EntersAt t = Copied (run o es).world t.aid → ((d g : ℕ) → own_hold t.own ≡ Proper d g → own_hold (stand s).own ≡ Proper d g) → Enters t.caller t.calls t.aid t.pass
+
+      aid_enters : (b : Bool) (h : Handle) (i : Intent) (k : ℕ) (r : Reference) (c : Aided) (a : AidStep) → EntersAt (aids (record (resting s) { halted = b; own = Waits h i k }) r c a)
+      aid_enters b h i k r c aid.Hold y m = tt
+      aid_enters b h i k r c aid.Status y m = tt
+      aid_enters b h i k r c (aid.First p) y m = tt
+      aid_enters b h i k r c (aid.Second p f) y m = tt
+      aid_enters b h i k r c (aid.Release p x) y m = tt
+      aid_enters b h i k r c aid.Owner y m = tt
+      aid_enters b h i k r c aid.LoadFirst y m = tt
+      aid_enters b h i k r c (aid.LoadSecond f) y m = tt
+      aid_enters b h i k r c (aid.Pass p) y m = λ q. subst (λ (z : Owner). Entering z.caller z.number) (sym y) (active r.handle q)
+      aid_enters b h i k r c (aid.Leave x) y m = tt
+      aid_enters b h i k r c (aid.Drop stray x) y m = tt
+
+      own_enters : (c : Commit) (h : Handle) (step : OwnStep) → EntersAt (owns (record (resting s) { halted = c.halted }) c.intent c.copy h step)
+      own_enters c h own.FillOwner y m = tt
+      own_enters c h (own.FillFirst k) y m = tt
+      own_enters c h (own.FillSecond k) y m = tt
+      own_enters c h own.Start y m = tt
+      own_enters c h own.Abandon y m = tt
+      own_enters c h (own.Pass p) y m = λ q. own_pass h (m h.descriptor h.generation refl)
+      own_enters c h (own.Aid k r a) y m = aid_enters c.halted h c.intent k r c.copy a y m
+      own_enters c h (own.Wake k owed) y m = tt
+      own_enters c h (own.Signal owed) y m = tt
+      own_enters c h (own.Drop p) y m = tt
+
+      stage_enters : (c : Commit) (x : Stage) → EntersAt (commits (record (resting s) { halted = c.halted }) c.intent c.copy x)
+      stage_enters c (stage.Scan d worn) y m = tt
+      stage_enters c (stage.Take d g) y m = tt
+      stage_enters c (stage.Own h step) y m = own_enters c h step y m
+
+      hang_enters : (reads : List Seen) (step : HangStep) → EntersAt (hangs (resting s) reads step)
+      hang_enters reads (hang.Set k) y m = tt
+      hang_enters reads (hang.Look k step) y m = tt
+      hang_enters reads (hang.Clear k n) y m = tt
+
+      work_enters : (x : Work) → EntersAt (works (resting s) x)
+      work_enters work.Idle y m = tt
+      work_enters (work.Look a) y m = tt
+      work_enters (work.Commit c) y m = stage_enters c c.stage y m
+      work_enters (work.Hang h) y m = hang_enters h.reads.items h.step y m
+      work_enters (work.Leave a) y m = tt
+
+      enters : Enters (stand s).caller (stand s).calls (stand s).aid (stand s).pass
+      enters = let c = (run_shape o es).2 in work_enters s.work ((copies_after o es).copied j (omega arith)) (λ d g q. q)
+
+  -- ---- one event
+
+  -- a history stays, or gets the entry of a caller whose seat owns a descriptor
+  module _ (P : History → Type 0) (e : Event) (same : P (trace o es).history) (more : (x : Placed) → Entering x.entry.caller x.entry.number → P (inserted x (trace o es).history)) where
+    decided : (v : World) (s : Stand) (place : Option ℕ) (p : Passing) → Enters v s.caller s.calls s.aid p → P (history_after (now (trace o es)) (run o es).world v s place p)
+    decided v s place NoPass f = same
+    decided v s place (Over h m xs turn) f = go (decides (run o es).world v h) refl
+      where
+        x : Placed
+        x = record { place = place_or (trace o es).clock place; mode = m; entry = entry_for s xs }
+
+        go : (b : Bool) → decides (run o es).world v h ≡ b → P (if b then inserted x (trace o es).history else (trace o es).history)
+        go true q = more x (f q)
+        go false q = same
+
+    happens : P (history_after (now (trace o es)) (run o es).world (event_of (run o es) e).world (stand ((run o es).seats (seat_of e))) ((trace o es).shadows (seat_of e)).place (stand ((run o es).seats (seat_of e))).pass)
+    happens = go (nat_lt (seat_of e) (run o es).callers) refl
+      where
+        st : Stand
+        st = stand ((run o es).seats (seat_of e))
+
+        go : (b : Bool) → nat_lt (seat_of e) (run o es).callers ≡ b → P (history_after (now (trace o es)) (run o es).world (event_of (run o es) e).world st ((trace o es).shadows (seat_of e)).place st.pass)
+        go true q =
+            let c = (run_shape o es).2 in
+            let l = ltb-true (seat_of e) (run o es).callers q in
+            decided (event_of (run o es) e).world st ((trace o es).shadows (seat_of e)).place st.pass (enters (event_of (run o es) e).world (seat_of e) (omega arith))
+        go false q = subst P (sym (undecided (now (trace o es)) (run o es).world (event_of (run o es) e).world st ((trace o es).shadows (seat_of e)).place st.pass (ap (λ (m : State). m.world) (event_out (run o es) e q)))) same
+
+    pub history_grows : P (trace o (es ++ e ∷ [])).history
+    history_grows = subst P (sym (ap (λ (t : Trace). t.history) (trace-append o es (e ∷ []))))
+        (subst (λ (n : State). P (history_after (now (trace o es)) n.world (event_of n e).world (stand (n.seats (seat_of e))) ((trace o es).shadows (seat_of e)).place (stand (n.seats (seat_of e))).pass)) (sym (trace_runs o es)) happens)
+
+-- ---- every schedule
+
+pub entries_of_callers : (o : Opening) (es : List Event) → AreOfCallers o.callers (trace o es).history
+entries_of_callers o = every (λ es. AreOfCallers o.callers (trace o es).history)
+    (λ es e a. history_grows o es (AreOfCallers o.callers) e a (λ x n. all_inserted (λ y. y.entry.caller < o.callers) x _ n.within a))
+    (All-nil (λ (y : Placed). y.entry.caller < o.callers))
+
+-- the entries of an idle seat's caller stay, whatever happens
+idle_keeps : (o : Opening) (es : List Event) (k : ℕ) (e : Event) → is_idle ((run o es).seats k).work ≡ true → by k (trace o (es ++ e ∷ [])).history ≡ by k (trace o es).history
+idle_keeps o es k e i = history_grows o es (λ h. by k h ≡ by k (trace o es).history) e refl
+    (λ x n. by_inserted k x _ (λ q. unowning ((run o es).seats k) n.owns.0 n.owns.1 i (subst (λ c. own_hold (stand ((run o es).seats c)).own ≡ Proper n.owns.0 n.owns.1) q n.owns.2)))
+
+pub idle_gains_none : (o : Opening) (es more : List Event) (k : ℕ) → is_idle ((run o es).seats k).work ≡ true → NoneOf k more → by k (trace o (es ++ more)).history ≡ by k (trace o es).history
+idle_gains_none o es [] k i n = ap (λ x. by k (trace o x).history) (append-nil es)
+idle_gains_none o es (e ∷ more) k i n =
+    let at = others_leave o es (e ∷ []) k (n.0, tt) in
+    let r = idle_gains_none o (es ++ e ∷ []) more k (ap (λ (s : Seat). is_idle s.work) at ∙ i) n.1 in
+    ap (λ x. by k (trace o x).history) (sym (append_assoc es (e ∷ []) more)) ∙ r ∙ idle_keeps o es k e i
