@@ -61,7 +61,7 @@ by_inserted k x (y ∷ h) ne = go (by_inserted k x h ne) (nat_lt x.place y.place
     go r true = by_other k x (y ∷ h) ne
     go r false = ap (λ z. cond (y.entry.caller == k) (y ∷ z) z) r
 
-all_inserted : (P : Placed → Type 0) (x : Placed) (h : History) → P x → All P h → All P (inserted x h)
+pub all_inserted : (P : Placed → Type 0) (x : Placed) (h : History) → P x → All P h → All P (inserted x h)
 all_inserted P x [] p a = All-cons P x [] p a
 all_inserted P x (y ∷ h) p a = go (all_inserted P x h p (All-tail P y h a)) (nat_lt x.place y.place)
   where

@@ -6,3 +6,4 @@ pub mod Known
 pub mod Copies
 pub mod Stood
 pub mod Entries
+pub mod Numbers

@@ -12,7 +12,7 @@ ghost use Rattle.kc_machine.specs.Seats.{access_of, answer_of, begun, is_idle};
 ghost use Rattle.kc_claims.specs.Claims.{HistoriesGrow};
 ghost use Rattle.kc_claims.specs.Histories.{History, Grows, IsKnown, ending};
 ghost use Rattle.kc_claims.specs.Traces.{trace, trace_from, first_store, IsHonest};
-ghost use Rattle.kc_traces.specs.Entries.{by, AreOfCallers};
+ghost use Rattle.kc_traces.specs.Entries.{by, AreOfCallers, NumbersFit};
 ghost use Rattle.kc_traces.specs.Moments.{AnswersWhenDone, BeginsNothing, IsMomentOf};
 ghost use Rattle.kc_traces.specs.Parts.{NoneOf, GoesOnHonestly, IsNoStep};
 
@@ -59,9 +59,10 @@ pub fn no_answer_while_it_runs()
         → (((trace o (es ++ Begin k t ∷ more)).shadows k).task ≡ Some t) × (((trace o (es ++ Begin k t ∷ more)).shadows k).begun ≡ record { clock = length es; history = (trace o es).history }) }
 {}
 
-/// Each entry's caller is below the number of callers, whatever the schedule: an entry is of the caller that owns what was decided.
+/// Each entry's caller is below the number of callers, and its number at most the calls that its caller's seat has made.
 pub fn entries_are_of_callers()
-    ensures { (o : Opening) (es : List Event) → AreOfCallers o.callers (trace o es).history }
+    ensures callers { (o : Opening) (es : List Event) → AreOfCallers o.callers (trace o es).history }
+    ensures numbers { (o : Opening) (es : List Event) → NumbersFit (run o es) (trace o es).history }
 {}
 
 /// While a seat is idle, the entries of its caller stay as they are.
