@@ -189,7 +189,7 @@ one_names tr (Step j) k t at o n = go (k == j) refl
         subst (λ (x : Shadow). Names x t at) (sym (ap (λ i. (traced tr (Step j)).shadows i) e ∙ put_here tr.shadows j _)) (subst (λ i. Names (tr.shadows i) t at) e n)
     go false q = subst (λ (x : Shadow). Names x t at) (sym (put_else tr.shadows j _ k (eqb-false k j q))) n
 
-head_of : (k : ℕ) (e : Event) (es : List Event) → BeginsNothing k (e ∷ es) → BeginsNothing k (e ∷ []) × BeginsNothing k es
+pub head_of : (k : ℕ) (e : Event) (es : List Event) → BeginsNothing k (e ∷ es) → BeginsNothing k (e ∷ []) × BeginsNothing k es
 head_of k (Begin j u) es o = ((o.0, tt), o.1)
 head_of k (Step j) es o = (tt, o)
 head_of k (Halt j) es o = (tt, o)

@@ -33,7 +33,8 @@ use Rattle.kc_machine.specs.Machine.{World, State, Opening, event_of, seat_of, r
 use Rattle.kc_effects.specs.Stands.{Stand, Own, NoOwn, Owns, Runs, Waits, Passing, NoPass, Over, Aiding, NoAid, Aids, Passes, Turn, At, stand, works, resting, commits, owns, aids, hangs}
 use Rattle.kc_effects.specs.Holds.{Proper, own_hold, aid_hold}
 use Rattle.kc_effects.proofs.Held.{Fits}
-use Rattle.kc_pool.specs.Owners.{OwnsLife, Undecided}
+use Rattle.kc_machine.proofs.Functions.{both}
+use Rattle.kc_pool.specs.Owners.{Undecided, is_filling}
 use Rattle.kc_pool.specs.Filled.{task, owner_word, Stored, OwnerStored}
 use Rattle.kc_pool.proofs.LifeLaws.{active_owned}
 use Rattle.kc_seats.proofs.SeatedSteps.{seats_stay}
@@ -53,7 +54,7 @@ use Rattle.kc_traces.proofs.Stood.{same_call}
 by_other : (k : ℕ) (x : Placed) (h : History) → x.entry.caller ≢ k → by k (x ∷ h) ≡ by k h
 by_other k x h ne = ap (λ b. cond b (x ∷ by k h) (by k h)) (ne_eqb x.entry.caller k ne)
 
-by_inserted : (k : ℕ) (x : Placed) (h : History) → x.entry.caller ≢ k → by k (inserted x h) ≡ by k h
+pub by_inserted : (k : ℕ) (x : Placed) (h : History) → x.entry.caller ≢ k → by k (inserted x h) ≡ by k h
 by_inserted k x [] ne = by_other k x [] ne
 by_inserted k x (y ∷ h) ne = go (by_inserted k x h ne) (nat_lt x.place y.place)
   where
@@ -93,6 +94,12 @@ stored w caller calls (Waits h i j) y d g q u f =
     let r = subst (λ z. w.owner z ≡ owner_word caller calls i) e (f h i refl tt) in
     (ap (λ (z : Owner). z.caller) r, ap (λ (z : Owner). z.number) r)
 
+undecided_started : (x : Own) (y : Passing) → Undecided x y → is_filling x ≡ false
+undecided_started NoOwn y u = absurd u
+undecided_started (Owns h i step) y u = absurd u
+undecided_started (Runs h i) y u = refl
+undecided_started (Waits h i j) y u = refl
+
 -- an idle seat owns nothing
 unowning : (s : Seat) (d g : ℕ) → is_idle s.work ≡ true → own_hold (stand s).own ≡ Proper d g → ⊥
 unowning s d g = go s.work
@@ -105,19 +112,27 @@ unowning s d g = go s.work
     go (work.Leave l) i q = absurd (cc)
 
 module _ (o : Opening) (es : List Event) where
-  -- a caller whose seat owns a descriptor, at its call
-  pub record Entering (caller number : ℕ) : Type 0 where
+  -- a caller whose seat owns what was Active and has succeeded where the words are v, at its call
+  pub record Entering (v : World) (caller number : ℕ) : Type 0 where
     pub within : caller < o.callers
-    pub owns : (d : ℕ) × (g : ℕ) × (own_hold (stand ((run o es).seats caller)).own ≡ Proper d g)
+    pub descriptor : ℕ
+    pub generation : ℕ
+    pub owns : own_hold (stand ((run o es).seats caller)).own ≡ Proper descriptor generation
+    pub started : is_filling (stand ((run o es).seats caller)).own ≡ false
+    pub active : ((run o es).world.status descriptor).phase ≡ Active
+    pub succeeded : is_success (v.status descriptor).phase ≡ true
     pub call : number ≡ ((run o es).seats caller).calls
 
   module _ (v : World) where
-    abbrev Enters : (caller calls : ℕ) → Aiding → Passing → Type 0
+    abbrev pub Enters : (caller calls : ℕ) → Aiding → Passing → Type 0
     Enters caller calls a NoPass = Unit {0}
-    Enters caller calls a (Over h m xs t) = decides (run o es).world v h ≡ true → Entering (caller_for caller a) (number_for calls a)
+    Enters caller calls a (Over h m xs t) = decides (run o es).world v h ≡ true → (x : Entering v (caller_for caller a) (number_for calls a)) × (x.descriptor ≡ h.descriptor)
+
+    abbrev Entered : Handle → ℕ → ℕ → Type 0
+    Entered h caller number = (x : Entering v caller number) × (x.descriptor ≡ h.descriptor)
 
     -- what was Active is owned by the caller of its owner word
-    active : (h : Handle) → decides (run o es).world v h ≡ true → Entering ((run o es).world.owner h.descriptor).caller ((run o es).world.owner h.descriptor).number
+    active : (h : Handle) → decides (run o es).world v h ≡ true → Entered h ((run o es).world.owner h.descriptor).caller ((run o es).world.owner h.descriptor).number
     active h q =
         let w = (run o es).world in
         let p = was_active (w.status h.descriptor).phase (v.status h.descriptor).phase q in
@@ -128,27 +143,37 @@ module _ (o : Opening) (es : List Event) where
         let f = ((copies_after o es).lives.filled a.0 a.1).0 in
         let y = stored w (stand s).caller (stand s).calls (stand s).own (stand s).pass h.descriptor (w.status h.descriptor).generation a.2 a.3 f in
         let to : (w.owner h.descriptor).caller ≡ a.0 = y.0 ∙ r.0 ∙ (seats_stay o es a.0).0 in
-        record {
+        (record {
           within = let l = a.1 in omega arith;
-          owns = (h.descriptor, (w.status h.descriptor).generation, subst (λ k. own_hold (stand ((run o es).seats k)).own ≡ Proper h.descriptor (w.status h.descriptor).generation) (sym to) a.2);
+          descriptor = h.descriptor;
+          generation = (w.status h.descriptor).generation;
+          owns = subst (λ k. own_hold (stand ((run o es).seats k)).own ≡ Proper h.descriptor (w.status h.descriptor).generation) (sym to) a.2;
+          started = ap (λ k. is_filling (stand ((run o es).seats k)).own) to ∙ undecided_started (stand s).own (stand s).pass a.3;
+          active = p;
+          succeeded = (both (phase_is (w.status h.descriptor).phase Active) (is_success (v.status h.descriptor).phase) q).1;
           call = y.1 ∙ r.1 ∙ ap (λ k. ((run o es).seats k).calls) (sym to);
-        }
+        }, refl)
 
     module _ (j : ℕ) (l : j < o.callers) where
       abbrev s : Seat
       s = (run o es).seats j
 
-      own_pass : (h : Handle) → own_hold (stand s).own ≡ Proper h.descriptor h.generation → Entering s.caller s.calls
-      own_pass h q =
+      own_pass : (h : Handle) → own_hold (stand s).own ≡ Proper h.descriptor h.generation → is_filling (stand s).own ≡ false → decides (run o es).world v h ≡ true → Entered h s.caller s.calls
+      own_pass h q f d =
           let c = (seats_stay o es j).0 in
-          record {
+          (record {
             within = omega arith;
-            owns = (h.descriptor, h.generation, subst (λ k. own_hold (stand ((run o es).seats k)).own ≡ Proper h.descriptor h.generation) (sym c) q);
+            descriptor = h.descriptor;
+            generation = h.generation;
+            owns = subst (λ k. own_hold (stand ((run o es).seats k)).own ≡ Proper h.descriptor h.generation) (sym c) q;
+            started = ap (λ k. is_filling (stand ((run o es).seats k)).own) c ∙ f;
+            active = was_active ((run o es).world.status h.descriptor).phase (v.status h.descriptor).phase d;
+            succeeded = (both (phase_is ((run o es).world.status h.descriptor).phase Active) (is_success (v.status h.descriptor).phase) d).1;
             call = ap (λ k. ((run o es).seats k).calls) (sym c);
-          }
+          }, refl)
 
       abbrev EntersAt : Stand → Type 0
-      EntersAt t = Copied (run o es).world t.aid → ((d g : ℕ) → own_hold t.own ≡ Proper d g → own_hold (stand s).own ≡ Proper d g) → Enters t.caller t.calls t.aid t.pass
+      EntersAt t = Copied (run o es).world t.aid → t.own ≡ (stand s).own → Enters t.caller t.calls t.aid t.pass
 
       aid_enters : (b : Bool) (h : Handle) (i : Intent) (k : ℕ) (r : Reference) (c : Aided) (a : AidStep) → EntersAt (aids (record (resting s) { halted = b; own = Waits h i k }) r c a)
       aid_enters b h i k r c aid.Hold y m = tt
@@ -159,7 +184,7 @@ module _ (o : Opening) (es : List Event) where
       aid_enters b h i k r c aid.Owner y m = tt
       aid_enters b h i k r c aid.LoadFirst y m = tt
       aid_enters b h i k r c (aid.LoadSecond f) y m = tt
-      aid_enters b h i k r c (aid.Pass p) y m = λ q. subst (λ (z : Owner). Entering z.caller z.number) (sym y) (active r.handle q)
+      aid_enters b h i k r c (aid.Pass p) y m = λ q. subst (λ (z : Owner). Entered r.handle z.caller z.number) (sym y) (active r.handle q)
       aid_enters b h i k r c (aid.Leave x) y m = tt
       aid_enters b h i k r c (aid.Drop stray x) y m = tt
 
@@ -169,7 +194,7 @@ module _ (o : Opening) (es : List Event) where
       own_enters c h (own.FillSecond k) y m = tt
       own_enters c h own.Start y m = tt
       own_enters c h own.Abandon y m = tt
-      own_enters c h (own.Pass p) y m = λ q. own_pass h (m h.descriptor h.generation refl)
+      own_enters c h (own.Pass p) y m = own_pass h (ap own_hold (sym m)) (ap is_filling (sym m))
       own_enters c h (own.Aid k r a) y m = aid_enters c.halted h c.intent k r c.copy a y m
       own_enters c h (own.Wake k owed) y m = tt
       own_enters c h (own.Signal owed) y m = tt
@@ -192,40 +217,49 @@ module _ (o : Opening) (es : List Event) where
       work_enters (work.Hang h) y m = hang_enters h.reads.items h.step y m
       work_enters (work.Leave a) y m = tt
 
-      enters : Enters (stand s).caller (stand s).calls (stand s).aid (stand s).pass
-      enters = let c = (run_shape o es).2 in work_enters s.work ((copies_after o es).copied j (omega arith)) (λ d g q. q)
+      pub enters : Enters (stand s).caller (stand s).calls (stand s).aid (stand s).pass
+      enters = let c = (run_shape o es).2 in work_enters s.work ((copies_after o es).copied j (omega arith)) refl
 
   -- ---- one event
 
-  -- a history stays, or gets the entry of a caller whose seat owns a descriptor
-  module _ (P : History → Type 0) (e : Event) (same : P (trace o es).history) (more : (x : Placed) → Entering x.entry.caller x.entry.number → P (inserted x (trace o es).history)) where
-    decided : (v : World) (s : Stand) (place : Option ℕ) (p : Passing) → Enters v s.caller s.calls s.aid p → P (history_after (now (trace o es)) (run o es).world v s place p)
-    decided v s place NoPass f = same
-    decided v s place (Over h m xs turn) f = go (decides (run o es).world v h) refl
+  -- what an event of a seat that is there makes of the history; another changes no word
+  module _ (e : Event) (P : History → Type 0) where
+    abbrev v : World
+    v = (event_of (run o es) e).world
+
+    abbrev st : Stand
+    st = stand ((run o es).seats (seat_of e))
+
+    abbrev place : Option ℕ
+    place = ((trace o es).shadows (seat_of e)).place
+
+    happens : (seat_of e < o.callers → P (history_after (now (trace o es)) (run o es).world v st place st.pass)) → (v ≡ (run o es).world → P (trace o es).history)
+        → P (history_after (now (trace o es)) (run o es).world v st place st.pass)
+    happens inside outside = go (nat_lt (seat_of e) (run o es).callers) refl
+      where
+        go : (b : Bool) → nat_lt (seat_of e) (run o es).callers ≡ b → P (history_after (now (trace o es)) (run o es).world v st place st.pass)
+        go true q = let c = (run_shape o es).2 in let l = ltb-true (seat_of e) (run o es).callers q in inside (omega arith)
+        go false q = let n = ap (λ (m : State). m.world) (event_out (run o es) e q) in subst P (sym (undecided (now (trace o es)) (run o es).world v st place st.pass n)) (outside n)
+
+    pub history_by : (seat_of e < o.callers → P (history_after (now (trace o es)) (run o es).world v st place st.pass)) → (v ≡ (run o es).world → P (trace o es).history) → P (trace o (es ++ e ∷ [])).history
+    history_by inside outside = subst P (sym (ap (λ (t : Trace). t.history) (trace-append o es (e ∷ []))))
+        (subst (λ (n : State). P (history_after (now (trace o es)) n.world (event_of n e).world (stand (n.seats (seat_of e))) place (stand (n.seats (seat_of e))).pass)) (sym (trace_runs o es)) (happens inside outside))
+
+  -- a history stays, or gets the entry of a caller whose seat owns what was decided
+  module _ (P : History → Type 0) (e : Event) (same : P (trace o es).history) (more : (x : Placed) → Entering (event_of (run o es) e).world x.entry.caller x.entry.number → P (inserted x (trace o es).history)) where
+    decided : (s : Stand) (at : Option ℕ) (p : Passing) → Enters (event_of (run o es) e).world s.caller s.calls s.aid p → P (history_after (now (trace o es)) (run o es).world (event_of (run o es) e).world s at p)
+    decided s at NoPass f = same
+    decided s at (Over h m xs turn) f = go (decides (run o es).world (event_of (run o es) e).world h) refl
       where
         x : Placed
-        x = record { place = place_or (trace o es).clock place; mode = m; entry = entry_for s xs }
+        x = record { place = place_or (trace o es).clock at; mode = m; entry = entry_for s xs }
 
-        go : (b : Bool) → decides (run o es).world v h ≡ b → P (if b then inserted x (trace o es).history else (trace o es).history)
-        go true q = more x (f q)
+        go : (b : Bool) → decides (run o es).world (event_of (run o es) e).world h ≡ b → P (if b then inserted x (trace o es).history else (trace o es).history)
+        go true q = more x (f q).0
         go false q = same
 
-    happens : P (history_after (now (trace o es)) (run o es).world (event_of (run o es) e).world (stand ((run o es).seats (seat_of e))) ((trace o es).shadows (seat_of e)).place (stand ((run o es).seats (seat_of e))).pass)
-    happens = go (nat_lt (seat_of e) (run o es).callers) refl
-      where
-        st : Stand
-        st = stand ((run o es).seats (seat_of e))
-
-        go : (b : Bool) → nat_lt (seat_of e) (run o es).callers ≡ b → P (history_after (now (trace o es)) (run o es).world (event_of (run o es) e).world st ((trace o es).shadows (seat_of e)).place st.pass)
-        go true q =
-            let c = (run_shape o es).2 in
-            let l = ltb-true (seat_of e) (run o es).callers q in
-            decided (event_of (run o es) e).world st ((trace o es).shadows (seat_of e)).place st.pass (enters (event_of (run o es) e).world (seat_of e) (omega arith))
-        go false q = subst P (sym (undecided (now (trace o es)) (run o es).world (event_of (run o es) e).world st ((trace o es).shadows (seat_of e)).place st.pass (ap (λ (m : State). m.world) (event_out (run o es) e q)))) same
-
     pub history_grows : P (trace o (es ++ e ∷ [])).history
-    history_grows = subst P (sym (ap (λ (t : Trace). t.history) (trace-append o es (e ∷ []))))
-        (subst (λ (n : State). P (history_after (now (trace o es)) n.world (event_of n e).world (stand (n.seats (seat_of e))) ((trace o es).shadows (seat_of e)).place (stand (n.seats (seat_of e))).pass)) (sym (trace_runs o es)) happens)
+    history_grows = history_by e P (λ l. decided (stand ((run o es).seats (seat_of e))) ((trace o es).shadows (seat_of e)).place (stand ((run o es).seats (seat_of e))).pass (enters (event_of (run o es) e).world (seat_of e) l)) (λ q. same)
 
 -- ---- every schedule
 
@@ -235,9 +269,9 @@ entries_of_callers o = every (λ es. AreOfCallers o.callers (trace o es).history
     (All-nil (λ (y : Placed). y.entry.caller < o.callers))
 
 -- the entries of an idle seat's caller stay, whatever happens
-idle_keeps : (o : Opening) (es : List Event) (k : ℕ) (e : Event) → is_idle ((run o es).seats k).work ≡ true → by k (trace o (es ++ e ∷ [])).history ≡ by k (trace o es).history
+pub idle_keeps : (o : Opening) (es : List Event) (k : ℕ) (e : Event) → is_idle ((run o es).seats k).work ≡ true → by k (trace o (es ++ e ∷ [])).history ≡ by k (trace o es).history
 idle_keeps o es k e i = history_grows o es (λ h. by k h ≡ by k (trace o es).history) e refl
-    (λ x n. by_inserted k x _ (λ q. unowning ((run o es).seats k) n.owns.0 n.owns.1 i (subst (λ c. own_hold (stand ((run o es).seats c)).own ≡ Proper n.owns.0 n.owns.1) q n.owns.2)))
+    (λ x n. by_inserted k x _ (λ q. unowning ((run o es).seats k) n.descriptor n.generation i (subst (λ c. own_hold (stand ((run o es).seats c)).own ≡ Proper n.descriptor n.generation) q n.owns)))
 
 pub idle_gains_none : (o : Opening) (es more : List Event) (k : ℕ) → is_idle ((run o es).seats k).work ≡ true → NoneOf k more → by k (trace o (es ++ more)).history ≡ by k (trace o es).history
 idle_gains_none o es [] k i n = ap (λ x. by k (trace o x).history) (append-nil es)

@@ -7,3 +7,6 @@ pub mod Copies
 pub mod Stood
 pub mod Entries
 pub mod Numbers
+pub mod Statuses
+pub mod Onward
+pub mod Outcomes

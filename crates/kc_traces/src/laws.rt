@@ -14,6 +14,7 @@ ghost use Rattle.kc_claims.specs.Histories.{History, Grows, IsKnown, ending};
 ghost use Rattle.kc_claims.specs.Traces.{trace, trace_from, first_store, IsHonest};
 ghost use Rattle.kc_traces.specs.Entries.{by, AreOfCallers, NumbersFit};
 ghost use Rattle.kc_traces.specs.Moments.{AnswersWhenDone, BeginsNothing, IsMomentOf};
+ghost use Rattle.kc_traces.specs.Outcomes.{GainsAsTold};
 ghost use Rattle.kc_traces.specs.Parts.{NoneOf, GoesOnHonestly, IsNoStep};
 
 /// The run and the trace of a schedule that goes on are those of its second part from those of its first. It is meant, and
@@ -68,6 +69,13 @@ pub fn entries_are_of_callers()
 /// While a seat is idle, the entries of its caller stay as they are.
 pub fn idle_seats_gain_no_entry()
     ensures { (o : Opening) (es more : List Event) (k : ℕ) → is_idle ((run o es).seats k).work ≡ true → NoneOf k more → by k (trace o (es ++ more)).history ≡ by k (trace o es).history }
+{}
+
+/// Over a whole task of a seat, its caller's entries grow by one of the call that was told Succeeded, and else by none.
+pub fn entries_are_as_told()
+    ensures { (o : Opening) (es more : List Event) (k : ℕ) (t : Task) → k < o.callers → is_idle ((run o es).seats k).work ≡ true → is_idle (begun ((run o es).seats k) t).work ≡ false → BeginsNothing k more
+        → is_idle ((run o (es ++ Begin k t ∷ more)).seats k).work ≡ true
+        → GainsAsTold k ((run o (es ++ Begin k t ∷ more)).seats k).told (by k (trace o es).history) (by k (trace o (es ++ Begin k t ∷ more)).history) }
 {}
 
 /// What is known to a history stays known as it grows, and no version falls; so also as a schedule goes on, where its
