@@ -1,7 +1,6 @@
 -- When a seat has an answer, and which task its shadow names.
-use Rattle.std.proofs.Common.{◌≡◌, ◌≢◌, ℕ, ◌<◌, ◌==◌, ◌&&◌, Bool, true, false, not, List, [], ◌∷◌, ◌++◌, length, Option, None, Some, refl, sym, ap, ◌∙◌, subst, if◌then◌else◌, arith}
+use Rattle.std.proofs.Common.{◌≡◌, ℕ, ◌<◌, ◌==◌, ◌&&◌, Bool, true, false, not, List, [], ◌∷◌, ◌++◌, length, Option, None, Some, refl, sym, ap, ◌∙◌, subst, if◌then◌else◌, arith}
 use Rattle.std.specs.Prelude.{nat_lt}
-use Rattle.std.specs.Option.{is_some}
 use borrow.Author.Tests.{eqb-true, eqb-false}
 use Rattle.kc_words.specs.declared.access.Found.{Found}
 use Rattle.kc_steps.specs.declared.task.Task.{Task}
@@ -10,18 +9,17 @@ use Rattle.kc_steps.specs.declared.task.Onward.{Onward}
 use Rattle.kc_steps.specs.declared.task.Onward.TheVariants as onward
 use Rattle.kc_steps.specs.declared.task.Event.{Event}
 use Rattle.kc_steps.specs.declared.task.Event.TheVariants.{Begin, Step, Halt}
-use Rattle.kc_steps.specs.Looks.{look_after, look_tells, look_halted, halts_at_once}
-use Rattle.kc_steps.specs.Commits.{commit_after, commit_onward}
-use Rattle.kc_steps.specs.Halts.{unowned, commit_halted}
-use Rattle.kc_machine.specs.Hangs.{hang_after, hang_onward, leave_after, leave_onward}
+use Rattle.kc_steps.specs.Looks.{look_tells, halts_at_once}
+use Rattle.kc_steps.specs.Commits.{commit_onward}
+use Rattle.kc_steps.specs.Halts.{unowned}
+use Rattle.kc_machine.specs.Hangs.{hang_onward, leave_onward}
 use Rattle.kc_machine.specs.Works.{Work}
 use Rattle.kc_machine.specs.Works as work
 use Rattle.kc_machine.specs.declared.seat.Seat.{Seat}
 use Rattle.kc_machine.specs.Seats.{access_of, answer_of, answer_by, after, is_idle, begun, begun_idle, working, hanging, halted, halted_by, ended}
-use Rattle.kc_machine.specs.Machine.{State, Opening, put, found_at, touched, possible, happened, stepped, event_of, seat_of, run}
+use Rattle.kc_machine.specs.Machine.{State, Opening, put, found_at, touched, possible, happened, event_of, seat_of, run}
 use Rattle.kc_machine.proofs.Functions.{put_here, put_else}
-use Rattle.kc_claims.specs.Traces.{Moment, Shadow, Trace, listens, place_after, blocking_after, begins, with_task, shadow_after, now, traced, trace_from, trace, opened_trace}
-use Rattle.kc_effects.specs.Stands.{stand}
+use Rattle.kc_claims.specs.Traces.{Moment, Shadow, Trace, begins, with_task, shadow_after, now, traced, trace_from, trace, opened_trace}
 use Rattle.kc_claims.proofs.Follows.{trace_runs, trace_counts}
 use Rattle.kc_traces.specs.Moments.{AnswersWhenDone, BeginsNothing}
 use Rattle.kc_traces.proofs.Joins.{trace-append}

@@ -1,5 +1,5 @@
 -- What an aid has loaded of the owner word is what stands there, as long as it holds the descriptor.
-use Rattle.std.proofs.Common.{◌≡◌, ◌≢◌, ℕ, ◌<◌, ◌≤◌, ◌⊎◌, ◌∙◌, ⊎_elim, inl, inr, refl, sym, ap, subst, arith, ◌==◌, Bool, true, false, if◌then◌else◌, length, List, [], ◌∷◌, ◌++◌, Option, None, Some}
+use Rattle.std.proofs.Common.{◌≡◌, ℕ, ◌<◌, ◌≤◌, ◌⊎◌, ◌∙◌, ⊎_elim, inl, inr, refl, sym, ap, subst, arith, ◌==◌, Bool, true, false, if◌then◌else◌, length, List, [], ◌∷◌, ◌++◌, Some}
 use Rattle.kc_words.specs.declared.words.Reference.{Reference}
 use Rattle.kc_words.specs.declared.words.Second.{Second}
 use Rattle.kc_words.specs.declared.words.First.{First}
@@ -15,10 +15,10 @@ use Rattle.kc_steps.specs.declared.task.Event.{Event}
 use Rattle.kc_steps.specs.Aids.{copy_line}
 use Rattle.kc_steps.specs.Lines.{joined}
 use Rattle.kc_steps.specs.Halts.{halted_aid, halted_aid_pass}
-use Rattle.kc_machine.specs.Machine.{World, Opening, put, run, opened}
+use Rattle.kc_machine.specs.Machine.{World, Opening, put, run}
 use Rattle.kc_machine.proofs.Functions.{put_cases}
 use Rattle.kc_effects.specs.Stands.{Stand, Owns, Aiding, NoAid, Aids, Passes, stand}
-use Rattle.kc_effects.specs.Holds.{Hold, NoHold, Proper, own_hold, aid_hold}
+use Rattle.kc_effects.specs.Holds.{Proper, aid_hold}
 use Rattle.kc_effects.specs.Changes.{with_owner}
 use Rattle.kc_effects.specs.Effects
 use Rattle.kc_effects.specs.Effects.{Effect}

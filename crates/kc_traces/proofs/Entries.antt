@@ -1,7 +1,6 @@
 -- Whose entries a history gets.
 use Rattle.std.proofs.Common.{◌≡◌, ◌≢◌, ℕ, ◌<◌, ◌==◌, ◌&&◌, ◌++◌, ◌∙◌, Bool, true, false, List, [], ◌∷◌, All, cond, refl, sym, ap, subst, arith, append_assoc, append-nil, if◌then◌else◌, Option, Some}
 use Rattle.std.specs.Prelude.{nat_lt}
-use Rattle.std.specs.List.{filter}
 use Rattle.std.proofs.lemmas.List.Elements.{All-nil, All-head, All-tail, All-cons}
 use borrow.Author.Tests.{ltb-true, ne_eqb}
 use Rattle.kc_model.specs.declared.footprint.Seen.{Seen}
@@ -10,7 +9,6 @@ use Rattle.kc_words.specs.declared.words.Owner.{Owner}
 use Rattle.kc_words.specs.declared.words.Phase.{Phase}
 use Rattle.kc_words.specs.declared.words.Phase.TheVariants.{Active, Succeeded, Failed, Crossed, Halted}
 use Rattle.kc_words.specs.declared.words.Reference.{Reference}
-use Rattle.kc_steps.specs.declared.line.Line.{Line}
 use Rattle.kc_steps.specs.declared.line.Intent.{Intent}
 use Rattle.kc_steps.specs.declared.aid.Aided.{Aided}
 use Rattle.kc_steps.specs.declared.aid.AidStep.{AidStep}
@@ -21,7 +19,6 @@ use Rattle.kc_steps.specs.declared.commit.Stage.TheVariants as stage
 use Rattle.kc_steps.specs.declared.commit.OwnStep.{OwnStep}
 use Rattle.kc_steps.specs.declared.commit.OwnStep.TheVariants as own
 use Rattle.kc_steps.specs.declared.task.Event.{Event}
-use Rattle.kc_steps.specs.Passes.{status}
 use Rattle.kc_machine.specs.Words.{phase_is}
 use Rattle.kc_machine.specs.Works.{Work}
 use Rattle.kc_machine.specs.Works as work
@@ -30,16 +27,15 @@ use Rattle.kc_machine.specs.declared.hang.HangStep.TheVariants as hang
 use Rattle.kc_machine.specs.declared.seat.Seat.{Seat}
 use Rattle.kc_machine.specs.Seats.{is_idle}
 use Rattle.kc_machine.specs.Machine.{World, State, Opening, event_of, seat_of, run}
-use Rattle.kc_effects.specs.Stands.{Stand, Own, NoOwn, Owns, Runs, Waits, Passing, NoPass, Over, Aiding, NoAid, Aids, Passes, Turn, At, stand, works, resting, commits, owns, aids, hangs}
-use Rattle.kc_effects.specs.Holds.{Proper, own_hold, aid_hold}
-use Rattle.kc_effects.proofs.Held.{Fits}
+use Rattle.kc_effects.specs.Stands.{Stand, Own, NoOwn, Owns, Runs, Waits, Passing, NoPass, Over, Aiding, stand, works, resting, commits, owns, aids, hangs}
+use Rattle.kc_effects.specs.Holds.{Proper, own_hold}
 use Rattle.kc_machine.proofs.Functions.{both}
 use Rattle.kc_pool.specs.Owners.{Undecided, is_filling}
 use Rattle.kc_pool.specs.Filled.{task, owner_word, Stored, OwnerStored}
 use Rattle.kc_pool.proofs.LifeLaws.{active_owned}
 use Rattle.kc_seats.proofs.SeatedSteps.{seats_stay}
 use Rattle.kc_claims.specs.Histories.{History, Placed, inserted}
-use Rattle.kc_claims.specs.Traces.{Moment, Trace, is_success, decides, caller_for, number_for, entry_for, history_after, place_or, traced, trace, now}
+use Rattle.kc_claims.specs.Traces.{Trace, is_success, decides, caller_for, number_for, entry_for, history_after, place_or, trace, now}
 use Rattle.kc_claims.proofs.Follows.{trace_runs}
 use Rattle.kc_traces.specs.Parts.{NoneOf}
 use Rattle.kc_traces.specs.Entries.{by, AreOfCallers}
@@ -142,17 +138,19 @@ module _ (o : Opening) (es : List Event) where
         let r = same_call s in
         let f = ((copies_after o es).lives.filled a.0 a.1).0 in
         let y = stored w (stand s).caller (stand s).calls (stand s).own (stand s).pass h.descriptor (w.status h.descriptor).generation a.2 a.3 f in
-        let to : (w.owner h.descriptor).caller ≡ a.0 = y.0 ∙ r.0 ∙ (seats_stay o es a.0).0 in
-        (record {
-          within = let l = a.1 in omega arith;
-          descriptor = h.descriptor;
-          generation = (w.status h.descriptor).generation;
-          owns = subst (λ k. own_hold (stand ((run o es).seats k)).own ≡ Proper h.descriptor (w.status h.descriptor).generation) (sym to) a.2;
-          started = ap (λ k. is_filling (stand ((run o es).seats k)).own) to ∙ undecided_started (stand s).own (stand s).pass a.3;
-          active = p;
-          succeeded = (both (phase_is (w.status h.descriptor).phase Active) (is_success (v.status h.descriptor).phase) q).1;
-          call = y.1 ∙ r.1 ∙ ap (λ k. ((run o es).seats k).calls) (sym to);
-        }, refl)
+        let to : (w.owner h.descriptor).caller ≡ a.0 = y.0 ∙ r.0 ∙ (seats_stay o es a.0).0 in (
+          record {
+            within = let l = a.1 in omega arith;
+            descriptor = h.descriptor;
+            generation = (w.status h.descriptor).generation;
+            owns = subst (λ k. own_hold (stand ((run o es).seats k)).own ≡ Proper h.descriptor (w.status h.descriptor).generation) (sym to) a.2;
+            started = ap (λ k. is_filling (stand ((run o es).seats k)).own) to ∙ undecided_started (stand s).own (stand s).pass a.3;
+            active = p;
+            succeeded = (both (phase_is (w.status h.descriptor).phase Active) (is_success (v.status h.descriptor).phase) q).1;
+            call = y.1 ∙ r.1 ∙ ap (λ k. ((run o es).seats k).calls) (sym to);
+          },
+          refl,
+        )
 
     module _ (j : ℕ) (l : j < o.callers) where
       abbrev s : Seat
@@ -160,17 +158,19 @@ module _ (o : Opening) (es : List Event) where
 
       own_pass : (h : Handle) → own_hold (stand s).own ≡ Proper h.descriptor h.generation → is_filling (stand s).own ≡ false → decides (run o es).world v h ≡ true → Entered h s.caller s.calls
       own_pass h q f d =
-          let c = (seats_stay o es j).0 in
-          (record {
-            within = omega arith;
-            descriptor = h.descriptor;
-            generation = h.generation;
-            owns = subst (λ k. own_hold (stand ((run o es).seats k)).own ≡ Proper h.descriptor h.generation) (sym c) q;
-            started = ap (λ k. is_filling (stand ((run o es).seats k)).own) c ∙ f;
-            active = was_active ((run o es).world.status h.descriptor).phase (v.status h.descriptor).phase d;
-            succeeded = (both (phase_is ((run o es).world.status h.descriptor).phase Active) (is_success (v.status h.descriptor).phase) d).1;
-            call = ap (λ k. ((run o es).seats k).calls) (sym c);
-          }, refl)
+          let c = (seats_stay o es j).0 in (
+            record {
+              within = omega arith;
+              descriptor = h.descriptor;
+              generation = h.generation;
+              owns = subst (λ k. own_hold (stand ((run o es).seats k)).own ≡ Proper h.descriptor h.generation) (sym c) q;
+              started = ap (λ k. is_filling (stand ((run o es).seats k)).own) c ∙ f;
+              active = was_active ((run o es).world.status h.descriptor).phase (v.status h.descriptor).phase d;
+              succeeded = (both (phase_is ((run o es).world.status h.descriptor).phase Active) (is_success (v.status h.descriptor).phase) d).1;
+              call = ap (λ k. ((run o es).seats k).calls) (sym c);
+            },
+            refl,
+          )
 
       abbrev EntersAt : Stand → Type 0
       EntersAt t = Copied (run o es).world t.aid → t.own ≡ (stand s).own → Enters t.caller t.calls t.aid t.pass

@@ -1,6 +1,5 @@
 -- What is known to a history stays known as it grows, and versions never fall.
-use Rattle.std.proofs.Common.{arith, ◌≡◌, ◌≤◌, ◌+◌, ◌++◌, ◌∙◌, ℕ, zero, suc, refl, sym, ap, subst, Bool, true, false, List, [], ◌∷◌, length, take, cond, Option, None, Some, append_assoc}
-use Rattle.std.specs.List.{filter}
+use Rattle.std.proofs.Common.{arith, ◌≡◌, ◌≤◌, ◌++◌, ◌∙◌, ℕ, zero, suc, refl, sym, ap, subst, List, [], ◌∷◌, length, take, cond, Option, None, Some, append_assoc}
 use Rattle.std.specs.Option.{is_some}
 use Rattle.kc_model.specs.declared.footprint.Seen.{Seen}
 use Rattle.kc_model.specs.declared.footprint.Put.{Put}
@@ -12,7 +11,7 @@ use Rattle.kc_steps.specs.declared.task.Event.{Event}
 use Rattle.kc_machine.specs.Machine.{Opening}
 use Rattle.kc_claims.specs.Traces.{trace, first_store}
 use Rattle.kc_claims.specs.Claims.{HistoriesGrow}
-use Rattle.kc_claims.specs.Histories.{History, Placed, ending, cell_of, IsKnown, putting, IsFront, Grows}
+use Rattle.kc_claims.specs.Histories.{History, Placed, ending, IsKnown, putting, IsFront, Grows}
 
 -- what a history makes of one cell
 abbrev pub puts_in : ℕ → Placed → Option Put

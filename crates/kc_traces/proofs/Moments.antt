@@ -1,15 +1,15 @@
 -- The moments that a shadow keeps.
-use Rattle.std.proofs.Common.{◌≡◌, ℕ, ◌≤◌, ◌+◌, ◌++◌, Bool, true, false, List, [], ◌∷◌, length, take, Option, None, Some, refl, sym, ap, ◌∙◌, subst, arith, if◌then◌else◌}
+use Rattle.std.proofs.Common.{ℕ, ◌≤◌, ◌++◌, Bool, true, false, List, [], ◌∷◌, length, Option, None, Some, refl, sym, ap, ◌∙◌, subst, arith, if◌then◌else◌}
 use Rattle.std.proofs.Math.Seq.{take-append_seam}
 use Rattle.std.proofs.lemmas.List.{take-append-le}
 use Rattle.std.proofs.lemmas.List.{length-append}
 use Rattle.kc_steps.specs.declared.task.Task.{Task}
 use Rattle.kc_steps.specs.declared.task.Event.{Event}
 use Rattle.kc_machine.specs.declared.seat.Seat.{Seat}
-use Rattle.kc_machine.specs.Machine.{Opening, put, event_of, seat_of}
+use Rattle.kc_machine.specs.Machine.{Opening, seat_of}
 use Rattle.kc_machine.proofs.Functions.{put_cases}
 use Rattle.kc_effects.specs.Stands.{stand}
-use Rattle.kc_claims.specs.Traces.{Moment, Shadow, Trace, begins, listens, place_after, blocking_after, with_task, shadow_after, now, traced, trace}
+use Rattle.kc_claims.specs.Traces.{Moment, Shadow, Trace, begins, listens, place_after, blocking_after, with_task, shadow_after, now, trace}
 use Rattle.kc_claims.specs.Claims.{history_at}
 use Rattle.kc_claims.proofs.Follows.{trace_counts}
 use Rattle.kc_traces.specs.Moments.{IsMomentOf}

@@ -1,5 +1,5 @@
 -- The numbers of entries are those of calls.
-use Rattle.std.proofs.Common.{◌≡◌, ◌≤◌, ◌==◌, ◌+◌, ℕ, Bool, true, false, List, [], ◌∷◌, ◌++◌, All, refl, sym, ap, subst, arith, get_or, if◌then◌else◌}
+use Rattle.std.proofs.Common.{◌≡◌, ◌≤◌, ◌==◌, ◌+◌, ℕ, Bool, true, false, List, [], ◌∷◌, ◌++◌, refl, sym, subst, arith, get_or, if◌then◌else◌}
 use Rattle.std.specs.Prelude.{nat_lt}
 use Rattle.std.proofs.lemmas.List.Elements.{All-nil}
 use borrow.Author.Tests.{eqb-true, eqb-false}
@@ -11,9 +11,9 @@ use Rattle.kc_steps.specs.declared.task.Onward.TheVariants as onward
 use Rattle.kc_steps.specs.declared.task.Event.{Event}
 use Rattle.kc_steps.specs.declared.task.Event.TheVariants.{Begin, Step, Halt}
 use Rattle.kc_steps.specs.Lines.{one_more}
-use Rattle.kc_steps.specs.Looks.{look_after, look_tells, look_halted, halts_at_once}
+use Rattle.kc_steps.specs.Looks.{look_tells, halts_at_once}
 use Rattle.kc_steps.specs.Commits.{commit_onward}
-use Rattle.kc_steps.specs.Halts.{unowned, commit_halted}
+use Rattle.kc_steps.specs.Halts.{unowned}
 use Rattle.kc_machine.specs.Hangs.{hang_onward, leave_onward}
 use Rattle.kc_machine.specs.Works.{Work}
 use Rattle.kc_machine.specs.Works as work

@@ -1,5 +1,5 @@
 -- What a task has left in the history as its seat goes on: of the words that stand after its step.
-use Rattle.std.proofs.Common.{◌≡◌, ℕ, ◌+◌, ◌-◌, ◌&&◌, ◌==◌, Bool, true, false, not, List, Option, None, Some, refl, sym, ap, subst, if◌then◌else◌}
+use Rattle.std.proofs.Common.{◌≡◌, ℕ, ◌+◌, ◌-◌, ◌&&◌, ◌==◌, Bool, true, false, not, List, Option, None, Some, refl, sym, subst, if◌then◌else◌}
 use Rattle.std.specs.Prelude.{nat_lt, slice_get}
 use Rattle.kc_model.specs.declared.footprint.Seen.{Seen}
 use Rattle.kc_words.specs.declared.words.Handle.{Handle}
@@ -31,13 +31,13 @@ use Rattle.kc_steps.specs.Lines.{one_more, after_line}
 use Rattle.kc_steps.specs.Looks.{look_next, look_after, told_by, halts_at_once}
 use Rattle.kc_steps.specs.Aids.{aid_next}
 use Rattle.kc_steps.specs.Passes.{pass_next}
-use Rattle.kc_steps.specs.Commits.{scan_next, take_next, after_scan, after_own_pass, aid_or_back, onward_or_back, wake_next, told_of, stage_next, loaded, gone_on, onward_by}
+use Rattle.kc_steps.specs.Commits.{scan_next, take_next, after_scan, after_own_pass, aid_or_back, wake_next, told_of, stage_next, loaded, gone_on, onward_by}
 use Rattle.kc_steps.specs.Halts.{unowned, halted_aid, aid_or_decide, halted_own, halted_at}
 use Rattle.kc_machine.specs.declared.hang.HangStep.{HangStep}
 use Rattle.kc_machine.specs.declared.hang.HangStep.TheVariants as hang
 use Rattle.kc_machine.specs.declared.hang.HangNext.{HangNext}
 use Rattle.kc_machine.specs.declared.hang.HangNext.TheVariants as hanging
-use Rattle.kc_machine.specs.Hangs.{hang_next, hangs_on, onward_of, look_of, look_goes_on, looked, look_or_end, clear_or_changed, after_clear, unblocks_or_tells, leave_after, next_read}
+use Rattle.kc_machine.specs.Hangs.{hang_next, hangs_on, onward_of, look_of, look_goes_on, looked, look_or_end, clear_or_changed, unblocks_or_tells, leave_after, next_read}
 use Rattle.kc_machine.specs.Waits.{Hang, Leave}
 use Rattle.kc_machine.specs.Works.{Work}
 use Rattle.kc_machine.specs.Works as work

@@ -1,13 +1,13 @@
 -- Over a whole task its caller's entries grow by that of its call where it succeeded, and else by none.
-use Rattle.std.proofs.Common.{◌≡◌, ◌≢◌, ℕ, ◌<◌, ◌⊎◌, ◌==◌, ◌&&◌, ◌++◌, ◌∙◌, Bool, true, false, not, List, [], ◌∷◌, All, cond, Option, None, Some, inl, inr, refl, sym, ap, subst, arith, append_assoc, append-nil, if◌then◌else◌}
+use Rattle.std.proofs.Common.{◌≡◌, ◌≢◌, ℕ, ◌<◌, ◌⊎◌, ◌==◌, ◌&&◌, ◌++◌, ◌∙◌, Bool, true, false, not, List, [], ◌∷◌, cond, Option, inl, inr, refl, sym, ap, subst, arith, append_assoc, append-nil, if◌then◌else◌}
 use Rattle.std.specs.Prelude.{nat_lt}
 use Rattle.std.proofs.lemmas.List.Elements.{All-nil, All-cons}
-use borrow.Author.Tests.{ltb-true, eqb-true, eqb-false, eq-eqb}
+use borrow.Author.Tests.{eqb-true, eqb-false, eq-eqb}
 use Rattle.kc_words.specs.declared.words.Handle.{Handle}
 use Rattle.kc_words.specs.declared.words.Reference.{Reference}
 use Rattle.kc_words.specs.declared.words.Status.{Status}
 use Rattle.kc_words.specs.declared.words.Phase.{Phase}
-use Rattle.kc_words.specs.declared.words.Phase.TheVariants.{Active, Succeeded, Failed, Crossed, Halted}
+use Rattle.kc_words.specs.declared.words.Phase.TheVariants.{Active}
 use Rattle.kc_steps.specs.declared.line.Intent.{Intent}
 use Rattle.kc_steps.specs.declared.aid.Aided.{Aided}
 use Rattle.kc_steps.specs.declared.aid.AidStep.{AidStep}
@@ -32,19 +32,19 @@ use Rattle.kc_machine.specs.declared.seat.Seat.{Seat}
 use Rattle.kc_machine.specs.Seats.{access_of, answer_of, begun, begun_idle, halted, is_idle, work_access}
 use Rattle.kc_machine.specs.Machine.{World, State, Opening, put, found_at, touched, possible, happened, stepped, event_of, seat_of, run}
 use Rattle.kc_machine.proofs.Functions.{put_here}
-use Rattle.kc_effects.specs.Stands.{Stand, Own, NoOwn, Waits, Passing, NoPass, Over, Hangs, stand, works, resting, commits, owns, aids, hangs}
+use Rattle.kc_effects.specs.Stands.{Stand, Own, NoOwn, Waits, Passing, NoPass, Over, stand, works, resting, commits, owns, aids, hangs}
 use Rattle.kc_effects.specs.Holds.{Proper, own_hold}
 use Rattle.kc_pool.specs.Owners.{fills, is_filling, phase_read}
 use Rattle.kc_pool.proofs.LifeLaws.{owners_differ, phase_known}
 use Rattle.kc_claims.specs.Histories.{History, Placed, inserted}
-use Rattle.kc_claims.specs.Traces.{Trace, is_success, decides, entry_for, history_after, place_or, trace, now}
+use Rattle.kc_claims.specs.Traces.{is_success, decides, entry_for, history_after, place_or, trace, now}
 use Rattle.kc_traces.specs.Moments.{BeginsNothing}
 use Rattle.kc_traces.specs.Parts.{IsNoStep}
 use Rattle.kc_traces.specs.Entries.{by}
 use Rattle.kc_traces.specs.Outcomes.{GainsTheCall, GainsAsTold}
 use Rattle.kc_traces.proofs.Joins.{run-append}
 use Rattle.kc_traces.proofs.Answers.{head_of}
-use Rattle.kc_traces.proofs.Others.{run_shape, event_in, event_else, history_kept, words_stay}
+use Rattle.kc_traces.proofs.Others.{run_shape, event_in, event_else, history_kept}
 use Rattle.kc_traces.proofs.Statuses.{Moves, Starts, Decides, IsOver, step_moves}
 use Rattle.kc_traces.proofs.Entries.{Entering, Enters, enters, history_by, history_grows, by_inserted, idle_keeps}
 use Rattle.kc_traces.proofs.Onward.{IfDone, succeeded, StageLeft, StageKnows, Left, SeatLeft, Knows, answer_left, halted_left, begun_left, ended_left}

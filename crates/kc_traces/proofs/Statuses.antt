@@ -1,12 +1,11 @@
 -- How one event moves a status.
-use Rattle.std.proofs.Common.{◌≡◌, ℕ, ◌⊎◌, ◌==◌, ◌&&◌, Bool, true, false, List, Option, None, Some, inl, inr, refl, sym, ap, ◌∙◌, if◌then◌else◌}
-use Rattle.std.specs.Prelude.{slice_get, nat_lt}
+use Rattle.std.proofs.Common.{◌≡◌, ℕ, ◌⊎◌, Bool, true, false, List, Option, None, Some, inl, inr, refl, sym, ap, ◌∙◌, if◌then◌else◌}
+use Rattle.std.specs.Prelude.{slice_get}
 use Rattle.kc_model.specs.declared.footprint.Loc.{Loc}
 use Rattle.kc_model.specs.declared.footprint.Seen.{Seen}
 use Rattle.kc_words.specs.declared.words.Handle.{Handle}
 use Rattle.kc_words.specs.declared.words.Reference.{Reference}
 use Rattle.kc_words.specs.declared.words.Status.{Status}
-use Rattle.kc_words.specs.declared.words.Phase.{Phase}
 use Rattle.kc_words.specs.declared.words.Phase.TheVariants.{Active}
 use Rattle.kc_steps.specs.declared.line.Line.{Line}
 use Rattle.kc_steps.specs.declared.look.LookStep.{LookStep}

@@ -1,5 +1,5 @@
 -- The caller and the call of a stand are its seat's.
-use Rattle.std.proofs.Common.{◌≡◌, ℕ, refl}
+use Rattle.std.proofs.Common.{◌≡◌, refl}
 use Rattle.kc_words.specs.declared.words.Handle.{Handle}
 use Rattle.kc_words.specs.declared.words.Reference.{Reference}
 use Rattle.kc_steps.specs.declared.aid.Aided.{Aided}
