@@ -41,7 +41,8 @@ use Rattle.kc_traces.specs.Parts.{NoneOf}
 use Rattle.kc_traces.specs.Entries.{by, AreOfCallers}
 use Rattle.kc_traces.proofs.Joins.{trace-append, every}
 use Rattle.kc_traces.proofs.Others.{run_shape, event_out, undecided, others_leave}
-use Rattle.kc_traces.proofs.Copies.{Copied, copies_after}
+use Rattle.kc_traces.proofs.Copies.{copies_after}
+use Rattle.kc_traces.specs.Copies.{CopyIsTrue}
 use Rattle.kc_traces.proofs.Stood.{same_call}
 
 -- ---- insertions
@@ -173,7 +174,7 @@ module _ (o : Opening) (es : List Event) where
           )
 
       abbrev EntersAt : Stand → Type 0
-      EntersAt t = Copied (run o es).world t.aid → t.own ≡ (stand s).own → Enters t.caller t.calls t.aid t.pass
+      EntersAt t = CopyIsTrue (run o es).world t.aid → t.own ≡ (stand s).own → Enters t.caller t.calls t.aid t.pass
 
       aid_enters : (b : Bool) (h : Handle) (i : Intent) (k : ℕ) (r : Reference) (c : Aided) (a : AidStep) → EntersAt (aids (record (resting s) { halted = b; own = Waits h i k }) r c a)
       aid_enters b h i k r c aid.Hold y m = tt
@@ -184,7 +185,7 @@ module _ (o : Opening) (es : List Event) where
       aid_enters b h i k r c aid.Owner y m = tt
       aid_enters b h i k r c aid.LoadFirst y m = tt
       aid_enters b h i k r c (aid.LoadSecond f) y m = tt
-      aid_enters b h i k r c (aid.Pass p) y m = λ q. subst (λ (z : Owner). Entered r.handle z.caller z.number) (sym y) (active r.handle q)
+      aid_enters b h i k r c (aid.Pass p) y m = λ q. subst (λ (z : Owner). Entered r.handle z.caller z.number) (sym y.owner) (active r.handle q)
       aid_enters b h i k r c (aid.Leave x) y m = tt
       aid_enters b h i k r c (aid.Drop stray x) y m = tt
 

@@ -12,6 +12,7 @@ ghost use Rattle.kc_machine.specs.Seats.{access_of, answer_of, begun, is_idle};
 ghost use Rattle.kc_claims.specs.Claims.{HistoriesGrow};
 ghost use Rattle.kc_claims.specs.Histories.{History, Grows, IsKnown, ending};
 ghost use Rattle.kc_claims.specs.Traces.{trace, trace_from, first_store, IsHonest};
+ghost use Rattle.kc_traces.specs.Copies.{CopiesAreTrue};
 ghost use Rattle.kc_traces.specs.Entries.{by, AreOfCallers, NumbersFit};
 ghost use Rattle.kc_traces.specs.Moments.{AnswersWhenDone, BeginsNothing, IsMomentOf};
 ghost use Rattle.kc_traces.specs.Outcomes.{GainsAsTold};
@@ -58,6 +59,11 @@ pub fn no_answer_while_it_runs()
     ensures answers { (o : Opening) (es : List Event) (k : ℕ) → AnswersWhenDone ((run o es).seats k) ((trace o es).shadows k).task }
     ensures tasks { (o : Opening) (es more : List Event) (k : ℕ) (t : Task) → k < o.callers → is_idle ((run o es).seats k).work ≡ true → is_idle (begun ((run o es).seats k) t).work ≡ false → BeginsNothing k more
         → (((trace o (es ++ Begin k t ∷ more)).shadows k).task ≡ Some t) × (((trace o (es ++ Begin k t ∷ more)).shadows k).begun ≡ record { clock = length es; history = (trace o es).history }) }
+{}
+
+/// What an aid has loaded of a descriptor is what stands there, as long as it holds it: its owner word, and lines from the first on.
+pub fn copies_are_true()
+    ensures { (o : Opening) (es : List Event) → CopiesAreTrue (run o es) }
 {}
 
 /// Each entry's caller is below the number of callers, and its number at most the calls that its caller's seat has made.
