@@ -10,3 +10,4 @@ pub mod Numbers
 pub mod Statuses
 pub mod Onward
 pub mod Outcomes
+pub mod Whole

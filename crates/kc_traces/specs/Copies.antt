@@ -1,5 +1,5 @@
 -- What an aid has loaded of the descriptor that it aids.
-use Rattle.std.specs.Prelude.{◌≡◌, ℕ, ◌<◌, length}
+use Rattle.std.specs.Prelude.{◌≡◌, ◌<◌, ℕ, length}
 use Rattle.kc_words.specs.declared.words.Reference.{Reference}
 use Rattle.kc_words.specs.declared.words.Owner.{Owner}
 use Rattle.kc_words.specs.declared.words.First.{First}
@@ -44,3 +44,11 @@ CopyIsTrue w x = CopyOf w.owner w.first w.second x
 
 abbrev pub CopiesAreTrue : State → Type 0
 CopiesAreTrue m = (k : ℕ) → k < m.callers → CopyIsTrue m.world (stand (m.seats k)).aid
+
+-- in its pass an aid has as many lines as the owner word says
+abbrev pub IsWhole : Aiding → Type 0
+IsWhole (Passes r c) = length c.lines.items ≡ c.owner.lines
+IsWhole _ = Unit {0}
+
+abbrev pub PassesAreWhole : State → Type 0
+PassesAreWhole m = (k : ℕ) → IsWhole (stand (m.seats k)).aid

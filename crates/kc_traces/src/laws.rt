@@ -12,7 +12,7 @@ ghost use Rattle.kc_machine.specs.Seats.{access_of, answer_of, begun, is_idle};
 ghost use Rattle.kc_claims.specs.Claims.{HistoriesGrow};
 ghost use Rattle.kc_claims.specs.Histories.{History, Grows, IsKnown, ending};
 ghost use Rattle.kc_claims.specs.Traces.{trace, trace_from, first_store, IsHonest};
-ghost use Rattle.kc_traces.specs.Copies.{CopiesAreTrue};
+ghost use Rattle.kc_traces.specs.Copies.{CopiesAreTrue, PassesAreWhole};
 ghost use Rattle.kc_traces.specs.Entries.{by, AreOfCallers, NumbersFit};
 ghost use Rattle.kc_traces.specs.Moments.{AnswersWhenDone, BeginsNothing, IsMomentOf};
 ghost use Rattle.kc_traces.specs.Outcomes.{GainsAsTold};
@@ -62,8 +62,10 @@ pub fn no_answer_while_it_runs()
 {}
 
 /// What an aid has loaded of a descriptor is what stands there, as long as it holds it: its owner word, and lines from the first on.
+/// In its pass it has as many lines as the owner word says.
 pub fn copies_are_true()
-    ensures { (o : Opening) (es : List Event) → CopiesAreTrue (run o es) }
+    ensures words { (o : Opening) (es : List Event) → CopiesAreTrue (run o es) }
+    ensures whole { (o : Opening) (es : List Event) → PassesAreWhole (run o es) }
 {}
 
 /// Each entry's caller is below the number of callers, and its number at most the calls that its caller's seat has made.
