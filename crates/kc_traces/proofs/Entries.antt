@@ -1,6 +1,6 @@
 -- Whose entries a history gets.
-use Rattle.std.proofs.Common.{◌≡◌, ◌≢◌, ℕ, ◌<◌, ◌==◌, ◌&&◌, ◌++◌, ◌∙◌, Bool, true, false, List, [], ◌∷◌, All, cond, refl, sym, ap, subst, arith, append_assoc, append-nil, if◌then◌else◌, Option, Some}
-use Rattle.std.specs.Prelude.{nat_lt}
+use Rattle.std.proofs.Common.{length, suc, None, ◌≡◌, ◌≢◌, ℕ, ◌<◌, ◌==◌, ◌&&◌, ◌++◌, ◌∙◌, Bool, true, false, List, [], ◌∷◌, All, cond, refl, sym, ap, subst, arith, append_assoc, append-nil, if◌then◌else◌, Option, Some}
+use Rattle.std.specs.Prelude.{slice_get, nat_lt}
 use Rattle.std.proofs.lemmas.List.Elements.{All-nil, All-head, All-tail, All-cons}
 use borrow.Author.Tests.{ltb-true, ne_eqb}
 use Rattle.kc_model.specs.declared.footprint.Seen.{Seen}
@@ -10,6 +10,7 @@ use Rattle.kc_words.specs.declared.words.Phase.{Phase}
 use Rattle.kc_words.specs.declared.words.Phase.TheVariants.{Active, Succeeded, Failed, Crossed, Halted}
 use Rattle.kc_words.specs.declared.words.Reference.{Reference}
 use Rattle.kc_steps.specs.declared.line.Intent.{Intent}
+use Rattle.kc_steps.specs.declared.line.Line.{Line}
 use Rattle.kc_steps.specs.declared.aid.Aided.{Aided}
 use Rattle.kc_steps.specs.declared.aid.AidStep.{AidStep}
 use Rattle.kc_steps.specs.declared.aid.AidStep.TheVariants as aid
@@ -31,7 +32,7 @@ use Rattle.kc_effects.specs.Stands.{Stand, Own, NoOwn, Owns, Runs, Waits, Passin
 use Rattle.kc_effects.specs.Holds.{Proper, own_hold}
 use Rattle.kc_machine.proofs.Functions.{both}
 use Rattle.kc_pool.specs.Owners.{Undecided, is_filling}
-use Rattle.kc_pool.specs.Filled.{task, owner_word, Stored, OwnerStored}
+use Rattle.kc_pool.specs.Filled.{owner_word, OwnerIsFilled, FirstsAreFilled, SecondsAreFilled}
 use Rattle.kc_pool.proofs.LifeLaws.{active_owned}
 use Rattle.kc_seats.proofs.SeatedSteps.{seats_stay}
 use Rattle.kc_claims.specs.Histories.{History, Placed, inserted}
@@ -42,7 +43,11 @@ use Rattle.kc_traces.specs.Entries.{by, AreOfCallers}
 use Rattle.kc_traces.proofs.Joins.{trace-append, every}
 use Rattle.kc_traces.proofs.Others.{run_shape, event_out, undecided, others_leave}
 use Rattle.kc_traces.proofs.Copies.{copies_after}
-use Rattle.kc_traces.specs.Copies.{CopyIsTrue}
+use Rattle.kc_traces.specs.Copies.{CopyIsTrue, IsWhole}
+use Rattle.kc_traces.proofs.Whole.{passes_whole}
+use Rattle.kc_steps.specs.Lines.{joined, first_of, second_of}
+use Rattle.kc_words.specs.declared.words.Mode.{Mode}
+use Rattle.kc_pool.specs.Started.{listed, line_of_words}
 use Rattle.kc_traces.proofs.Stood.{same_call}
 
 -- ---- insertions
@@ -76,20 +81,50 @@ was_active (Failed k) q e = absurd (cc)
 was_active (Crossed k) q e = absurd (cc)
 was_active Halted q e = absurd (cc)
 
--- an owner that has started it has stored its word
-stored : (w : World) (caller calls : ℕ) (x : Own) (y : Passing) (d g : ℕ) → own_hold x ≡ Proper d g → Undecided x y
-    → ((h : Handle) (i : Intent) → task x ≡ Some (h, i) → Stored OwnerStored x → w.owner h.descriptor ≡ owner_word caller calls i)
-    → ((w.owner d).caller ≡ caller) × ((w.owner d).number ≡ calls)
-stored w caller calls NoOwn y d g q u f = absurd u
-stored w caller calls (Owns h i step) y d g q u f = absurd u
-stored w caller calls (Runs h i) y d g q u f =
+line_again : (x : Line) → joined (first_of x) (second_of x) ≡ x
+line_again x = go x.seen x.put
+  where
+    go : (r : Seen) (p : Option ℕ) → joined (first_of (record { seen = r; put = p })) (second_of (record { seen = r; put = p })) ≡ record { seen = r; put = p }
+    go r None = refl
+    go r (Some y) = refl
+
+lists_again : (f : ℕ → Line) (xs : List Line) → ((i : ℕ) (x : Line) → slice_get xs i ≡ Some x → f i ≡ x) → listed f (length xs) ≡ xs
+lists_again f [] h = refl
+lists_again f (x ∷ xs) h = ap (λ y. y ∷ listed (λ i. f (suc i)) (length xs)) (h 0 x refl) ∙ ap (λ ys. x ∷ ys) (lists_again (λ i. f (suc i)) xs (λ i. h (suc i)))
+
+-- the intent of an owner
+abbrev pub own_intent : Own → Option Intent
+own_intent NoOwn = None
+own_intent (Owns h i step) = Some i
+own_intent (Runs h i) = Some i
+own_intent (Waits h i j) = Some i
+
+-- an owner that has started it has stored its words
+record StoredWords (w : World) (caller calls d : ℕ) (x : Own) : Type 0 where
+  pub intent : Intent
+  pub has : own_intent x ≡ Some intent
+  pub owner : w.owner d ≡ owner_word caller calls intent
+  pub lines : listed (line_of_words w d) (length intent.lines.items) ≡ intent.lines.items
+
+stored : (w : World) (caller calls : ℕ) (x : Own) (y : Passing) (d g : ℕ) → own_hold x ≡ Proper d g → Undecided x y → OwnerIsFilled w caller calls x → FirstsAreFilled w x → SecondsAreFilled w x → StoredWords w caller calls d x
+stored w caller calls NoOwn y d g q u f a b = absurd u
+stored w caller calls (Owns h i step) y d g q u f a b = absurd u
+stored w caller calls (Runs h i) y d g q u f a b =
     let e : h.descriptor ≡ d = cc in
-    let r = subst (λ z. w.owner z ≡ owner_word caller calls i) e (f h i refl tt) in
-    (ap (λ (z : Owner). z.caller) r, ap (λ (z : Owner). z.number) r)
-stored w caller calls (Waits h i j) y d g q u f =
+    subst (λ z. StoredWords w caller calls z (Runs h i)) e (record {
+      intent = i;
+      has = refl;
+      owner = f h i refl tt;
+      lines = lists_again (line_of_words w h.descriptor) i.lines.items (λ j x r. ap (λ z. joined z (w.second h.descriptor j)) (a h i j x refl r tt) ∙ ap (joined (first_of x)) (b h i j x refl r tt) ∙ line_again x);
+    })
+stored w caller calls (Waits h i n) y d g q u f a b =
     let e : h.descriptor ≡ d = cc in
-    let r = subst (λ z. w.owner z ≡ owner_word caller calls i) e (f h i refl tt) in
-    (ap (λ (z : Owner). z.caller) r, ap (λ (z : Owner). z.number) r)
+    subst (λ z. StoredWords w caller calls z (Waits h i n)) e (record {
+      intent = i;
+      has = refl;
+      owner = f h i refl tt;
+      lines = lists_again (line_of_words w h.descriptor) i.lines.items (λ j x r. ap (λ z. joined z (w.second h.descriptor j)) (a h i j x refl r tt) ∙ ap (joined (first_of x)) (b h i j x refl r tt) ∙ line_again x);
+    })
 
 undecided_started : (x : Own) (y : Passing) → Undecided x y → is_filling x ≡ false
 undecided_started NoOwn y u = absurd u
@@ -119,17 +154,26 @@ module _ (o : Opening) (es : List Event) where
     pub active : ((run o es).world.status descriptor).phase ≡ Active
     pub succeeded : is_success (v.status descriptor).phase ≡ true
     pub call : number ≡ ((run o es).seats caller).calls
+    pub intent : Intent
+    pub has : own_intent (stand ((run o es).seats caller)).own ≡ Some intent
 
   module _ (v : World) where
+    -- by a pass over h, of this mode and these lines
+    pub record Entered (h : Handle) (m : Mode) (xs : List Line) (caller number : ℕ) : Type 0 where
+      pub by_owner : Entering v caller number
+      pub over : by_owner.descriptor ≡ h.descriptor
+      pub mode : m ≡ by_owner.intent.mode
+      pub lines : xs ≡ by_owner.intent.lines.items
+
     abbrev pub Enters : (caller calls : ℕ) → Aiding → Passing → Type 0
     Enters caller calls a NoPass = Unit {0}
-    Enters caller calls a (Over h m xs t) = decides (run o es).world v h ≡ true → (x : Entering v (caller_for caller a) (number_for calls a)) × (x.descriptor ≡ h.descriptor)
+    Enters caller calls a (Over h m xs t) = decides (run o es).world v h ≡ true → Entered h m xs (caller_for caller a) (number_for calls a)
 
-    abbrev Entered : Handle → ℕ → ℕ → Type 0
-    Entered h caller number = (x : Entering v caller number) × (x.descriptor ≡ h.descriptor)
+    abbrev Words : Handle → Owner → Type 0
+    Words h z = Entered h z.mode (listed (line_of_words (run o es).world h.descriptor) z.lines) z.caller z.number
 
     -- what was Active is owned by the caller of its owner word
-    active : (h : Handle) → decides (run o es).world v h ≡ true → Entered h ((run o es).world.owner h.descriptor).caller ((run o es).world.owner h.descriptor).number
+    active : (h : Handle) → decides (run o es).world v h ≡ true → Words h ((run o es).world.owner h.descriptor)
     active h q =
         let w = (run o es).world in
         let p = was_active (w.status h.descriptor).phase (v.status h.descriptor).phase q in
@@ -137,10 +181,11 @@ module _ (o : Opening) (es : List Event) where
         let s = (run o es).seats a.0 in
         let c = (run_shape o es).2 in
         let r = same_call s in
-        let f = ((copies_after o es).lives.filled a.0 a.1).0 in
-        let y = stored w (stand s).caller (stand s).calls (stand s).own (stand s).pass h.descriptor (w.status h.descriptor).generation a.2 a.3 f in
-        let to : (w.owner h.descriptor).caller ≡ a.0 = y.0 ∙ r.0 ∙ (seats_stay o es a.0).0 in (
-          record {
+        let f = (copies_after o es).lives.filled a.0 a.1 in
+        let y = stored w (stand s).caller (stand s).calls (stand s).own (stand s).pass h.descriptor (w.status h.descriptor).generation a.2 a.3 f.0 f.1 f.2 in
+        let to : (w.owner h.descriptor).caller ≡ a.0 = ap (λ (z : Owner). z.caller) y.owner ∙ r.0 ∙ (seats_stay o es a.0).0 in
+        record {
+          by_owner = record {
             within = let l = a.1 in omega arith;
             descriptor = h.descriptor;
             generation = (w.status h.descriptor).generation;
@@ -148,33 +193,42 @@ module _ (o : Opening) (es : List Event) where
             started = ap (λ k. is_filling (stand ((run o es).seats k)).own) to ∙ undecided_started (stand s).own (stand s).pass a.3;
             active = p;
             succeeded = (both (phase_is (w.status h.descriptor).phase Active) (is_success (v.status h.descriptor).phase) q).1;
-            call = y.1 ∙ r.1 ∙ ap (λ k. ((run o es).seats k).calls) (sym to);
-          },
-          refl,
-        )
+            call = ap (λ (z : Owner). z.number) y.owner ∙ r.1 ∙ ap (λ k. ((run o es).seats k).calls) (sym to);
+            intent = y.intent;
+            has = ap (λ k. own_intent (stand ((run o es).seats k)).own) to ∙ y.has;
+          };
+          over = refl;
+          mode = ap (λ (z : Owner). z.mode) y.owner;
+          lines = ap (λ (z : Owner). listed (line_of_words w h.descriptor) z.lines) y.owner ∙ y.lines;
+        }
 
     module _ (j : ℕ) (l : j < o.callers) where
       abbrev s : Seat
       s = (run o es).seats j
 
-      own_pass : (h : Handle) → own_hold (stand s).own ≡ Proper h.descriptor h.generation → is_filling (stand s).own ≡ false → decides (run o es).world v h ≡ true → Entered h s.caller s.calls
-      own_pass h q f d =
-          let c = (seats_stay o es j).0 in (
-            record {
+      own_pass : (h : Handle) (i : Intent) → Runs h i ≡ (stand s).own → decides (run o es).world v h ≡ true → Entered h i.mode i.lines.items s.caller s.calls
+      own_pass h i m d =
+          let c = (seats_stay o es j).0 in
+          record {
+            by_owner = record {
               within = omega arith;
               descriptor = h.descriptor;
               generation = h.generation;
-              owns = subst (λ k. own_hold (stand ((run o es).seats k)).own ≡ Proper h.descriptor h.generation) (sym c) q;
-              started = ap (λ k. is_filling (stand ((run o es).seats k)).own) c ∙ f;
+              owns = subst (λ k. own_hold (stand ((run o es).seats k)).own ≡ Proper h.descriptor h.generation) (sym c) (ap own_hold (sym m));
+              started = ap (λ k. is_filling (stand ((run o es).seats k)).own) c ∙ ap is_filling (sym m);
               active = was_active ((run o es).world.status h.descriptor).phase (v.status h.descriptor).phase d;
               succeeded = (both (phase_is ((run o es).world.status h.descriptor).phase Active) (is_success (v.status h.descriptor).phase) d).1;
               call = ap (λ k. ((run o es).seats k).calls) (sym c);
-            },
-            refl,
-          )
+              intent = i;
+              has = ap (λ k. own_intent (stand ((run o es).seats k)).own) c ∙ ap own_intent (sym m);
+            };
+            over = refl;
+            mode = refl;
+            lines = refl;
+          }
 
       abbrev EntersAt : Stand → Type 0
-      EntersAt t = CopyIsTrue (run o es).world t.aid → t.own ≡ (stand s).own → Enters t.caller t.calls t.aid t.pass
+      EntersAt t = CopyIsTrue (run o es).world t.aid × IsWhole t.aid → t.own ≡ (stand s).own → Enters t.caller t.calls t.aid t.pass
 
       aid_enters : (b : Bool) (h : Handle) (i : Intent) (k : ℕ) (r : Reference) (c : Aided) (a : AidStep) → EntersAt (aids (record (resting s) { halted = b; own = Waits h i k }) r c a)
       aid_enters b h i k r c aid.Hold y m = tt
@@ -185,7 +239,9 @@ module _ (o : Opening) (es : List Event) where
       aid_enters b h i k r c aid.Owner y m = tt
       aid_enters b h i k r c aid.LoadFirst y m = tt
       aid_enters b h i k r c (aid.LoadSecond f) y m = tt
-      aid_enters b h i k r c (aid.Pass p) y m = λ q. subst (λ (z : Owner). Entered r.handle z.caller z.number) (sym y.owner) (active r.handle q)
+      aid_enters b h i k r c (aid.Pass p) y m = λ q.
+          let words = listed (line_of_words (run o es).world r.handle.descriptor) in
+          subst (λ xs. Entered r.handle c.owner.mode xs c.owner.caller c.owner.number) (sym (y.0.lines ∙ ap words y.1)) (subst (Words r.handle) (sym y.0.owner) (active r.handle q))
       aid_enters b h i k r c (aid.Leave x) y m = tt
       aid_enters b h i k r c (aid.Drop stray x) y m = tt
 
@@ -195,7 +251,7 @@ module _ (o : Opening) (es : List Event) where
       own_enters c h (own.FillSecond k) y m = tt
       own_enters c h own.Start y m = tt
       own_enters c h own.Abandon y m = tt
-      own_enters c h (own.Pass p) y m = own_pass h (ap own_hold (sym m)) (ap is_filling (sym m))
+      own_enters c h (own.Pass p) y m = own_pass h c.intent m
       own_enters c h (own.Aid k r a) y m = aid_enters c.halted h c.intent k r c.copy a y m
       own_enters c h (own.Wake k owed) y m = tt
       own_enters c h (own.Signal owed) y m = tt
@@ -219,7 +275,7 @@ module _ (o : Opening) (es : List Event) where
       work_enters (work.Leave a) y m = tt
 
       pub enters : Enters (stand s).caller (stand s).calls (stand s).aid (stand s).pass
-      enters = let c = (run_shape o es).2 in work_enters s.work ((copies_after o es).copied j (omega arith)) refl
+      enters = let c = (run_shape o es).2 in work_enters s.work ((copies_after o es).copied j (omega arith), passes_whole o es j) refl
 
   -- ---- one event
 
@@ -256,7 +312,7 @@ module _ (o : Opening) (es : List Event) where
         x = record { place = place_or (trace o es).clock at; mode = m; entry = entry_for s xs }
 
         go : (b : Bool) → decides (run o es).world (event_of (run o es) e).world h ≡ b → P (if b then inserted x (trace o es).history else (trace o es).history)
-        go true q = more x (f q).0
+        go true q = more x (f q).by_owner
         go false q = same
 
     pub history_grows : P (trace o (es ++ e ∷ [])).history

@@ -46,7 +46,7 @@ use Rattle.kc_traces.proofs.Joins.{run-append}
 use Rattle.kc_traces.proofs.Answers.{head_of}
 use Rattle.kc_traces.proofs.Others.{run_shape, event_in, event_else, history_kept}
 use Rattle.kc_traces.proofs.Statuses.{Moves, Starts, Decides, IsOver, step_moves}
-use Rattle.kc_traces.proofs.Entries.{Entering, Enters, enters, history_by, history_grows, by_inserted, idle_keeps}
+use Rattle.kc_traces.proofs.Entries.{Entered, Enters, enters, history_by, history_grows, by_inserted, idle_keeps}
 use Rattle.kc_traces.proofs.Onward.{IfDone, succeeded, StageLeft, StageKnows, Left, SeatLeft, Knows, answer_left, halted_left, begun_left, ended_left}
 
 -- ---- one entry more
@@ -199,17 +199,17 @@ module _ (o : Opening) (es : List Event) (e : Event) (k : ℕ) (l : k < o.caller
               let n : succeeded v h ≡ false = sym (ap (λ p. phase_is p Active && succeeded v h) z.1) ∙ ap (λ d. phase_is (w.status d).phase Active && is_success (v.status d).phase) (sym z.0) ∙ q in
               kept old refl (n ∙ sym (was_not (w.status h.descriptor).phase z.1))
 
-          same_then : (n : (z : Entering o es v x.entry.caller x.entry.number) × (z.descriptor ≡ u.descriptor)) → x.entry.caller ≢ k → (v.status h.descriptor ≡ w.status h.descriptor) ⊎ (Starts st h.descriptor ⊎ ((u.descriptor ≡ h.descriptor) × ((w.status h.descriptor).phase ≡ Active))) → succeeded v h ≡ succeeded w h
+          same_then : (n : Entered o es v u m xs x.entry.caller x.entry.number) → x.entry.caller ≢ k → (v.status h.descriptor ≡ w.status h.descriptor) ⊎ (Starts st h.descriptor ⊎ ((u.descriptor ≡ h.descriptor) × ((w.status h.descriptor).phase ≡ Active))) → succeeded v h ≡ succeeded w h
           same_then n ne (inl z) = ap (λ (x : Status). is_success x.phase) z
           same_then n ne (inr (inl z)) = absurd (unstarts z)
-          same_then n ne (inr (inr z)) = absurd (ne (one_owner x.entry.caller n.0.descriptor n.0.generation n.0.within n.0.owns (n.1 ∙ z.0)))
+          same_then n ne (inr (inr z)) = absurd (ne (one_owner x.entry.caller n.by_owner.descriptor n.by_owner.generation n.by_owner.within n.by_owner.owns (n.over ∙ z.0)))
 
-          whose : (n : (z : Entering o es v x.entry.caller x.entry.number) × (z.descriptor ≡ u.descriptor)) → (c : Bool) → (x.entry.caller == k) ≡ c → LeftBy (inserted x old)
+          whose : (n : Entered o es v u m xs x.entry.caller x.entry.number) → (c : Bool) → (x.entry.caller == k) ≡ c → LeftBy (inserted x old)
           whose n true z =
               let i = eqb-true x.entry.caller k z in
-              let d = same_place n.0.descriptor n.0.generation h.descriptor h.generation (sym (subst (λ c. own_hold (stand ((run o es).seats c)).own ≡ Proper n.0.descriptor n.0.generation) i n.0.owns) ∙ owns) in
-              gained (inserted x old) (was_not (w.status h.descriptor).phase (ap (λ j. (w.status j).phase) (sym d) ∙ n.0.active)) (ap (λ j. is_success (v.status j).phase) (sym d) ∙ n.0.succeeded)
-              (gains k s.calls x old i (n.0.call ∙ ap (λ j. ((run o es).seats j).calls) i))
+              let d = same_place n.by_owner.descriptor n.by_owner.generation h.descriptor h.generation (sym (subst (λ c. own_hold (stand ((run o es).seats c)).own ≡ Proper n.by_owner.descriptor n.by_owner.generation) i n.by_owner.owns) ∙ owns) in
+              gained (inserted x old) (was_not (w.status h.descriptor).phase (ap (λ j. (w.status j).phase) (sym d) ∙ n.by_owner.active)) (ap (λ j. is_success (v.status j).phase) (sym d) ∙ n.by_owner.succeeded)
+              (gains k s.calls x old i (n.by_owner.call ∙ ap (λ j. ((run o es).seats j).calls) i))
           whose n false z =
               let ne = eqb-false x.entry.caller k z in
               kept (inserted x old) (by_inserted k x old ne) (same_then n ne y)
