@@ -27,7 +27,7 @@ use Rattle.kc_steps.specs.declared.commit.OwnStep.{OwnStep}
 use Rattle.kc_steps.specs.declared.commit.OwnStep.TheVariants as own
 use Rattle.kc_steps.specs.Nexts.{Next}
 use Rattle.kc_steps.specs.Nexts as next
-use Rattle.kc_steps.specs.Lines.{one_more, after_line}
+use Rattle.kc_steps.specs.Lines.{one_more, after_line, lines_of}
 use Rattle.kc_steps.specs.Looks.{look_next, look_after, told_by, halts_at_once}
 use Rattle.kc_steps.specs.Aids.{aid_next}
 use Rattle.kc_steps.specs.Passes.{pass_next}
@@ -50,28 +50,35 @@ use Rattle.kc_pool.specs.Owners.{fills}
 use Rattle.kc_pool.proofs.Statuses.{fill_fills, owed_started, finish_started, wake_started}
 use Rattle.kc_traces.specs.Outcomes.{GainsTheCall, GainsAsTold}
 
-abbrev pub IfDone : Bool → (k n : ℕ) → History → History → Type 0
-IfDone true k n a b = GainsTheCall k n a b
-IfDone false k n a b = b ≡ a
+-- of the task u of seat k, at its call n
+abbrev pub IfDone : Bool → (k n : ℕ) → Task → History → History → Type 0
+IfDone true k n u a b = GainsTheCall k n u a b
+IfDone false k n u a b = b ≡ a
 
 abbrev pub succeeded : World → Handle → Bool
 succeeded w h = is_success (w.status h.descriptor).phase
 
 -- from its start on, as the status says
-abbrev pub StageLeft : World → (k n : ℕ) → Stage → History → History → Type 0
-StageLeft w k n (stage.Scan d worn) a b = b ≡ a
-StageLeft w k n (stage.Take d g) a b = b ≡ a
-StageLeft w k n (stage.Own h step) a b = IfDone (not (fills step) && succeeded w h) k n a b
+abbrev pub StageLeft : World → (k n : ℕ) → Task → Stage → History → History → Type 0
+StageLeft w k n u (stage.Scan d worn) a b = b ≡ a
+StageLeft w k n u (stage.Take d g) a b = b ≡ a
+StageLeft w k n u (stage.Own h step) a b = IfDone (not (fills step) && succeeded w h) k n u a b
 
-abbrev pub Left : World → (k n : ℕ) → Option Told → Work → History → History → Type 0
-Left w k n t work.Idle a b = GainsAsTold k t a b
-Left w k n t (work.Look l) a b = b ≡ a
-Left w k n t (work.Commit c) a b = StageLeft w k n c.stage a b
-Left w k n t (work.Hang h) a b = b ≡ a
-Left w k n t (work.Leave l) a b = b ≡ a
+abbrev pub IsIntentOf : Task → Intent → Type 0
+IsIntentOf (task.Commit f m) i = i ≡ record { mode = m; lines = record { items = lines_of f } }
+IsIntentOf (task.Look l) i = ⊥
+IsIntentOf (task.Hang reads) i = ⊥
+IsIntentOf (task.Leave reads) i = ⊥
 
-abbrev pub SeatLeft : World → ℕ → Seat → History → History → Type 0
-SeatLeft w k s a b = Left w k s.calls s.told s.work a b
+abbrev pub Left : World → (k n : ℕ) → Task → Option Told → Work → History → History → Type 0
+Left w k n u t work.Idle a b = GainsAsTold k u t a b
+Left w k n u t (work.Look l) a b = b ≡ a
+Left w k n u t (work.Commit c) a b = StageLeft w k n u c.stage a b × IsIntentOf u c.intent
+Left w k n u t (work.Hang h) a b = b ≡ a
+Left w k n u t (work.Leave l) a b = b ≡ a
+
+abbrev pub SeatLeft : World → ℕ → Task → Seat → History → History → Type 0
+SeatLeft w k u s a b = Left w k s.calls u s.told s.work a b
 
 -- a start makes it Active; who drops knows the phase
 abbrev pub StepKnows : World → Handle → OwnStep → Type 0
@@ -124,26 +131,26 @@ halted_same (own.Drop p) = refl
 
 -- ---- one step
 
-module _ (v : World) (k : ℕ) (s : Seat) (a b : History) where
+module _ (v : World) (k : ℕ) (u : Task) (s : Seat) (a b : History) where
   abbrev StageNow : ℕ → Stage → Type 0
-  StageNow n x = StageLeft v k n x a b
+  StageNow n x = StageLeft v k n u x a b
 
   abbrev NextLeft : Next → Type 0
   NextLeft (next.Goes y) = StageNow s.calls y
   NextLeft (next.Takes y) = StageNow (one_more s.calls) y
-  NextLeft (next.Tells t) = GainsAsTold k (Some t) a b
+  NextLeft (next.Tells t) = GainsAsTold k u (Some t) a b
 
-  after_next : (c : Commit) (n : Next) → NextLeft n → SeatLeft v k (after (record s { work = work.Commit (gone_on c n) }) (onward_by n)) a b
-  after_next c (next.Goes y) h = h
-  after_next c (next.Takes y) h = h
-  after_next c (next.Tells t) h = h
+  after_next : (c : Commit) (n : Next) → NextLeft n → IsIntentOf u c.intent → SeatLeft v k u (after (record s { work = work.Commit (gone_on c n) }) (onward_by n)) a b
+  after_next c (next.Goes y) h i = (h, i)
+  after_next c (next.Takes y) h i = (h, i)
+  after_next c (next.Tells t) h i = h
 
   -- before the start nothing is left
   filling : (h : Handle) (step : OwnStep) → fills step ≡ true → b ≡ a → StageNow s.calls (stage.Own h step)
-  filling h step e q = subst (λ z. IfDone (not z && succeeded v h) k s.calls a b) (sym e) q
+  filling h step e q = subst (λ z. IfDone (not z && succeeded v h) k s.calls u a b) (sym e) q
 
-  started : (h : Handle) (step : OwnStep) → fills step ≡ false → IfDone (succeeded v h) k s.calls a b → StageNow s.calls (stage.Own h step)
-  started h step e q = subst (λ z. IfDone (not z && succeeded v h) k s.calls a b) (sym e) q
+  started : (h : Handle) (step : OwnStep) → fills step ≡ false → IfDone (succeeded v h) k s.calls u a b → StageNow s.calls (stage.Own h step)
+  started h step e q = subst (λ z. IfDone (not z && succeeded v h) k s.calls u a b) (sym e) q
 
   scan_left : (d worn : ℕ) (f : Found) → b ≡ a → NextLeft (scan_next s.descriptors d worn f)
   scan_left d worn (found.Control c) q = go (nat_lt c.generation 1099511627775) (c.holds == 0) (nat_lt worn (s.descriptors - 1))
@@ -163,7 +170,7 @@ module _ (v : World) (k : ℕ) (s : Seat) (a b : History) where
       go false = q
   take_left d g f q = q
 
-  told_left : (p : Phase) → IfDone (is_success p) k s.calls a b → GainsAsTold k (Some (told_of p s.calls)) a b
+  told_left : (p : Phase) → IfDone (is_success p) k s.calls u a b → GainsAsTold k u (Some (told_of p s.calls)) a b
   told_left Active q = q
   told_left Succeeded q = q
   told_left (Failed j) q = q
@@ -174,29 +181,29 @@ module _ (v : World) (k : ℕ) (s : Seat) (a b : History) where
   own_left c h own.FillOwner f e q = filling h _ (fill_fills c.intent.lines.items 0) q
   own_left c h (own.FillFirst j) f e q = q
   own_left c h (own.FillSecond j) f e q = filling h _ (fill_fills c.intent.lines.items _) q
-  own_left c h own.Start f e q = subst (λ z. IfDone z k s.calls a b) (sym e) q
+  own_left c h own.Start f e q = subst (λ z. IfDone z k s.calls u a b) (sym e) q
   own_left c h own.Abandon f e q = q
   own_left c h (own.Pass p) f e q = started h _ (pass_started c.intent (pass_next h c.intent.mode c.intent.lines.items p f)) q
   own_left c h (own.Aid j r x) f e q = started h _ (aid_started c.halted j r (aid_next r c.copy x f)) q
   own_left c h (own.Wake j owed) f e q = started h _ (woken_started c.intent j owed f) q
   own_left c h (own.Signal owed) f e q = started h _ (owed_started _) q
-  own_left c h (own.Drop p) f e q = told_left p (subst (λ z. IfDone z k s.calls a b) e q)
+  own_left c h (own.Drop p) f e q = told_left p (subst (λ z. IfDone z k s.calls u a b) e q)
 
   stage_left : (c : Commit) (x : Stage) (f : Found) → StageKnows v x → StageNow s.calls x → NextLeft (stage_next s.descriptors s.calls c x f)
   stage_left c (stage.Scan d worn) f e q = scan_left d worn f q
   stage_left c (stage.Take d g) f e q = take_left d g f q
   stage_left c (stage.Own h step) f e q = own_left c h step f e q
 
-  look_left : (x : _) (t : Bool) (n : LookNext) → b ≡ a → SeatLeft v k (after (record s { work = work.Look x }) (told_by t n)) a b
+  look_left : (x : _) (t : Bool) (n : LookNext) → b ≡ a → SeatLeft v k u (after (record s { work = work.Look x }) (told_by t n)) a b
   look_left x true n q = q
   look_left x false (looking.Goes step) q = q
   look_left x false (looking.Saw seen) q = q
 
   abbrev HangLeft : HangNext → Type 0
   HangLeft (hanging.Goes step) = b ≡ a
-  HangLeft (hanging.Tells t) = GainsAsTold k (Some t) a b
+  HangLeft (hanging.Tells t) = GainsAsTold k u (Some t) a b
 
-  after_hang : (h : Hang) (n : HangNext) → HangLeft n → SeatLeft v k (after (record s { work = work.Hang (hangs_on h n) }) (onward_of n)) a b
+  after_hang : (h : Hang) (n : HangNext) → HangLeft n → SeatLeft v k u (after (record s { work = work.Hang (hangs_on h n) }) (onward_of n)) a b
   after_hang h (hanging.Goes step) q = q
   after_hang h (hanging.Tells t) q = q
 
@@ -228,57 +235,57 @@ module _ (v : World) (k : ℕ) (s : Seat) (a b : History) where
       go i None = q
       go i (Some x) = q
 
-  leave_left : (x : Leave) (o : Option Seen) → b ≡ a → SeatLeft v k (after (record s { work = work.Leave x }) (unblocks_or_tells o)) a b
+  leave_left : (x : Leave) (o : Option Seen) → b ≡ a → SeatLeft v k u (after (record s { work = work.Leave x }) (unblocks_or_tells o)) a b
   leave_left x None q = q
   leave_left x (Some y) q = q
 
-  pub answer_left : (f : Found) → Knows v s.work → SeatLeft v k s a b → SeatLeft v k (answer_of s f) a b
+  pub answer_left : (f : Found) → Knows v s.work → SeatLeft v k u s a b → SeatLeft v k u (answer_of s f) a b
   answer_left f = go s.work refl
     where
-      go : (x : Work) → s.work ≡ x → Knows v x → Left v k s.calls s.told x a b → SeatLeft v k (answer_by s f x) a b
-      go work.Idle z e q = subst (λ y. Left v k s.calls s.told y a b) (sym z) q
+      go : (x : Work) → s.work ≡ x → Knows v x → Left v k s.calls u s.told x a b → SeatLeft v k u (answer_by s f x) a b
+      go work.Idle z e q = subst (λ y. Left v k s.calls u s.told y a b) (sym z) q
       go (work.Look l) z e q = look_left (look_after l f) l.halted (look_next l.loc l.step f) q
-      go (work.Commit c) z e q = after_next (loaded c f) _ (stage_left (loaded c f) c.stage f e q)
+      go (work.Commit c) z e q = after_next (loaded c f) _ (stage_left (loaded c f) c.stage f e q.0) q.1
       go (work.Hang h) z e q = after_hang h _ (hang_left h.reads.items h.step f q)
       go (work.Leave l) z e q = leave_left (leave_after l) (slice_get l.reads.items (next_read l.step)) q
 
   -- ---- a halt
 
-  halt_stage : (c : Commit) (x : Stage) → StageNow s.calls x → SeatLeft v k (if unowned x then ended s else record s { work = work.Commit (halted_at c x) }) a b
-  halt_stage c (stage.Scan d worn) q = q
-  halt_stage c (stage.Take d g) q = q
-  halt_stage c (stage.Own h step) q = subst (λ z. IfDone (not z && succeeded v h) k s.calls a b) (sym (halted_same step)) q
+  halt_stage : (c : Commit) (x : Stage) → StageNow s.calls x → IsIntentOf u c.intent → SeatLeft v k u (if unowned x then ended s else record s { work = work.Commit (halted_at c x) }) a b
+  halt_stage c (stage.Scan d worn) q i = q
+  halt_stage c (stage.Take d g) q i = q
+  halt_stage c (stage.Own h step) q i = (subst (λ z. IfDone (not z && succeeded v h) k s.calls u a b) (sym (halted_same step)) q, i)
 
-  pub halted_left : SeatLeft v k s a b → SeatLeft v k (halted s) a b
+  pub halted_left : SeatLeft v k u s a b → SeatLeft v k u (halted s) a b
   halted_left = go s.work refl
     where
-      look_or : (x : _) (z : Bool) → b ≡ a → SeatLeft v k (if z then ended s else record s { work = work.Look x }) a b
+      look_or : (x : _) (z : Bool) → b ≡ a → SeatLeft v k u (if z then ended s else record s { work = work.Look x }) a b
       look_or x true q = q
       look_or x false q = q
 
-      go : (x : Work) → s.work ≡ x → Left v k s.calls s.told x a b → SeatLeft v k (halted_by s x) a b
-      go work.Idle z q = subst (λ y. Left v k s.calls s.told y a b) (sym z) q
+      go : (x : Work) → s.work ≡ x → Left v k s.calls u s.told x a b → SeatLeft v k u (halted_by s x) a b
+      go work.Idle z q = subst (λ y. Left v k s.calls u s.told y a b) (sym z) q
       go (work.Look l) z q = look_or _ (halts_at_once l.step) q
-      go (work.Commit c) z q = halt_stage c c.stage q
-      go (work.Hang h) z q = subst (λ y. Left v k s.calls s.told y a b) (sym z) q
-      go (work.Leave l) z q = subst (λ y. Left v k s.calls s.told y a b) (sym z) q
+      go (work.Commit c) z q = halt_stage c c.stage q.0 q.1
+      go (work.Hang h) z q = subst (λ y. Left v k s.calls u s.told y a b) (sym z) q
+      go (work.Leave l) z q = subst (λ y. Left v k s.calls u s.told y a b) (sym z) q
 
   -- ---- a beginning, and an end
 
-  pub begun_left : (t : Task) → is_idle s.work ≡ true → is_idle (begun_idle s t).work ≡ false → b ≡ a → SeatLeft v k (begun_idle s t) a b
-  begun_left (task.Look l) i e q = q
-  begun_left (task.Commit f m) i e q = q
-  begun_left (task.Hang reads) i e q = go s.blocked e
+  pub begun_left : (t : Task) → t ≡ u → is_idle s.work ≡ true → is_idle (begun_idle s t).work ≡ false → b ≡ a → SeatLeft v k u (begun_idle s t) a b
+  begun_left (task.Look l) z i e q = q
+  begun_left (task.Commit f m) z i e q = (q, subst (λ x. IsIntentOf x (record { mode = m; lines = record { items = lines_of f } })) z refl)
+  begun_left (task.Hang reads) z i e q = go s.blocked e
     where
-      go : (z : Bool) → is_idle (if z then s else working s (hanging reads.items)).work ≡ false → SeatLeft v k (if z then s else working s (hanging reads.items)) a b
+      go : (z : Bool) → is_idle (if z then s else working s (hanging reads.items)).work ≡ false → SeatLeft v k u (if z then s else working s (hanging reads.items)) a b
       go true e = absurd (cc)
       go false e = q
-  begun_left (task.Leave reads) i e q = q
+  begun_left (task.Leave reads) z i e q = q
 
-  pub ended_left : is_idle s.work ≡ true → SeatLeft v k s a b → GainsAsTold k s.told a b
+  pub ended_left : is_idle s.work ≡ true → SeatLeft v k u s a b → GainsAsTold k u s.told a b
   ended_left = go s.work
     where
-      go : (x : Work) → is_idle x ≡ true → Left v k s.calls s.told x a b → GainsAsTold k s.told a b
+      go : (x : Work) → is_idle x ≡ true → Left v k s.calls u s.told x a b → GainsAsTold k u s.told a b
       go work.Idle i q = q
       go (work.Look l) i q = absurd (cc)
       go (work.Commit c) i q = absurd (cc)

@@ -1,5 +1,5 @@
 -- Over a whole task its caller's entries grow by that of its call where it succeeded, and else by none.
-use Rattle.std.proofs.Common.{◌≡◌, ◌≢◌, ℕ, ◌<◌, ◌⊎◌, ◌==◌, ◌&&◌, ◌++◌, ◌∙◌, Bool, true, false, not, List, [], ◌∷◌, cond, Option, inl, inr, refl, sym, ap, subst, arith, append_assoc, append-nil, if◌then◌else◌}
+use Rattle.std.proofs.Common.{Some, ◌≡◌, ◌≢◌, ℕ, ◌<◌, ◌⊎◌, ◌==◌, ◌&&◌, ◌++◌, ◌∙◌, Bool, true, false, not, List, [], ◌∷◌, cond, Option, inl, inr, refl, sym, ap, subst, arith, append_assoc, append-nil, if◌then◌else◌}
 use Rattle.std.specs.Prelude.{nat_lt}
 use Rattle.std.proofs.lemmas.List.Elements.{All-nil, All-cons}
 use borrow.Author.Tests.{eqb-true, eqb-false, eq-eqb}
@@ -18,6 +18,9 @@ use Rattle.kc_steps.specs.declared.commit.Stage.TheVariants as stage
 use Rattle.kc_steps.specs.declared.commit.OwnStep.{OwnStep}
 use Rattle.kc_steps.specs.declared.commit.OwnStep.TheVariants as own
 use Rattle.kc_steps.specs.declared.task.Task.{Task}
+use Rattle.kc_steps.specs.declared.task.Task.TheVariants as task
+use Rattle.kc_steps.specs.declared.line.Line.{Line}
+use Rattle.kc_steps.specs.Lines.{lines_of}
 use Rattle.kc_steps.specs.declared.task.Event.{Event}
 use Rattle.kc_steps.specs.declared.task.Event.TheVariants.{Begin, Step, Halt}
 use Rattle.kc_steps.specs.Passes.{status}
@@ -36,18 +39,18 @@ use Rattle.kc_effects.specs.Stands.{Stand, Own, NoOwn, Waits, Passing, NoPass, O
 use Rattle.kc_effects.specs.Holds.{Proper, own_hold}
 use Rattle.kc_pool.specs.Owners.{fills, is_filling, phase_read}
 use Rattle.kc_pool.proofs.LifeLaws.{owners_differ, phase_known}
-use Rattle.kc_claims.specs.Histories.{History, Placed, inserted}
+use Rattle.kc_claims.specs.Histories.{History, Placed, inserted, footprint_of}
 use Rattle.kc_claims.specs.Traces.{is_success, decides, entry_for, history_after, place_or, trace, now}
 use Rattle.kc_traces.specs.Moments.{BeginsNothing}
 use Rattle.kc_traces.specs.Parts.{IsNoStep}
 use Rattle.kc_traces.specs.Entries.{by}
-use Rattle.kc_traces.specs.Outcomes.{GainsTheCall, GainsAsTold}
+use Rattle.kc_traces.specs.Outcomes.{IsEntryOf, GainsTheCall, GainsAsTold}
 use Rattle.kc_traces.proofs.Joins.{run-append}
 use Rattle.kc_traces.proofs.Answers.{head_of}
 use Rattle.kc_traces.proofs.Others.{run_shape, event_in, event_else, history_kept}
 use Rattle.kc_traces.proofs.Statuses.{Moves, Starts, Decides, IsOver, step_moves}
-use Rattle.kc_traces.proofs.Entries.{Entered, Enters, enters, history_by, history_grows, by_inserted, idle_keeps}
-use Rattle.kc_traces.proofs.Onward.{IfDone, succeeded, StageLeft, StageKnows, Left, SeatLeft, Knows, answer_left, halted_left, begun_left, ended_left}
+use Rattle.kc_traces.proofs.Entries.{own_intent, Entered, Enters, enters, history_by, history_grows, by_inserted, idle_keeps}
+use Rattle.kc_traces.proofs.Onward.{IsIntentOf, IfDone, succeeded, StageLeft, StageKnows, Left, SeatLeft, Knows, answer_left, halted_left, begun_left, ended_left}
 
 -- ---- one entry more
 
@@ -55,20 +58,29 @@ by_own : (k : ℕ) (x : Placed) (h : History) → x.entry.caller ≡ k → by k 
 by_own k x h e = ap (λ b. cond b (x ∷ by k h) (by k h)) (eq-eqb x.entry.caller k e)
 
 -- behind one entry more
-behind : (k n : ℕ) (y : Placed) (h g : History) → GainsTheCall k n (by k h) (by k g) → GainsTheCall k n (by k (y ∷ h)) (by k (y ∷ g))
-behind k n y h g r = go (y.entry.caller == k)
+behind : (k n : ℕ) (u : Task) (y : Placed) (h g : History) → GainsTheCall k n u (by k h) (by k g) → GainsTheCall k n u (by k (y ∷ h)) (by k (y ∷ g))
+behind k n u y h g r = go (y.entry.caller == k)
   where
-    go : (b : Bool) → GainsTheCall k n (cond b (y ∷ by k h) (by k h)) (cond b (y ∷ by k g) (by k g))
-    go true = record { entry = r.entry; caller = r.caller; number = r.number; front = y ∷ r.front; back = r.back; before = ap (λ z. y ∷ z) r.before; after = ap (λ z. y ∷ z) r.after }
+    go : (b : Bool) → GainsTheCall k n u (cond b (y ∷ by k h) (by k h)) (cond b (y ∷ by k g) (by k g))
+    go true = record { entry = r.entry; is = r.is; front = y ∷ r.front; back = r.back; before = ap (λ z. y ∷ z) r.before; after = ap (λ z. y ∷ z) r.after }
     go false = r
 
-gains : (k n : ℕ) (x : Placed) (h : History) → x.entry.caller ≡ k → x.entry.number ≡ n → GainsTheCall k n (by k h) (by k (inserted x h))
-gains k n x [] e q = record { entry = x; caller = e; number = q; front = []; back = []; before = refl; after = by_own k x [] e }
-gains k n x (y ∷ h) e q = go (gains k n x h e q) (nat_lt x.place y.place)
+gains : (k n : ℕ) (u : Task) (x : Placed) (h : History) → x.entry.caller ≡ k → IsEntryOf k n u x → GainsTheCall k n u (by k h) (by k (inserted x h))
+gains k n u x [] e q = record { entry = x; is = q; front = []; back = []; before = refl; after = by_own k x [] e }
+gains k n u x (y ∷ h) e q = go (gains k n u x h e q) (nat_lt x.place y.place)
   where
-    go : GainsTheCall k n (by k h) (by k (inserted x h)) → (b : Bool) → GainsTheCall k n (by k (y ∷ h)) (by k (if b then x ∷ y ∷ h else y ∷ inserted x h))
-    go r true = record { entry = x; caller = e; number = q; front = []; back = by k (y ∷ h); before = refl; after = by_own k x (y ∷ h) e }
-    go r false = behind k n y h (inserted x h) r
+    go : GainsTheCall k n u (by k h) (by k (inserted x h)) → (b : Bool) → GainsTheCall k n u (by k (y ∷ h)) (by k (if b then x ∷ y ∷ h else y ∷ inserted x h))
+    go r true = record { entry = x; is = q; front = []; back = by k (y ∷ h); before = refl; after = by_own k x (y ∷ h) e }
+    go r false = behind k n u y h (inserted x h) r
+
+-- the entry of an intent
+entry_is : (k n : ℕ) (u : Task) (x : Placed) (i : Intent) → x.entry.caller ≡ k → x.entry.number ≡ n → x.mode ≡ i.mode → {xs : List Line} → xs ≡ i.lines.items → x.entry.footprint ≡ footprint_of xs → IsIntentOf u i → IsEntryOf k n u x
+entry_is k n (task.Commit f m) x i c q y e z h =
+    let l : footprint_of i.lines.items ≡ footprint_of (lines_of f) = ap (λ (v : Intent). footprint_of v.lines.items) h in
+    (y ∙ ap (λ (v : Intent). v.mode) h, λ j. record { caller = c j; number = q j; footprint = (z ∙ ap footprint_of e ∙ l) j })
+entry_is k n (task.Look l) x i c q y e z h = absurd h
+entry_is k n (task.Hang reads) x i c q y e z h = absurd h
+entry_is k n (task.Leave reads) x i c q y e z h = absurd h
 
 -- ---- what is owned
 
@@ -85,20 +97,20 @@ aid_owned t h i j r c (aid.Pass p) = refl
 aid_owned t h i j r c (aid.Leave o) = refl
 aid_owned t h i j r c (aid.Drop stray o) = refl
 
-abbrev Owns_it : Own → Handle → OwnStep → Type 0
-Owns_it x h step = (own_hold x ≡ Proper h.descriptor h.generation) × (is_filling x ≡ fills step)
+abbrev Owns_it : Own → Handle → Intent → OwnStep → Type 0
+Owns_it x h i step = (own_hold x ≡ Proper h.descriptor h.generation) × (is_filling x ≡ fills step) × (own_intent x ≡ Some i)
 
-owned : (t : Stand) (i : Intent) (c : Aided) (h : Handle) (step : OwnStep) → Owns_it (owns t i c h step).own h step
-owned t i c h own.FillOwner = (refl, refl)
-owned t i c h (own.FillFirst j) = (refl, refl)
-owned t i c h (own.FillSecond j) = (refl, refl)
-owned t i c h own.Start = (refl, refl)
-owned t i c h own.Abandon = (refl, refl)
-owned t i c h (own.Pass p) = (refl, refl)
-owned t i c h (own.Aid j r a) = let e = aid_owned t h i j r c a in (ap own_hold e, ap is_filling e)
-owned t i c h (own.Wake j owed) = (refl, refl)
-owned t i c h (own.Signal owed) = (refl, refl)
-owned t i c h (own.Drop p) = (refl, refl)
+owned : (t : Stand) (i : Intent) (c : Aided) (h : Handle) (step : OwnStep) → Owns_it (owns t i c h step).own h i step
+owned t i c h own.FillOwner = (refl, refl, refl)
+owned t i c h (own.FillFirst j) = (refl, refl, refl)
+owned t i c h (own.FillSecond j) = (refl, refl, refl)
+owned t i c h own.Start = (refl, refl, refl)
+owned t i c h own.Abandon = (refl, refl, refl)
+owned t i c h (own.Pass p) = (refl, refl, refl)
+owned t i c h (own.Aid j r a) = let e = aid_owned t h i j r c a in (ap own_hold e, ap is_filling e, ap own_intent e)
+owned t i c h (own.Wake j owed) = (refl, refl, refl)
+owned t i c h (own.Signal owed) = (refl, refl, refl)
+owned t i c h (own.Drop p) = (refl, refl, refl)
 
 hang_unowned : (s : Seat) (reads : List Seen) (step : HangStep) → (hangs (resting s) reads step).own ≡ NoOwn
 hang_unowned s reads (hang.Set j) = refl
@@ -129,10 +141,13 @@ was_not p e = ap is_success e
 same_place : (a b c d : ℕ) → Proper a b ≡ Proper c d → a ≡ c
 same_place a b c d q = cc
 
+same_intent : (i y : Intent) → ◌≡◌ {A = Option Intent} (Some i) (Some y) → i ≡ y
+same_intent i y q = cc
+
 no_hold : (d g : ℕ) → own_hold NoOwn ≡ Proper d g → ⊥
 no_hold d g q = absurd (cc)
 
-module _ (o : Opening) (es : List Event) (e : Event) (k : ℕ) (l : k < o.callers) where
+module _ (o : Opening) (es : List Event) (e : Event) (k : ℕ) (l : k < o.callers) (u : Task) where
   abbrev w : World
   w = (run o es).world
 
@@ -156,17 +171,17 @@ module _ (o : Opening) (es : List Event) (e : Event) (k : ℕ) (l : k < o.caller
       (subst (λ c. is_filling (stand ((run o es).seats c)).own ≡ false) q n.started)))
 
   -- the life h of a seat that has started it: nothing is gained and it is as it was, or it has succeeded now
-  module _ (h : Handle) (owns : own_hold (stand s).own ≡ Proper h.descriptor h.generation) (started : is_filling (stand s).own ≡ false) (a : History) (left : IfDone (succeeded w h) k s.calls a (by k old)) where
+  module _ (h : Handle) (owns : own_hold (stand s).own ≡ Proper h.descriptor h.generation) (started : is_filling (stand s).own ≡ false) (mine : (i : Intent) → own_intent (stand s).own ≡ Some i → IsIntentOf u i) (a : History) (left : IfDone (succeeded w h) k s.calls u a (by k old)) where
     abbrev LeftBy : History → Type 0
-    LeftBy g = IfDone (succeeded v h) k s.calls a (by k g)
+    LeftBy g = IfDone (succeeded v h) k s.calls u a (by k g)
 
     kept : (g : History) → by k g ≡ by k old → succeeded v h ≡ succeeded w h → LeftBy g
-    kept g q z = subst (λ b. IfDone b k s.calls a (by k g)) (sym z) (subst (IfDone (succeeded w h) k s.calls a) (sym q) left)
+    kept g q z = subst (λ b. IfDone b k s.calls u a (by k g)) (sym z) (subst (IfDone (succeeded w h) k s.calls u a) (sym q) left)
 
-    gained : (g : History) → succeeded w h ≡ false → succeeded v h ≡ true → GainsTheCall k s.calls (by k old) (by k g) → LeftBy g
+    gained : (g : History) → succeeded w h ≡ false → succeeded v h ≡ true → GainsTheCall k s.calls u (by k old) (by k g) → LeftBy g
     gained g x y r =
-        let n : by k old ≡ a = subst (λ b. IfDone b k s.calls a (by k old)) x left in
-        subst (λ b. IfDone b k s.calls a (by k g)) (sym y) (subst (λ z. GainsTheCall k s.calls z (by k g)) n r)
+        let n : by k old ≡ a = subst (λ b. IfDone b k s.calls u a (by k old)) x left in
+        subst (λ b. IfDone b k s.calls u a (by k g)) (sym y) (subst (λ z. GainsTheCall k s.calls u z (by k g)) n r)
 
     one_owner : (j d g : ℕ) → j < o.callers → own_hold (stand ((run o es).seats j)).own ≡ Proper d g → d ≡ h.descriptor → j ≡ k
     one_owner j d g b q z =
@@ -187,34 +202,35 @@ module _ (o : Opening) (es : List Event) (e : Event) (k : ℕ) (l : k < o.caller
       turned at NoPass f (inl z) = kept old refl (ap (λ (x : Status). is_success x.phase) z)
       turned at NoPass f (inr (inl z)) = absurd (unstarts z)
       turned at NoPass f (inr (inr z)) = absurd z.0
-      turned at (Over u m xs t) f y = go (decides w v u) refl
+      turned at (Over hd m xs t) f y = go (decides w v hd) refl
         where
           x : Placed
           x = record { place = place_or (trace o es).clock at; mode = m; entry = entry_for st xs }
 
-          undecided : decides w v u ≡ false → (v.status h.descriptor ≡ w.status h.descriptor) ⊎ (Starts st h.descriptor ⊎ ((u.descriptor ≡ h.descriptor) × ((w.status h.descriptor).phase ≡ Active))) → LeftBy old
+          undecided : decides w v hd ≡ false → (v.status h.descriptor ≡ w.status h.descriptor) ⊎ (Starts st h.descriptor ⊎ ((hd.descriptor ≡ h.descriptor) × ((w.status h.descriptor).phase ≡ Active))) → LeftBy old
           undecided q (inl z) = kept old refl (ap (λ (x : Status). is_success x.phase) z)
           undecided q (inr (inl z)) = absurd (unstarts z)
           undecided q (inr (inr z)) =
               let n : succeeded v h ≡ false = sym (ap (λ p. phase_is p Active && succeeded v h) z.1) ∙ ap (λ d. phase_is (w.status d).phase Active && is_success (v.status d).phase) (sym z.0) ∙ q in
               kept old refl (n ∙ sym (was_not (w.status h.descriptor).phase z.1))
 
-          same_then : (n : Entered o es v u m xs x.entry.caller x.entry.number) → x.entry.caller ≢ k → (v.status h.descriptor ≡ w.status h.descriptor) ⊎ (Starts st h.descriptor ⊎ ((u.descriptor ≡ h.descriptor) × ((w.status h.descriptor).phase ≡ Active))) → succeeded v h ≡ succeeded w h
+          same_then : (n : Entered o es v hd m xs x.entry.caller x.entry.number) → x.entry.caller ≢ k → (v.status h.descriptor ≡ w.status h.descriptor) ⊎ (Starts st h.descriptor ⊎ ((hd.descriptor ≡ h.descriptor) × ((w.status h.descriptor).phase ≡ Active))) → succeeded v h ≡ succeeded w h
           same_then n ne (inl z) = ap (λ (x : Status). is_success x.phase) z
           same_then n ne (inr (inl z)) = absurd (unstarts z)
           same_then n ne (inr (inr z)) = absurd (ne (one_owner x.entry.caller n.by_owner.descriptor n.by_owner.generation n.by_owner.within n.by_owner.owns (n.over ∙ z.0)))
 
-          whose : (n : Entered o es v u m xs x.entry.caller x.entry.number) → (c : Bool) → (x.entry.caller == k) ≡ c → LeftBy (inserted x old)
+          whose : (n : Entered o es v hd m xs x.entry.caller x.entry.number) → (c : Bool) → (x.entry.caller == k) ≡ c → LeftBy (inserted x old)
           whose n true z =
               let i = eqb-true x.entry.caller k z in
               let d = same_place n.by_owner.descriptor n.by_owner.generation h.descriptor h.generation (sym (subst (λ c. own_hold (stand ((run o es).seats c)).own ≡ Proper n.by_owner.descriptor n.by_owner.generation) i n.by_owner.owns) ∙ owns) in
               gained (inserted x old) (was_not (w.status h.descriptor).phase (ap (λ j. (w.status j).phase) (sym d) ∙ n.by_owner.active)) (ap (λ j. is_success (v.status j).phase) (sym d) ∙ n.by_owner.succeeded)
-              (gains k s.calls x old i (n.by_owner.call ∙ ap (λ j. ((run o es).seats j).calls) i))
+              (gains k s.calls u x old i (entry_is k s.calls u x n.by_owner.intent i (n.by_owner.call ∙ ap (λ j. ((run o es).seats j).calls) i) n.mode n.lines refl
+              (mine n.by_owner.intent (subst (λ c. own_intent (stand ((run o es).seats c)).own ≡ Some n.by_owner.intent) i n.by_owner.has))))
           whose n false z =
               let ne = eqb-false x.entry.caller k z in
               kept (inserted x old) (by_inserted k x old ne) (same_then n ne y)
 
-          go : (c : Bool) → decides w v u ≡ c → LeftBy (if c then inserted x old else old)
+          go : (c : Bool) → decides w v hd ≡ c → LeftBy (if c then inserted x old else old)
           go false q = undecided q y
           go true q = whose (f q) (x.entry.caller == k) refl
 
@@ -232,30 +248,30 @@ module _ (o : Opening) (es : List Event) (e : Event) (k : ℕ) (l : k < o.caller
   -- ---- what is left, where the words and the history have gone on
 
   module _ (a : History) where
-    stage_goes : (c : Commit) (x : Stage) → (commits (record (resting s) { halted = c.halted }) c.intent c.copy x).own ≡ (stand s).own → StageLeft w k s.calls x a (by k old) → StageLeft v k s.calls x a (by k new)
-    stage_goes c (stage.Scan d worn) q r = unstarted (λ d g y. absurd (no_hold d g (ap own_hold q ∙ y))) ∙ r
-    stage_goes c (stage.Take d g) q r = unstarted (λ d g y. absurd (no_hold d g (ap own_hold q ∙ y))) ∙ r
-    stage_goes c (stage.Own h step) q r = go (fills step) refl r
+    stage_goes : (c : Commit) (x : Stage) → IsIntentOf u c.intent → (commits (record (resting s) { halted = c.halted }) c.intent c.copy x).own ≡ (stand s).own → StageLeft w k s.calls u x a (by k old) → StageLeft v k s.calls u x a (by k new)
+    stage_goes c (stage.Scan d worn) y q r = unstarted (λ d g i. absurd (no_hold d g (ap own_hold q ∙ i))) ∙ r
+    stage_goes c (stage.Take d g) y q r = unstarted (λ d g i. absurd (no_hold d g (ap own_hold q ∙ i))) ∙ r
+    stage_goes c (stage.Own h step) y q r = go (fills step) refl r
       where
-        f : Owns_it (owns (record (resting s) { halted = c.halted }) c.intent c.copy h step).own h step
+        f : Owns_it (owns (record (resting s) { halted = c.halted }) c.intent c.copy h step).own h c.intent step
         f = owned (record (resting s) { halted = c.halted }) c.intent c.copy h step
 
         fill : is_filling (stand s).own ≡ fills step
         fill = ap is_filling (sym q) ∙ f.1
 
-        go : (b : Bool) → fills step ≡ b → IfDone (not (fills step) && succeeded w h) k s.calls a (by k old) → IfDone (not (fills step) && succeeded v h) k s.calls a (by k new)
-        go true z r = subst (λ b. IfDone (not b && succeeded v h) k s.calls a (by k new)) (sym z)
-            (unstarted (λ d g y i. let u : true ≡ false = sym z ∙ sym fill ∙ i in absurd (cc)) ∙ subst (λ b. IfDone (not b && succeeded w h) k s.calls a (by k old)) z r)
-        go false z r = subst (λ b. IfDone (not b && succeeded v h) k s.calls a (by k new)) (sym z)
-            (life_left h (ap own_hold (sym q) ∙ f.0) (fill ∙ z) a (subst (λ b. IfDone (not b && succeeded w h) k s.calls a (by k old)) z r))
+        go : (b : Bool) → fills step ≡ b → IfDone (not (fills step) && succeeded w h) k s.calls u a (by k old) → IfDone (not (fills step) && succeeded v h) k s.calls u a (by k new)
+        go true z r = subst (λ b. IfDone (not b && succeeded v h) k s.calls u a (by k new)) (sym z)
+            (unstarted (λ d g y i. let u : true ≡ false = sym z ∙ sym fill ∙ i in absurd (cc)) ∙ subst (λ b. IfDone (not b && succeeded w h) k s.calls u a (by k old)) z r)
+        go false z r = subst (λ b. IfDone (not b && succeeded v h) k s.calls u a (by k new)) (sym z)
+            (life_left h (ap own_hold (sym q) ∙ f.0) (fill ∙ z) (λ i v. subst (IsIntentOf u) (same_intent c.intent i (sym f.2 ∙ ap own_intent q ∙ v)) y) a (subst (λ b. IfDone (not b && succeeded w h) k s.calls u a (by k old)) z r))
 
-    words_go : SeatLeft w k s a (by k old) → SeatLeft v k s a (by k new)
+    words_go : SeatLeft w k u s a (by k old) → SeatLeft v k u s a (by k new)
     words_go r = go s.work refl refl r
       where
-        go : (x : Work) → s.work ≡ x → (works (resting s) x).own ≡ (stand s).own → Left w k s.calls s.told x a (by k old) → Left v k s.calls s.told x a (by k new)
-        go work.Idle z q r = subst (GainsAsTold k s.told a) (sym (idle_keeps o es k e (ap is_idle z))) r
+        go : (x : Work) → s.work ≡ x → (works (resting s) x).own ≡ (stand s).own → Left w k s.calls u s.told x a (by k old) → Left v k s.calls u s.told x a (by k new)
+        go work.Idle z q r = subst (GainsAsTold k u s.told a) (sym (idle_keeps o es k e (ap is_idle z))) r
         go (work.Look y) z q r = unstarted (λ d g i. absurd (no_hold d g (ap own_hold q ∙ i))) ∙ r
-        go (work.Commit c) z q r = stage_goes c c.stage q r
+        go (work.Commit c) z q r = (stage_goes c c.stage r.1 q r.0, r.1)
         go (work.Hang y) z q r = unstarted (λ d g i. absurd (no_hold d g (ap own_hold (sym (hang_unowned s y.reads.items y.step) ∙ q) ∙ i))) ∙ r
         go (work.Leave y) z q r = unstarted (λ d g i. absurd (no_hold d g (ap own_hold q ∙ i))) ∙ r
 
@@ -293,16 +309,16 @@ module _ (o : Opening) (k : ℕ) (l : k < o.callers) where
 
     -- ---- what is left, where the seat goes on
 
-    module _ (a g : History) where
+    module _ (u : Task) (a g : History) where
       abbrev Goes : State → Type 0
-      Goes m = SeatLeft m.world k ((run o es).seats k) a g → SeatLeft m.world k (m.seats k) a g
+      Goes m = SeatLeft m.world k u ((run o es).seats k) a g → SeatLeft m.world k u (m.seats k) a g
 
       own_step : Goes (event_of (run o es) (Step k))
       own_step = go (nat_lt k (run o es).callers)
         where
           step : (b : Bool) → Goes (if b then record (run o es) { world = touched (run o es).world (access_of ((run o es).seats k)); seats = put (run o es).seats k (answer_of ((run o es).seats k) (found_at (run o es).world (access_of ((run o es).seats k)))) } else run o es)
-          step true r = subst (λ x. SeatLeft (touched (run o es).world (access_of ((run o es).seats k))) k x a g) (sym (put_here (run o es).seats k (answer_of ((run o es).seats k) (found_at (run o es).world (access_of ((run o es).seats k))))))
-              (answer_left (touched (run o es).world (access_of ((run o es).seats k))) k ((run o es).seats k) a g (found_at (run o es).world (access_of ((run o es).seats k))) step_knows r)
+          step true r = subst (λ x. SeatLeft (touched (run o es).world (access_of ((run o es).seats k))) k u x a g) (sym (put_here (run o es).seats k (answer_of ((run o es).seats k) (found_at (run o es).world (access_of ((run o es).seats k))))))
+              (answer_left (touched (run o es).world (access_of ((run o es).seats k))) k u ((run o es).seats k) a g (found_at (run o es).world (access_of ((run o es).seats k))) step_knows r)
           step false r = r
 
           go : (b : Bool) → Goes (if b then stepped (run o es) k else run o es)
@@ -313,7 +329,7 @@ module _ (o : Opening) (k : ℕ) (l : k < o.callers) where
       own_halt = go (nat_lt k (run o es).callers)
         where
           go : (b : Bool) → Goes (if b then happened (run o es) (Halt k) else run o es)
-          go true r = subst (λ x. SeatLeft (run o es).world k x a g) (sym (put_here (run o es).seats k (halted ((run o es).seats k)))) (halted_left (run o es).world k ((run o es).seats k) a g r)
+          go true r = subst (λ x. SeatLeft (run o es).world k u x a g) (sym (put_here (run o es).seats k (halted ((run o es).seats k)))) (halted_left (run o es).world k u ((run o es).seats k) a g r)
           go false r = r
 
       own_goes : (e : Event) → seat_of e ≡ k → BeginsNothing k (e ∷ []) → Goes (event_of (run o es) e)
@@ -326,37 +342,37 @@ module _ (o : Opening) (k : ℕ) (l : k < o.callers) where
         where
           go : (b : Bool) → (seat_of e == k) ≡ b → Goes (event_of (run o es) e)
           go true q = own_goes e (eqb-true (seat_of e) k q) n
-          go false q = λ r. subst (λ x. SeatLeft (event_of (run o es) e).world k x a g) (sym (event_else (run o es) e k (eqb-false (seat_of e) k q))) r
+          go false q = λ r. subst (λ x. SeatLeft (event_of (run o es) e).world k u x a g) (sym (event_else (run o es) e k (eqb-false (seat_of e) k q))) r
 
   -- ---- a whole task
 
-  abbrev LeftAfter : History → List Event → Type 0
-  LeftAfter a es = SeatLeft (run o es).world k ((run o es).seats k) a (by k (trace o es).history)
+  abbrev LeftAfter : Task → History → List Event → Type 0
+  LeftAfter u a es = SeatLeft (run o es).world k u ((run o es).seats k) a (by k (trace o es).history)
 
-  one_more : (a : History) (es : List Event) (e : Event) → BeginsNothing k (e ∷ []) → LeftAfter a es → LeftAfter a (es ++ e ∷ [])
-  one_more a es e n r = subst (λ (m : State). SeatLeft m.world k (m.seats k) a (by k (trace o (es ++ e ∷ [])).history)) (sym (run-append o es (e ∷ [])))
-      (seat_goes es a (by k (trace o (es ++ e ∷ [])).history) e n (words_go o es e k l a r))
+  one_more : (u : Task) (a : History) (es : List Event) (e : Event) → BeginsNothing k (e ∷ []) → LeftAfter u a es → LeftAfter u a (es ++ e ∷ [])
+  one_more u a es e n r = subst (λ (m : State). SeatLeft m.world k u (m.seats k) a (by k (trace o (es ++ e ∷ [])).history)) (sym (run-append o es (e ∷ [])))
+      (seat_goes es u a (by k (trace o (es ++ e ∷ [])).history) e n (words_go o es e k l u a r))
 
-  goes_on : (a : History) (es more : List Event) → BeginsNothing k more → LeftAfter a es → LeftAfter a (es ++ more)
-  goes_on a es [] n r = subst (LeftAfter a) (sym (append-nil es)) r
-  goes_on a es (e ∷ more) n r =
+  goes_on : (u : Task) (a : History) (es more : List Event) → BeginsNothing k more → LeftAfter u a es → LeftAfter u a (es ++ more)
+  goes_on u a es [] n r = subst (LeftAfter u a) (sym (append-nil es)) r
+  goes_on u a es (e ∷ more) n r =
       let h = head_of k e more n in
-      subst (LeftAfter a) (append_assoc es (e ∷ []) more) (goes_on a (es ++ e ∷ []) more h.1 (one_more a es e h.0 r))
+      subst (LeftAfter u a) (append_assoc es (e ∷ []) more) (goes_on u a (es ++ e ∷ []) more h.1 (one_more u a es e h.0 r))
 
-  begins_left : (es : List Event) (t : Task) → is_idle ((run o es).seats k).work ≡ true → is_idle (begun ((run o es).seats k) t).work ≡ false → LeftAfter (by k (trace o es).history) (es ++ Begin k t ∷ [])
+  begins_left : (es : List Event) (t : Task) → is_idle ((run o es).seats k).work ≡ true → is_idle (begun ((run o es).seats k) t).work ≡ false → LeftAfter t (by k (trace o es).history) (es ++ Begin k t ∷ [])
   begins_left es t i b =
       let s = (run o es).seats k in
       let n = (run_shape o es).2 in
       let m : run o (es ++ Begin k t ∷ []) ≡ happened (run o es) (Begin k t) = run-append o es (Begin k t ∷ []) ∙ event_in (run o es) (Begin k t) (omega arith) in
       let is : begun s t ≡ begun_idle s t = rw i refl in
       let h : by k (trace o (es ++ Begin k t ∷ [])).history ≡ by k (trace o es).history = ap (by k) (history_kept o es (Begin k t ∷ []) (All-cons IsNoStep (Begin k t) [] tt (All-nil IsNoStep))) in
-      let r = begun_left (run o es).world k s (by k (trace o es).history) (by k (trace o (es ++ Begin k t ∷ [])).history) t i (ap (λ (x : Seat). is_idle x.work) (sym is) ∙ b) h in
-      subst (λ (x : State). SeatLeft x.world k (x.seats k) (by k (trace o es).history) (by k (trace o (es ++ Begin k t ∷ [])).history)) (sym m)
-      (subst (λ x. SeatLeft (run o es).world k x (by k (trace o es).history) (by k (trace o (es ++ Begin k t ∷ [])).history)) (sym (put_here (run o es).seats k (begun s t) ∙ is)) r)
+      let r = begun_left (run o es).world k t s (by k (trace o es).history) (by k (trace o (es ++ Begin k t ∷ [])).history) t refl i (ap (λ (x : Seat). is_idle x.work) (sym is) ∙ b) h in
+      subst (λ (x : State). SeatLeft x.world k t (x.seats k) (by k (trace o es).history) (by k (trace o (es ++ Begin k t ∷ [])).history)) (sym m)
+      (subst (λ x. SeatLeft (run o es).world k t x (by k (trace o es).history) (by k (trace o (es ++ Begin k t ∷ [])).history)) (sym (put_here (run o es).seats k (begun s t) ∙ is)) r)
 
   pub gains_as_told : (es more : List Event) (t : Task) → is_idle ((run o es).seats k).work ≡ true → is_idle (begun ((run o es).seats k) t).work ≡ false → BeginsNothing k more → is_idle ((run o (es ++ Begin k t ∷ more)).seats k).work ≡ true
-      → GainsAsTold k ((run o (es ++ Begin k t ∷ more)).seats k).told (by k (trace o es).history) (by k (trace o (es ++ Begin k t ∷ more)).history)
+      → GainsAsTold k t ((run o (es ++ Begin k t ∷ more)).seats k).told (by k (trace o es).history) (by k (trace o (es ++ Begin k t ∷ more)).history)
   gains_as_told es more t i b n d =
       let a = by k (trace o es).history in
-      let r = subst (LeftAfter a) (append_assoc es (Begin k t ∷ []) more) (goes_on a (es ++ Begin k t ∷ []) more n (begins_left es t i b)) in
-      ended_left (run o (es ++ Begin k t ∷ more)).world k ((run o (es ++ Begin k t ∷ more)).seats k) a (by k (trace o (es ++ Begin k t ∷ more)).history) d r
+      let r = subst (LeftAfter t a) (append_assoc es (Begin k t ∷ []) more) (goes_on t a (es ++ Begin k t ∷ []) more n (begins_left es t i b)) in
+      ended_left (run o (es ++ Begin k t ∷ more)).world k t ((run o (es ++ Begin k t ∷ more)).seats k) a (by k (trace o (es ++ Begin k t ∷ more)).history) d r

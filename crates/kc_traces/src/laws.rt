@@ -79,11 +79,12 @@ pub fn idle_seats_gain_no_entry()
     ensures { (o : Opening) (es more : List Event) (k : ℕ) → is_idle ((run o es).seats k).work ≡ true → NoneOf k more → by k (trace o (es ++ more)).history ≡ by k (trace o es).history }
 {}
 
-/// Over a whole task of a seat, its caller's entries grow by one of the call that was told Succeeded, and else by none.
+/// Over a whole task of a seat, its caller's entries grow by that of its commit and its call where it was told Succeeded, and
+/// else by none.
 pub fn entries_are_as_told()
     ensures { (o : Opening) (es more : List Event) (k : ℕ) (t : Task) → k < o.callers → is_idle ((run o es).seats k).work ≡ true → is_idle (begun ((run o es).seats k) t).work ≡ false → BeginsNothing k more
         → is_idle ((run o (es ++ Begin k t ∷ more)).seats k).work ≡ true
-        → GainsAsTold k ((run o (es ++ Begin k t ∷ more)).seats k).told (by k (trace o es).history) (by k (trace o (es ++ Begin k t ∷ more)).history) }
+        → GainsAsTold k t ((run o (es ++ Begin k t ∷ more)).seats k).told (by k (trace o es).history) (by k (trace o (es ++ Begin k t ∷ more)).history) }
 {}
 
 /// What is known to a history stays known as it grows, and no version falls; so also as a schedule goes on, where its
