@@ -1,7 +1,6 @@
 -- What an aid has loaded of the owner word is what stands there, as long as it holds the descriptor.
 use Rattle.std.proofs.Common.{◌≡◌, ℕ, zero, suc, ◌<◌, ◌≤◌, ◌⊎◌, ◌∙◌, ⊎_elim, inl, inr, refl, sym, ap, subst, arith, ◌==◌, Bool, true, false, if◌then◌else◌, length, List, [], ◌∷◌, ◌++◌, Some}
 use Rattle.kc_words.specs.declared.words.Reference.{Reference}
-use Rattle.kc_words.specs.declared.words.Second.{Second}
 use Rattle.kc_words.specs.declared.words.First.{First}
 use Rattle.kc_words.specs.declared.access.Found.TheVariants as found
 use Rattle.kc_steps.specs.declared.aid.Aided.{Aided}

@@ -5,7 +5,6 @@ use Rattle.std.proofs.lemmas.List.{length-append}
 use Rattle.std.proofs.lemmas.Bool.{ltb-false}
 use borrow.Author.Tests.{ltb-true}
 use Rattle.kc_words.specs.declared.words.Reference.{Reference}
-use Rattle.kc_words.specs.declared.words.Mode.{Mode}
 use Rattle.kc_words.specs.declared.words.Phase.{Phase}
 use Rattle.kc_words.specs.declared.words.Phase.TheVariants.{Active, Succeeded, Failed, Crossed, Halted}
 use Rattle.kc_words.specs.declared.access.Found.{Found}
@@ -38,8 +37,8 @@ use Rattle.kc_steps.specs.Nexts as next
 use Rattle.kc_steps.specs.Lines.{joined, next_line, after_line}
 use Rattle.kc_steps.specs.Looks.{look_tells, halts_at_once}
 use Rattle.kc_steps.specs.Passes.{pass_next, from_install, from_release}
-use Rattle.kc_steps.specs.Aids.{load_next, hold_next, status_next, owner_or_first, drop_or_release, after_pass, aid_next, aid_copy}
-use Rattle.kc_steps.specs.Commits.{after_scan, fill_next, fill_or_start, scan_next, take_next, after_own_pass, finished, wake_or_drop, aid_or_back, onward_or_back, wake_next, wake_or_signal, owed_next, stage_next, loaded, gone_on, onward_by, copy_by, aids_at}
+use Rattle.kc_steps.specs.Aids.{load_next, owner_or_first, drop_or_release, after_pass, aid_next, aid_copy}
+use Rattle.kc_steps.specs.Commits.{after_scan, fill_next, fill_or_start, scan_next, take_next, after_own_pass, finished, wake_or_drop, aid_or_back, wake_next, wake_or_signal, owed_next, stage_next, loaded, gone_on, onward_by, copy_by}
 use Rattle.kc_steps.specs.Halts.{unowned, halted_aid, halted_aid_pass, aid_or_decide, halted_own, halted_at}
 use Rattle.kc_machine.specs.Hangs.{hang_onward, leave_onward}
 use Rattle.kc_machine.specs.Works.{Work}
