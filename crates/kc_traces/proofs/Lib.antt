@@ -1,0 +1,13 @@
+pub mod Joins
+pub mod Others
+pub mod Moments
+pub mod Answers
+pub mod Known
+pub mod Copies
+pub mod Stood
+pub mod Entries
+pub mod Numbers
+pub mod Statuses
+pub mod Onward
+pub mod Outcomes
+pub mod Whole

@@ -1,0 +1,9 @@
+use Rattle.kc_traces.proofs.Copies.{copies_true}
+use Rattle.kc_traces.proofs.Whole.{passes_whole}
+use Rattle.kc_traces.proofs.laws.copies_are_true.Goals as goal
+
+pub returns-clause-words : goal.returns-clause-words
+returns-clause-words c = copies_true
+
+pub returns-clause-whole : goal.returns-clause-whole
+returns-clause-whole c = passes_whole

@@ -1,0 +1,16 @@
+-- The entries of one caller.
+use Rattle.std.specs.Prelude.{ℕ, ◌<◌, ◌≤◌, ◌==◌, All}
+use Rattle.std.specs.List.{filter}
+use Rattle.kc_machine.specs.Machine.{State}
+use Rattle.kc_claims.specs.Histories.{History}
+
+-- those of caller k, in order
+abbrev pub by : ℕ → History → History
+by k h = filter (λ x. x.entry.caller == k) h
+
+abbrev pub AreOfCallers : ℕ → History → Type 0
+AreOfCallers callers h = All (λ x. x.entry.caller < callers) h
+
+-- no number is above the calls of its caller's seat
+abbrev pub NumbersFit : State → History → Type 0
+NumbersFit m h = All (λ x. x.entry.number ≤ (m.seats x.entry.caller).calls) h
