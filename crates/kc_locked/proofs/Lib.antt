@@ -1,1 +1,4 @@
 pub mod Sound
+pub mod Views
+pub mod Steps
+pub mod Enters

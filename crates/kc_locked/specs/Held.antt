@@ -25,12 +25,16 @@ pub record IsSound (h : HeldView) : Type 0 where
   pub size : length h.cells ≡ length h.opening
   pub most : length h.history + h.spare ≤ MOST_COMMITS
 
--- The entry was added at the end. The answer is what the meaning comes to wherever the entry's reads stand, as they did in the store before.
-pub record Commits (m : Meaning) (a : Answer) (e : Entry) (before now : HeldView) : Type 0 where
-  pub answers : Answers m a e.footprint
+-- the entry was added at the end, and its puts were made
+pub record Adds (e : Entry) (before now : HeldView) : Type 0 where
   pub finds : Finds e.footprint (store_of before.cells)
   pub store : store_of now.cells ≡ after e.footprint (store_of before.cells)
   pub history : now.history ≡ before.history ++ e ∷ []
   pub opening : now.opening ≡ before.opening
   pub size : length now.cells ≡ length before.cells
   pub spare : now.spare + 1 ≡ before.spare
+
+-- The entry was added, and the answer is what the meaning comes to wherever the entry's reads stand, as they did in the store before.
+pub record Commits (m : Meaning) (a : Answer) (e : Entry) (before now : HeldView) : Type 0 where
+  pub answers : Answers m a e.footprint
+  pub adds : Adds e before now

@@ -72,7 +72,7 @@ impl Held {
         requires within { T.end transaction.now ≤ length self.old.cells }
         ensures ended { IfOk result (λ e. Commits (T.meaning transaction.now) (answer_of_ended e) (entry_of caller number (print_of e)) self.old self.new) }
         ensures waits { IsErr result ↔ ((run_on (T.meaning transaction.now) (store_of self.old.cells)).outcome ≡ retried) }
-        ensures waiting { OnErr result (self.new ≡ self.old) }
+        ensures unchanged { OnErr result (self.new ≡ self.old) }
     {
         let mut footprint = Footprint::new();
         let answer = self.commit_into(caller, number, transaction, &mut footprint)?;
@@ -92,7 +92,8 @@ impl Held {
         requires within { T.end transaction.now ≤ length self.old.cells }
         ensures answer { IfOk result (λ a. Commits (T.meaning transaction.now) a (entry_of caller number footprint.new) self.old self.new) }
         ensures waits { IsErr result ↔ ((run_on (T.meaning transaction.now) (store_of self.old.cells)).outcome ≡ retried) }
-        ensures waiting { OnErr result ((self.new ≡ self.old) × WaitsFor (T.meaning transaction.now) footprint.new × Finds footprint.new (store_of self.old.cells) × (footprint.new.puts.items ≡ [])) }
+        ensures unchanged { OnErr result (self.new ≡ self.old) }
+        ensures waiting { OnErr result (WaitsFor (T.meaning transaction.now) footprint.new × Finds footprint.new (store_of self.old.cells) × (footprint.new.puts.items ≡ [])) }
     {
         let answer = match commit(&mut self.store, transaction, footprint) {
             Tried::Done(reply) => Answer::Reply(reply),

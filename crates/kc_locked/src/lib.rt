@@ -4,6 +4,9 @@
 mod ended;
 mod held;
 mod history;
+mod rule;
+mod store;
 
 pub use ended::Ended;
 pub use held::{Held, MOST_COMMITS, Waits};
+pub use store::{LockPass, LockedStore};

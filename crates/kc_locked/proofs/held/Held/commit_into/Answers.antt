@@ -11,15 +11,14 @@ invariant_of-self g c =
     let same : c.commit.new.store ≡ was.store = cells_same _ _ c.commit.new.footprint c.commit.ensures.store c.in-Later.ensures.puts c.commit.ensures.cells in
     subst (λ cells. IsSound (held was.history.opening was.history.entries cells was.spare)) (sym same) c.self.invariant
 
-pub returns-in-Later-clause-waiting : goal.returns-in-Later-clause-waiting
-returns-in-Later-clause-waiting g c =
+pub returns-in-Later-clause-unchanged : goal.returns-in-Later-clause-unchanged
+returns-in-Later-clause-unchanged g c =
     let was = c.self.inside in
-    let same : c.commit.new.store ≡ was.store = cells_same _ _ c.commit.new.footprint c.commit.ensures.store c.in-Later.ensures.puts c.commit.ensures.cells in (
-      ap (λ cells. held was.history.opening was.history.entries cells was.spare) same ∙ c.self.view_is,
-      c.in-Later.ensures.came,
-      subst (λ (v : HeldView). Finds c.commit.new.footprint (store_of v.cells)) c.self.view_is c.commit.ensures.finds,
-      c.in-Later.ensures.puts,
-    )
+    let same : c.commit.new.store ≡ was.store = cells_same _ _ c.commit.new.footprint c.commit.ensures.store c.in-Later.ensures.puts c.commit.ensures.cells in
+    ap (λ cells. held was.history.opening was.history.entries cells was.spare) same ∙ c.self.view_is
+
+pub returns-in-Later-clause-waiting : goal.returns-in-Later-clause-waiting
+returns-in-Later-clause-waiting g c = (c.in-Later.ensures.came, subst (λ (v : HeldView). Finds c.commit.new.footprint (store_of v.cells)) c.self.view_is c.commit.ensures.finds, c.in-Later.ensures.puts)
 
 pub unreachable-requires : goal.unreachable-requires
 unreachable-requires g c =

@@ -1,0 +1,77 @@
+-- What is seen of a store, of a pass and of the past.
+use Rattle.std.specs.Prelude.{◌≡◌, ℕ, ◌+◌, ◌≤◌, List, [], ◌∷◌, ◌++◌, Option, Some, Result, Ok, Err, length}
+use Rattle.atomic_table.specs.Seated.{TableId}
+use Rattle.atomic_table.specs.Table.{Me}
+use Rattle.kc_model.specs.declared.footprint.Entry.{Entry}
+use Rattle.kc_model.specs.declared.footprint.Footprint.{Footprint}
+use Rattle.kc_model.specs.declared.reply.Answer.{Answer}
+use Rattle.kc_model.specs.Legal.{IsLegal}
+use Rattle.kc_model.specs.Store.{Store, store_of, opened}
+use Rattle.kc_xt.specs.Meaning.{Meaning}
+use Rattle.kc_xt.specs.Commit.{Answers}
+use Rattle.kc_locked.specs.declared.rule.Part.{Part}
+use Rattle.kc_locked.specs.declared.rule.View.{View}
+use Rattle.kc_locked.specs.History.{entry_of}
+use Rattle.kc_locked.specs.Held.{HeldView, IsSound}
+use Rattle.kc_locked.specs.Origin.{Origin}
+use Rattle.kc_locked.specs.Locked.{lock_view, left_of}
+use Rattle.kc_locked.specs.declared.held.Waits.{Waits}
+
+-- which store it is, its opening values, and how many passes it has
+pub record StoreView : Type 0 where
+  pub table : TableId
+  pub opening : List ℕ
+  pub callers : ℕ
+
+-- of which store it is, its number, how many commits it may still make, and those that it made
+pub record PassView : Type 0 where
+  pub table : TableId
+  pub caller : ℕ
+  pub left : ℕ
+  pub own : List Entry
+
+-- the opening values, and the one history
+pub record PastView : Type 0 where
+  pub opening : List ℕ
+  pub history : List Entry
+
+abbrev pub pass_of : TableId → ℕ → ℕ → List Entry → PassView
+pass_of table caller left own = record { table = table; caller = caller; left = left; own = own }
+
+-- the passes with these shares, from this caller on
+abbrev pub passes_of : TableId → ℕ → List ℕ → List PassView
+passes_of table k [] = []
+passes_of table k (n ∷ ns) = pass_of table k n [] ∷ passes_of table (k + 1) ns
+
+-- the pass made one commit more, with this footprint; its commits are numbered from 1
+pub record Made (m : Meaning) (a : Answer) (f : Footprint) (before now : PassView) : Type 0 where
+  pub answers : Answers m a f
+  pub own : now.own ≡ before.own ++ entry_of before.caller (length before.own + 1) f ∷ []
+  pub left : now.left + 1 ≡ before.left
+  pub caller : now.caller ≡ before.caller
+  pub table : now.table ≡ before.table
+
+-- what was entered: one commit, or where it waits none
+abbrev pub made_by : Result Answer Waits → Entry → List Entry
+made_by (Ok a) e = e ∷ []
+made_by (Err w) e = []
+
+-- one has the lock now, with what was in the slot
+abbrev pub Taken : Origin → Me (Option HeldView) View → Me (Option HeldView) View → Type 0
+Taken o me after = (h : HeldView) × (after ≡ (lock_view me.0.parts h, (0, Some h) ∷ me.1)) × IsSound h × (h.opening ≡ o.values) × (left_of me.0.parts ≤ h.spare)
+
+-- the history is legal from the opening values at versions 0
+abbrev pub IsLegalPast : PastView → Type 0
+IsLegalPast p = (end : Store) × IsLegal (store_of (opened p.opening)) p.history end
+
+-- the parts of a view
+abbrev pub own_first : List Part → List Entry
+own_first [] = []
+own_first (p ∷ ps) = p.own
+
+-- each part is of the pass at its place
+abbrev pub Matches : List Part → List PassView → Type 0
+Matches [] [] = Unit {0}
+Matches [] (s ∷ ss) = ⊥
+Matches (p ∷ ps) [] = ⊥
+Matches (p ∷ ps) (s ∷ ss) = (p.caller ≡ s.caller) × (p.own ≡ s.own) × Matches ps ss
