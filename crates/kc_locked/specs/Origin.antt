@@ -5,5 +5,8 @@ pub record Origin : Type 0 where
   pub values : List ℕ
   pub shares : List ℕ
 
+abbrev pub origin : List ℕ → List ℕ → Origin
+origin values shares = record { values = values; shares = shares }
+
 abbrev pub no_origin : Origin
 no_origin = record { values = []; shares = [] }

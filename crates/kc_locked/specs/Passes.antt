@@ -1,5 +1,5 @@
 -- What is seen of a store, of a pass and of the past.
-use Rattle.std.specs.Prelude.{◌≡◌, ℕ, ◌+◌, ◌≤◌, List, [], ◌∷◌, ◌++◌, Option, Some, Result, Ok, Err, length}
+use Rattle.std.specs.Prelude.{◌≡◌, ℕ, ◌+◌, ◌≤◌, List, [], ◌∷◌, ◌++◌, All, Option, Some, Result, Ok, Err, length}
 use Rattle.atomic_table.specs.Seated.{TableId}
 use Rattle.atomic_table.specs.Table.{Me}
 use Rattle.kc_model.specs.declared.footprint.Entry.{Entry}
@@ -14,7 +14,7 @@ use Rattle.kc_locked.specs.declared.rule.View.{View}
 use Rattle.kc_locked.specs.History.{entry_of}
 use Rattle.kc_locked.specs.Held.{HeldView, IsSound}
 use Rattle.kc_locked.specs.Origin.{Origin}
-use Rattle.kc_locked.specs.Locked.{lock_view, left_of}
+use Rattle.kc_locked.specs.Locked.{lock_view, left_of, of_caller, IsBelowCallers}
 use Rattle.kc_locked.specs.declared.held.Waits.{Waits}
 
 -- which store it is, its opening values, and how many passes it has
@@ -43,6 +43,12 @@ abbrev pub passes_of : TableId → ℕ → List ℕ → List PassView
 passes_of table k [] = []
 passes_of table k (n ∷ ns) = pass_of table k n [] ∷ passes_of table (k + 1) ns
 
+-- a store that was opened on these values, with a pass for each share, in their order
+pub record Opened (values shares : List ℕ) (store : StoreView) (passes : List PassView) : Type 0 where
+  pub opening : store.opening ≡ values
+  pub callers : store.callers ≡ length shares
+  pub dealt : passes ≡ passes_of store.table 0 shares
+
 -- the pass made one commit more, with this footprint; its commits are numbered from 1
 pub record Made (m : Meaning) (a : Answer) (f : Footprint) (before now : PassView) : Type 0 where
   pub answers : Answers m a f
@@ -63,6 +69,13 @@ Taken o me after = (h : HeldView) × (after ≡ (lock_view me.0.parts h, (0, Som
 -- the history is legal from the opening values at versions 0
 abbrev pub IsLegalPast : PastView → Type 0
 IsLegalPast p = (end : Store) × IsLegal (store_of (opened p.opening)) p.history end
+
+-- The one history: it is legal from the opening values at versions 0, each pass's own list is its caller's part of it, and nobody else has an entry in it.
+pub record IsPast (store : StoreView) (passes : List PassView) (past : PastView) : Type 0 where
+  pub opening : past.opening ≡ store.opening
+  pub legal : IsLegalPast past
+  pub own : All (λ (p : PassView). of_caller p.caller past.history ≡ p.own) passes
+  pub nobody_else : IsBelowCallers store.callers past.history
 
 -- the parts of a view
 abbrev pub own_first : List Part → List Entry

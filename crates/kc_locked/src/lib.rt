@@ -9,4 +9,4 @@ mod store;
 
 pub use ended::Ended;
 pub use held::{Held, MOST_COMMITS, Waits};
-pub use store::{LockPass, LockedStore};
+pub use store::{LockPass, LockPast, LockedStore, MOST_CALLERS};
