@@ -1,12 +1,12 @@
 -- What changes no history: the opening, passes that go out and come back, and the look at the end.
-use Rattle.std.proofs.Common.{◌≡◌, ◌≢◌, ℕ, zero, suc, ◌+◌, ◌<◌, ◌≤◌, ◌==◌, Bool, true, false, true≢false, List, [], ◌∷◌, ◌++◌, length, set, map, Option, Some, refl, sym, ap, ◌∙◌, ⊎_elim, arith, subst, get_or, if◌then◌else◌, drop, append_assoc}
+use Rattle.std.proofs.Common.{◌≡◌, ◌≢◌, ℕ, zero, suc, ◌+◌, ◌<◌, ◌≤◌, ◌==◌, Bool, true, false, true≢false, List, [], ◌∷◌, ◌++◌, length, set, Option, Some, refl, sym, ap, ◌∙◌, ⊎_elim, arith, subst, get_or, if◌then◌else◌, drop, append_assoc}
 use Rattle.std.specs.Prelude.{slice_index, All, sum}
 use Rattle.std.proofs.lemmas.List.{set-get_or, drop_more}
 use Rattle.std.proofs.lemmas.List.Elements.{All-head, All-tail}
 use Rattle.std.proofs.lemmas.List.Sums.{sum_by-cons, sum_by_more_le}
 use mathlib.Core.Option.{some, some-injective, some-ne-none}
 use lib.ListN.{get_elem?}
-use borrow.Author.Tests.{eq-eqb, ne_eqb, eqb-true, eqb-false}
+use borrow.Author.Tests.{ne_eqb, eqb-true}
 use Rattle.atomic_table.specs.Table as table
 use Rattle.atomic_table.specs.Table.{Me, Allows, Enters, Joins, Splits, keeps}
 use Rattle.atomic_table.proofs.Lists.{at_set, at_snoc}
@@ -17,7 +17,7 @@ use Rattle.kc_locked.specs.declared.rule.Part.{Part}
 use Rattle.kc_locked.specs.declared.rule.View.{View}
 use Rattle.kc_locked.specs.Held.{HeldView, held}
 use Rattle.kc_locked.specs.Origin.{Origin, origin}
-use Rattle.kc_locked.specs.Locked.{of_caller, part, free_view, shared_out, first_view, times, left_of, total, AllFit, FitsView, Kept, spent, gathered, dealt, undealt, first_part, other_parts, Ended}
+use Rattle.kc_locked.specs.Locked.{of_caller, part, free_view, shared_out, first_view, times, left_of, AllFit, FitsView, Kept, spent, gathered, dealt, undealt, first_part, other_parts, Ended}
 use Rattle.atomic_table.specs.Seated.{TableId}
 use Rattle.kc_locked.specs.Passes.{PassView, pass_of, passes_of, Matches}
 use Rattle.kc_locked.proofs.Sound.{sound_first}

@@ -1,5 +1,5 @@
 -- The commit on what was taken, as plain data.
-use Rattle.std.proofs.Common.{◌≡◌, ℕ, suc, ◌+◌, ◌-◌, ◌<◌, ◌≤◌, List, [], ◌∷◌, ◌++◌, Option, Some, None, Result, Ok, Err, refl, sym, ap, subst, ◌∙◌, arith, length, append-nil, true}
+use Rattle.std.proofs.Common.{◌≡◌, ℕ, List, [], ◌∷◌, Option, Some, None, Result, Ok, Err, refl, sym, ap, subst, ◌∙◌, arith, append-nil}
 use Rattle.std.specs.Prelude.{IfOk, OnErr}
 use Rattle.atomic_table.specs.Table.{Me, rest}
 use Rattle.kc_model.specs.declared.reply.Answer.{Answer}
@@ -8,7 +8,7 @@ use Rattle.kc_model.specs.declared.footprint.Entry.{Entry}
 use Rattle.kc_locked.specs.declared.held.Waits.{Waits}
 use Rattle.kc_locked.specs.declared.rule.View.{View}
 use Rattle.kc_locked.specs.Held.{HeldView, IsSound, Adds, Commits}
-use Rattle.kc_locked.specs.Locked.{Grown, Holds, part, free_view, lock_view, committed}
+use Rattle.kc_locked.specs.Locked.{Grown, part, free_view}
 use Rattle.kc_locked.specs.Passes.{made_by, own_first}
 use Rattle.kc_locked.proofs.Sound.{sound_more}
 
@@ -45,27 +45,6 @@ Mine = Me (Option HeldView) View
 -- the slot is back, with what the commit made
 pub back : (me mid after : Mine) (h now : HeldView) → me.1 ≡ (0, Some h) ∷ [] → mid ≡ (me.0, (0, None) ∷ rest me.1) → after ≡ (mid.0, (0, Some now) ∷ rest mid.1) → after ≡ (me.0, (0, Some now) ∷ [])
 back me mid after h now holds to is = is ∙ ap (λ (m : Mine). (m.0, (0, Some now) ∷ rest m.1)) to ∙ ap (λ (l : List (ℕ × Option HeldView)). (me.0, (0, Some now) ∷ rest l)) holds
-
--- a pass took the lock, and its entries lie in the slot
-pub holding : (me taken after : Mine) (k left : ℕ) (own es : List Entry) (found now : HeldView) → me ≡ (free_view (part k left own ∷ []), []) → taken ≡ (lock_view me.0.parts found, (0, Some found) ∷ me.1) → after ≡ (taken.0, (0, Some now) ∷ []) → length es ≤ left → Grown k es taken.0.found now → Holds es after
-holding me taken after k left own es found now free took is room grown = record {
-  caller = k;
-  left = left;
-  own = own;
-  found = found;
-  now = now;
-  is = is ∙ ap (λ (m : Mine). (m.0, (0, Some now) ∷ [])) took ∙ ap (λ (m : Mine). (lock_view m.0.parts found, (0, Some now) ∷ [])) free;
-  room = room;
-  grown = subst (λ (m : Mine). Grown k es m.0.found now) took grown;
-}
-
--- the pass without the lock, with what it made
-pub let_go : (me after : Mine) (es : List Entry) (h : Holds es me) → after ≡ (free_view (committed me.0.parts es), []) → after ≡ (free_view (part h.caller (h.left - length es) (h.own ++ es) ∷ []), [])
-let_go me after es h gave = gave ∙ ap (λ (m : Mine). (free_view (committed m.0.parts es), [])) h.is
-
-pub made_room : (r : Result Answer Waits) (e : Entry) (left : ℕ) → 0 < left → length (made_by r e) ≤ left
-made_room (Ok a) e left lt = omega arith
-made_room (Err w) e left lt = omega arith
 
 -- a free pass is its number, what is left and its own list
 pub pass_is : (me : Mine) (k left : ℕ) (own : List Entry) → me ≡ (free_view (part k left own ∷ []), []) → me ≡ (free_view (part k left (own_first me.0.parts) ∷ []), [])

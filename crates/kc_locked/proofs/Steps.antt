@@ -1,6 +1,6 @@
 -- Taking the lock, and letting it go with what was entered.
-use Rattle.std.proofs.Common.{◌≡◌, ◌≢◌, ℕ, suc, ◌+◌, ◌-◌, ◌<◌, ◌≤◌, Bool, true, false, true≢false, List, [], ◌∷◌, ◌++◌, length, set, Option, Some, None, refl, sym, ap, ◌∙◌, ⊎_elim, arith, subst, ◌==◌, append-nil, length-append, length-set, get_or-set_same}
-use Rattle.std.specs.Prelude.{slice_index, All}
+use Rattle.std.proofs.Common.{◌≡◌, ◌≢◌, ℕ, ◌-◌, ◌<◌, ◌≤◌, Bool, true, false, true≢false, List, [], ◌∷◌, ◌++◌, length, set, Option, Some, refl, sym, ap, ◌∙◌, ⊎_elim, arith, subst, ◌==◌, length-set, get_or-set_same}
+use Rattle.std.specs.Prelude.{slice_index}
 use Rattle.std.proofs.lemmas.List.{set-get_or}
 use Rattle.std.proofs.lemmas.List.Elements.{All-append}
 use mathlib.Core.Option.{some}
@@ -12,7 +12,7 @@ use Rattle.atomic_table.specs.Table.{Me, Allows, keeps, takes, gives, stepped}
 use Rattle.atomic_table.proofs.Lists.{at_set, set_here, set_again}
 use Rattle.kc_model.specs.declared.footprint.Entry.{Entry}
 use Rattle.kc_locked.specs.declared.rule.View.{View}
-use Rattle.kc_locked.specs.Held.{HeldView, IsSound}
+use Rattle.kc_locked.specs.Held.{HeldView}
 use Rattle.kc_locked.specs.Origin.{Origin}
 use Rattle.kc_locked.specs.Locked.{of_caller, AllFit, IsBelowCallers, part, free_view, lock_view, times, left_of, total, FitsView, Kept, Took, Gave, Grown, Holds, committed}
 use Rattle.kc_locked.proofs.Views.{total_set, total_one, total_two, own_more, times-hit, all_other, all_below}

@@ -1,13 +1,12 @@
 -- Totals over views, and what entries of one caller leave of the others' parts.
-use Rattle.std.proofs.Common.{◌≡◌, ◌≢◌, ℕ, zero, suc, ◌+◌, ◌-◌, ◌<◌, ◌≤◌, Bool, true, false, List, [], ◌∷◌, ◌++◌, length, get_or, set, refl, sym, ap, ◌∙◌, arith, if◌then◌else◌, ◌==◌, append-nil}
+use Rattle.std.proofs.Common.{◌≡◌, ◌≢◌, ℕ, zero, suc, ◌+◌, ◌<◌, ◌≤◌, Bool, true, false, List, [], ◌∷◌, ◌++◌, set, refl, sym, ap, ◌∙◌, arith, if◌then◌else◌, ◌==◌, append-nil}
 use mathlib.Core.Option.{some, some-injective, some-ne-none}
 use lib.ListN.{get_elem?}
 use borrow.Author.Tests.{eq-eqb, ne_eqb}
-use Rattle.std.specs.Prelude.{All}
 use Rattle.kc_model.specs.declared.footprint.Entry.{Entry}
 use Rattle.kc_locked.specs.declared.rule.Part.{Part}
 use Rattle.kc_locked.specs.declared.rule.View.{View}
-use Rattle.kc_locked.specs.Locked.{of_caller, AllOf, IsBelowCallers, part, times, left_of, total, AllFit}
+use Rattle.kc_locked.specs.Locked.{of_caller, AllOf, IsBelowCallers, times, left_of, total, AllFit}
 
 pub total_set : (f : View → ℕ) (views : List View) (i : ℕ) (v w : View) → get_elem? views i ≡ some v → total f (set views i w) + f v ≡ total f views + f w
 total_set f [] i v w at = absurd (some-ne-none v (sym at))

@@ -4,7 +4,7 @@ use Rattle.kc_model.specs.declared.footprint.Entry.{Entry}
 use Rattle.kc_model.specs.declared.plain_store.Cell.{Cell}
 use Rattle.kc_model.specs.declared.reply.Answer.{Answer}
 use Rattle.kc_model.specs.Legal.{IsLegal}
-use Rattle.kc_model.specs.Store.{Store, store_of, opened, Finds, after}
+use Rattle.kc_model.specs.Store.{store_of, opened, Finds, after}
 use Rattle.kc_xt.specs.Meaning.{Meaning}
 use Rattle.kc_xt.specs.Commit.{Answers}
 use Rattle.kc_locked.specs.declared.held.TheConstants.{MOST_COMMITS}

@@ -8,14 +8,9 @@ use kc_model::{Answer, Footprint, Reply};
 /// How a commit ended, with what it read and put.
 #[derive(Debug, Drop)]
 pub enum Ended {
-    Done {
-        reply: Reply,
-        footprint: Footprint,
-    },
+    Done { reply: Reply, footprint: Footprint },
     /// It would touch more than `MOST` locations: nothing was put.
-    TooLarge {
-        footprint: Footprint,
-    },
+    TooLarge { footprint: Footprint },
 }
 
 impl Ended {

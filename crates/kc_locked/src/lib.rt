@@ -6,6 +6,8 @@ mod held;
 mod history;
 mod rule;
 mod store;
+#[cfg(test)]
+mod tests;
 
 pub use ended::Ended;
 pub use held::{Held, MOST_COMMITS, Waits};

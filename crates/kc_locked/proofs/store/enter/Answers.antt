@@ -1,4 +1,4 @@
-use Rattle.std.proofs.Common.{◌∷◌, [], Some, ap, subst, ◌∙◌, sym}
+use Rattle.std.proofs.Common.{◌∷◌, Some, ap, subst, ◌∙◌, sym}
 use Rattle.atomic_table.specs.Table.{rest}
 use Rattle.kc_locked.specs.Held.{IsSound}
 use Rattle.kc_locked.specs.Locked.{Grown}

@@ -1,4 +1,4 @@
-use Rattle.std.proofs.Common.{rules, arith}
+use Rattle.std.proofs.Common.{arith}
 use Rattle.kc_locked.proofs.Steps.{gives_lock}
 use Rattle.kc_locked.proofs.store.give.Goals as goal
 

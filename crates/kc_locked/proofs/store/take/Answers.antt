@@ -1,5 +1,4 @@
-use Rattle.std.proofs.Common.{arith, subst, ◌∙◌, sym}
-use Rattle.std.specs.Prelude.{◌==◌}
+use Rattle.std.proofs.Common.{arith, ◌∙◌}
 use Rattle.kc_locked.proofs.Steps.{takes_lock}
 use Rattle.kc_locked.proofs.store.take.Goals as goal
 
