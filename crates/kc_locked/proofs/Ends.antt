@@ -17,9 +17,11 @@ use Rattle.kc_locked.specs.declared.rule.Part.{Part}
 use Rattle.kc_locked.specs.declared.rule.View.{View}
 use Rattle.kc_locked.specs.Held.{HeldView, held}
 use Rattle.kc_locked.specs.Origin.{Origin, origin}
-use Rattle.kc_locked.specs.Locked.{of_caller, part, free_view, shared_out, first_view, times, left_of, AllFit, FitsView, Kept, spent, gathered, dealt, undealt, first_part, other_parts, Ended}
+use Rattle.kc_locked.specs.Locked.{part, free_view, shared_out, first_view, times, left_of, AllFit, FitsView, Kept, spent, gathered, dealt, undealt, first_part, other_parts, Ended}
+use Rattle.kc_locked.specs.Passes.{of_caller}
 use Rattle.atomic_table.specs.Seated.{TableId}
-use Rattle.kc_locked.specs.Passes.{PassView, pass_of, passes_of, Matches}
+use Rattle.kc_locked.specs.Passes.{PassView, pass_of, passes_of}
+use Rattle.kc_locked.specs.Locked.{Matches}
 use Rattle.kc_locked.proofs.Sound.{sound_first}
 use Rattle.kc_locked.proofs.Views.{total_set, total_snoc, times-append, left_of-append, AllFit-append}
 

@@ -9,7 +9,7 @@ use Rattle.kc_locked.specs.declared.held.Waits.{Waits}
 use Rattle.kc_locked.specs.declared.rule.View.{View}
 use Rattle.kc_locked.specs.Held.{HeldView, IsSound, Adds, Commits}
 use Rattle.kc_locked.specs.Locked.{Grown, part, free_view}
-use Rattle.kc_locked.specs.Passes.{made_by, own_first}
+use Rattle.kc_locked.specs.Locked.{made_by, own_first}
 use Rattle.kc_locked.proofs.Sound.{sound_more}
 
 head_is : (x y : ℕ × Option HeldView) (xs ys : List (ℕ × Option HeldView)) → x ∷ xs ≡ y ∷ ys → x ≡ y

@@ -1,5 +1,5 @@
 -- The rule of the table: what the slot holds while the lock is free, and what the passes know of it.
-use Rattle.std.specs.Prelude.{◌≡◌, ◌≢◌, ℕ, ◌+◌, ◌-◌, ◌<◌, ◌≤◌, List, [], ◌∷◌, ◌++◌, true, false, Option, Some, All, length, slice_index, if◌then◌else◌, ◌==◌}
+use Rattle.std.specs.Prelude.{◌≡◌, ◌≢◌, ℕ, ◌+◌, ◌-◌, ◌<◌, ◌≤◌, List, [], ◌∷◌, ◌++◌, true, false, Option, Some, Result, Ok, Err, length, slice_index, if◌then◌else◌, ◌==◌}
 use mathlib.Core.Option.{some}
 use lib.ListN.{get_elem?}
 use Rattle.atomic_table.specs.Table as table
@@ -9,20 +9,14 @@ use Rattle.kc_locked.specs.Origin.{Origin}
 use Rattle.kc_locked.specs.declared.rule.Part.{Part}
 use Rattle.kc_locked.specs.declared.rule.View.{View}
 use Rattle.kc_locked.specs.Held.{HeldView, held, IsSound}
-
--- a caller's entries, in their order
-abbrev pub of_caller : ℕ → List Entry → List Entry
-of_caller k [] = []
-of_caller k (e ∷ es) = if e.caller == k then e ∷ of_caller k es else of_caller k es
+use Rattle.kc_locked.specs.Passes.{PassView, of_caller, IsBelowCallers}
+use Rattle.kc_locked.specs.declared.held.Waits.{Waits}
+use Rattle.kc_model.specs.declared.reply.Answer.{Answer}
 
 -- all are of this caller
 abbrev pub AllOf : ℕ → List Entry → Type 0
 AllOf k [] = Unit {0}
 AllOf k (e ∷ es) = (e.caller ≡ k) × AllOf k es
-
--- each is of one of so many callers
-abbrev pub IsBelowCallers : ℕ → List Entry → Type 0
-IsBelowCallers callers history = All (λ (e : Entry). e.caller < callers) history
 
 abbrev pub part : ℕ → ℕ → List Entry → Part
 part caller left own = record { caller = caller; left = left; own = own }
@@ -144,3 +138,24 @@ pub record Ended (o : Origin) (me after : Me (Option HeldView) View) : Type 0 wh
   pub sound : IsSound now
   pub below : IsBelowCallers (length o.shares) now.history
   pub fit : AllFit (length o.shares) now.history me.0.parts
+
+-- what was entered: one commit, or where it waits none
+abbrev pub made_by : Result Answer Waits → Entry → List Entry
+made_by (Ok a) e = e ∷ []
+made_by (Err w) e = []
+
+-- one has the lock now, with what was in the slot
+abbrev pub Taken : Origin → Me (Option HeldView) View → Me (Option HeldView) View → Type 0
+Taken o me after = (h : HeldView) × (after ≡ (lock_view me.0.parts h, (0, Some h) ∷ me.1)) × IsSound h × (h.opening ≡ o.values) × (left_of me.0.parts ≤ h.spare)
+
+-- the parts of a view
+abbrev pub own_first : List Part → List Entry
+own_first [] = []
+own_first (p ∷ ps) = p.own
+
+-- each part is of the pass at its place
+abbrev pub Matches : List Part → List PassView → Type 0
+Matches [] [] = Unit {0}
+Matches [] (s ∷ ss) = ⊥
+Matches (p ∷ ps) [] = ⊥
+Matches (p ∷ ps) (s ∷ ss) = (p.caller ≡ s.caller) × (p.own ≡ s.own) × Matches ps ss

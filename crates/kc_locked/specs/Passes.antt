@@ -1,7 +1,6 @@
 -- What is seen of a store, of a pass and of the past.
-use Rattle.std.specs.Prelude.{◌≡◌, ℕ, ◌+◌, ◌≤◌, List, [], ◌∷◌, ◌++◌, All, Option, Some, Result, Ok, Err, length}
+use Rattle.std.specs.Prelude.{◌≡◌, ℕ, ◌+◌, ◌<◌, List, [], ◌∷◌, ◌++◌, All, length, if◌then◌else◌, ◌==◌}
 use Rattle.atomic_table.specs.Seated.{TableId}
-use Rattle.atomic_table.specs.Table.{Me}
 use Rattle.kc_model.specs.declared.footprint.Entry.{Entry}
 use Rattle.kc_model.specs.declared.footprint.Footprint.{Footprint}
 use Rattle.kc_model.specs.declared.reply.Answer.{Answer}
@@ -9,13 +8,7 @@ use Rattle.kc_model.specs.Legal.{IsLegal}
 use Rattle.kc_model.specs.Store.{Store, store_of, opened}
 use Rattle.kc_xt.specs.Meaning.{Meaning}
 use Rattle.kc_xt.specs.Commit.{Answers}
-use Rattle.kc_locked.specs.declared.rule.Part.{Part}
-use Rattle.kc_locked.specs.declared.rule.View.{View}
 use Rattle.kc_locked.specs.History.{entry_of}
-use Rattle.kc_locked.specs.Held.{HeldView, IsSound}
-use Rattle.kc_locked.specs.Origin.{Origin}
-use Rattle.kc_locked.specs.Locked.{lock_view, left_of, of_caller, IsBelowCallers}
-use Rattle.kc_locked.specs.declared.held.Waits.{Waits}
 
 -- which store it is, its opening values, and how many passes it has
 pub record StoreView : Type 0 where
@@ -38,6 +31,15 @@ pub record PastView : Type 0 where
 abbrev pub pass_of : TableId → ℕ → ℕ → List Entry → PassView
 pass_of table caller left own = record { table = table; caller = caller; left = left; own = own }
 
+-- a caller's entries, in their order
+abbrev pub of_caller : ℕ → List Entry → List Entry
+of_caller k [] = []
+of_caller k (e ∷ es) = if e.caller == k then e ∷ of_caller k es else of_caller k es
+
+-- each is of one of so many callers
+abbrev pub IsBelowCallers : ℕ → List Entry → Type 0
+IsBelowCallers callers history = All (λ (e : Entry). e.caller < callers) history
+
 -- the passes with these shares, from this caller on
 abbrev pub passes_of : TableId → ℕ → List ℕ → List PassView
 passes_of table k [] = []
@@ -57,15 +59,6 @@ pub record Made (m : Meaning) (a : Answer) (f : Footprint) (before now : PassVie
   pub caller : now.caller ≡ before.caller
   pub table : now.table ≡ before.table
 
--- what was entered: one commit, or where it waits none
-abbrev pub made_by : Result Answer Waits → Entry → List Entry
-made_by (Ok a) e = e ∷ []
-made_by (Err w) e = []
-
--- one has the lock now, with what was in the slot
-abbrev pub Taken : Origin → Me (Option HeldView) View → Me (Option HeldView) View → Type 0
-Taken o me after = (h : HeldView) × (after ≡ (lock_view me.0.parts h, (0, Some h) ∷ me.1)) × IsSound h × (h.opening ≡ o.values) × (left_of me.0.parts ≤ h.spare)
-
 -- the history is legal from the opening values at versions 0
 abbrev pub IsLegalPast : PastView → Type 0
 IsLegalPast p = (end : Store) × IsLegal (store_of (opened p.opening)) p.history end
@@ -76,15 +69,3 @@ pub record IsPast (store : StoreView) (passes : List PassView) (past : PastView)
   pub legal : IsLegalPast past
   pub own : All (λ (p : PassView). of_caller p.caller past.history ≡ p.own) passes
   pub nobody_else : IsBelowCallers store.callers past.history
-
--- the parts of a view
-abbrev pub own_first : List Part → List Entry
-own_first [] = []
-own_first (p ∷ ps) = p.own
-
--- each part is of the pass at its place
-abbrev pub Matches : List Part → List PassView → Type 0
-Matches [] [] = Unit {0}
-Matches [] (s ∷ ss) = ⊥
-Matches (p ∷ ps) [] = ⊥
-Matches (p ∷ ps) (s ∷ ss) = (p.caller ≡ s.caller) × (p.own ≡ s.own) × Matches ps ss

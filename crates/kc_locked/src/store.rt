@@ -6,7 +6,8 @@ ghost use Rattle.kc_locked.specs.History.{entry_of};
 ghost use Rattle.kc_locked.specs.Held.{HeldView, IsSound};
 ghost use Rattle.kc_locked.specs.Locked.{free_view, shared_out, committed, Ended as Shown, Grown, Holds};
 ghost use Rattle.kc_locked.specs.Origin.{origin};
-ghost use Rattle.kc_locked.specs.Passes.{IsPast, Made, Matches, Opened, Taken, made_by, passes_of};
+ghost use Rattle.kc_locked.specs.Passes.{IsPast, Made, Opened, passes_of};
+ghost use Rattle.kc_locked.specs.Locked.{Matches, Taken, made_by};
 
 use crate::ended::Ended;
 use crate::held::{Held, MOST_COMMITS, Waits};
@@ -60,7 +61,8 @@ pub struct LockPass {
 impl Model for LockPass {
     ghost use Rattle.std.specs.Prelude.{◌≡◌, ◌+◌, ◌≤◌, ◌∷◌, [], length};
     ghost use Rattle.kc_locked.specs.declared.held.TheConstants.{MOST_COMMITS};
-    ghost use Rattle.kc_locked.specs.Passes.{PassView, pass_of, own_first};
+    ghost use Rattle.kc_locked.specs.Passes.{PassView, pass_of};
+    ghost use Rattle.kc_locked.specs.Locked.{own_first};
     ghost use Rattle.kc_locked.specs.Locked.{part, free_view};
 
     ghost Value = { PassView };

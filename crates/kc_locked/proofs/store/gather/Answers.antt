@@ -1,6 +1,7 @@
 use Rattle.std.proofs.Common.{◌≡◌, arith, sym, ap, ◌∙◌, rules, subst, append_assoc, ◌++◌, ◌∷◌, []}
 use Rattle.std.specs.Prelude.{All}
-use Rattle.kc_locked.specs.Passes.{PassView, Matches}
+use Rattle.kc_locked.specs.Passes.{PassView}
+use Rattle.kc_locked.specs.Locked.{Matches}
 use Rattle.kc_locked.proofs.Ends.{arrives, gathers, all_at, pass_part}
 use Rattle.kc_locked.proofs.store.gather.Goals as goal
 

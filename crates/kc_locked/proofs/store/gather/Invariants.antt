@@ -1,5 +1,5 @@
 use Rattle.std.proofs.Common.{◌≡◌, ◌++◌}
-use Rattle.kc_locked.specs.Passes.{Matches}
+use Rattle.kc_locked.specs.Locked.{Matches}
 use Rattle.kc_locked.proofs.store.gather.Given as goal
 
 abbrev pub invariant-loop-pass : goal.invariant-loop-pass

@@ -1,5 +1,5 @@
 use Rattle.kc_locked.specs.History.{entry_of}
-use Rattle.kc_locked.specs.Passes.{made_by}
+use Rattle.kc_locked.specs.Locked.{made_by}
 use Rattle.kc_locked.proofs.store.LockedStore.attempt.Given as goal
 
 abbrev pub ghosts-take : goal.ghosts-take
