@@ -1,4 +1,4 @@
-ghost use Rattle.std.specs.Prelude.{◌≡◌, ◌<◌, ◌≤◌, length};
+ghost use Rattle.std.specs.Prelude.{◌≡◌, ◌+◌, ◌<◌, ◌≤◌, length};
 ghost use Rattle.kc_loc.specs.Meaning.{loc_last, loc_end};
 
 use crate::held::Held;
@@ -26,7 +26,8 @@ fn count<R: Wait>(rt: &R, store: &LockedStore, mut pass: LockPass) -> LockPass
 fn one<R: Wait>(rt: &R, store: &LockedStore, pass: &mut LockPass, operation: LocOp) -> Option<Reply>
     requires pass { (pass.old.table ≡ store.now.table) × (0 < pass.old.left) }
     requires fit { (loc_last operation < 65536) × (loc_end operation ≤ length store.now.opening) }
-    ensures { pass.new.table ≡ pass.old.table }
+    ensures table { pass.new.table ≡ pass.old.table }
+    ensures left { pass.new.left + 1 ≡ pass.old.left }
 {
     match store.commit_waiting(rt, pass, &operation) {
         Ended::Done {
@@ -65,30 +66,36 @@ fn two_threads_count(rt: HostRuntime) -> Result<(), Fail> {
     Ok(())
 }
 
-// Waits until the first location is one, and says what stood there.
-fn wait_for_one<R: Wait>(rt: &R, store: &LockedStore, mut pass: LockPass) -> Option<Reply>
-    requires pass { (pass.table ≡ store.now.table) × (0 < pass.left) }
+// Waits for its turn and hands it on, as often as the pass may do both.
+fn take_turns<R: Wait>(rt: &R, store: &LockedStore, mut pass: LockPass, mine: u32, next: u32) -> u32
+    requires pass { pass.table ≡ store.now.table }
     requires location { 0 < length store.now.opening }
 {
-    one(rt, store, &mut pass, LocOp::Check(Loc(0), Rel::Eq, 1))
+    let mut turns: u32 = 0;
+    while pass.left() >= 2 {
+        one(rt, store, &mut pass, LocOp::Check(Loc(0), Rel::Eq, mine));
+        one(rt, store, &mut pass, LocOp::Set(Loc(0), next));
+        turns = turns.wrapping_add(1);
+    }
+    turns
 }
 
+// Each of the two waits for the other 200 times, so a wait that isn't woken keeps the test for ever.
 #[test]
-fn a_pass_waits_for_a_commit_that_puts(rt: HostRuntime) -> Result<(), Fail> {
-    let Ok((store, mut passes)) = LockedStore::open(rt.alloc(), &[0, 5], &[1, 2]) else {
+fn two_threads_take_turns(rt: HostRuntime) -> Result<(), Fail> {
+    let Ok((store, mut passes)) = LockedStore::open(rt.alloc(), &[0, 5], &[400, 400]) else {
         panic!(rt; "the store was not opened");
     };
-    let (Some(mut second), Some(first)) = (passes.pop(), passes.pop()) else {
+    let (Some(second), Some(first)) = (passes.pop(), passes.pop()) else {
         panic!(rt; "there are two passes");
     };
     let shared = &store;
-    let (waited, set) = thread::join(
+    let turns = thread::join(
         &rt,
-        move || wait_for_one(&rt, shared, first),
-        || one(&rt, shared, &mut second, LocOp::Set(Loc(0), 1)),
+        move || take_turns(&rt, shared, first, 0, 1),
+        move || take_turns(&rt, shared, second, 1, 0),
     );
-    assert_eq!(rt; waited, Some(Reply::Unit));
-    assert_eq!(rt; set, Some(Reply::Unit));
+    assert_eq!(rt; turns, (200, 200));
     Ok(())
 }
 
