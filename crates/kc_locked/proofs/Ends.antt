@@ -1,0 +1,259 @@
+-- What changes no history: the opening, passes that go out and come back, and the look at the end.
+use Rattle.std.proofs.Common.{◌≡◌, ◌≢◌, ℕ, zero, suc, ◌+◌, ◌<◌, ◌≤◌, ◌==◌, Bool, true, false, true≢false, List, [], ◌∷◌, ◌++◌, length, set, Option, Some, refl, sym, ap, ◌∙◌, ⊎_elim, arith, subst, get_or, if◌then◌else◌, drop, append_assoc}
+use Rattle.std.specs.Prelude.{slice_index, All, sum}
+use Rattle.std.proofs.lemmas.List.{set-get_or, drop_more}
+use Rattle.std.proofs.lemmas.List.Elements.{All-head, All-tail}
+use Rattle.std.proofs.lemmas.List.Sums.{sum_by-cons, sum_by_more_le}
+use mathlib.Core.Option.{some, some-injective, some-ne-none}
+use lib.ListN.{get_elem?}
+use borrow.Author.Tests.{ne_eqb, eqb-true}
+use Rattle.atomic_table.specs.Table as table
+use Rattle.atomic_table.specs.Table.{Me, Allows, Enters, Joins, Splits, keeps}
+use Rattle.atomic_table.proofs.Lists.{at_set, at_snoc}
+use Rattle.kc_model.specs.Store.{opened}
+use Rattle.kc_model.specs.declared.footprint.Entry.{Entry}
+use Rattle.kc_locked.specs.declared.held.TheConstants.{MOST_COMMITS}
+use Rattle.kc_locked.specs.declared.rule.Part.{Part}
+use Rattle.kc_locked.specs.declared.rule.View.{View}
+use Rattle.kc_locked.specs.Held.{HeldView, held}
+use Rattle.kc_locked.specs.Origin.{Origin, origin}
+use Rattle.kc_locked.specs.Locked.{part, free_view, shared_out, first_view, times, left_of, AllFit, FitsView, Kept, spent, gathered, dealt, undealt, first_part, other_parts, Ended}
+use Rattle.kc_locked.specs.Passes.{of_caller}
+use Rattle.atomic_table.specs.Seated.{TableId}
+use Rattle.kc_locked.specs.Passes.{PassView, pass_of, passes_of}
+use Rattle.kc_locked.specs.Locked.{Matches}
+use Rattle.kc_locked.proofs.Sound.{sound_first}
+use Rattle.kc_locked.proofs.Views.{total_set, total_snoc, times-append, left_of-append, AllFit-append}
+
+off : {A : Type 0} → false ≡ true → A
+off e = absurd (true≢false (sym e))
+
+-- ---- the opening
+
+fits_first : (n j : ℕ) (ns : List ℕ) → j + length ns ≤ n → AllFit n [] (shared_out j ns)
+fits_first n j [] le = tt
+fits_first n j (x ∷ ns) le = (omega arith, refl, fits_first n (j + 1) ns (omega arith))
+
+none_before : (k j : ℕ) (ns : List ℕ) → k < j → times k (shared_out j ns) ≡ 0
+none_before k j [] lt = refl
+none_before k j (x ∷ ns) lt = let rest = none_before k (j + 1) ns (omega arith) in rw (ne_eqb j k (λ e. omega arith)) (omega arith)
+
+once_first : (k j : ℕ) (ns : List ℕ) → times k (shared_out j ns) ≤ 1
+once_first k j [] = omega arith
+once_first k j (x ∷ ns) = by_test (j == k) refl (once_first k (j + 1) ns)
+  where
+    by_test : (b : Bool) → (j == k) ≡ b → times k (shared_out (j + 1) ns) ≤ 1 → (if b then 1 else 0) + times k (shared_out (j + 1) ns) ≤ 1
+    by_test true e le = let same = eqb-true j k e in let none = none_before k (j + 1) ns (omega arith) in omega arith
+    by_test false e le = omega arith
+
+left_first : (j : ℕ) (ns : List ℕ) → left_of (shared_out j ns) ≡ sum ns
+left_first j [] = refl
+left_first j (x ∷ ns) = let h = left_first (j + 1) ns in let s = sum_by-cons (λ (n : ℕ). n) x ns in omega arith
+
+pub opens : (o : Origin) (h : HeldView) → sum o.shares ≤ MOST_COMMITS → h ≡ held o.values [] (opened o.values) (sum o.shares) → Kept o (table.opening (0 ∷ []) (Some h ∷ []) (first_view o))
+opens o h most is = record {
+  now = held o.values [] (opened o.values) (sum o.shares);
+  holder = 0;
+  one_slot = refl;
+  one_word = refl;
+  free = λ _. ap (λ (x : HeldView). some (some (Some x))) is;
+  sound = sound_first o.values (sum o.shares) most;
+  opening = refl;
+  callers = λ i d lt. absurd (omega arith);
+  views = only;
+  once = λ k. let one = once_first k 0 o.shares in omega arith;
+  space = (let all = left_first 0 o.shares in omega arith);
+}
+  where
+    only : (i : ℕ) (v : View) → get_elem? (first_view o ∷ []) i ≡ some v → FitsView o (held o.values [] (opened o.values) (sum o.shares)) 0 0 i v
+    only zero v at = subst (FitsView o (held o.values [] (opened o.values) (sum o.shares)) 0 0 0) (some-injective (first_view o) v at) (record { parts = fits_first (length o.shares) 0 o.shares (omega arith); lock = λ h. off h })
+    only (suc i) v at = absurd (some-ne-none v (sym at))
+
+-- ---- passes go out and come back
+
+pub arrives : (o : Origin) (slots i : ℕ) → Enters (Kept o) slots i (λ x w. w ≡ spent)
+arrives o slots i s kept count small = (
+  spent,
+  record {
+    now = kept.now;
+    holder = kept.holder;
+    one_slot = kept.one_slot;
+    one_word = kept.one_word;
+    free = kept.free;
+    sound = kept.sound;
+    opening = kept.opening;
+    callers = kept.callers;
+    views = λ j u e. ⊎_elim (kept.views j u) (λ same. subst (FitsView o kept.now (slice_index s.words 0) kept.holder j) same (record { parts = tt; lock = λ h. off h })) (at_snoc s.views spent u j e);
+    once = λ k. let one = kept.once k in let t = total_snoc (λ u. times k u.parts) s.views spent in omega arith;
+    space = (let sp = kept.space in let t = total_snoc (λ u. left_of u.parts) s.views spent in omega arith);
+  },
+  refl,
+)
+
+pub deals : (o : Origin) (id : ℕ) (v : View) → Splits (Kept o) id v (undealt v) (dealt v)
+deals o id v s kept at =
+    let f = kept.views id v at in
+    let w = undealt v in
+    let x = dealt v in
+    record {
+      now = kept.now;
+      holder = kept.holder;
+      one_slot = kept.one_slot;
+      one_word = kept.one_word;
+      free = kept.free;
+      sound = kept.sound;
+      opening = kept.opening;
+      callers = kept.callers;
+      views = λ j u e. ⊎_elim
+          (λ (there : get_elem? (set s.views id w) j ≡ some u). ⊎_elim
+          (λ (y : (j ≡ id) × (w ≡ u)). subst (FitsView o kept.now (slice_index s.words 0) kept.holder j) y.1 (record { parts = others v.parts f.parts; lock = λ h. let l = f.lock h in (y.0 ∙ l.0, l.1, l.2) }))
+          (λ (y : (j ≢ id) × (get_elem? s.views j ≡ some u)). kept.views j u y.1)
+          (at_set s.views id j w u there))
+          (λ same. subst (FitsView o kept.now (slice_index s.words 0) kept.holder j) same (record { parts = first v.parts f.parts; lock = λ h. off h }))
+          (at_snoc (set s.views id w) x u j e);
+      once = λ k.
+          let one = kept.once k in
+          let c = counts k v.parts in
+          let t = total_set (λ u. times k u.parts) s.views id v w at in
+          let t' = total_snoc (λ u. times k u.parts) (set s.views id w) x in omega arith;
+      space = (
+          let sp = kept.space in
+          let c = lefts v.parts in
+          let t = total_set (λ u. left_of u.parts) s.views id v w at in
+          let t' = total_snoc (λ u. left_of u.parts) (set s.views id w) x in omega arith);
+    }
+  where
+    others : (ps : List Part) → AllFit (length o.shares) kept.now.history ps → AllFit (length o.shares) kept.now.history (other_parts ps)
+    others [] f = tt
+    others (p ∷ ps) f = f.2
+
+    first : (ps : List Part) → AllFit (length o.shares) kept.now.history ps → AllFit (length o.shares) kept.now.history (first_part ps)
+    first [] f = tt
+    first (p ∷ ps) f = (f.0, f.1, tt)
+
+    counts : (k : ℕ) (ps : List Part) → times k (other_parts ps) + times k (first_part ps) ≡ times k ps
+    counts k [] = refl
+    counts k (p ∷ ps) = omega arith
+
+    lefts : (ps : List Part) → left_of (other_parts ps) + left_of (first_part ps) ≡ left_of ps
+    lefts [] = refl
+    lefts (p ∷ ps) = omega arith
+
+pub gathers : (o : Origin) (id : ℕ) (v : View) (other : ℕ) (w : View) → Joins (Kept o) id v other w (gathered v w) spent
+gathers o id v other w s kept at apart there =
+    let both = gathered v w in
+    let theirs = ⊎_elim (λ (x : (other ≡ id) × (both ≡ w)). absurd (apart x.0)) (λ (x : (other ≢ id) × (get_elem? s.views other ≡ some w)). x.1) (at_set s.views id other both w there) in
+    let f = kept.views id v at in
+    let g = kept.views other w theirs in
+    record {
+      now = kept.now;
+      holder = kept.holder;
+      one_slot = kept.one_slot;
+      one_word = kept.one_word;
+      free = kept.free;
+      sound = kept.sound;
+      opening = kept.opening;
+      callers = kept.callers;
+      views = λ j u e. ⊎_elim
+          (λ (x : (j ≡ other) × (spent ≡ u)). subst (FitsView o kept.now (slice_index s.words 0) kept.holder j) x.1 (record { parts = tt; lock = λ h. off h }))
+          (λ (x : (j ≢ other) × (get_elem? (set s.views id both) j ≡ some u)). ⊎_elim
+          (λ (y : (j ≡ id) × (both ≡ u)). subst (FitsView o kept.now (slice_index s.words 0) kept.holder j) y.1 (record { parts = AllFit-append (length o.shares) kept.now.history v.parts w.parts f.parts g.parts; lock = λ h. let l = f.lock h in (y.0 ∙ l.0, l.1, l.2) }))
+          (λ (y : (j ≢ id) × (get_elem? s.views j ≡ some u)). kept.views j u y.1)
+          (at_set s.views id j both u x.1))
+          (at_set (set s.views id both) other j spent u e);
+      once = λ k.
+          let one = kept.once k in
+          let e = times-append k v.parts w.parts in
+          let t = total_set (λ u. times k u.parts) s.views id v both at in
+          let t' = total_set (λ u. times k u.parts) (set s.views id both) other w spent there in omega arith;
+      space = (
+          let sp = kept.space in
+          let e = left_of-append v.parts w.parts in
+          let t = total_set (λ u. left_of u.parts) s.views id v both at in
+          let t' = total_set (λ u. left_of u.parts) (set s.views id both) other w spent there in omega arith);
+    }
+
+-- ---- the look at the end
+
+pub ends : (o : Origin) (slots id : ℕ) (me : Me (Option HeldView) View) → Allows (Kept o) slots id me 0 (λ x. x) (λ found after. Ended o me after)
+ends o slots id me s kept count at small =
+    let w : View = record { parts = me.0.parts; holds = false; found = kept.now } in
+    let f = kept.views id me.0 at in
+    let ws : set s.words 0 (slice_index s.words 0) ≡ s.words = set-get_or s.words 0 0 in (
+      w,
+      keeps,
+      tt,
+      subst (λ l. Kept o (record { words = l; homes = s.homes; views = set s.views id w })) (sym ws)
+          (record {
+            now = kept.now;
+            holder = kept.holder;
+            one_slot = kept.one_slot;
+            one_word = kept.one_word;
+            free = kept.free;
+            sound = kept.sound;
+            opening = kept.opening;
+            callers = kept.callers;
+            views = λ j u e. ⊎_elim
+                (λ (x : (j ≡ id) × (w ≡ u)). subst (FitsView o kept.now (slice_index s.words 0) kept.holder j) x.1 (record { parts = f.parts; lock = λ h. off h }))
+                (λ (x : (j ≢ id) × (get_elem? s.views j ≡ some u)). kept.views j u x.1)
+                (at_set s.views id j w u e);
+            once = λ k. let one = kept.once k in let t = total_set (λ u. times k u.parts) s.views id me.0 w at in omega arith;
+            space = (let sp = kept.space in let t = total_set (λ u. left_of u.parts) s.views id me.0 w at in omega arith);
+          }),
+      record { now = kept.now; is = refl; opening = kept.opening; sound = kept.sound; below = kept.callers; fit = f.parts },
+    )
+
+-- ---- the passes that came back
+
+Matches-more : (ps : List Part) (ss : List PassView) (p : Part) (s : PassView) → Matches ps ss → p.caller ≡ s.caller → p.own ≡ s.own → Matches (ps ++ p ∷ []) (ss ++ s ∷ [])
+Matches-more [] [] p s m e f = (e, f, tt)
+Matches-more [] (x ∷ ss) p s m e f = absurd m
+Matches-more (q ∷ ps) [] p s m e f = absurd m
+Matches-more (q ∷ ps) (x ∷ ss) p s m e f = (m.0, m.1, Matches-more ps ss p s m.2 e f)
+
+pub pass_part : (me : Me (Option HeldView) View) (caller left : ℕ) (own : List Entry) (ps : List Part) (ss : List PassView) (v : PassView) → me ≡ (free_view (part caller left own ∷ []), []) → v.caller ≡ caller → v.own ≡ own → Matches ps ss → Matches (ps ++ me.0.parts) (ss ++ v ∷ [])
+pass_part me caller left own ps ss v is n o m =
+    subst (λ l. Matches (ps ++ l) (ss ++ v ∷ [])) (sym (ap (λ (x : Me (Option HeldView) View). x.0.parts) is)) (Matches-more ps ss (part caller left own) v m (sym n) (sym o))
+
+pub owns_all : (n : ℕ) (h : List Entry) (ps : List Part) (ss : List PassView) → AllFit n h ps → Matches ps ss → All (λ (p : PassView). of_caller p.caller h ≡ p.own) ss
+owns_all n h ps ss e m = λ k d lt. go ps ss e m k d lt
+  where
+    go : (ps : List Part) (ss : List PassView) → AllFit n h ps → Matches ps ss → (k : ℕ) (d : PassView) → k < length ss → of_caller (get_or ss k d).caller h ≡ (get_or ss k d).own
+    go [] [] e m k d lt = absurd (omega arith)
+    go [] (s ∷ ss) e m k d lt = absurd m
+    go (p ∷ ps) [] e m k d lt = absurd m
+    go (p ∷ ps) (s ∷ ss) e m zero d lt = ap (λ j. of_caller j h) (sym m.0) ∙ sym e.1 ∙ m.1
+    go (p ∷ ps) (s ∷ ss) e m (suc k) d lt = go ps ss e.2 m.2 k d (omega arith)
+
+pub all_at : {A : Type 0} (P : A → Type 0) (xs ys : List A) (y : A) → All P (xs ++ y ∷ ys) → P y
+all_at P [] ys y a = All-head P y ys a
+all_at P (x ∷ xs) ys y a = all_at P xs ys y (All-tail P x (xs ++ y ∷ ys) a)
+
+pub none_left : {A : Type 0} (xs : List A) (n : ℕ) → n ≡ length xs → n ≡ 0 → xs ≡ []
+none_left [] n e z = refl
+none_left (x ∷ xs) n e z = absurd (omega arith)
+
+pub opens_on : (values shares vs ss : List ℕ) (spare : ℕ) (h : HeldView) (slots : List (Option HeldView)) → sum shares ≤ MOST_COMMITS → vs ≡ values → ss ≡ shares → spare ≡ sum shares → h ≡ held values [] (opened values) spare → slots ≡ Some h ∷ []
+    → Kept (origin vs ss) (table.opening (0 ∷ []) slots (first_view (origin vs ss)))
+opens_on values shares vs ss spare h slots most v s sp is one =
+    subst (λ l. Kept (origin vs ss) (table.opening (0 ∷ []) l (first_view (origin vs ss)))) (sym one)
+    (opens (origin vs ss) h (rw s most) (is ∙ (λ i. held (sym v i) [] (opened (sym v i)) ((sp ∙ ap sum (sym s)) i))))
+
+-- ---- the first pass goes out
+
+abbrev Mine : Type 0
+Mine = Me (Option HeldView) View
+
+pub dealt_is : (me token : Mine) (i : ℕ) (shares : List ℕ) → me ≡ (free_view (shared_out i (drop i shares)), []) → token ≡ (dealt me.0, []) → i < length shares → token ≡ (free_view (part i (get_or shares i 0) [] ∷ []), [])
+dealt_is me token i shares is to lt = to ∙ ap (λ (m : Mine). (dealt m.0, [])) is ∙ ap (λ ns. (dealt (free_view (shared_out i ns)), [])) (drop_more shares i 0 lt)
+
+pub undealt_is : (me after : Mine) (i : ℕ) (shares : List ℕ) → me ≡ (free_view (shared_out i (drop i shares)), []) → after ≡ (undealt me.0, me.1) → i < length shares → after ≡ (free_view (shared_out (i + 1) (drop (i + 1) shares)), [])
+undealt_is me after i shares is to lt = to ∙ ap (λ (m : Mine). (undealt m.0, m.1)) is ∙ ap (λ ns. (undealt (free_view (shared_out i ns)), [])) (drop_more shares i 0 lt)
+
+pub dealt_more : (t : TableId) (i : ℕ) (shares : List ℕ) (passes after : List PassView) (p : PassView) → passes ++ passes_of t i (drop i shares) ≡ passes_of t 0 shares → after ≡ passes ++ p ∷ [] → p ≡ pass_of t i (get_or shares i 0) [] → i < length shares → after ++ passes_of t (i + 1) (drop (i + 1) shares) ≡ passes_of t 0 shares
+dealt_more t i shares passes after p so_far to is lt =
+    ap (λ l. l ++ passes_of t (i + 1) (drop (i + 1) shares)) (to ∙ ap (λ q. passes ++ q ∷ []) is) ∙ append_assoc passes (pass_of t i (get_or shares i 0) [] ∷ []) _
+    ∙ ap (λ ns. passes ++ passes_of t i ns) (sym (drop_more shares i 0 lt)) ∙ so_far
+
+pub share_fits : (shares : List ℕ) (i : ℕ) → i < length shares → sum shares ≤ MOST_COMMITS → get_or shares i 0 ≤ MOST_COMMITS
+share_fits shares i lt most = let le = sum_by_more_le (λ (n : ℕ). n) shares i 0 lt in omega arith

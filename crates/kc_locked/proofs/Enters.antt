@@ -1,0 +1,51 @@
+-- The commit on what was taken, as plain data.
+use Rattle.std.proofs.Common.{◌≡◌, ℕ, List, [], ◌∷◌, Option, Some, None, Result, Ok, Err, refl, sym, ap, subst, ◌∙◌, arith, append-nil}
+use Rattle.std.specs.Prelude.{IfOk, OnErr}
+use Rattle.atomic_table.specs.Table.{Me, rest}
+use Rattle.kc_model.specs.declared.reply.Answer.{Answer}
+use Rattle.kc_xt.specs.Meaning.{Meaning}
+use Rattle.kc_model.specs.declared.footprint.Entry.{Entry}
+use Rattle.kc_locked.specs.declared.held.Waits.{Waits}
+use Rattle.kc_locked.specs.declared.rule.View.{View}
+use Rattle.kc_locked.specs.Held.{HeldView, IsSound, Adds, Commits}
+use Rattle.kc_locked.specs.Locked.{Grown, part, free_view}
+use Rattle.kc_locked.specs.Locked.{made_by, own_first}
+use Rattle.kc_locked.proofs.Sound.{sound_more}
+
+head_is : (x y : ℕ × Option HeldView) (xs ys : List (ℕ × Option HeldView)) → x ∷ xs ≡ y ∷ ys → x ≡ y
+head_is x y xs ys e = cc
+
+some_is : (x y : HeldView) → Some x ≡ Some y → x ≡ y
+some_is x y e = cc
+
+-- what lies in the slot is what was found
+pub found_is : (h now : HeldView) (x : Option HeldView) (l rest : List (ℕ × Option HeldView)) → l ≡ (0, Some h) ∷ [] → l ≡ (0, x) ∷ rest → x ≡ Some now → now ≡ h
+found_is h now x l rest is slot some = some_is now h (sym some ∙ ap (λ (p : ℕ × Option HeldView). p.1) (head_is _ _ _ _ (sym slot ∙ is)))
+
+pub grown_one : (h now : HeldView) (e : Entry) → IsSound h → Adds e h now → Grown e.caller (e ∷ []) h now
+grown_one h now e sound adds = record {
+  sound = subst IsSound (λ i. record { opening = sym adds.opening i; history = sym adds.history i; cells = now.cells; spare = now.spare }) (sound_more h e now.cells now.spare sound adds.finds adds.store adds.size adds.spare);
+  history = adds.history;
+  opening = adds.opening;
+  spare = adds.spare;
+  mine = (refl, tt);
+}
+
+pub grown_none : (k : ℕ) (h : HeldView) → IsSound h → Grown k [] h h
+grown_none k h sound = record { sound = sound; history = sym (append-nil h.history); opening = refl; spare = omega arith; mine = tt }
+
+-- what came of the commit, whether it waits or not
+pub entered : (m : Meaning) (h now : HeldView) (e : Entry) (r : Result Answer Waits) → IsSound h → IfOk r (λ a. Commits m a e h now) → OnErr r (now ≡ h) → Grown e.caller (made_by r e) h now
+entered m h now e (Ok a) sound done waits = grown_one h now e sound done.adds
+entered m h now e (Err w) sound done waits = subst (Grown e.caller [] h) (sym waits) (grown_none e.caller h sound)
+
+abbrev Mine : Type 0
+Mine = Me (Option HeldView) View
+
+-- the slot is back, with what the commit made
+pub back : (me mid after : Mine) (h now : HeldView) → me.1 ≡ (0, Some h) ∷ [] → mid ≡ (me.0, (0, None) ∷ rest me.1) → after ≡ (mid.0, (0, Some now) ∷ rest mid.1) → after ≡ (me.0, (0, Some now) ∷ [])
+back me mid after h now holds to is = is ∙ ap (λ (m : Mine). (m.0, (0, Some now) ∷ rest m.1)) to ∙ ap (λ (l : List (ℕ × Option HeldView)). (me.0, (0, Some now) ∷ rest l)) holds
+
+-- a free pass is its number, what is left and its own list
+pub pass_is : (me : Mine) (k left : ℕ) (own : List Entry) → me ≡ (free_view (part k left own ∷ []), []) → me ≡ (free_view (part k left (own_first me.0.parts) ∷ []), [])
+pass_is me k left own is = is ∙ ap (λ l. (free_view (part k left l ∷ []), [])) (sym (ap (λ (m : Mine). own_first m.0.parts) is))

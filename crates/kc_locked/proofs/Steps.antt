@@ -1,0 +1,136 @@
+-- Taking the lock, and letting it go with what was entered.
+use Rattle.std.proofs.Common.{◌≡◌, ◌≢◌, ℕ, ◌-◌, ◌<◌, ◌≤◌, Bool, true, false, true≢false, List, [], ◌∷◌, ◌++◌, length, set, Option, Some, refl, sym, ap, ◌∙◌, ⊎_elim, arith, subst, ◌==◌, length-set, get_or-set_same}
+use Rattle.std.specs.Prelude.{slice_index}
+use Rattle.std.proofs.lemmas.List.{set-get_or}
+use Rattle.std.proofs.lemmas.List.Elements.{All-append}
+use mathlib.Core.Option.{some}
+use lib.ListN.{get_elem?}
+use prog.Atomic.{either}
+use borrow.Author.Tests.{eqb-true, eqb-false}
+use Rattle.atomic_table.specs.Table as table
+use Rattle.atomic_table.specs.Table.{Me, Allows, keeps, takes, gives, stepped}
+use Rattle.atomic_table.proofs.Lists.{at_set, set_here, set_again}
+use Rattle.kc_model.specs.declared.footprint.Entry.{Entry}
+use Rattle.kc_locked.specs.declared.rule.View.{View}
+use Rattle.kc_locked.specs.Held.{HeldView}
+use Rattle.kc_locked.specs.Origin.{Origin}
+use Rattle.kc_locked.specs.Locked.{AllFit, part, free_view, lock_view, times, left_of, total, FitsView, Kept, Took, Gave, Grown, Holds, committed}
+use Rattle.kc_locked.specs.Passes.{of_caller, IsBelowCallers}
+use Rattle.kc_locked.proofs.Views.{total_set, total_one, total_two, own_more, times-hit, all_other, all_below}
+
+abbrev Mine : Type 0
+Mine = Me (Option HeldView) View
+
+module _ (o : Origin) (s : table.State (Option HeldView) View) (id : ℕ) (me : Mine) (kept : Kept o s) (at : get_elem? s.views id ≡ some me.0) where
+  long : 0 < length s.words
+  long = let w = kept.one_word in omega arith
+
+  -- the lock was free
+  module _ (zero_there : slice_index s.words 0 ≡ 0) where
+    nobody_holds : (j : ℕ) (u : View) → get_elem? s.views j ≡ some u → u.holds ≡ true → ⊥
+    nobody_holds j u there h = let l = ((kept.views j u there).lock h).2 in omega arith
+
+    kept_taken : Kept o (stepped s 0 1 id me.1 (lock_view me.0.parts kept.now) (takes 0 (Some kept.now)))
+    kept_taken =
+        let w = lock_view me.0.parts kept.now in
+        let word : slice_index (set s.words 0 1) 0 ≡ 1 = get_or-set_same s.words 0 1 0 long in
+        record {
+          now = kept.now;
+          holder = id;
+          one_slot = length-set s.homes 0 _ ∙ kept.one_slot;
+          one_word = length-set s.words 0 _ ∙ kept.one_word;
+          free = λ z. absurd (omega arith);
+          sound = kept.sound;
+          opening = kept.opening;
+          callers = kept.callers;
+          views = λ j u e. ⊎_elim
+              (λ (x : (j ≡ id) × (w ≡ u)). subst (FitsView o kept.now (slice_index (set s.words 0 1) 0) id j) x.1 (record { parts = (kept.views id me.0 at).parts; lock = λ h. (x.0, refl, word) }))
+              (λ (x : (j ≢ id) × (get_elem? s.views j ≡ some u)). record { parts = (kept.views j u x.1).parts; lock = λ h. absurd (nobody_holds j u x.1 h) })
+              (at_set s.views id j w u e);
+          once = λ k. let one = kept.once k in let t = total_set (λ u. times k u.parts) s.views id me.0 w at in omega arith;
+          space = (let sp = kept.space in let t = total_set (λ u. left_of u.parts) s.views id me.0 w at in omega arith);
+        }
+
+  kept_same : Kept o (stepped s 0 (slice_index s.words 0) id me.1 me.0 keeps)
+  kept_same =
+      let ws : set s.words 0 (slice_index s.words 0) ≡ s.words = set-get_or s.words 0 0 in
+      let vs : set s.views id me.0 ≡ s.views = set_again s.views id me.0 at in
+      subst (Kept o) (λ i. record { words = sym ws i; homes = s.homes; views = sym vs i }) kept
+
+pub takes_lock : (o : Origin) (slots id : ℕ) (me : Mine) → Allows (Kept o) slots id me 0 (λ n. either (n == 0) 1 n) (Took o me)
+takes_lock o slots id me s kept count at small = by_test (slice_index s.words 0 == 0) refl
+  where
+    by_test : (b : Bool) → (slice_index s.words 0 == 0) ≡ b
+        → (w : View) × (a : table.Act (Option HeldView)) × table.Valid s.homes me.1 a × Kept o (stepped s 0 (either b 1 (slice_index s.words 0)) id me.1 w a) × Took o me (slice_index s.words 0) (w, table.carried_after me.1 a)
+    by_test true e =
+        let z : slice_index s.words 0 ≡ 0 = eqb-true _ 0 e in
+        let left : left_of me.0.parts ≤ total (λ u. left_of u.parts) s.views = total_one (λ u. left_of u.parts) s.views id me.0 at in
+        let sp = kept.space in (
+          lock_view me.0.parts kept.now,
+          takes 0 (Some kept.now),
+          kept.free z,
+          kept_taken o s id me kept at z,
+          ((λ _. (kept.now, refl, kept.sound, kept.opening, omega arith)), (λ ne. absurd (ne z))),
+        )
+    by_test false e = let ne = eqb-false _ 0 e in (me.0, keeps, tt, kept_same o s id me kept at, ((λ z. absurd (ne z)), (λ _. refl)))
+
+-- one with the lock lets it go, with the entries of its own
+module _ (o : Origin) (s : table.State (Option HeldView) View) (id : ℕ) (k left : ℕ) (own es : List Entry) (found now : HeldView) (kept : Kept o s)
+    (at : get_elem? s.views id ≡ some (lock_view (part k left own ∷ []) found)) (room : length es ≤ left) (grown : Grown k es found now) where
+  lock_facts : (id ≡ kept.holder) × (found ≡ kept.now) × (slice_index s.words 0 ≡ 1)
+  lock_facts = (kept.views id _ at).lock refl
+
+  history_after : now.history ≡ kept.now.history ++ es
+  history_after = grown.history ∙ ap (λ (h : HeldView). h.history ++ es) lock_facts.1
+
+  fits_here : (k < length o.shares) × (own ++ es ≡ of_caller k (kept.now.history ++ es))
+  fits_here = let f = (kept.views id _ at).parts in (f.0, own_more k kept.now.history own es grown.mine f.1)
+
+  kept_free : Kept o (stepped s 0 0 id ((0, Some now) ∷ []) (free_view (part k (left - length es) (own ++ es) ∷ [])) gives)
+  kept_free =
+      let v = lock_view (part k left own ∷ []) found in
+      let w = free_view (part k (left - length es) (own ++ es) ∷ []) in
+      let word : slice_index (set s.words 0 0) 0 ≡ 0 = get_or-set_same s.words 0 0 0 (let c = kept.one_word in omega arith) in
+      record {
+        now = now;
+        holder = id;
+        one_slot = length-set s.homes 0 _ ∙ kept.one_slot;
+        one_word = length-set s.words 0 _ ∙ kept.one_word;
+        free = λ _. set_here s.homes 0 (some (Some now)) (let c = kept.one_slot in omega arith);
+        sound = grown.sound;
+        opening = grown.opening ∙ ap (λ (h : HeldView). h.opening) lock_facts.1 ∙ kept.opening;
+        callers = subst (IsBelowCallers (length o.shares)) (sym history_after) (All-append (λ (e : Entry). e.caller < length o.shares) kept.now.history es kept.callers (all_below (length o.shares) k es fits_here.0 grown.mine));
+        views = λ j u e. ⊎_elim
+            (λ (x : (j ≡ id) × (w ≡ u)). subst (FitsView o now (slice_index (set s.words 0 0) 0) id j) x.1 (record { parts = (fits_here.0, fits_here.1 ∙ ap (of_caller k) (sym history_after), tt); lock = λ q. absurd (true≢false (sym q)) }))
+            (λ (x : (j ≢ id) × (get_elem? s.views j ≡ some u)). record {
+              parts = subst (λ (h : List Entry). AllFit (length o.shares) h u.parts) (sym history_after) (all_other (length o.shares) k kept.now.history es u.parts grown.mine (alone j u x.0 x.1) (kept.views j u x.1).parts);
+              lock = λ q. absurd (x.0 (((kept.views j u x.1).lock q).0 ∙ sym lock_facts.0));
+            })
+            (at_set s.views id j w u e);
+        once = λ j. let one = kept.once j in let t = total_set (λ u. times j u.parts) s.views id v w at in omega arith;
+        space = (
+            let sp = kept.space in
+            let t = total_set (λ u. left_of u.parts) s.views id v w at in
+            let one = total_one (λ u. left_of u.parts) s.views id v at in
+            let less = grown.spare in
+            let was = ap (λ (h : HeldView). h.spare) lock_facts.1 in omega arith);
+      }
+    where
+      alone : (j : ℕ) (u : View) → j ≢ id → get_elem? s.views j ≡ some u → times k u.parts ≡ 0
+      alone j u ne there =
+          let two = total_two (λ x. times k x.parts) s.views id j (lock_view (part k left own ∷ []) found) u ne at there in
+          let one = kept.once k in
+          let hit = times-hit k (part k left own) [] refl in omega arith
+
+pub gives_lock : (o : Origin) (slots id : ℕ) (me : Mine) (es : List Entry) → Holds es me → Allows (Kept o) slots id me 0 (λ _. 0) (λ _. Gave es me 0)
+gives_lock o slots id me es h =
+    let v = lock_view (part h.caller h.left h.own ∷ []) h.found in
+    let w = free_view (part h.caller (h.left - length es) (h.own ++ es) ∷ []) in
+    λ s kept count at small.
+    let at' : get_elem? s.views id ≡ some v = at ∙ ap (λ (m : Mine). some m.0) h.is in (
+      w,
+      gives,
+      tt,
+      subst (λ (m : Mine). Kept o (stepped s 0 0 id m.1 w gives)) (sym h.is) (kept_free o s id h.caller h.left h.own es h.found h.now kept at' h.room h.grown),
+      ap (λ (m : Mine). (w, table.rest m.1)) h.is ∙ ap (λ (m : Mine). (free_view (committed m.0.parts es), [])) (sym h.is),
+    )

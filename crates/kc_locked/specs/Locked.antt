@@ -1,0 +1,161 @@
+-- The rule of the table: what the slot holds while the lock is free, and what the passes know of it.
+use Rattle.std.specs.Prelude.{◌≡◌, ◌≢◌, ℕ, ◌+◌, ◌-◌, ◌<◌, ◌≤◌, List, [], ◌∷◌, ◌++◌, true, false, Option, Some, Result, Ok, Err, length, slice_index, if◌then◌else◌, ◌==◌}
+use mathlib.Core.Option.{some}
+use lib.ListN.{get_elem?}
+use Rattle.atomic_table.specs.Table as table
+use Rattle.atomic_table.specs.Table.{Me}
+use Rattle.kc_model.specs.declared.footprint.Entry.{Entry}
+use Rattle.kc_locked.specs.Origin.{Origin}
+use Rattle.kc_locked.specs.declared.rule.Part.{Part}
+use Rattle.kc_locked.specs.declared.rule.View.{View}
+use Rattle.kc_locked.specs.Held.{HeldView, held, IsSound}
+use Rattle.kc_locked.specs.Passes.{PassView, of_caller, IsBelowCallers}
+use Rattle.kc_locked.specs.declared.held.Waits.{Waits}
+use Rattle.kc_model.specs.declared.reply.Answer.{Answer}
+
+-- all are of this caller
+abbrev pub AllOf : ℕ → List Entry → Type 0
+AllOf k [] = Unit {0}
+AllOf k (e ∷ es) = (e.caller ≡ k) × AllOf k es
+
+abbrev pub part : ℕ → ℕ → List Entry → Part
+part caller left own = record { caller = caller; left = left; own = own }
+
+abbrev pub nothing_found : HeldView
+nothing_found = held [] [] [] 0
+
+-- a view without the lock, and with it
+abbrev pub free_view : List Part → View
+free_view parts = record { parts = parts; holds = false; found = nothing_found }
+
+abbrev pub lock_view : List Part → HeldView → View
+lock_view parts found = record { parts = parts; holds = true; found = found }
+
+-- the parts of these shares, from this caller on
+abbrev pub shared_out : ℕ → List ℕ → List Part
+shared_out k [] = []
+shared_out k (n ∷ ns) = part k n [] ∷ shared_out (k + 1) ns
+
+abbrev pub first_view : Origin → View
+first_view o = free_view (shared_out 0 o.shares)
+
+abbrev pub times : ℕ → List Part → ℕ
+times k [] = 0
+times k (p ∷ ps) = (if p.caller == k then 1 else 0) + times k ps
+
+abbrev pub left_of : List Part → ℕ
+left_of [] = 0
+left_of (p ∷ ps) = p.left + left_of ps
+
+abbrev pub total : (View → ℕ) → List View → ℕ
+total f [] = 0
+total f (v ∷ vs) = f v + total f vs
+
+-- each pass's own list is its part of the history, and it is one of so many callers
+abbrev pub AllFit : ℕ → List Entry → List Part → Type 0
+AllFit callers history [] = Unit {0}
+AllFit callers history (p ∷ ps) = (p.caller < callers) × (p.own ≡ of_caller p.caller history) × AllFit callers history ps
+
+-- who has the lock knows what is in the slot
+pub record FitsView (o : Origin) (now : HeldView) (word holder i : ℕ) (v : View) : Type 0 where
+  pub parts : AllFit (length o.shares) now.history v.parts
+  pub lock : v.holds ≡ true → (i ≡ holder) × (v.found ≡ now) × (word ≡ 1)
+
+-- What the slot held when the lock was last let go is what all views speak of.
+pub record Kept (o : Origin) (s : table.State (Option HeldView) View) : Type 0 where
+  pub now : HeldView
+  pub holder : ℕ
+  pub one_slot : length s.homes ≡ 1
+  pub one_word : length s.words ≡ 1
+  pub free : slice_index s.words 0 ≡ 0 → get_elem? s.homes 0 ≡ some (some (Some now))
+  pub sound : IsSound now
+  pub opening : now.opening ≡ o.values
+  pub callers : IsBelowCallers (length o.shares) now.history
+  pub views : (i : ℕ) (v : View) → get_elem? s.views i ≡ some v → FitsView o now (slice_index s.words 0) holder i v
+  pub once : (k : ℕ) → total (λ v. times k v.parts) s.views ≤ 1
+  pub space : total (λ v. left_of v.parts) s.views ≤ now.spare
+
+-- The lock was free, and one has it, with what was in the slot; or nothing changed.
+abbrev pub Took : Origin → Me (Option HeldView) View → ℕ → Me (Option HeldView) View → Type 0
+Took o me found after =
+    (found ≡ 0 → (h : HeldView) × (after ≡ (lock_view me.0.parts h, (0, Some h) ∷ me.1)) × IsSound h × (h.opening ≡ o.values) × (left_of me.0.parts ≤ h.spare))
+    × (found ≢ 0 → after ≡ me)
+
+-- these entries of the caller were added, and room was used for them
+pub record Grown (k : ℕ) (es : List Entry) (before now : HeldView) : Type 0 where
+  pub sound : IsSound now
+  pub history : now.history ≡ before.history ++ es
+  pub opening : now.opening ≡ before.opening
+  pub spare : now.spare + length es ≡ before.spare
+  pub mine : AllOf k es
+
+-- the pass with these commits more
+abbrev pub committed : List Part → List Entry → List Part
+committed [] es = []
+committed (p ∷ ps) es = part p.caller (p.left - length es) (p.own ++ es) ∷ ps
+
+-- the lock is free again, with these commits of the pass
+abbrev pub Gave : List Entry → Me (Option HeldView) View → ℕ → Me (Option HeldView) View → Type 0
+Gave es me found after = after ≡ (free_view (committed me.0.parts es), [])
+
+-- a pass has the lock, and in the slot, beside what was found, these entries of its own
+pub record Holds (es : List Entry) (me : Me (Option HeldView) View) : Type 0 where
+  pub caller : ℕ
+  pub left : ℕ
+  pub own : List Entry
+  pub found : HeldView
+  pub now : HeldView
+  pub is : me ≡ (lock_view (part caller left own ∷ []) found, (0, Some now) ∷ [])
+  pub room : length es ≤ left
+  pub grown : Grown caller es found now
+
+abbrev pub first_part : List Part → List Part
+first_part [] = []
+first_part (p ∷ ps) = p ∷ []
+
+abbrev pub other_parts : List Part → List Part
+other_parts [] = []
+other_parts (p ∷ ps) = ps
+
+abbrev pub dealt : View → View
+dealt v = free_view (first_part v.parts)
+
+abbrev pub undealt : View → View
+undealt v = record { parts = other_parts v.parts; holds = v.holds; found = v.found }
+
+abbrev pub gathered : View → View → View
+gathered v w = record { parts = v.parts ++ w.parts; holds = v.holds; found = v.found }
+
+-- what is left of a view whose parts were taken in
+abbrev pub spent : View
+spent = free_view []
+
+-- what the slot held when the lock was last let go was seen: the passes' own lists are parts of that history
+pub record Ended (o : Origin) (me after : Me (Option HeldView) View) : Type 0 where
+  pub now : HeldView
+  pub is : after ≡ (record { parts = me.0.parts; holds = false; found = now }, me.1)
+  pub opening : now.opening ≡ o.values
+  pub sound : IsSound now
+  pub below : IsBelowCallers (length o.shares) now.history
+  pub fit : AllFit (length o.shares) now.history me.0.parts
+
+-- what was entered: one commit, or where it waits none
+abbrev pub made_by : Result Answer Waits → Entry → List Entry
+made_by (Ok a) e = e ∷ []
+made_by (Err w) e = []
+
+-- one has the lock now, with what was in the slot
+abbrev pub Taken : Origin → Me (Option HeldView) View → Me (Option HeldView) View → Type 0
+Taken o me after = (h : HeldView) × (after ≡ (lock_view me.0.parts h, (0, Some h) ∷ me.1)) × IsSound h × (h.opening ≡ o.values) × (left_of me.0.parts ≤ h.spare)
+
+-- the parts of a view
+abbrev pub own_first : List Part → List Entry
+own_first [] = []
+own_first (p ∷ ps) = p.own
+
+-- each part is of the pass at its place
+abbrev pub Matches : List Part → List PassView → Type 0
+Matches [] [] = Unit {0}
+Matches [] (s ∷ ss) = ⊥
+Matches (p ∷ ps) [] = ⊥
+Matches (p ∷ ps) (s ∷ ss) = (p.caller ≡ s.caller) × (p.own ≡ s.own) × Matches ps ss

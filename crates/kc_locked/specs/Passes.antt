@@ -1,0 +1,71 @@
+-- What is seen of a store, of a pass and of the past.
+use Rattle.std.specs.Prelude.{◌≡◌, ℕ, ◌+◌, ◌<◌, List, [], ◌∷◌, ◌++◌, All, length, if◌then◌else◌, ◌==◌}
+use Rattle.atomic_table.specs.Seated.{TableId}
+use Rattle.kc_model.specs.declared.footprint.Entry.{Entry}
+use Rattle.kc_model.specs.declared.footprint.Footprint.{Footprint}
+use Rattle.kc_model.specs.declared.reply.Answer.{Answer}
+use Rattle.kc_model.specs.Legal.{IsLegal}
+use Rattle.kc_model.specs.Store.{Store, store_of, opened}
+use Rattle.kc_xt.specs.Meaning.{Meaning}
+use Rattle.kc_xt.specs.Commit.{Answers}
+use Rattle.kc_locked.specs.History.{entry_of}
+
+-- which store it is, its opening values, and how many passes it has
+pub record StoreView : Type 0 where
+  pub table : TableId
+  pub opening : List ℕ
+  pub callers : ℕ
+
+-- of which store it is, its number, how many commits it may still make, and those that it made
+pub record PassView : Type 0 where
+  pub table : TableId
+  pub caller : ℕ
+  pub left : ℕ
+  pub own : List Entry
+
+-- the opening values, and the one history
+pub record PastView : Type 0 where
+  pub opening : List ℕ
+  pub history : List Entry
+
+abbrev pub pass_of : TableId → ℕ → ℕ → List Entry → PassView
+pass_of table caller left own = record { table = table; caller = caller; left = left; own = own }
+
+-- a caller's entries, in their order
+abbrev pub of_caller : ℕ → List Entry → List Entry
+of_caller k [] = []
+of_caller k (e ∷ es) = if e.caller == k then e ∷ of_caller k es else of_caller k es
+
+-- each is of one of so many callers
+abbrev pub IsBelowCallers : ℕ → List Entry → Type 0
+IsBelowCallers callers history = All (λ (e : Entry). e.caller < callers) history
+
+-- the passes with these shares, from this caller on
+abbrev pub passes_of : TableId → ℕ → List ℕ → List PassView
+passes_of table k [] = []
+passes_of table k (n ∷ ns) = pass_of table k n [] ∷ passes_of table (k + 1) ns
+
+-- a store that was opened on these values, with a pass for each share, in their order
+pub record Opened (values shares : List ℕ) (store : StoreView) (passes : List PassView) : Type 0 where
+  pub opening : store.opening ≡ values
+  pub callers : store.callers ≡ length shares
+  pub dealt : passes ≡ passes_of store.table 0 shares
+
+-- the pass made one commit more, with this footprint; its commits are numbered from 1
+pub record Made (m : Meaning) (a : Answer) (f : Footprint) (before now : PassView) : Type 0 where
+  pub answers : Answers m a f
+  pub own : now.own ≡ before.own ++ entry_of before.caller (length before.own + 1) f ∷ []
+  pub left : now.left + 1 ≡ before.left
+  pub caller : now.caller ≡ before.caller
+  pub table : now.table ≡ before.table
+
+-- the history is legal from the opening values at versions 0
+abbrev pub IsLegalPast : PastView → Type 0
+IsLegalPast p = (end : Store) × IsLegal (store_of (opened p.opening)) p.history end
+
+-- The one history: it is legal from the opening values at versions 0, each pass's own list is its caller's part of it, and nobody else has an entry in it.
+pub record IsPast (store : StoreView) (passes : List PassView) (past : PastView) : Type 0 where
+  pub opening : past.opening ≡ store.opening
+  pub legal : IsLegalPast past
+  pub own : All (λ (p : PassView). of_caller p.caller past.history ≡ p.own) passes
+  pub nobody_else : IsBelowCallers store.callers past.history

@@ -1,0 +1,109 @@
+//! The value under the lock.
+
+ghost use Rattle.std.specs.Prelude.{◌≡◌, ◌↔◌, ◌<◌, ◌≤◌, [], length, Err, IfOk, IsErr, OnErr};
+ghost use Rattle.kc_model.specs.Store.{store_of, opened, Finds};
+ghost use Rattle.kc_xt.specs.Meaning.{retried};
+ghost use Rattle.kc_xt.specs.Commit.{run_on, Waits as WaitsFor};
+ghost use Rattle.kc_locked.specs.Ended.{answer_of_ended, print_of};
+ghost use Rattle.kc_locked.specs.Held.{held, Commits, IsSound};
+ghost use Rattle.kc_locked.specs.History.{entry_of};
+
+use crate::ended::Ended;
+use crate::history::History;
+use kc_model::{Answer, Footprint, ModelError, PlainStore};
+use kc_xt::{Transact, Tried, commit};
+use std::alloc::Global;
+use std::marker::Model;
+
+/// How many commits a store may have.
+pub const MOST_COMMITS: u32 = 1_048_576;
+
+/// The transaction waits for a change of what it read.
+#[derive(Clone, Copy, Debug, PartialEq, Eq)]
+pub struct Waits;
+
+/// A store with the history that made it. Contracts see its opening values, its history, its cells, and how many more
+/// commits there is room for.
+#[derive(Drop)]
+pub struct Held {
+    store: PlainStore,
+    history: History,
+    spare: u32,
+}
+
+impl Model for Held {
+    ghost use Rattle.kc_locked.specs.Held.{HeldView, held, IsSound};
+
+    ghost Value = { HeldView };
+
+    ghost view = { λ h. held h.history.opening h.history.entries h.store h.spare };
+
+    ghost invariant = { λ h. IsSound (held h.history.opening h.history.entries h.store h.spare) };
+}
+
+impl Held {
+    pub(crate) fn open(alloc: Global, values: &[u32], spare: u32) -> Result<Held, ModelError>
+        requires { spare ≤ MOST_COMMITS }
+        ensures ok { IfOk result (λ h. h ≡ held values.now [] (opened values.now) spare) }
+        ensures too_many { (result ≡ Err ModelError.TooManyLocs) ↔ (65536 < length values.now) }
+    {
+        let store = PlainStore::open(alloc, values)?;
+        let history = History::open(alloc, values)?;
+        Ok(Held {
+            store,
+            history,
+            spare,
+        })
+    }
+
+    /// Commits a transaction: its entry is added at the end of the history.
+    ///
+    /// # Errors
+    ///
+    /// - Waits: where its meaning is retry on the store; nothing is changed
+    pub fn commit<T: Transact>(
+        &mut self,
+        caller: u32,
+        number: u64,
+        transaction: &T,
+    ) -> Result<Ended, Waits>
+        requires spare { 0 < self.old.spare }
+        requires fit { T.is_fit transaction.now }
+        requires within { T.end transaction.now ≤ length self.old.cells }
+        ensures ended { IfOk result (λ e. Commits (T.meaning transaction.now) (answer_of_ended e) (entry_of caller number (print_of e)) self.old self.new) }
+        ensures waits { IsErr result ↔ ((run_on (T.meaning transaction.now) (store_of self.old.cells)).outcome ≡ retried) }
+        ensures unchanged { OnErr result (self.new ≡ self.old) }
+    {
+        let mut footprint = Footprint::new();
+        let answer = self.commit_into(caller, number, transaction, &mut footprint)?;
+        Ok(Ended::of(answer, footprint))
+    }
+
+    /// The same, with the footprint filled where it lies. Where it waits, the footprint has what it read, and no puts.
+    pub fn commit_into<T: Transact>(
+        &mut self,
+        caller: u32,
+        number: u64,
+        transaction: &T,
+        footprint: &mut Footprint,
+    ) -> Result<Answer, Waits>
+        requires spare { 0 < self.old.spare }
+        requires fit { T.is_fit transaction.now }
+        requires within { T.end transaction.now ≤ length self.old.cells }
+        ensures answer { IfOk result (λ a. Commits (T.meaning transaction.now) a (entry_of caller number footprint.new) self.old self.new) }
+        ensures waits { IsErr result ↔ ((run_on (T.meaning transaction.now) (store_of self.old.cells)).outcome ≡ retried) }
+        ensures unchanged { OnErr result (self.new ≡ self.old) }
+        ensures waiting { OnErr result (WaitsFor (T.meaning transaction.now) footprint.new × Finds footprint.new (store_of self.old.cells) × (footprint.new.puts.items ≡ [])) }
+    {
+        let answer = match commit(&mut self.store, transaction, footprint) {
+            Tried::Done(reply) => Answer::Reply(reply),
+            Tried::TooLarge => Answer::TooLarge,
+            Tried::Later => return Err(Waits),
+            Tried::Worn(_) => unreachable!("no location has had so many commits"),
+            Tried::Busy => unreachable!("no look at a plain store is given up"),
+        };
+        self.history.add(caller, number, footprint);
+        self.spare -= 1;
+        Ok(answer)
+    }
+}

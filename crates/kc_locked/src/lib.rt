@@ -1,0 +1,14 @@
+//! The store behind one lock.
+#![tactic(auto)]
+
+mod ended;
+mod held;
+mod history;
+mod rule;
+mod store;
+#[cfg(test)]
+mod tests;
+
+pub use ended::Ended;
+pub use held::{Held, MOST_COMMITS, Waits};
+pub use store::{LockPass, LockPast, LockedStore, MOST_CALLERS};

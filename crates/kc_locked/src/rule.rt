@@ -1,0 +1,131 @@
+//! What passes know, and the rule.
+ghost use Rattle.kc_locked.specs.Locked.{Kept, first_view};
+
+use crate::held::Held;
+use atomic_table::{Join, Play, Split, TableRule};
+use kc_model::Entry;
+use std::collections::LinkedList;
+use std::marker::{Brand, Model, PhantomData};
+
+/// A pass: its caller's number, how many commits it may still make, and those that it made. No value of it is made.
+pub struct Part {
+    pub caller: u32,
+    pub left: u32,
+    pub own: LinkedList<Entry>,
+}
+
+/// The passes that are one's own, whether one has the lock, and what one then found in the slot. No value of it is made.
+pub struct View {
+    pub parts: LinkedList<Part>,
+    pub holds: bool,
+    pub found: Held,
+}
+
+/// What a store was opened with. It is the table's key.
+#[derive(Drop)]
+pub struct Origin {
+    pub values: Vec<u32>,
+    pub shares: Vec<u32>,
+}
+
+impl Model for Origin {
+    ghost use Rattle.kc_locked.specs.Origin.{Origin};
+
+    ghost Value = { Origin };
+
+    ghost view = { λ o. record { values = o.values.items; shares = o.shares.items } };
+}
+
+pub struct Rule;
+
+impl TableRule<Option<Held>, View, Origin> for Rule {
+    ghost holds = { Kept };
+
+    ghost first = { first_view };
+}
+
+/// What the store was opened with, for steps that speak of it.
+pub trait Knows {
+    ghost use Rattle.kc_locked.specs.Origin.{Origin};
+
+    ghost origin: { Origin };
+}
+
+impl Knows for Brand {
+    ghost use Rattle.kc_locked.specs.Origin.{no_origin};
+
+    ghost origin = { no_origin };
+}
+
+/// Takes the lock.
+pub struct Takes<K: Knows>(PhantomData<K>);
+
+impl<K: Knows> Play<Option<Held>, View> for Takes<K> {
+    ghost use Rattle.kc_locked.specs.Locked.{Took};
+
+    ghost then = { λ step me found after. Took K.origin me found after };
+}
+
+/// The commits that are made: one, or none.
+pub trait Commits {
+    ghost use Rattle.std.specs.Prelude.{List};
+    ghost use Rattle.kc_model.specs.declared.footprint.Entry.{Entry};
+
+    ghost made: { List Entry };
+}
+
+impl Commits for Brand {
+    ghost use Rattle.std.specs.Prelude.{[]};
+
+    ghost made = { [] };
+}
+
+/// Lets it go, with these commits.
+pub struct Gives<C: Commits>(PhantomData<C>);
+
+impl<C: Commits> Play<Option<Held>, View> for Gives<C> {
+    ghost use Rattle.kc_locked.specs.Locked.{Gave};
+
+    ghost then = { λ step me found after. Gave C.made me found after };
+}
+
+/// The first pass goes out.
+pub struct Deals;
+
+impl Split<View> for Deals {
+    ghost use Rattle.kc_locked.specs.Locked.{dealt, undealt};
+
+    ghost left = { undealt };
+
+    ghost right = { dealt };
+}
+
+/// A pass comes back.
+pub struct Gathers;
+
+impl Join<View> for Gathers {
+    ghost use Rattle.kc_locked.specs.Locked.{gathered, spent};
+
+    ghost both = { gathered };
+
+    ghost spent = { spent };
+}
+
+/// A new seat that has no pass.
+pub struct Empty;
+
+impl Play<Option<Held>, View> for Empty {
+    ghost use Rattle.std.specs.Prelude.{◌≡◌};
+    ghost use Rattle.kc_locked.specs.Locked.{spent};
+
+    ghost then = { λ step me found after. after.0 ≡ spent };
+}
+
+/// A load that shows the one history.
+pub struct Ends<K: Knows>(PhantomData<K>);
+
+impl<K: Knows> Play<Option<Held>, View> for Ends<K> {
+    ghost use Rattle.kc_locked.specs.Locked.{Ended};
+
+    ghost then = { λ step me found after. Ended K.origin me after };
+}

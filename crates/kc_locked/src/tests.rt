@@ -1,0 +1,152 @@
+ghost use Rattle.std.specs.Prelude.{◌≡◌, ◌+◌, ◌<◌, ◌≤◌, length};
+ghost use Rattle.kc_loc.specs.Meaning.{loc_last, loc_end};
+
+use crate::held::Held;
+use crate::{Ended, LockPass, LockedStore, Waits};
+use kc_loc::{LocOp, Rel};
+use kc_model::{Answer, Footprint, Loc, OpenError, Reply};
+use std::alloc::Global;
+use std::sync::Wait;
+use std::test::Fail;
+use std::thread;
+
+// Adds one to the first location, as often as the pass may commit.
+fn count<R: Wait>(rt: &R, store: &LockedStore, mut pass: LockPass) -> LockPass
+    requires pass { pass.table ≡ store.now.table }
+    requires location { 0 < length store.now.opening }
+    ensures { result.table ≡ store.now.table }
+{
+    while pass.left() > 0 {
+        store.commit_waiting(rt, &mut pass, &LocOp::FetchAdd(Loc(0), 1));
+    }
+    pass
+}
+
+// One commit, with its reply; None where it is too large.
+fn one<R: Wait>(rt: &R, store: &LockedStore, pass: &mut LockPass, operation: LocOp) -> Option<Reply>
+    requires pass { (pass.old.table ≡ store.now.table) × (0 < pass.old.left) }
+    requires fit { (loc_last operation < 65536) × (loc_end operation ≤ length store.now.opening) }
+    ensures table { pass.new.table ≡ pass.old.table }
+    ensures left { pass.new.left + 1 ≡ pass.old.left }
+{
+    match store.commit_waiting(rt, pass, &operation) {
+        Ended::Done {
+            reply,
+            footprint: _,
+        } => Some(reply),
+        Ended::TooLarge { footprint: _ } => None,
+    }
+}
+
+#[test]
+fn two_threads_count(rt: HostRuntime) -> Result<(), Fail> {
+    let alloc = rt.alloc();
+    let Ok((store, mut passes)) = LockedStore::open(alloc, &[0], &[1000, 1000, 1]) else {
+        panic!(rt; "the store was not opened");
+    };
+    let (Some(mut last), Some(second), Some(first)) = (passes.pop(), passes.pop(), passes.pop())
+    else {
+        panic!(rt; "there are three passes");
+    };
+    let shared = &store;
+    let (first, second) = thread::join(
+        &rt,
+        move || count(&rt, shared, first),
+        move || count(&rt, shared, second),
+    );
+    assert_eq!(rt; first.left() + second.left(), 0);
+    assert_eq!(rt;
+        one(&rt, &store, &mut last, LocOp::Get(Loc(0))),
+        Some(Reply::Value(2000))
+    );
+    passes.push(first)?;
+    passes.push(second)?;
+    passes.push(last)?;
+    store.finish(passes);
+    Ok(())
+}
+
+// Waits for its turn and hands it on, as often as the pass may do both.
+fn take_turns<R: Wait>(rt: &R, store: &LockedStore, mut pass: LockPass, mine: u32, next: u32) -> u32
+    requires pass { pass.table ≡ store.now.table }
+    requires location { 0 < length store.now.opening }
+{
+    let mut turns: u32 = 0;
+    while pass.left() >= 2 {
+        one(rt, store, &mut pass, LocOp::Check(Loc(0), Rel::Eq, mine));
+        one(rt, store, &mut pass, LocOp::Set(Loc(0), next));
+        turns = turns.wrapping_add(1);
+    }
+    turns
+}
+
+// Each of the two waits for the other 200 times, so a wait that isn't woken keeps the test for ever.
+#[test]
+fn two_threads_take_turns(rt: HostRuntime) -> Result<(), Fail> {
+    let Ok((store, mut passes)) = LockedStore::open(rt.alloc(), &[0, 5], &[400, 400]) else {
+        panic!(rt; "the store was not opened");
+    };
+    let (Some(second), Some(first)) = (passes.pop(), passes.pop()) else {
+        panic!(rt; "there are two passes");
+    };
+    let shared = &store;
+    let turns = thread::join(
+        &rt,
+        move || take_turns(&rt, shared, first, 0, 1),
+        move || take_turns(&rt, shared, second, 1, 0),
+    );
+    assert_eq!(rt; turns, (200, 200));
+    Ok(())
+}
+
+#[test]
+fn a_commit_that_would_wait_changes_nothing(rt: HostRuntime) -> Result<(), Fail> {
+    let Ok(mut held) = Held::open(rt.alloc(), &[0, 5], 2) else {
+        panic!(rt; "the store was not opened");
+    };
+    let mut footprint = Footprint::new();
+    let until_one = LocOp::Check(Loc(0), Rel::Eq, 1);
+    assert_eq!(rt;
+        held.commit_into(0, 1, &until_one, &mut footprint),
+        Err(Waits)
+    );
+    assert_eq!(rt; footprint.reads.len(), 1);
+    assert!(rt; footprint.puts.is_empty());
+    let swapped = held.commit_into(0, 1, &LocOp::Swap(Loc(0), Loc(1)), &mut footprint);
+    assert_eq!(rt; swapped, Ok(Answer::Reply(Reply::Unit)));
+    assert_eq!(rt; first_read(&footprint), Some((0, 0)));
+    if let Ok(Ended::Done { reply, footprint }) = held.commit(1, 1, &LocOp::Get(Loc(0))) {
+        assert_eq!(rt; reply, Reply::Value(5));
+        assert_eq!(rt; first_read(&footprint), Some((1, 5)));
+    } else {
+        panic!(rt; "a look doesn't wait");
+    }
+    Ok(())
+}
+
+// The version and the value of the first read.
+fn first_read(footprint: &Footprint) -> Option<(u32, u32)> {
+    let read = footprint.reads.as_slice().get(0).copied()?;
+    Some((read.version, read.value))
+}
+
+// Why a store of zeros with empty shares is not opened.
+fn refusal(alloc: Global, values: usize, shares: usize) -> Result<Option<OpenError>, Fail> {
+    let values = vec![in alloc; 0; values]?;
+    let shares = vec![in alloc; 0; shares]?;
+    match LockedStore::open(alloc, &values, &shares) {
+        Ok(_) => Ok(None),
+        Err(error) => Ok(Some(error)),
+    }
+}
+
+#[test]
+fn open_refuses_by_number(rt: HostRuntime) -> Result<(), Fail> {
+    let alloc = rt.alloc();
+    assert_eq!(rt; refusal(alloc, 65537, 65)?, Some(OpenError::TooManyLocs));
+    assert_eq!(rt; refusal(alloc, 65536, 65)?, Some(OpenError::TooManyCallers));
+    assert_eq!(rt; refusal(alloc, 3, 0)?, Some(OpenError::TooManyCallers));
+    assert_eq!(rt; refusal(alloc, 65536, 64)?, None);
+    assert_eq!(rt; refusal(alloc, 0, 1)?, None);
+    Ok(())
+}
