@@ -3,9 +3,13 @@
 
 mod ask;
 mod gate;
+mod job;
 mod locked;
+mod run;
 mod shared;
+mod thread;
 
 pub use ask::Ask;
 pub use gate::{Gate, OpenGate};
+pub use run::{RunRefused, run_threads};
 pub use shared::Shared;
