@@ -1,0 +1,73 @@
+-- What a thread's job is before and after its run.
+use Rattle.std.specs.Prelude.{◌≡◌, ℕ, zero, suc, ◌+◌, ◌≤◌, List, [], ◌∷◌, length, map}
+use Rattle.std.specs.Global.{Vec}
+use Rattle.crossbeam_utils.specs.declared.cache_padded.CachePadded.{CachePadded}
+use Rattle.crossbeam_utils.specs.Padded.{padded_value}
+use Rattle.kc_model.specs.declared.footprint.Entry.{Entry}
+use Rattle.kc_bundle.specs.declared.operation.Command.{Command}
+use Rattle.kc_history.specs.declared.record.Record.{Record}
+use Rattle.kc_run.specs.declared.job.Job.{Job}
+use Rattle.kc_run.specs.Labels.{label, labels}
+use Rattle.kc_run.specs.Run.{AreAnswered, entries_of, meanings}
+
+-- the commands of the thread at this place
+abbrev pub row_at : List (Vec Command) → ℕ → List Command
+row_at [] i = []
+row_at (v ∷ vs) zero = v.items
+row_at (v ∷ vs) (suc i) = row_at vs i
+
+abbrev pub Room : Type 0
+Room = CachePadded (Vec Record)
+
+-- a list for each thread, from this caller on, with a record for each of its commands and its end
+abbrev pub Rooms : ℕ → List (Vec Command) → List Room → Type 0
+Rooms k [] [] = Unit {0}
+Rooms k [] (r ∷ rs) = ⊥
+Rooms k (v ∷ vs) [] = ⊥
+Rooms k (v ∷ vs) (r ∷ rs) = (map label (padded_value r).items ≡ labels (k + 1) 1 v.items) × Rooms (suc k) vs rs
+
+module _ {P : Type 0} where
+  abbrev pub job : P → Room → Job P
+  job p r = record { pass = p; records = r }
+
+  abbrev pub paired : List P → List Room → List (Job P)
+  paired [] rs = []
+  paired (p ∷ ps) [] = []
+  paired (p ∷ ps) (r ∷ rs) = job p r ∷ paired ps rs
+
+  abbrev pub pass_of : Job P → P
+  pass_of j = j.pass
+
+  abbrev pub list_of : Job P → Vec Record
+  list_of j = padded_value j.records
+
+module _ {S P : Type 0} (belongs : S → P → Type 0) (number left : P → ℕ) (own : P → List Entry) where
+  -- a pass that may commit the commands of its thread and its end, and has made no commit
+  pub record MayRun (store : S) (k : ℕ) (commands : List Command) (p : P) : Type 0 where
+    pub belongs_to : belongs store p
+    pub number_is : number p ≡ k
+    pub share : length commands + 1 ≤ left p
+    pub fresh : own p ≡ []
+
+  -- each pass is that of the thread at its place, from this caller on
+  abbrev pub AllMayRun : S → ℕ → List (Vec Command) → List P → Type 0
+  AllMayRun store k [] [] = Unit {0}
+  AllMayRun store k [] (p ∷ ps) = ⊥
+  AllMayRun store k (v ∷ vs) [] = ⊥
+  AllMayRun store k (v ∷ vs) (p ∷ ps) = MayRun store k v.items p × AllMayRun store (suc k) vs ps
+
+  -- the job has its pass, and a record for each command and its end
+  pub record Ready (store : S) (k : ℕ) (commands : List Command) (j : Job P) : Type 0 where
+    pub may : MayRun store k commands j.pass
+    pub labelled : map label (padded_value j.records).items ≡ labels (k + 1) 1 commands
+
+  -- the pass has made just the commits of these records, which are those of the commands and the end
+  pub record Ran (store : S) (k : ℕ) (commands : List Command) (p : P) (records : List Record) : Type 0 where
+    pub belongs_to : belongs store p
+    pub number_is : number p ≡ k
+    pub labelled : map label records ≡ labels (k + 1) 1 commands
+    pub answered : AreAnswered (meanings commands) records
+    pub own_is : own p ≡ entries_of k 1 records
+
+  abbrev pub JobRan : S → ℕ → List Command → Job P → Type 0
+  JobRan store k commands j = Ran store k commands j.pass (padded_value j.records).items

@@ -1,0 +1,5 @@
+pub mod Ask
+pub mod Shared
+pub mod Labels
+pub mod Run
+pub mod Jobs

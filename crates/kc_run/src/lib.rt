@@ -1,0 +1,15 @@
+//! Threads over a shared store.
+#![tactic(auto)]
+
+mod ask;
+mod gate;
+mod job;
+mod locked;
+mod run;
+mod shared;
+mod thread;
+
+pub use ask::Ask;
+pub use gate::{Gate, OpenGate};
+pub use run::{RunRefused, run_threads};
+pub use shared::Shared;
