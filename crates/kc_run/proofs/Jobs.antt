@@ -6,7 +6,7 @@ use Rattle.std.specs.Global.{Vec}
 use Rattle.crossbeam_utils.specs.Padded.{padded_value}
 use Rattle.kc_model.specs.declared.footprint.Entry.{Entry}
 use Rattle.kc_bundle.specs.declared.operation.Command.{Command}
-use Rattle.kc_locked.specs.Locked.{of_caller}
+use Rattle.kc_locked.specs.Passes.{of_caller}
 use Rattle.kc_run.specs.declared.job.Job.{Job}
 use Rattle.kc_run.specs.Labels.{label, labels}
 use Rattle.kc_run.specs.Shared.{count_from}

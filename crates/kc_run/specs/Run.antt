@@ -6,7 +6,7 @@ use Rattle.kc_bundle.specs.declared.operation.Command.{Command}
 use Rattle.kc_bundle.specs.Meaning.{CommandIsFit, thread_meaning, end_meaning}
 use Rattle.kc_history.specs.declared.record.Record.{Record}
 use Rattle.kc_locked.specs.History.{entry_of}
-use Rattle.kc_locked.specs.Locked.{of_caller}
+use Rattle.kc_locked.specs.Passes.{of_caller}
 use Rattle.kc_xt.specs.Meaning.{Meaning}
 use Rattle.kc_xt.specs.Commit.{Answers}
 use Rattle.kc_run.specs.Ask.{ask_end}

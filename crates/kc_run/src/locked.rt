@@ -1,7 +1,7 @@
 //! Threads share the store behind one lock.
 
 ghost use Rattle.std.specs.Prelude.{◌≡◌, All, map};
-ghost use Rattle.kc_locked.specs.Locked.{of_caller, IsBelowCallers};
+ghost use Rattle.kc_locked.specs.Passes.{of_caller, IsBelowCallers};
 ghost use Rattle.kc_run.specs.Shared.{IsLegalFrom, count_from};
 
 use crate::shared::Shared;

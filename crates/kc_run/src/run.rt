@@ -1,7 +1,7 @@
 //! Threads over a shared store.
 
 ghost use Rattle.std.specs.Prelude.{◌≡◌, ◌+◌, ◌≤◌, ◌<◌, ℕ, All, length, map, slice_index_or, vec_capacity, IfOk, IfErr};
-ghost use Rattle.kc_locked.specs.Locked.{IsBelowCallers};
+ghost use Rattle.kc_locked.specs.Passes.{IsBelowCallers};
 ghost use Rattle.kc_run.specs.Shared.{IsLegalFrom};
 ghost use Rattle.kc_run.specs.Run.{AreRun, CanRunAll};
 ghost use Rattle.kc_run.specs.Jobs.{AllMayRun, JobRan, Ready, row_at};

@@ -4,7 +4,7 @@ ghost use Rattle.std.specs.Prelude.{◌≡◌, ◌+◌, ◌<◌, ◌≤◌, ◌+
 ghost use Rattle.kc_model.specs.declared.footprint.Entry.{Entry};
 ghost use Rattle.kc_xt.specs.Commit.{Answers};
 ghost use Rattle.kc_locked.specs.History.{entry_of};
-ghost use Rattle.kc_locked.specs.Locked.{of_caller, IsBelowCallers};
+ghost use Rattle.kc_locked.specs.Passes.{of_caller, IsBelowCallers};
 ghost use Rattle.kc_run.specs.Shared.{IsLegalFrom, count_from};
 
 use kc_model::{Answer, Footprint};

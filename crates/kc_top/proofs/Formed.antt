@@ -28,7 +28,8 @@ use Rattle.kc_history.specs.declared.record.Record.{Record}
 use Rattle.kc_xt.specs.Commit.{answer_of, kept, run_on}
 use Rattle.kc_top.specs.Commit.{IsCommit}
 use Rattle.kc_history.specs.declared.record.Place.{Place}
-use Rattle.kc_top.specs.Run.{meanings, opening_store}
+use Rattle.kc_top.specs.Run.{opening_store}
+use Rattle.kc_run.specs.Run.{meanings}
 use Rattle.kc_top.specs.Thread.{Commits, CanRun, RunsOne}
 
 -- ---- what a commit leaves

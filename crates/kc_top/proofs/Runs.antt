@@ -17,7 +17,8 @@ use Rattle.kc_history.specs.Order.{NoneLeft, Legal, more}
 use Rattle.kc_history.proofs.Choice.{some_is}
 use Rattle.kc_history.proofs.Ready.{same_or, alone_canonical}
 use Rattle.kc_top.specs.Commit.{IsCommit}
-use Rattle.kc_top.specs.Run.{Replays, IsRun, meanings, meaning_at, opening_store}
+use Rattle.kc_top.specs.Run.{Replays, IsRun, meaning_at, opening_store}
+use Rattle.kc_run.specs.Run.{meanings}
 use Rattle.kc_top.specs.Thread.{Commits, RunsOne, own_places}
 
 -- a commit's reads are what stands

@@ -18,8 +18,9 @@ use Rattle.kc_history.specs.declared.record.Record.{Record}
 use Rattle.kc_history.specs.declared.record.Mark.TheVariants as mark
 use Rattle.kc_history.specs.declared.record.Place.{Place}
 use Rattle.kc_xt.specs.Commit.{run_on}
-use Rattle.kc_top.specs.Commit.{IsCommit, Label, label, VersionsTo, OneLives}
-use Rattle.kc_top.specs.Run.{labels, meanings}
+use Rattle.kc_top.specs.Commit.{IsCommit, VersionsTo, OneLives}
+use Rattle.kc_run.specs.Labels.{Label, label, labels}
+use Rattle.kc_run.specs.Run.{meanings}
 use Rattle.kc_top.specs.Thread.{Commits, own_places}
 use Rattle.kc_top.proofs.Alone.{still_lives}
 

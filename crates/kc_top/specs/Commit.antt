@@ -3,15 +3,7 @@ use Rattle.std.specs.Prelude.{◌≡◌, ℕ, ◌≤◌}
 use Rattle.kc_model.specs.Store.{Store, Finds}
 use Rattle.kc_xt.specs.Commit.{Answers}
 use Rattle.kc_xt.specs.Meaning.{Meaning}
-use Rattle.kc_history.specs.declared.record.Mark.{Mark}
 use Rattle.kc_history.specs.declared.record.Record.{Record}
-
-pub record Label : Type 0 where
-  pub thread : ℕ
-  pub mark : Mark
-
-abbrev pub label : Record → Label
-label r = record { thread = r.thread; mark = r.mark }
 
 -- The record is the meaning's commit on the store: its reads stand there, and wherever they stand its answer is the meaning's, and its footprint is the one that is made there.
 pub record IsCommit (m : Meaning) (s : Store) (r : Record) : Type 0 where

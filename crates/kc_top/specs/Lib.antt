@@ -1,6 +1,5 @@
 pub mod Run
 pub mod Commit
-pub mod Ask
 pub mod Thread
 pub mod Statuses
 pub mod Numbers

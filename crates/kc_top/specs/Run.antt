@@ -1,38 +1,20 @@
 -- What a run of a script is, and its text.
-use Rattle.std.specs.Prelude.{◌≡◌, ℕ, ◌+◌, List, [], ◌∷◌, ◌++◌, Option, Some, map, codes, slice_get, slice_index_or}
+use Rattle.std.specs.Prelude.{◌≡◌, ℕ, List, [], ◌∷◌, ◌++◌, Option, Some, codes, slice_get, slice_index_or}
 use Rattle.kc_model.specs.Store.{Store, store_of, opened, after}
 use Rattle.kc_bundle.specs.declared.operation.Command.{Command}
 use Rattle.kc_bundle.specs.Script.{Script}
 use Rattle.kc_xt.specs.Meaning.{Meaning, values}
-use Rattle.kc_bundle.specs.Meaning.{thread_meaning, end_meaning}
 use Rattle.kc_bundle.specs.State.{Content, AllStand, opening_values, state_lines}
-use Rattle.kc_history.specs.declared.record.Mark.TheVariants as mark
 use Rattle.kc_history.specs.declared.record.Record.{Record}
 use Rattle.kc_history.specs.declared.record.Place.{Place}
 use Rattle.kc_history.specs.Records.{record_at, footprint_at}
 use Rattle.kc_history.specs.Order.{IsCanonical}
 use Rattle.kc_history.specs.Text.{records_text}
-use Rattle.kc_top.specs.Commit.{Label, label, IsCommit}
-
--- ---- each thread's records
-
--- one for each command, numbered from here on, and then the end
-abbrev pub labels : ℕ → ℕ → List Command → List Label
-labels thread number [] = record { thread = thread; mark = mark.End } ∷ []
-labels thread number (c ∷ cs) = record { thread = thread; mark = mark.Command number } ∷ labels thread (number + 1) cs
-
--- the threads, numbered from here on, have one record for each command, in order, and then their end
-abbrev pub AreThreads : ℕ → List (List Command) → List (List Record) → Type 0
-AreThreads thread [] [] = Unit {0}
-AreThreads thread (cs ∷ threads) (rs ∷ records) = (map label rs ≡ labels thread 1 cs) × AreThreads (thread + 1) threads records
-AreThreads thread [] (rs ∷ records) = ⊥
-AreThreads thread (cs ∷ threads) [] = ⊥
+use Rattle.kc_run.specs.Labels.{AreThreads}
+use Rattle.kc_run.specs.Run.{meanings}
+use Rattle.kc_top.specs.Commit.{IsCommit}
 
 -- ---- what each record is
-
--- what a thread commits: its commands, and then its end; location 0 counts the live threads
-abbrev pub meanings : List Command → List Meaning
-meanings cs = map (thread_meaning 0) cs ++ end_meaning 0 ∷ []
 
 abbrev pub meaning_at : List (List Command) → ℕ → ℕ → Option Meaning
 meaning_at threads thread index = slice_get (meanings (slice_index_or threads thread [])) index

@@ -9,8 +9,9 @@ use Rattle.kc_bundle.specs.Script.{Names, Script, LiesInOrder, LieFrom, AreSized
 use Rattle.kc_bundle.specs.On.{CommandsAreOn}
 use Rattle.kc_script.specs.Spells.{IsBuilt}
 use Rattle.kc_model.specs.declared.plain_store.Cell.{Cell}
-use Rattle.kc_top.specs.Commit.{IsCommit, label, VersionsTo, OneLives}
-use Rattle.kc_top.specs.Run.{labels, meanings}
+use Rattle.kc_top.specs.Commit.{IsCommit, VersionsTo, OneLives}
+use Rattle.kc_run.specs.Labels.{label, labels}
+use Rattle.kc_run.specs.Run.{meanings}
 
 -- one after another, the records are commits of these meanings, from the first store to the last
 abbrev pub Commits : List Meaning → Store → List Record → Store → Type 0

@@ -4,7 +4,8 @@ ghost use Rattle.std.specs.Prelude.{◌≡◌, ◌≢◌, ◌-◌, ◌<◌, ◌�
 ghost use Rattle.kc_model.specs.Store.{store_of, after};
 ghost use Rattle.kc_xt.specs.Meaning.{retried};
 ghost use Rattle.kc_xt.specs.Commit.{run_on};
-ghost use Rattle.kc_top.specs.Commit.{IsCommit, label, VersionsTo};
+ghost use Rattle.kc_top.specs.Commit.{IsCommit, VersionsTo};
+ghost use Rattle.kc_run.specs.Labels.{label};
 
 use kc_history::Record;
 use kc_model::{Answer, LAST_VERSION, PlainStore};

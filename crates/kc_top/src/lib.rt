@@ -1,7 +1,6 @@
 //! The top call: runs a script from the bytes of a source, and writes its text to a sink.
 #![tactic(auto)]
 
-mod ask;
 mod command_line;
 mod commit;
 mod laws;

@@ -4,7 +4,8 @@ ghost use Rattle.kc_xt.specs.Meaning.{replied, retried};
 ghost use Rattle.kc_bundle.specs.Meaning.{thread_meaning, end_meaning};
 ghost use Rattle.kc_xt.specs.Commit.{run_on};
 ghost use Rattle.kc_bundle.specs.State.{opening_values};
-ghost use Rattle.kc_top.specs.Run.{AreThreads, run_text};
+ghost use Rattle.kc_top.specs.Run.{run_text};
+ghost use Rattle.kc_run.specs.Labels.{AreThreads};
 ghost use Rattle.kc_top.specs.Worked.{first_script, first_records, first_order, first_last, first_contents, waits_for_nine, one_lives, looks_at_x_and_live};
 
 use crate::{Status, kcas_main};

@@ -3,16 +3,17 @@
 ghost use Rattle.std.specs.Prelude.{◌≡◌, ◌+◌, ◌≤◌, length, map, take, drop, IfOk};
 ghost use Rattle.kc_model.specs.Store.{store_of};
 ghost use Rattle.kc_bundle.specs.Meaning.{thread_meaning};
-ghost use Rattle.kc_top.specs.Commit.{label, VersionsTo};
-ghost use Rattle.kc_top.specs.Run.{labels, meanings};
+ghost use Rattle.kc_top.specs.Commit.{VersionsTo};
+ghost use Rattle.kc_run.specs.Labels.{label, labels};
+ghost use Rattle.kc_run.specs.Run.{meanings};
 ghost use Rattle.kc_top.specs.Thread.{CanRunOn, Commits, own_places};
 
-use crate::ask::Ask;
 use crate::commit::commit_to;
 use kc_bundle::Command;
 use kc_history::{Mark, Place, Record};
 use kc_loc::LocOp;
 use kc_model::{Loc, NoMemory, PlainStore};
+use kc_run::Ask;
 use std::alloc::Global;
 
 // The location that counts the live threads.

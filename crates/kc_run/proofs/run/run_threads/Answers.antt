@@ -1,6 +1,6 @@
 use Rattle.std.proofs.Common.{◌≡◌, map, refl, sym, ap, subst, ◌∙◌, arith}
 use Rattle.std.specs.Prelude.{All}
-use Rattle.kc_locked.specs.Locked.{of_caller}
+use Rattle.kc_locked.specs.Passes.{of_caller}
 use Rattle.kc_run.specs.Run.{AreRun}
 use Rattle.kc_run.specs.Jobs.{paired}
 use Rattle.kc_run.proofs.Jobs.{jobs_ready, ran_done}

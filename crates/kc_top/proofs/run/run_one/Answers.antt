@@ -4,7 +4,7 @@ use Rattle.std.specs.Global.{Vec}
 use Rattle.kc_model.proofs.Lists.{written_over}
 use Rattle.kc_history.specs.declared.record.Record.{Record}
 use Rattle.kc_history.specs.Records.{lists_of}
-use Rattle.kc_top.specs.Commit.{label}
+use Rattle.kc_run.specs.Labels.{label}
 use Rattle.kc_top.specs.Thread.{own_places}
 use Rattle.kc_top.proofs.Threads.{room_length, places_same}
 use Rattle.kc_top.proofs.run.run_one.Goals as goal

@@ -1,6 +1,5 @@
 use Rattle.std.proofs.Common.{◌≡◌, ◌+◌, ◌++◌, map, drop}
-use Rattle.kc_top.specs.Commit.{label}
-use Rattle.kc_top.specs.Run.{labels}
+use Rattle.kc_run.specs.Labels.{label, labels}
 use Rattle.kc_top.proofs.thread.room_for.Given as goal
 
 abbrev pub invariant-loop-i : goal.invariant-loop-i

@@ -1,6 +1,6 @@
 use Rattle.std.proofs.Common.{◌≡◌, ◌+◌, length, ◌∙◌, arith}
 use Rattle.std.proofs.Math.Seq.{map-set_same}
-use Rattle.kc_top.specs.Commit.{label}
+use Rattle.kc_run.specs.Labels.{label}
 use Rattle.kc_model.specs.Store.{store_of}
 use Rattle.kc_top.proofs.Alone.{end_ends}
 use Rattle.kc_top.proofs.Threads.{thread_ends}
