@@ -11,5 +11,6 @@ mod thread;
 
 pub use ask::Ask;
 pub use gate::{Gate, OpenGate};
+pub use locked::open_locked;
 pub use run::{RunRefused, run_threads};
 pub use shared::Shared;
