@@ -7,6 +7,8 @@ mod job;
 mod locked;
 mod run;
 mod shared;
+#[cfg(test)]
+mod tests;
 mod thread;
 
 pub use ask::Ask;
