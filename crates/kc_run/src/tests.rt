@@ -26,12 +26,7 @@ fn same(alloc: Global, op: Op, count: usize) -> Result<Vec<Command>, NoMemory>
 }
 
 // So many threads of them.
-fn team(
-    alloc: Global,
-    op: Op,
-    count: usize,
-    threads: usize,
-) -> Result<Vec<Vec<Command>>, NoMemory>
+fn team(alloc: Global, op: Op, count: usize, threads: usize) -> Result<Vec<Vec<Command>>, NoMemory>
     requires { OpIsFit op × (op_end op ≤ 64) × (count ≤ 4096) }
     ensures len { IfOk result (λ v. length v.items ≡ threads) }
     ensures commands { IfOk result (λ v. All (λ w. CanRunAll 64 w.items) v.items) }

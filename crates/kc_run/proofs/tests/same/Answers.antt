@@ -1,4 +1,4 @@
-use Rattle.std.proofs.Common.{◌≡◌, ap, length, arith, rules}
+use Rattle.std.proofs.Common.{ap, length, arith, rules}
 use Rattle.std.proofs.lemmas.List.Elements.{All-nil, All-push, All-same}
 use Rattle.kc_run.specs.Run.{CanRun}
 use Rattle.kc_run.proofs.tests.same.Goals as goal
