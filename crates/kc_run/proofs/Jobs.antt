@@ -6,9 +6,11 @@ use Rattle.std.specs.Global.{Vec}
 use Rattle.crossbeam_utils.specs.Padded.{padded_value}
 use Rattle.kc_model.specs.declared.footprint.Entry.{Entry}
 use Rattle.kc_bundle.specs.declared.operation.Command.{Command}
+use Rattle.kc_history.specs.declared.record.Record.{Record}
+use Rattle.kc_history.specs.Records.{lists_of}
 use Rattle.kc_locked.specs.Passes.{of_caller}
 use Rattle.kc_run.specs.declared.job.Job.{Job}
-use Rattle.kc_run.specs.Labels.{label, labels}
+use Rattle.kc_run.specs.Labels.{AreThreads, label, labels}
 use Rattle.kc_run.specs.Shared.{count_from}
 use Rattle.kc_run.specs.Run.{AreRun}
 use Rattle.kc_run.specs.Jobs.{Room, Rooms, paired, pass_of, list_of, row_at, Ready, Ran, JobRan, AllMayRun}
@@ -153,3 +155,10 @@ module _ {S P : Type 0} (belongs : S → P → Type 0) (number left : P → ℕ)
         numbered = passes_counted threads js here ∙ ap (count_from 0) (len ∙ sym ready.jobs ∙ all);
         run = λ history. run_all history threads js (ready.jobs ∙ sym len) here;
       }
+
+-- a run's records are those of its threads
+pub threads_of_run : (k j : ℕ) → j ≡ k + 1 → (history : List Entry) (threads : List (Vec Command)) (records : List (Vec Record)) → AreRun k history threads records → AreThreads j (map (λ v. v.items) threads) (lists_of records)
+threads_of_run k j e history [] [] h = tt
+threads_of_run k j e history [] (r ∷ rs) h = absurd h
+threads_of_run k j e history (v ∷ vs) [] h = absurd h
+threads_of_run k j e history (v ∷ vs) (r ∷ rs) h = (h.0.labelled ∙ ap (λ (n : ℕ). labels n 1 v.items) (sym e), threads_of_run (suc k) (j + 1) (omega arith) history vs rs h.1)

@@ -1,3 +1,4 @@
 pub mod Asks
 pub mod Threads
 pub mod Jobs
+pub mod Dealt

@@ -3,3 +3,4 @@ pub mod Shared
 pub mod Labels
 pub mod Run
 pub mod Jobs
+pub mod Locked

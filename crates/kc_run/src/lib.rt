@@ -7,9 +7,12 @@ mod job;
 mod locked;
 mod run;
 mod shared;
+#[cfg(test)]
+mod tests;
 mod thread;
 
 pub use ask::Ask;
 pub use gate::{Gate, OpenGate};
+pub use locked::open_locked;
 pub use run::{RunRefused, run_threads};
 pub use shared::Shared;

@@ -1,13 +1,16 @@
 //! Threads share the store behind one lock.
 
-ghost use Rattle.std.specs.Prelude.{◌≡◌, All, map};
+ghost use Rattle.std.specs.Prelude.{◌≡◌, ◌<◌, ◌≤◌, All, length, map, IfOk};
 ghost use Rattle.kc_locked.specs.Passes.{of_caller, IsBelowCallers};
 ghost use Rattle.kc_run.specs.Shared.{IsLegalFrom, count_from};
+ghost use Rattle.kc_run.specs.Locked.{AllDealt, shares_of};
 
 use crate::shared::Shared;
+use kc_bundle::Command;
 use kc_locked::{LockPass, LockPast, LockedStore};
-use kc_model::{Answer, Footprint};
+use kc_model::{Answer, Footprint, NoMemory};
 use kc_xt::Transact;
+use std::alloc::Global;
 use std::sync::Wait;
 
 impl Shared for LockedStore {
@@ -50,4 +53,39 @@ impl Shared for LockedStore {
     {
         LockedStore::finish(self, passes)
     }
+}
+
+/// A store on these values, and a pass for each thread with a share of its commands and one more, for `run_threads`.
+///
+/// # Errors
+///
+/// Want of memory
+pub fn open_locked(
+    alloc: Global,
+    values: &[u32],
+    threads: &[Vec<Command>],
+) -> Result<(LockedStore, Vec<LockPass>), NoMemory>
+    requires values { length values.now ≤ 65536 }
+    requires threads { (0 < length threads.now) × (length threads.now ≤ 64) }
+    requires commands { All (λ v. length v.items ≤ 4096) threads.now }
+    ensures opening { IfOk result (λ r. r.0.opening ≡ values.now) }
+    ensures callers { IfOk result (λ r. length threads.now ≡ r.0.callers) }
+    ensures passes { IfOk result (λ r. AllDealt r.0 threads.now r.1.items) }
+{
+    let shares = shares(alloc, threads)?;
+    match LockedStore::open(alloc, values, shares.as_slice()) {
+        Ok(opened) => Ok(opened),
+        Err(_) => Err(NoMemory),
+    }
+}
+
+fn shares(alloc: Global, threads: &[Vec<Command>]) -> Result<Vec<u32>, NoMemory>
+    requires { All (λ v. length v.items ≤ 4096) threads.now }
+    ensures { IfOk result (λ v. v.items ≡ shares_of threads.now) }
+{
+    let mut shares = Vec::with_capacity(alloc, threads.len())?;
+    for i in 0..threads.len() {
+        shares.push(threads[i].len() as u32 + 1)?;
+    }
+    Ok(shares)
 }

@@ -1,0 +1,104 @@
+ghost use Rattle.std.specs.Prelude.{◌≡◌, ◌<◌, ◌≤◌, All, IfOk, length};
+ghost use Rattle.kc_bundle.specs.Meaning.{OpIsFit, op_end};
+ghost use Rattle.kc_run.specs.Run.{CanRunAll};
+
+use crate::{OpenGate, open_locked, run_threads};
+use kc_bundle::{Command, Op};
+use kc_history::{Mark, Record};
+use kc_loc::LocOp;
+use kc_model::{Answer, Item, Loc, NoMemory, Reply};
+use kc_queue::{Queue, QueueAct, QueueOp};
+use std::alloc::Global;
+use std::sync::Wait;
+use std::test::Fail;
+use std::thread::Threads;
+
+// So many commands of this operation.
+fn same(alloc: Global, op: Op, count: usize) -> Result<Vec<Command>, NoMemory>
+    requires { OpIsFit op × (op_end op ≤ 64) × (count ≤ 4096) }
+    ensures { IfOk result (λ v. CanRunAll 64 v.items) }
+{
+    let mut commands = Vec::with_capacity(alloc, count)?;
+    for i in 0..count {
+        commands.push(Command::One(op))?;
+    }
+    Ok(commands)
+}
+
+// So many threads of them.
+fn team(alloc: Global, op: Op, count: usize, threads: usize) -> Result<Vec<Vec<Command>>, NoMemory>
+    requires { OpIsFit op × (op_end op ≤ 64) × (count ≤ 4096) }
+    ensures len { IfOk result (λ v. length v.items ≡ threads) }
+    ensures commands { IfOk result (λ v. All (λ w. CanRunAll 64 w.items) v.items) }
+{
+    let mut team = Vec::with_capacity(alloc, threads)?;
+    for i in 0..threads {
+        team.push(same(alloc, op, count)?)?;
+    }
+    Ok(team)
+}
+
+// The records of these threads, on a store of 64 locations that are zero but for the number of threads.
+fn run<R: Threads + Wait + Sync>(
+    rt: &R,
+    alloc: Global,
+    threads: &[Vec<Command>],
+) -> Result<Vec<Vec<Record>>, NoMemory>
+    requires threads { (0 < length threads.now) × (length threads.now ≤ 64) }
+    requires commands { All (λ v. CanRunAll 64 v.items) threads.now }
+{
+    let mut values = vec![in alloc; 0; 64]?;
+    values[0] = threads.len() as u32;
+    let (store, passes) = open_locked(alloc, &values, threads)?;
+    match run_threads(rt, alloc, threads, store, passes, &OpenGate) {
+        Ok((records, _)) => Ok(records),
+        Err(_) => Err(NoMemory),
+    }
+}
+
+// How many different numbers below so many the records reply.
+fn replies(alloc: Global, records: &[Vec<Record>], most: usize) -> Result<usize, NoMemory> {
+    let mut seen = vec![in alloc; false; most]?;
+    for list in records {
+        for record in list {
+            if let Answer::Reply(Reply::Value(value)) = record.answer
+                && let Some(place) = seen.get_mut(value as usize)
+            {
+                *place = true;
+            }
+        }
+    }
+    Ok(seen.iter().filter(|s| **s).count())
+}
+
+#[test]
+fn two_threads_add_to_one_location(rt: HostRuntime) -> Result<(), Fail> {
+    let alloc = rt.alloc();
+    let threads = team(alloc, Op::Loc(LocOp::FetchAdd(Loc(1), 1)), 500, 2)?;
+    let records = run(&rt, alloc, &threads)?;
+    assert_eq!(rt; replies(alloc, &records, 1000)?, 1000);
+    Ok(())
+}
+
+#[test]
+fn sixteen_threads_add_to_one_location(rt: HostRuntime) -> Result<(), Fail> {
+    let alloc = rt.alloc();
+    let threads = team(alloc, Op::Loc(LocOp::FetchAdd(Loc(1), 1)), 100, 16)?;
+    let records = run(&rt, alloc, &threads)?;
+    assert_eq!(rt; replies(alloc, &records, 1600)?, 1600);
+    Ok(())
+}
+
+#[test]
+fn a_queue_is_handed_over_by_a_wait(rt: HostRuntime) -> Result<(), Fail> {
+    let alloc = rt.alloc();
+    let queue = Queue::layout(Loc(1), 2);
+    let take = QueueAct::DeqWait;
+    let mut threads = Vec::with_capacity(alloc, 2)?;
+    threads.push(same(alloc, Op::Queue(QueueOp { queue, act: take }), 1)?)?;
+    let put = QueueAct::Enq(7);
+    threads.push(same(alloc, Op::Queue(QueueOp { queue, act: put }), 1)?)?;
+    let records = run(&rt, alloc, &threads)?;
+    assert_eq!(rt; replies(alloc, &records, 8)?, 1);
+    Ok(())
+}
