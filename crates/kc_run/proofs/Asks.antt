@@ -14,10 +14,7 @@ use Rattle.kc_xt.specs.Law.{Obeys}
 use Rattle.kc_xt.proofs.Laws.{below_if, law_of}
 use Rattle.kc_xt.proofs.Composed.{obeys_first_stays, obeys_first_else, obeys_wider}
 use Rattle.kc_bundle.specs.declared.operation.Command.{Command}
-use Rattle.kc_bundle.specs.Script.{Names, LieFrom, AreSized, next_from}
-use Rattle.kc_bundle.specs.On.{CommandIsOn}
-use Rattle.kc_bundle.specs.Meaning.{command_meaning, command_end, CommandIsFit, alone_program, thread_meaning}
-use Rattle.kc_bundle.proofs.Fitting.{command_fits, command_within}
+use Rattle.kc_bundle.specs.Meaning.{command_meaning, command_end, alone_program, thread_meaning}
 use Rattle.kc_run.specs.Ask.{ask_end}
 
 -- what comes of a command that would wait, and what comes behind its reply
@@ -37,11 +34,3 @@ module _ {P : Type 0} (gives : Gives P) where
       → Obeys gives (meaning (alone_program live)) (live + 1) w r z → Obeys gives (thread_meaning live c) (ask_end live c) x r z
   ask_waited live fits c t r x y w z waited rising law back alone_obeys =
       obeys_first_else _ (command_meaning c) (meaning (alone_program live)) x y w r z rising (obeys_wider _ (ask_end live c) (omega arith) (command_meaning c) x (Err Retry) y (rw waited at law)) back (obeys_wider _ (ask_end live c) (omega (arith, fits)) (meaning (alone_program live)) w r z alone_obeys)
-
--- a command on a store's objects
-module _ (n : ℕ) (names : Names) (lie : LieFrom 1 names) (sized : AreSized names) (room : next_from 1 names ≤ n) (c : Command) (on : CommandIsOn names c) where
-  pub ask_fit : n ≤ 65536 → CommandIsFit c
-  ask_fit le = command_fits names lie (omega arith) sized c on
-
-  pub ask_within : 0 < n → ask_end 0 c ≤ n
-  ask_within some = omega (arith, command_within names lie c on, room, some)
