@@ -37,6 +37,7 @@ use Rattle.kc_seats.proofs.FormedSteps.{formed_always}
 use Rattle.kc_seats.proofs.MadeSteps.{intents_made, reads_made, hangs_stand}
 use Rattle.kc_seats.proofs.SeatedSteps.{seats_stay, searches_in_range}
 use Rattle.kc_pool.proofs.LifeLaws.{generations_fit, calls_fit, three_holds}
+use Rattle.kc_traces.proofs.Others.{run_shape}
 use Rattle.kc_ranges.specs.Ranges.{WorldIn, AccessIn}
 use Rattle.kc_ranges.specs.Seats.{WorkIn, SeatsIn}
 use Rattle.kc_claims.specs.Claims.{owed_by}
@@ -47,31 +48,6 @@ use Rattle.kc_ranges.proofs.Words.{touched_in, found_in, opened_in}
 use Rattle.kc_ranges.proofs.Steps.{answer_in, begun_in, halted_in}
 use Rattle.kc_ranges.proofs.Accesses.{work_touches}
 use Rattle.kc_ranges.proofs.Callers.{caller_of, owed_in}
-
--- ---- the shape of a machine stays
-
-abbrev Shaped : State → State → Type 0
-Shaped m n = (n.locations ≡ m.locations) × (n.descriptors ≡ m.descriptors) × (n.callers ≡ m.callers)
-
-event_shape : (m : State) (e : Event) → Shaped m (event_of m e)
-event_shape m e = go e (nat_lt (seat_of e) m.callers)
-  where
-    step : (k : ℕ) (b : Bool) → Shaped m (if b then record m { world = touched m.world (access_of (m.seats k)); seats = put m.seats k (answer_of (m.seats k) (found_at m.world (access_of (m.seats k)))) } else m)
-    step k true = (refl, refl, refl)
-    step k false = (refl, refl, refl)
-
-    happens : (e : Event) → Shaped m (happened m e)
-    happens (Begin k t) = (refl, refl, refl)
-    happens (Step k) = step k (possible m (access_of (m.seats k)))
-    happens (Halt k) = (refl, refl, refl)
-
-    go : (e : Event) (b : Bool) → Shaped m (if b then happened m e else m)
-    go e true = happens e
-    go e false = (refl, refl, refl)
-
-shape_from : (m : State) (es : List Event) → Shaped m (run_from m es)
-shape_from m [] = (refl, refl, refl)
-shape_from m (e ∷ es) = let a = event_shape m e in let b = shape_from (event_of m e) es in (b.0 ∙ a.0, b.1 ∙ a.1, b.2 ∙ a.2)
 
 -- ---- the calls of a stand are the seat's
 
@@ -104,7 +80,7 @@ module _ (o : Opening) where
   called : (es : List Event) → IsSchedule o es → (k : ℕ) → k < o.callers → ((run o es).seats k).calls < 281474976710656
   called es w k l =
       let m = run o es in
-      let s = shape_from (opened o) es in
+      let s = run_shape o es in
       let n : k < m.callers = (let c = s.2 in omega arith) in
       let part = total_part (λ j. (stand (m.seats j)).calls) m.callers k n in
       let all = calls_fit o es in
@@ -156,7 +132,7 @@ module _ (o : Opening) where
   event_in es w e f = go (nat_lt (seat_of e) (run o es).callers) refl
     where
       here : (k : ℕ) → k < (run o es).callers → k < o.callers
-      here k l = let c = (shape_from (opened o) es).2 in omega arith
+      here k l = let c = (run_shape o es).2 in omega arith
 
       happens : (e : Event) → seat_of e < (run o es).callers → InRange (happened (run o es) e)
       happens (Begin k t) l = record { words = f.words; seats = seat_moves (run o es) k _ (begun_in o ((run o es).seats k) t (f.seats k (here k l))) f.seats }
@@ -206,18 +182,18 @@ is_possible o m x y z (access.Signal c s) r f = lt_is c m.callers (omega arith)
 pub steps_possible : (o : Opening) (es : List Event) → IsSchedule o es → StepsArePossible o (run o es)
 steps_possible o es w k l i =
     let m = run o es in
-    let s = shape_from (opened o) es in
+    let s = run_shape o es in
     let f = touches o es w (seats_in o es w) k l i in
     (is_possible o m s.0 s.1 s.2 (access_of (m.seats k)) has_room f, f)
   where
     has_room : (d : ℕ) (g : Grip) → access_of ((run o es).seats k) ≡ access.Control d g → room g ((run o es).world.control d) ≡ true
     has_room d grip.Load e = refl
     has_room d (grip.Take g) e = refl
-    has_room d grip.Add e = adds_room (run o es) (holds_counted o es) (three_holds o es) d (let c = (shape_from (opened o) es).2 in let b = w.0.callers in omega arith)
-    has_room d grip.Subtract e = subtracts_room (run o es) (holds_counted o es) k d (let c = (shape_from (opened o) es).2 in omega arith) e
+    has_room d grip.Add e = adds_room (run o es) (holds_counted o es) (three_holds o es) d (let c = (run_shape o es).2 in let b = w.0.callers in omega arith)
+    has_room d grip.Subtract e = subtracts_room (run o es) (holds_counted o es) k d (let c = (run_shape o es).2 in omega arith) e
 
 pub steps_happen : (o : Opening) (es : List Event) → IsSchedule o es → StepsHappen o es
-steps_happen o es w k l i = run_push o (opened o) es (Step k) ∙ here (lt_is k (run o es).callers (let c = (shape_from (opened o) es).2 in omega arith)) (steps_possible o es w k l i).0
+steps_happen o es w k l i = run_push o (opened o) es (Step k) ∙ here (lt_is k (run o es).callers (let c = (run_shape o es).2 in omega arith)) (steps_possible o es w k l i).0
   where
     here : nat_lt k (run o es).callers ≡ true → possible (run o es) (access_of ((run o es).seats k)) ≡ true → event_of (run o es) (Step k) ≡ one_step (run o es) k
     here a b = rw a (rw b refl)
@@ -225,10 +201,10 @@ steps_happen o es w k l i = run_push o (opened o) es (Step k) ∙ here (lt_is k 
 -- ---- callers
 
 pub awaiters_callers : (o : Opening) (es : List Event) → IsSchedule o es → AwaitersAreCallers (run o es)
-awaiters_callers o es w l c e = let b = caller_of ((run o es).world.awaiters l) o.callers c ((words_in o es w).awaiters l) e in let s = (shape_from (opened o) es).2 in omega arith
+awaiters_callers o es w l c e = let b = caller_of ((run o es).world.awaiters l) o.callers c ((words_in o es w).awaiters l) e in let s = (run_shape o es).2 in omega arith
 
 pub owed_callers : (o : Opening) (es : List Event) → IsSchedule o es → OwedAreCallers (run o es)
 owed_callers o es w k c l e =
-    let s = (shape_from (opened o) es).2 in
+    let s = (run_shape o es).2 in
     let b = caller_of (owed_by (stand ((run o es).seats k)).own) o.callers c (owed_in o ((run o es).seats k) (seats_in o es w k (omega arith))) e in
     omega arith
