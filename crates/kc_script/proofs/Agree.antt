@@ -3,7 +3,6 @@ use Rattle.std.proofs.Common.{◌≡◌, ℕ, ◌+◌, ◌≤◌, ◌<◌, true,
 use Rattle.std.proofs.lemmas.List.{append-nil}
 use Rattle.std.proofs.lemmas.Bool.{lt-ltb, leb-true, le-leb}
 use Rattle.kc_lines.specs.declared.fault.Why.{Why}
-use Rattle.kc_lines.specs.declared.fault.Why.TheVariants.{NotBuilt}
 use Rattle.kc_lines.specs.Words.{lines}
 use Rattle.kc_lines.specs.Tests.{◌>>=◌, wants}
 use Rattle.kc_lines.proofs.Given.{given, bind_ok, wants_ok, ok_is}
@@ -20,11 +19,11 @@ use Rattle.kc_verbs.specs.declared.word.Word.TheVariants as word
 use Rattle.kc_verbs.specs.Words.{structure_word, word_of}
 use Rattle.kc_verbs.specs.Declaring.{declare, declared_by, declared}
 use Rattle.kc_verbs.specs.Saying.{say, said_by, said}
-use Rattle.kc_script.specs.Spells.{Line, header, thread_line, atomic_line, or_line, end_line, Declare, Block, Say, Threads, Spells, IsBuilt}
+use Rattle.kc_script.specs.Spells.{Line, header, thread_line, atomic_line, or_line, end_line, Declare, Block, Say, Threads, Spells}
 use Rattle.kc_script.specs.Refused.{SpellNone}
 use Rattle.kc_script.specs.Blocks.{OpenBlock, Place, sequence, nest, op_line, counted_up, or_at, end_at}
 use Rattle.kc_script.specs.Blocks.{atomic_line as atomic_at}
-use Rattle.kc_script.specs.Reading.{State, opening, declared_line, said_line, begun_block, worded_line, header_line, content_line, ended, spelled, built}
+use Rattle.kc_script.specs.Reading.{State, opening, declared_line, said_line, begun_block, worded_line, header_line, content_line, ended, spelled}
 use Rattle.kc_script.specs.Reading.{thread_line as opened_thread}
 use Rattle.kc_script.proofs.Trees.{nested, nested_push, nest_ok, IsSmall}
 use Rattle.kc_script.proofs.Took.{outside, at, inside, all_contents, skipping}
@@ -236,21 +235,8 @@ spells_spelled bytes s p =
 pub spells_one : (bytes : List ℕ) (s t : Script) → Spells bytes s → Spells bytes t → s ≡ t
 spells_one bytes s t p q = ok_is s t (sym (spells_spelled bytes s p) ∙ spells_spelled bytes t q)
 
--- what is read as a script of the built form is spelled, and of that form
-pub built_spells : (bytes : List ℕ) (s : Script) → built bytes ≡ Ok s → Spells bytes s × IsBuilt s
-unfolding built
-built_spells bytes s e =
-    let last = λ (s : Script). wants (leb (length s.threads) 1) NotBuilt >>= λ few. given s in
-    let a = bind_ok (spelled bytes) last s e in
-    let b = bind_ok (wants (leb (length a.0.threads) 1) NotBuilt) (λ few. given a.0) s a.2 in
-    let few : length a.0.threads ≤ 1 = leb-true _ _ (wants_ok _ NotBuilt b.0 b.1) in
-    subst (λ (t : Script). Spells bytes t × IsBuilt t) (ok_is _ _ b.2) (spelled_spells bytes a.0 a.1, few)
-
 -- bytes that are read as none spell none
-pub built_refuses : (bytes : List ℕ) (why : Why) → built bytes ≡ Err why → SpellNone bytes
-unfolding built
-built_refuses bytes why e s p few =
+pub read_refuses : (bytes : List ℕ) (why : Why) → spelled bytes ≡ Err why → SpellNone bytes
+read_refuses bytes why e s p =
     let read = spells_spelled bytes s p in
-    let test : leb (length s.threads) 1 ≡ true = le-leb (length s.threads) 1 few in
-    let given_one : built bytes ≡ Ok s = rw (read, test) refl in
     cc

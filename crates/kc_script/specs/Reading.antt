@@ -1,9 +1,9 @@
 -- Reading line by line, as the parser does it; private to this crate.
-use Rattle.std.specs.Prelude.{ℕ, ◌+◌, Bool, true, false, not, List, [], ◌∷◌, ◌++◌, length, map, reverse, codes, Option, Some, None, is_some, Result, Ok, Err, nat_le, nat_lt, ◌==◌, if◌then◌else◌}
+use Rattle.std.specs.Prelude.{ℕ, ◌+◌, Bool, true, false, not, List, [], ◌∷◌, ◌++◌, length, map, reverse, codes, Option, Some, None, is_some, Result, Ok, Err, nat_lt, ◌==◌, if◌then◌else◌}
 use Rattle.std.specs.Str.{bytes_eq}
 use Rattle.std.specs.Global.{Vec}
 use Rattle.kc_lines.specs.declared.fault.Why.{Why}
-use Rattle.kc_lines.specs.declared.fault.Why.TheVariants.{Header, UnknownWord, StrayWord, UnclosedBlock, TooMany, NotBuilt}
+use Rattle.kc_lines.specs.declared.fault.Why.TheVariants.{Header, UnknownWord, StrayWord, UnclosedBlock, TooMany}
 use Rattle.kc_lines.specs.declared.fault.Limit.TheVariants.{Threads}
 use Rattle.kc_lines.specs.Words.{lines, words, is_skipped}
 use Rattle.kc_lines.specs.Tests.{◌>>=◌, wants, found, counted, word_at}
@@ -143,10 +143,3 @@ ended s = do
 
 unfoldable pub spelled : List ℕ → Result Script Why
 spelled bytes = all_lines opening (lines bytes) >>= ended
-
--- a script of the form that is built today
-unfoldable pub built : List ℕ → Result Script Why
-built bytes = do
-  s ← spelled bytes
-  few ← wants (nat_le (length s.threads) 1) NotBuilt
-  Ok s

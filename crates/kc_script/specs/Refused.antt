@@ -4,11 +4,11 @@ use Rattle.kc_lines.specs.declared.fault.ScriptError.{ScriptError}
 use Rattle.kc_lines.specs.declared.fault.ScriptError.TheVariants as error
 use Rattle.kc_lines.specs.declared.fault.Why.TheVariants.{NotBuilt}
 use Rattle.kc_bundle.specs.Script.{Script}
-use Rattle.kc_script.specs.Spells.{Spells, IsBuilt}
+use Rattle.kc_script.specs.Spells.{Spells}
 
--- they spell no script of the built form
+-- they spell no script
 abbrev pub SpellNone : List ℕ → Type 0
-SpellNone bytes = (s : Script) → Spells bytes s → IsBuilt s → ⊥
+SpellNone bytes = (s : Script) → Spells bytes s → ⊥
 
 -- a fault says so; want of memory says nothing
 abbrev pub Refused : List ℕ → ScriptError → Type 0

@@ -81,7 +81,3 @@ pub record Spells (bytes : List ℕ) (s : Script) : Type 0 where
   pub lines : contents bytes ≡ header ∷ (declaring ++ threading)
   pub declares : Declare [] declaring s.objects
   pub threads : Threads s.objects 0 threading s.threads
-
--- the form of scripts that is built today: one thread at most
-abbrev pub IsBuilt : Script → Type 0
-IsBuilt s = length s.threads ≤ 1

@@ -1,6 +1,6 @@
 ghost use Rattle.std.specs.Prelude.{IfOk};
 ghost use Rattle.kc_bundle.specs.Script.{script_of};
-ghost use Rattle.kc_script.specs.Spells.{Spells, IsBuilt};
+ghost use Rattle.kc_script.specs.Spells.{Spells};
 
 use crate::*;
 use kc_bundle::{Bundle, Command, Object, Op};
@@ -28,7 +28,7 @@ const TABLE: Hash = Hash {
 };
 
 fn read(rt: &HostRuntime, text: &str) -> Result<Bundle, ScriptError>
-    ensures { IfOk result (λ bundle. Spells text.now (script_of bundle) × IsBuilt (script_of bundle)) }
+    ensures { IfOk result (λ bundle. Spells text.now (script_of bundle)) }
 {
     let bytes = text.as_bytes();
     if bytes.len() > MOST_BYTES {
