@@ -1,3 +1,4 @@
+pub mod Asked
 pub mod Bank
 pub mod Committed
 pub mod Content

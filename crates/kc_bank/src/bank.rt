@@ -4,6 +4,7 @@ ghost use Rattle.std.specs.Prelude.{◌≡◌, ◌≤◌, ◌<◌, ◌+◌, IfOk
 ghost use Rattle.kc_hash.specs.Meaning.{IsLaid, cells_end, hash_cells};
 ghost use Rattle.kc_queue.specs.Meaning.{queue_cells};
 ghost use Rattle.kc_bank.specs.declared.bank.TheConstants.{BANK_CELLS};
+ghost use Rattle.kc_bank.specs.Asked.{count_one, count_told, give, line_up, look_up, on_accounts, pay_from};
 ghost use Rattle.kc_bank.specs.Places.{AccountsWithin, LineWithin};
 ghost use Rattle.kc_bank.specs.Bank.{BankIsFit, LiesInBank, bank_meaning, bank_op_end, credit_end, credit_meaning, credit_of, find_of, next_of, pay_end, pay_meaning, put_of};
 
@@ -59,19 +60,22 @@ impl Bank {
     }
 
     pub fn put(&self, account: u32, balance: u32) -> BankOp
-        ensures { LiesInBank result }
+        ensures is { result ≡ give self.now.accounts account balance }
+        ensures lies { LiesInBank result }
     {
         self.account_op(HashAct::Put(account, balance))
     }
 
     pub fn find(&self, account: u32) -> BankOp
-        ensures { LiesInBank result }
+        ensures is { result ≡ look_up self.now.accounts account }
+        ensures lies { LiesInBank result }
     {
         self.account_op(HashAct::Find(account))
     }
 
     fn account_op(&self, act: HashAct) -> BankOp
-        ensures { LiesInBank result }
+        ensures is { result ≡ on_accounts self.now.accounts act }
+        ensures lies { LiesInBank result }
     {
         BankOp::Account(HashOp {
             hash: self.accounts,
@@ -81,7 +85,8 @@ impl Bank {
 
     pub fn enqueue(&self, queue: Queue, account: u32) -> BankOp
         requires { LineWithin queue }
-        ensures { LiesInBank result }
+        ensures is { result ≡ line_up queue account }
+        ensures lies { LiesInBank result }
     {
         BankOp::Line(QueueOp {
             queue,
@@ -91,7 +96,8 @@ impl Bank {
 
     pub fn pay_next(&self, line: Queue) -> BankOp
         requires { LineWithin line }
-        ensures { LiesInBank result }
+        ensures is { result ≡ pay_from line self.now.accounts }
+        ensures lies { LiesInBank result }
     {
         BankOp::Pay(PayNext {
             line,
@@ -100,13 +106,15 @@ impl Bank {
     }
 
     pub fn count_payout(&self) -> BankOp
-        ensures { LiesInBank result }
+        ensures is { result ≡ count_one self.now.payouts_made }
+        ensures lies { LiesInBank result }
     {
         BankOp::Count(LocOp::Incr(self.payouts_made))
     }
 
     pub fn payouts(&self) -> BankOp
-        ensures { LiesInBank result }
+        ensures is { result ≡ count_told self.now.payouts_made }
+        ensures lies { LiesInBank result }
     {
         BankOp::Count(LocOp::Get(self.payouts_made))
     }

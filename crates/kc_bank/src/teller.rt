@@ -1,16 +1,16 @@
-//! Commits the bank's transactions one after another, and prints what each comes to.
+//! Commits the bank's transactions, one after another.
 
 ghost use Rattle.std.specs.Prelude.{◌≡◌, ◌≤◌, IfOk, length};
-ghost use Rattle.kc_bank.specs.Committed.{IsCommitted};
-ghost use Rattle.kc_model.specs.Store.{store_of};
+ghost use Rattle.kc_model.specs.Store.{opened, store_of};
 ghost use Rattle.kc_term.specs.Fit.{Each};
-ghost use Rattle.kc_term.specs.Tree.{operations};
+ghost use Rattle.kc_term.specs.Tree.{first as alternatives, op, operations};
+ghost use Rattle.kc_bank.specs.Asked.{account_opened, count_told, in_order, line_up, lined_up_in_both, look_up, paid_and_counted, pay_from, urgent_or_next};
 ghost use Rattle.kc_bank.specs.declared.bank.TheConstants.{BANK_CELLS};
-ghost use Rattle.kc_bank.specs.Bank.{LieInBank, LiesInBank};
+ghost use Rattle.kc_bank.specs.Bank.{LieInBank, LiesInBank, bank_meaning};
 
 use crate::bank::{BANK_CELLS, Bank, BankOp};
 use anyhow::{Result, anyhow};
-use kc_model::{Footprint, Item, PlainStore, Reply};
+use kc_model::{Footprint, PlainStore};
 use kc_term::Term;
 use kc_xt::{Transact, Tried, commit};
 use std::alloc::Global;
@@ -26,6 +26,9 @@ pub struct Teller {
 }
 
 impl Teller {
+    ghost use Rattle.kc_bank.specs.Committed.{Commits, CommitsTerm, asked_meaning};
+
+    /// A bank with no accounts, and empty lines.
     pub fn open(alloc: Global) -> Result<Teller> {
         let bank = Bank::new();
         let values = bank.opening(alloc)?;
@@ -40,118 +43,109 @@ impl Teller {
         }
     }
 
+    /// What the last commit read and put.
+    pub fn footprint(&self) -> &Footprint
+        ensures { result.now ≡ self.now.footprint }
+    {
+        &self.footprint
+    }
+
     /// Opens an account, and puts it in the line for a payout, in one step.
-    pub fn opens(&mut self, rt: &impl Print, account: u32, balance: u32) -> Result<()> {
-        print!(rt; "open account {account} with {balance}: ")?;
+    pub fn opens(&mut self, account: u32, balance: u32) -> Result<Tried>
+        ensures { CommitsTerm (account_opened self.old.bank.accounts self.old.bank.line account balance) result self.old self.new }
+    {
         let opening = both(
             self.alloc,
             Term::op(self.bank.put(account, balance)),
             Term::op(self.bank.enqueue(self.bank.line, account)),
         )?;
-        self.commits_term(rt, &opening)
+        Ok(self.commits_term(&opening))
     }
 
     /// Pays the next account in the line, and counts the payout.
-    pub fn pays(&mut self, rt: &impl Print) -> Result<()> {
-        print!(rt; "pay the next account: ")?;
+    pub fn pays(&mut self) -> Result<Tried>
+        ensures { CommitsTerm (paid_and_counted (op (pay_from self.old.bank.line self.old.bank.accounts)) self.old.bank.payouts_made) result self.old self.new }
+    {
         let paying = both(
             self.alloc,
             Term::op(self.bank.pay_next(self.bank.line)),
             Term::op(self.bank.count_payout()),
         )?;
-        self.commits_term(rt, &paying)
+        Ok(self.commits_term(&paying))
     }
 
     /// Pays the next urgent account, or else the next in the line, and counts the payout.
-    pub fn pays_urgent_first(&mut self, rt: &impl Print) -> Result<()> {
-        print!(rt; "pay an urgent account or else the next: ")?;
+    pub fn pays_urgent_first(&mut self) -> Result<Tried>
+        ensures { CommitsTerm (paid_and_counted (urgent_or_next self.old.bank.urgent self.old.bank.line self.old.bank.accounts) self.old.bank.payouts_made) result self.old self.new }
+    {
         let next = either(
             self.alloc,
             Term::op(self.bank.pay_next(self.bank.urgent)),
             Term::op(self.bank.pay_next(self.bank.line)),
         )?;
         let paying = both(self.alloc, next, Term::op(self.bank.count_payout()))?;
-        self.commits_term(rt, &paying)
+        Ok(self.commits_term(&paying))
     }
 
-    pub fn puts_in_line(&mut self, rt: &impl Print, account: u32) -> Result<()> {
-        print!(rt; "put {account} in the line: ")?;
+    pub fn puts_in_line(&mut self, account: u32) -> Tried
+        ensures { Commits (bank_meaning (line_up self.old.bank.line account)) result self.old self.new }
+    {
         let operation = self.bank.enqueue(self.bank.line, account);
-        self.commits(rt, &operation)
+        self.commits(&operation)
     }
 
     /// Puts an account in each line in one step.
-    pub fn puts_in_both_lines(&mut self, rt: &impl Print, urgent: u32, other: u32) -> Result<()> {
-        print!(rt; "put {urgent} in the urgent line and {other} in the line: ")?;
+    pub fn puts_in_both_lines(&mut self, urgent: u32, other: u32) -> Result<Tried>
+        ensures { CommitsTerm (lined_up_in_both self.old.bank.urgent urgent self.old.bank.line other) result self.old self.new }
+    {
         let putting = both(
             self.alloc,
             Term::op(self.bank.enqueue(self.bank.urgent, urgent)),
             Term::op(self.bank.enqueue(self.bank.line, other)),
         )?;
-        self.commits_term(rt, &putting)
+        Ok(self.commits_term(&putting))
     }
 
-    pub fn tells_balance(&mut self, rt: &impl Print, account: u32) -> Result<()> {
-        print!(rt; "balance of {account}: ")?;
-        let operation = self.bank.find(account);
-        self.commits(rt, &operation)
-    }
-
-    pub fn tells_payouts(&mut self, rt: &impl Print) -> Result<()> {
-        print!(rt; "payouts made: ")?;
-        let operation = self.bank.payouts();
-        self.commits(rt, &operation)
-    }
-
-    #[tactic(auto, using(crate::proofs::TermLemmas::term_is_fit, crate::proofs::TermLemmas::term_within))]
-    fn commits_term(&mut self, rt: &impl Print, term: &Term<BankOp>) -> Result<()>
-        requires { LieInBank (operations term.now) }
+    pub fn finds_balance(&mut self, account: u32) -> Tried
+        ensures { Commits (bank_meaning (look_up self.old.bank.accounts account)) result self.old self.new }
     {
-        self.commits(rt, term)
+        let operation = self.bank.find(account);
+        self.commits(&operation)
     }
 
-    /// Commits a transaction, and prints its answer; where it would wait, also which locations it waits for.
-    fn commits<T: Transact>(&mut self, rt: &impl Print, transaction: &T) -> Result<()>
+    pub fn counts_payouts(&mut self) -> Tried
+        ensures { Commits (bank_meaning (count_told self.old.bank.payouts_made)) result self.old self.new }
+    {
+        let operation = self.bank.payouts();
+        self.commits(&operation)
+    }
+
+    #[tactic(auto, unfolding(crate::specs::Committed::asked_meaning), using(crate::proofs::TermLemmas::term_is_fit, crate::proofs::TermLemmas::term_within))]
+    fn commits_term(&mut self, term: &Term<BankOp>) -> Tried
+        requires { LieInBank (operations term.now) }
+        ensures { Commits (asked_meaning term.now) result self.old self.new }
+    {
+        self.commits(term)
+    }
+
+    fn commits<T: Transact>(&mut self, transaction: &T) -> Tried
         requires fit { T.is_fit transaction.now }
         requires within { T.end transaction.now ≤ BANK_CELLS }
-        ensures { IsCommitted (T.meaning transaction.now)
-            (store_of self.old.store) self.old.footprint (store_of self.new.store) self.new.footprint }
+        ensures { Commits (T.meaning transaction.now) result self.old self.new }
     {
-        let tried = commit(&mut self.store, transaction, &mut self.footprint);
-        self.tells_tried(rt, &tried)
-    }
-
-    fn tells_tried(&self, rt: &impl Print, tried: &Tried) -> Result<()> {
-        match tried {
-            Tried::Done(reply) => tells(rt, reply)?,
-            Tried::Later => self.tells_waited(rt)?,
-            Tried::TooLarge => print!(rt; "too large")?,
-            Tried::Busy => print!(rt; "busy")?,
-            Tried::Worn(loc) => print!(rt; "location {} is worn", loc.0)?,
-        }
-        println!(rt; "")?;
-        Ok(())
-    }
-
-    fn tells_waited(&self, rt: &impl Print) -> Result<()> {
-        print!(rt; "later, when location")?;
-        for (index, read) in self.footprint.reads.as_slice().iter().enumerate() {
-            let or = if index == 0 { "" } else { " or" };
-            print!(rt; "{or} {}", read.loc.0)?;
-        }
-        print!(rt; " changes")?;
-        Ok(())
+        commit(&mut self.store, transaction, &mut self.footprint)
     }
 }
 
 /// The alternatives: the first, or else the second.
 #[tactic(auto, using(crate::proofs::TermLemmas::each_append))]
-fn either(alloc: Global, first: Term<BankOp>, second: Term<BankOp>) -> Result<Term<BankOp>>
-    requires left { Each LiesInBank (operations first) }
-    requires right { Each LiesInBank (operations second) }
-    ensures { IfOk result (λ t. Each LiesInBank (operations t)) }
+fn either(alloc: Global, a: Term<BankOp>, b: Term<BankOp>) -> Result<Term<BankOp>>
+    requires left { Each LiesInBank (operations a) }
+    requires right { Each LiesInBank (operations b) }
+    ensures is { IfOk result (λ t. t ≡ alternatives a b) }
+    ensures lies { IfOk result (λ t. Each LiesInBank (operations t)) }
 {
-    match Term::first(alloc, first, second) {
+    match Term::first(alloc, a, b) {
         Ok(term) => Ok(term),
         Err(_) => Err(anyhow!("no memory for the alternatives")),
     }
@@ -159,44 +153,14 @@ fn either(alloc: Global, first: Term<BankOp>, second: Term<BankOp>) -> Result<Te
 
 /// One behind the other, in one step.
 #[tactic(auto, using(crate::proofs::TermLemmas::each_append))]
-fn both(alloc: Global, first: Term<BankOp>, second: Term<BankOp>) -> Result<Term<BankOp>>
-    requires left { Each LiesInBank (operations first) }
-    requires right { Each LiesInBank (operations second) }
-    ensures { IfOk result (λ t. LieInBank (operations t)) }
+fn both(alloc: Global, a: Term<BankOp>, b: Term<BankOp>) -> Result<Term<BankOp>>
+    requires left { Each LiesInBank (operations a) }
+    requires right { Each LiesInBank (operations b) }
+    ensures is { IfOk result (λ t. t ≡ in_order a b) }
+    ensures lies { IfOk result (λ t. LieInBank (operations t)) }
 {
-    match Term::seq(vec![in alloc; first, second]?) {
+    match Term::seq(vec![in alloc; a, b]?) {
         Ok(term) => Ok(term),
         Err(_) => Err(anyhow!("too many operations")),
     }
-}
-
-fn tells(rt: &impl Print, reply: &Reply) -> Result<()> {
-    match reply {
-        Reply::Unit => print!(rt; "done")?,
-        Reply::Value(value) => print!(rt; "{value}")?,
-        Reply::Bool(truth) => print!(rt; "{truth}")?,
-        Reply::Empty => print!(rt; "none")?,
-        Reply::Full => print!(rt; "full")?,
-        Reply::Stranded => print!(rt; "stranded")?,
-        Reply::Many(items) => {
-            for index in 0..items.len() {
-                if index > 0 {
-                    print!(rt; " ")?;
-                }
-                tells_item(rt, items.get(index))?;
-            }
-        }
-    }
-    Ok(())
-}
-
-fn tells_item(rt: &impl Print, item: Item) -> Result<()> {
-    match item {
-        Item::Unit => print!(rt; "done")?,
-        Item::Value(value) => print!(rt; "{value}")?,
-        Item::Bool(truth) => print!(rt; "{truth}")?,
-        Item::Empty => print!(rt; "none")?,
-        Item::Full => print!(rt; "full")?,
-    }
-    Ok(())
 }
