@@ -12,7 +12,7 @@ use Rattle.kc_steps.specs.declared.pass.AfterCheck.TheVariants as checked
 use Rattle.kc_steps.specs.declared.aid.AidStep.TheVariants as aid
 use Rattle.kc_steps.specs.Lines.{next_line, after_line}
 use Rattle.kc_steps.specs.Passes.{from_install, install_or_check, from_check, check_or_decide, from_release, release_or_finish, decided_as, agrees_or_fails, check_drop_next}
-use Rattle.kc_steps.specs.Halts.{halted_pass, halted_aid_pass}
+use Rattle.kc_commits.specs.Halts.{halted_pass, halted_aid_pass}
 use Rattle.kc_machine.specs.Machine.{World}
 use Rattle.kc_effects.specs.Stands.{Stand, Turn, At, Passing, NoPass, Over, turn}
 use Rattle.kc_effects.specs.Effects

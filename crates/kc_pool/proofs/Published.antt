@@ -24,7 +24,7 @@ use Rattle.kc_steps.specs.declared.aid.AidNext.TheVariants as aiding
 use Rattle.kc_steps.specs.Lines.{next_line, after_line, word_of}
 use Rattle.kc_steps.specs.Looks.{reference_of, again_or_saw}
 use Rattle.kc_steps.specs.Passes.{status, from_install, install_or_check, from_check, check_or_decide, from_release, release_or_finish, decided_as, check_drop_next}
-use Rattle.kc_steps.specs.Halts.{halted_pass, halted_aid_pass, halted_aid}
+use Rattle.kc_commits.specs.Halts.{halted_pass, halted_aid_pass, halted_aid}
 use Rattle.kc_machine.specs.Machine.{World, put}
 use Rattle.kc_machine.proofs.Functions.{put_here, put_cases}
 use Rattle.kc_effects.specs.Stands.{Stand, Turn, At, Meets, Ends, Leaves, Passing, NoPass, Over, Aiding, NoAid, Aids, Passes, Looking, NoLook, Looks, turn}

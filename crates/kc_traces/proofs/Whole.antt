@@ -26,20 +26,20 @@ use Rattle.kc_steps.specs.declared.aid.AidStep.{AidStep}
 use Rattle.kc_steps.specs.declared.aid.AidStep.TheVariants as aid
 use Rattle.kc_steps.specs.declared.aid.AidNext.{AidNext}
 use Rattle.kc_steps.specs.declared.aid.AidNext.TheVariants as aiding
-use Rattle.kc_steps.specs.declared.commit.Commit.{Commit}
-use Rattle.kc_steps.specs.declared.commit.Stage.{Stage}
-use Rattle.kc_steps.specs.declared.commit.Stage.TheVariants as stage
-use Rattle.kc_steps.specs.declared.commit.OwnStep.{OwnStep}
-use Rattle.kc_steps.specs.declared.commit.OwnStep.TheVariants as own
+use Rattle.kc_commits.specs.declared.commit.Commit.{Commit}
+use Rattle.kc_commits.specs.declared.commit.Stage.{Stage}
+use Rattle.kc_commits.specs.declared.commit.Stage.TheVariants as stage
+use Rattle.kc_commits.specs.declared.commit.OwnStep.{OwnStep}
+use Rattle.kc_commits.specs.declared.commit.OwnStep.TheVariants as own
 use Rattle.kc_steps.specs.declared.line.Pick.TheVariants.{Put}
-use Rattle.kc_steps.specs.Nexts.{Next}
-use Rattle.kc_steps.specs.Nexts as next
+use Rattle.kc_commits.specs.Nexts.{Next}
+use Rattle.kc_commits.specs.Nexts as next
 use Rattle.kc_steps.specs.Lines.{joined, next_line, after_line}
 use Rattle.kc_steps.specs.Looks.{look_tells, halts_at_once}
 use Rattle.kc_steps.specs.Passes.{pass_next, from_install, from_release}
 use Rattle.kc_steps.specs.Aids.{load_next, owner_or_first, drop_or_release, after_pass, aid_next, aid_copy}
-use Rattle.kc_steps.specs.Commits.{after_scan, fill_next, fill_or_start, scan_next, take_next, after_own_pass, finished, wake_or_drop, aid_or_back, wake_next, wake_or_signal, owed_next, stage_next, loaded, gone_on, onward_by, copy_by}
-use Rattle.kc_steps.specs.Halts.{unowned, halted_aid, halted_aid_pass, aid_or_decide, halted_own, halted_at}
+use Rattle.kc_commits.specs.Commits.{after_scan, fill_next, fill_or_start, scan_next, take_next, after_own_pass, finished, wake_or_drop, aid_or_back, wake_next, wake_or_signal, owed_next, stage_next, loaded, gone_on, onward_by, copy_by}
+use Rattle.kc_commits.specs.Halts.{unowned, halted_aid, halted_aid_pass, aid_or_decide, halted_own, halted_at}
 use Rattle.kc_machine.specs.Hangs.{hang_onward, leave_onward}
 use Rattle.kc_machine.specs.Works.{Work}
 use Rattle.kc_machine.specs.Works as work
