@@ -18,13 +18,13 @@ pub ruleset cells = (arith, one_here, one_else, put_here, put_else)
 pub balance : (k : ℕ) {w w' : World} {s s' : Stand} → Effects.Effect k w s w' s' → ((d : ℕ) → holds_on d s ≤ (w.control d).holds) → (i : ℕ) → (w'.control i).holds + holds_on i s ≡ (w.control i).holds + holds_on i s'
 balance k (Effects.take s d g e z l) enough i = grind cells
 balance k (Effects.start s q e z) enough i = rw z refl
-balance k (Effects.install s x q a b c z) enough i = rw z refl
+balance k (Effects.install s x q a b c z put_in low) enough i = rw z refl
 balance k (Effects.installed s x q a b c z) enough i = rw z refl
 balance k (Effects.check_fits s x q a b c d z) enough i = rw z refl
 balance k (Effects.check_drop s t e z) enough i = rw z (grind (cells, enough i))
-balance k (Effects.decide s p t a b c z) enough i = rw z refl
+balance k (Effects.decide s p t a b c z may halts) enough i = rw z refl
 balance k (Effects.succeed s t a b z) enough i = rw z refl
-balance k (Effects.learn s p t a b z) enough i = rw z refl
+balance k (Effects.learn s p t a b z may) enough i = rw z refl
 balance k (Effects.release s x t a b c z) enough i = rw z refl
 balance k (Effects.skip s x t a b c z) enough i = rw z refl
 balance k (Effects.aid_passes s q a b z) enough i = rw z refl

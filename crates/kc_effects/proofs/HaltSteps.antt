@@ -118,8 +118,8 @@ module _ (k : ℕ) (w : World) (s : Seat) where
     noted (own.Drop p) = Effects.halt_commit
 
   commit_halts : (c : Commit) (x : Stage) → Path k w (commits (record (resting s) { halted = c.halted }) c.intent c.copy x) w (stand (if unowned x then ended s else record s { work = work.Commit (halted_at c x) }))
-  commit_halts c (Scan d n) = one (Effects.halt_scan (resting s))
-  commit_halts c (Take d g) = one (Effects.halt_scan (resting s))
+  commit_halts c (Scan d n) = one (Effects.halt_scan (resting s) (λ q. cc))
+  commit_halts c (Take d g) = one (Effects.halt_scan (resting s) (λ q. cc))
   commit_halts c (Own h step) = onward (noted c h step) (own_halts c h step)
 
   -- the effects of a halt

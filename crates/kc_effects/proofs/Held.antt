@@ -28,21 +28,21 @@ kept k e (Stray d g) c h = λ q. h (sym (stays k e d (c d)) ∙ q)
 
 pub own_fits : (k : ℕ) {w w' : World} {s s' : Stand} → Effects.Effect k w s w' s' → Counts w (own_hold s.own) → Fits w (own_hold s.own) → Fits w' (own_hold s'.own)
 own_fits k (Effects.take s d g e z l) c h = grind cells
-own_fits k (Effects.abandon s) c h = tt
+own_fits k (Effects.abandon s stopped) c h = tt
 own_fits k (Effects.drop s p) c h = tt
 own_fits k {s = s} e c h = kept k e (own_hold s.own) c h
 
 pub check_fits : (k : ℕ) {w w' : World} {s s' : Stand} → Effects.Effect k w s w' s' → Counts w (check_hold s.pass) → Fits w (check_hold s.pass) → Fits w' (check_hold s'.pass)
 check_fits k (Effects.start s q e z) c h = rw z tt
-check_fits k (Effects.install s x q a b e z) c h = rw z tt
+check_fits k (Effects.install s x q a b e z put_in low) c h = rw z tt
 check_fits k (Effects.installed s x q a b e z) c h = rw z tt
 check_fits k (Effects.check_fits s x q a b e f z) c h = rw z tt
 check_fits k (Effects.check_hold s f) c h = grind cells
 check_fits k (Effects.check_stray s f) c h = grind cells
 check_fits k (Effects.check_drop s t e z) c h = rw z tt
-check_fits k (Effects.decide s p t a b e z) c h = rw z tt
+check_fits k (Effects.decide s p t a b e z may halts) c h = rw z tt
 check_fits k (Effects.succeed s t a b z) c h = rw z tt
-check_fits k (Effects.learn s p t a b z) c h = rw z tt
+check_fits k (Effects.learn s p t a b z may) c h = rw z tt
 check_fits k (Effects.release s x t a b e z) c h = rw z tt
 check_fits k (Effects.skip s x t a b e z) c h = rw z tt
 check_fits k (Effects.aid_passes s q a b z) c h = rw z tt

@@ -16,6 +16,7 @@ use Rattle.kc_machine.proofs.Functions.{put_here, put_cases}
 use Rattle.kc_effects.specs.Stands.{Stand, Own, NoOwn, Owns, Runs, Waits}
 use Rattle.kc_effects.specs.Holds.{Proper, own_hold}
 use Rattle.kc_effects.specs.Effects
+use Rattle.kc_effects.proofs.Tests.{some_line}
 use Rattle.kc_pool.specs.Filled.{task, FirstStored, SecondStored, owner_word, OwnerIsFilled, FirstsAreFilled, SecondsAreFilled}
 
 -- ---- what other seats do
@@ -85,9 +86,6 @@ seconds_to xs k n x e = go (slice_get xs k) refl
     go None q s = let a = past_end xs k q in let b = slice_get_within xs n x e in omega arith
     go (Some y) q s = s
 
-some_line : (o : Option Line) (x y : Line) → o ≡ Some x → o ≡ Some y → x ≡ y
-some_line o x y a b = cc
-
 pub owner_own : (k : ℕ) {w w' : World} {s s' : Stand} → Effects.Effect k w s w' s' → OwnerIsFilled w s.caller s.calls s.own → OwnerIsFilled w' s'.caller s'.calls s'.own
 owner_own k (Effects.take s d g e z l) f h i q u = absurd u
 owner_own k (Effects.fill_owner {w} s {h = e} {i = y}) f h i q u =
@@ -95,7 +93,7 @@ owner_own k (Effects.fill_owner {w} s {h = e} {i = y}) f h i q u =
     subst (λ (a : Handle). put w.owner e.descriptor (owner_word s.caller s.calls y) a.descriptor ≡ owner_word s.caller s.calls i) t.0
     (put_here w.owner e.descriptor (owner_word s.caller s.calls y) ∙ ap (owner_word s.caller s.calls) t.1)
 owner_own k (Effects.fill_second s x e) f h i q u = f h i q tt
-owner_own k (Effects.abandon s) f h i q u = absurd u
+owner_own k (Effects.abandon s stopped) f h i q u = absurd u
 owner_own k (Effects.wake s x e) f h i q u = f h i q tt
 owner_own k (Effects.signal s) f h i q u = f h i q tt
 owner_own k (Effects.drop s p) f h i q u = absurd u
@@ -122,7 +120,7 @@ firsts_own k (Effects.fill_second s {h = e} {i = y} {j = j} a g) f h i n x q r u
     let b = firsts_to y.lines.items (after_line j) n x (ap (λ (a : Intent). slice_get a.lines.items n) t.1 ∙ r) u in
     let c = one_behind j in
     f h i n x q r (omega arith)
-firsts_own k (Effects.abandon s) f h i n x q r u = absurd u
+firsts_own k (Effects.abandon s stopped) f h i n x q r u = absurd u
 firsts_own k (Effects.wake s a e) f h i n x q r u = f h i n x q r tt
 firsts_own k (Effects.signal s) f h i n x q r u = f h i n x q r tt
 firsts_own k (Effects.drop s p) f h i n x q r u = absurd u
@@ -146,7 +144,7 @@ seconds_own k (Effects.fill_second {w} s {h = e} {i = y} {j = j} a g) f h i n x 
     ∙ put_cases (λ b. b ≡ second_of x) (w.second e.descriptor) j (second_of a) n
     (λ z. ap second_of (some_line (slice_get y.lines.items j) a x g (ap (slice_get y.lines.items) (sym z) ∙ v)))
     (λ ne. f e y n x refl v (omega arith)))
-seconds_own k (Effects.abandon s) f h i n x q r u = absurd u
+seconds_own k (Effects.abandon s stopped) f h i n x q r u = absurd u
 seconds_own k (Effects.wake s a e) f h i n x q r u = f h i n x q r tt
 seconds_own k (Effects.signal s) f h i n x q r u = f h i n x q r tt
 seconds_own k (Effects.drop s p) f h i n x q r u = absurd u

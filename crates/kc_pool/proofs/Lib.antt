@@ -1,7 +1,6 @@
 pub mod Owners
 pub mod Statuses
 pub mod Shapes
-pub mod Aims
 pub mod Phases
 pub mod Published
 pub mod Filled

@@ -19,7 +19,6 @@ use Rattle.kc_pool.proofs.Filled.{OwnsIt, task_held, owner_moves, first_moves, s
 use Rattle.kc_pool.proofs.Owners.{Differ, owned_before, owned_held}
 use Rattle.kc_pool.proofs.Statuses.{Owned, status_moves, control_grows, owned_own}
 use Rattle.kc_pool.proofs.Shapes.{Shape, shape_own}
-use Rattle.kc_pool.proofs.Aims.{Aims, aim, aims_own}
 use Rattle.kc_pool.proofs.Phases.{Undecides, Decided, Knows, PassKnows, active_before, active_kept, decided_moves, knows_own, pass_knows_own}
 
 -- what a seat remembers was started
@@ -55,7 +54,6 @@ pub record Lives (n m : ℕ) (w : World) (at : ℕ → Stand) : Type 0 where
   pub behind : (d : ℕ) → (w.status d).generation ≤ (w.control d).generation
   pub owned : (k : ℕ) → k < n → Owned w (at k).own
   pub shape : (k : ℕ) → k < n → Shape (at k)
-  pub aims : (k : ℕ) → k < n → Aims (aim (at k).pass)
   pub active : (d g : ℕ) → w.status d ≡ status g Active → (k : ℕ) × (k < n) × Undecides (at k) d g
   pub knows : (k : ℕ) → k < n → Knows w (at k).own
   pub pass_knows : (k : ℕ) → k < n → PassKnows w (at k).own (at k).pass
@@ -116,7 +114,7 @@ module _ (n m k : ℕ) (l : k < n) {w w' : World} (at : ℕ → Stand) {s' : Sta
         o.0,
         o.1,
         put_cases (λ t. Undecides t d g) at k s' o.0
-            (λ q. active_kept k e (p.shape k l) (p.aims k l) d g x (subst (λ j. Undecides (at j) d g) q o.2))
+            (λ q. active_kept k e (p.shape k l) d g x (subst (λ j. Undecides (at j) d g) q o.2))
             (λ ne. o.2),
       ))
       (λ u. (k, l, subst (λ t. Undecides t d g) (sym (put_here at k s')) u))
@@ -133,7 +131,7 @@ module _ (n m k : ℕ) (l : k < n) {w w' : World} (at : ℕ → Stand) {s' : Sta
 
   lives_pass_knows : (j : ℕ) → j < n → PassKnows w' (put at k s' j).own (put at k s' j).pass
   lives_pass_knows j b = put_cases (λ x. PassKnows w' x.own x.pass) at k s' j
-      (λ q. pass_knows_own k e (p.shape k l) (p.aims k l) (p.owned k l) (p.pass_knows k l))
+      (λ q. pass_knows_own k e (p.shape k l) (p.owned k l) (p.pass_knows k l))
       (λ ne d g x q r t. stays_decided j d g x b ne q (p.pass_knows j b d g x q r t))
 
   -- a word of what another seat owns stays
@@ -159,7 +157,6 @@ module _ (n m k : ℕ) (l : k < n) {w w' : World} (at : ℕ → Stand) {s' : Sta
     behind = status_behind;
     owned = lives_owned;
     shape = λ j b. put_cases Shape at k s' j (λ q. shape_own k e (p.shape k l)) (λ ne. p.shape j b);
-    aims = λ j b. put_cases (λ x. Aims (aim x.pass)) at k s' j (λ q. aims_own k e (p.aims k l)) (λ ne. p.aims j b);
     active = lives_active;
     knows = lives_knows;
     pass_knows = lives_pass_knows;

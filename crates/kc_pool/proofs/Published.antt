@@ -34,7 +34,7 @@ use Rattle.kc_pool.specs.Owners.{Follows}
 use Rattle.kc_pool.specs.References.{met_by_step, met_by_turn, met_by_pass, met_by_aid, onward_by_step, onward_by_aid, met_by_look_step, met_by_look, IsPublished}
 use Rattle.kc_pool.proofs.Statuses.{Owned, status_moves}
 use Rattle.kc_pool.proofs.Shapes.{pass_life}
-use Rattle.kc_pool.proofs.Aims.{same_step}
+use Rattle.kc_pool.proofs.Phases.{same_step}
 
 abbrev pub Words : World → Type 0
 Words w = (l g d j : ℕ) → w.word l ≡ Ref g d j → IsPublished w d g
@@ -83,7 +83,7 @@ words_put : (w : World) (at : ℕ) (x : Word) → Words w → ((g d j : ℕ) →
 words_put w at x h n l g d j = put_cases (λ y. y ≡ Ref g d j → IsPublished w d g) w.word at x l (λ e. n g d j) (λ ne. h l g d j)
 
 pub words_own : (k : ℕ) {w w' : World} {s s' : Stand} → Effects.Effect k w s w' s' → LifeOut w s.pass → Words w → (l g d j : ℕ) → w'.word l ≡ Ref g d j → IsPublished w d g
-words_own k (Effects.install {w} s {h = i} {j = n} x q a b e z) p h l g d j = words_put w x.seen.loc.0 (word_of i n) h (λ g' d' j'. word_out w i n (p i.descriptor i.generation refl) g' d' j') l g d j
+words_own k (Effects.install {w} s {h = i} {j = n} x q a b e z put_in low) p h l g d j = words_put w x.seen.loc.0 (word_of i n) h (λ g' d' j'. word_out w i n (p i.descriptor i.generation refl) g' d' j') l g d j
 words_own k (Effects.release {w} s x t a b e z) p h l g d j = words_put w x.seen.loc.0 _ h (λ g' d' j' q. absurd (cc)) l g d j
 words_own k (Effects.aid_release {w} s {x = x} a) p h l g d j = words_put w x.seen.loc.0 _ h (λ g' d' j' q. absurd (cc)) l g d j
 words_own k _ p h l g d j = h l g d j
@@ -148,15 +148,15 @@ unmet_turn w t u e n = unmet w (met_by_turn t) (ap met_by_turn e ∙ n)
 
 pub met_own : (k : ℕ) {w w' : World} {s s' : Stand} → Effects.Effect k w s w' s' → Words w → Out w (met_by_pass s.pass) → Out w (met_by_pass s'.pass)
 met_own k (Effects.start {w} s q e z) v h = unmet_step w q _ e (install_unmet _ _ 0)
-met_own k (Effects.install {w} s x q a b e z) v h = unmet_step w q _ e (install_unmet _ _ _)
+met_own k (Effects.install {w} s x q a b e z put_in low) v h = unmet_step w q _ e (install_unmet _ _ _)
 met_own k (Effects.installed {w} s x q a b e z) v h = unmet_step w q _ e (install_unmet _ _ _)
 met_own k (Effects.meets {w} s {g = g} {d} {i} x a b e) v h = some_out w (reference_of g d i) (v x.seen.loc.0 g d i b)
 met_own k (Effects.check_fits {w} s x q a b e f z) v h = unmet_step w q _ f (check_unmet _ _ _)
 met_own k (Effects.check_meets {w} s {g = g} {d} {i} x a b) v h = some_out w (reference_of g d i) (v x.seen.loc.0 g d i b)
 met_own k (Effects.check_drop {w} s {j = j} {r = r} {stray = stray} {c = c} t e z) v h = unmet_turn w t _ e (drop_unmet (CheckDrop j r stray c) _ _ _ c)
-met_own k (Effects.decide {w} s p t a b e z) v h = unmet_turn w t _ e (release_unmet (Decide p) _ _ 0 p)
+met_own k (Effects.decide {w} s p t a b e z may halts) v h = unmet_turn w t _ e (release_unmet (Decide p) _ _ 0 p)
 met_own k (Effects.succeed {w} s t a e z) v h = unmet_turn w t _ e (release_unmet (Decide Succeeded) _ _ 0 Succeeded)
-met_own k (Effects.learn {w} s {h = i} p t a e z) v h = unmet_turn w t _ e (release_unmet (Decide p) _ _ 0 (decided_as p (w.status i.descriptor).phase))
+met_own k (Effects.learn {w} s {h = i} p t a e z may) v h = unmet_turn w t _ e (release_unmet (Decide p) _ _ 0 (decided_as p (w.status i.descriptor).phase))
 met_own k (Effects.release {w} s {j = j} {p = p} x t a b e z) v h = unmet_turn w t _ e (release_unmet (Release j p) _ _ (after_line j) p)
 met_own k (Effects.skip {w} s {j = j} {p = p} x t a b e z) v h = unmet_turn w t _ e (release_unmet (Release j p) _ _ (after_line j) p)
 met_own k (Effects.own_meets {w} s c) v h = none_out w
@@ -256,7 +256,7 @@ look_own k e v h = h
 
 pub life_own : (k : ℕ) {w w' : World} {s s' : Stand} → Effects.Effect k w s w' s' → Owned w s.own → Out w (met_by_aid s.aid) → LifeOut w s.pass → LifeOut w' s'.pass
 life_own k (Effects.start {w} s {h = i} q e z) o a h d g y = here_out (record w { status = put w.status i.descriptor (status i.generation Active) }) i.descriptor i.generation d g y (rw (put_here w.status i.descriptor (status i.generation Active)) (omega arith))
-life_own k (Effects.abandon {w} s) o a h d g y = absurd (cc)
+life_own k (Effects.abandon {w} s stopped) o a h d g y = absurd (cc)
 life_own k (Effects.drop {w} s p) o a h d g y = absurd (cc)
 life_own k (Effects.own_meets {w} s c) o a h d g y = absurd (cc)
 life_own k (Effects.own_ends {w} s) o a h d g y = absurd (cc)

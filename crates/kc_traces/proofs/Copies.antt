@@ -154,7 +154,7 @@ copied_own k (Effects.fill_owner {w} s {h = e} {i = i}) x h = unaided (with_owne
 copied_own k (Effects.fill_first {w} s {h = e} {j = j} y q) x h = unaided (with_first w e.descriptor j (first_of y)) s.aid (x.1 refl)
 copied_own k (Effects.fill_second {w} s {h = e} {j = j} y q) x h = unaided (with_second w e.descriptor j (second_of y)) s.aid (x.1 refl)
 copied_own k (Effects.aid_owner s) x h = record { owner = refl; lines = refl }
-copied_own k (Effects.aid_load_first s) x h = (h, refl)
+copied_own k (Effects.aid_load_first s fewer) x h = (h, refl)
 copied_own k (Effects.aid_load_second {w} s {r = r} {c = c} {f = f}) x h = line_loaded w r c f h.0 h.1
 copied_own k (Effects.aid_ends s) x h = tt
 copied_own k (Effects.aid_left s a) x h = tt
