@@ -14,7 +14,7 @@ use Rattle.kc_steps.specs.declared.task.Event.{Event}
 use Rattle.kc_steps.specs.Aids.{copy_line}
 use Rattle.kc_steps.specs.Lines.{joined}
 use Rattle.kc_steps.specs.Halts.{halted_aid, halted_aid_pass}
-use Rattle.kc_machine.specs.Machine.{World, Opening, put, run}
+use Rattle.kc_machine.specs.Machine.{World, Opening, put, run, opened}
 use Rattle.kc_machine.proofs.Functions.{put_cases}
 use Rattle.kc_effects.specs.Stands.{Stand, Owns, Aiding, NoAid, Aids, Passes, stand}
 use Rattle.kc_effects.specs.Holds.{Proper, aid_hold}
@@ -22,7 +22,8 @@ use Rattle.std.proofs.lemmas.List.{length-append}
 use Rattle.kc_steps.specs.declared.line.Line.{Line}
 use Rattle.kc_steps.specs.Lines.{first_of, second_of}
 use Rattle.kc_pool.specs.Started.{listed, line_of_words}
-use Rattle.kc_traces.specs.Copies.{LoadedOf, LoadedAt, CopyIsTrue, CopiesAreTrue}
+use Rattle.kc_traces.specs.Copies.{LoadedOf, LoadedAt, CopyIsTrue, CopiesAreTrue, PassesAreWhole}
+use Rattle.kc_traces.proofs.Whole.{Bound, bound_own, bound_whole}
 use Rattle.kc_effects.specs.Changes.{with_owner, with_first, with_second}
 use Rattle.kc_effects.specs.Effects
 use Rattle.kc_effects.specs.Effects.{Effect}
@@ -167,6 +168,7 @@ copied_own k e x h = h
 pub record Copies (n m : ℕ) (w : World) (at : ℕ → Stand) : Type 0 where
   pub lives : Lives n m w at
   pub copied : (k : ℕ) → k < n → CopyIsTrue w (at k).aid
+  pub bound : (k : ℕ) → Bound (at k).aid
 
 fitting : (w : World) (d g : ℕ) → Fits w (Proper d g) → (w.control d).generation ≡ g
 fitting w d g h = search h
@@ -175,7 +177,7 @@ fitting w d g h = search h
 held_out : (w : World) (x : Aiding) (d g : ℕ) → ((r : Reference) → met_by_aid x ≡ Some r → r.handle.generation ≤ (w.status r.handle.descriptor).generation) → aid_hold x ≡ Proper d g → g ≤ (w.status d).generation
 held_out w x d g f q = Rattle.kc_pool.proofs.Published.aid_out w x d g q f
 
-copies_effect : (n m k : ℕ) → k < n → (w w' : World) (at : ℕ → Stand) (s' : Stand) → Effect k w (at k) w' s' → Copies n m w at → Copies n m w' (put at k s')
+pub copies_effect : (n m k : ℕ) → k < n → (w w' : World) (at : ℕ → Stand) (s' : Stand) → Effect k w (at k) w' s' → Copies n m w at → Copies n m w' (put at k s')
 copies_effect n m k l w w' at s' e p = record {
   lives = lives_effect n m k l at e p.lives;
   copied = λ j b. put_cases (λ t. CopyIsTrue w' t.aid) at k s' j
@@ -185,6 +187,7 @@ copies_effect n m k l w w' at s' e p = record {
         first = ⊎_elim (λ y. y) (λ f. absurd (early j b d g f.0 q f.1)) (first_fills k e d);
         second = ⊎_elim (λ y. y) (λ f. absurd (early j b d g f.0 q f.1)) (second_fills k e d);
       }) (p.copied j b));
+  bound = λ j. put_cases (λ t. Bound t.aid) at k s' j (λ q. bound_own k e (p.bound k)) (λ ne. p.bound j);
 }
   where
     early : (j : ℕ) → j < n → (d g i : ℕ) → aid_hold (at j).aid ≡ Proper d g → Fills (at k) d i → ⊥
@@ -195,8 +198,14 @@ copies_effect n m k l w w' at s' e p = record {
         let low = subst (λ y. Follows y (w.status d).generation i) f.early (p.lives.owned k l d i f.owns) in
         let z : ⊥ = omega arith in z
 
+pub opened_copies : (o : Opening) → Copies o.callers (opened o).descriptors (opened o).world (λ k. stand ((opened o).seats k))
+opened_copies o = record { lives = opened_lives o; copied = λ k l. tt; bound = λ k. tt }
+
 pub copies_after : (o : Opening) (es : List Event) → Copies (run o es).callers (run o es).descriptors (run o es).world (λ k. stand ((run o es).seats k))
-copies_after o es = holds_after Copies copies_effect o es (record { lives = opened_lives o; copied = λ k l. tt })
+copies_after o es = holds_after Copies copies_effect o es (opened_copies o)
 
 pub copies_true : (o : Opening) (es : List Event) → CopiesAreTrue (run o es)
 copies_true o es = (copies_after o es).copied
+
+pub passes_whole : (o : Opening) (es : List Event) → PassesAreWhole (run o es)
+passes_whole o es = λ k. bound_whole (stand ((run o es).seats k)).aid ((copies_after o es).bound k)
