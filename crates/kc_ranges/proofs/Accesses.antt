@@ -118,7 +118,7 @@ module _ (o : Opening) where
     aid_touches halted (aid.Release p x) z y = release_in r.handle own.0 [] (omega arith) (λ k x e. absurd (cc)) r.line p x own.1 (y.0 some) y.1
     aid_touches halted aid.Owner z y = (own.0.0, tt)
     aid_touches halted aid.LoadFirst z y = (own.0.0, (let l = copy.1 in omega arith), tt)
-    aid_touches halted (aid.LoadSecond f) z y = (own.0.0, (let l = copy.1 in let m = y.1 in omega arith), tt)
+    aid_touches halted (aid.LoadSecond f) z y = (own.0.0, (let l = copy.1 in omega arith), tt)
     aid_touches halted (aid.Pass p) z y = pass_touches r.handle own.0 a.lines.items few (λ k x e. let l = all_at (LineIn o) a.lines.items k x e copy.0 in (l.0 some, l.1)) halted checked.Leave a.owner.mode p z y
     aid_touches halted (aid.Leave onward) z y = (own.0.0, tt)
     aid_touches halted (aid.Drop stray onward) z y = (own.0.0, tt)
