@@ -16,7 +16,7 @@ abbrev pub Counts : World → Hold → Type 0
 Counts w x = (d : ℕ) → on d x ≤ (w.control d).holds
 
 -- what is held isn't taken
-stays : (k : ℕ) {w w' : World} {s s' : Stand} → Effects.Effect k w s w' s' → (i : ℕ) → one_at i i ≤ (w.control i).holds → (w'.control i).generation ≡ (w.control i).generation
+pub stays : (k : ℕ) {w w' : World} {s s' : Stand} → Effects.Effect k w s w' s' → (i : ℕ) → one_at i i ≤ (w.control i).holds → (w'.control i).generation ≡ (w.control i).generation
 stays k (Effects.take s d g e z l) i c = let o = one_here i in grind cells
 stays k _ i c = grind cells
 
@@ -65,5 +65,5 @@ look_fits k (Effects.look_hold s f) c h = grind cells
 look_fits k (Effects.look_stray s f) c h = grind cells
 look_fits k (Effects.look_drop s n e z) c h = rw z tt
 look_fits k (Effects.look_halts s z) c h = tt
-look_fits k (Effects.halt_look {w} s r stray z) c h = subst (Fits w) z h
+look_fits k (Effects.halt_look {w} s r stray z met) c h = subst (Fits w) z h
 look_fits k {s = s} e c h = kept k e (look_hold s.look) c h

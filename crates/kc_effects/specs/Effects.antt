@@ -45,7 +45,7 @@ use Rattle.kc_steps.specs.Aids.{copy_owner, copy_line}
 use Rattle.kc_steps.specs.Commits.{after_scan, fill_next, finished, wake_next, owed_next, told_of}
 use Rattle.kc_steps.specs.Halts.{halted_pass, halted_aid_pass, halted_aid, halted_own}
 use Rattle.kc_machine.specs.Machine.{World}
-use Rattle.kc_effects.specs.Stands.{NoOwn, Owns, Runs, Waits, Turn, At, Meets, Ends, Leaves, NoPass, Over, NoAid, Aids, Passes, NoLook, Looks, Scanning, NoScan, Scans, Takes, Hangs, HangLooks, Leaving, Stand, idle, turn, location_of}
+use Rattle.kc_effects.specs.Stands.{NoOwn, Owns, Runs, Waits, Turn, At, Meets, Ends, Leaves, NoPass, Over, NoAid, Aids, Passes, NoLook, Looks, Scanning, NoScan, Scans, Takes, Hangs, HangLooks, Leaving, Stand, idle, turn, location_of, met_by_look_step}
 use Rattle.kc_effects.specs.Holds.{look_hold as hold_of_look}
 use Rattle.kc_effects.specs.Holds.{NoHold, dropping, step_hold, turn_hold, aid_step_hold, look_step_hold}
 use Rattle.kc_effects.specs.Changes.{with_word, with_awaiters, with_status, with_owner, with_first, with_second, with_signal, taken, held_once_more, held_once_less}
@@ -163,7 +163,7 @@ pub data Effect (k : ℕ) : World → Stand → World → Stand → Type 0 where
   leave_ends : {w : World} (s : Stand) {reads : List Seen} {j : ℕ} → slice_get reads j ≡ None → Effect k w (record (idle s) { wait = Leaving reads (leave.Clear j) }) w (record (ends s told.Free) { blocked = false })
   -- halts
   halt_scan : {w : World} (s : Stand) {b : Bool} {x : Scanning} → x ≢ NoScan → Effect k w (record (idle s) { halted = b; scan = x }) w (ends s told.Halted)
-  halt_look : {w : World} (s : Stand) {l : Loc} {step : LookStep} (r : Reference) (stray : Bool) → look_step_hold step ≡ dropping r stray → Effect k w (looked s l step) w (record s { halted = true; look = Looks l (looking.Goes (look.Drop r stray None)) })
+  halt_look : {w : World} (s : Stand) {l : Loc} {step : LookStep} (r : Reference) (stray : Bool) → look_step_hold step ≡ dropping r stray → met_by_look_step step ≡ Some r → Effect k w (looked s l step) w (record s { halted = true; look = Looks l (looking.Goes (look.Drop r stray None)) })
   halt_commit : {w : World} {s : Stand} → Effect k w s w (record s { halted = true })
   halt_fill : {w : World} (s : Stand) {h : Handle} {i : Intent} {step : OwnStep} → s.halted ≡ true → halted_own step ≡ own.Abandon → Effect k w (record s { own = Owns h i step }) w (record s { own = Owns h i own.Abandon })
   halt_pass : {w : World} (s : Stand) {h e : Handle} {i : Intent} {m : Mode} {xs : List Line} {p : PassStep} (q : PassStep) → s.halted ≡ true → q ≡ halted_pass (checked.Decide Halted) (Decide Halted) p → step_hold q ≡ step_hold p → Effect k w (record s { own = Runs h i; pass = Over e m xs (At p) }) w (record s { own = Runs h i; pass = Over e m xs (At q) })

@@ -2,6 +2,7 @@ pub mod Owners
 pub mod Statuses
 pub mod Shapes
 pub mod Phases
+pub mod Remembered
 pub mod Published
 pub mod Filled
 pub mod Counts

@@ -14,7 +14,8 @@ use Rattle.kc_effects.proofs.Pools.{Pool, pool_effect}
 use Rattle.kc_pool.specs.Owners.{is_filling, Follows}
 use Rattle.kc_pool.specs.References.{met_by_pass, met_by_aid, onward_by_aid, met_by_look}
 use Rattle.kc_pool.specs.Filled.{Filled}
-use Rattle.kc_pool.proofs.Published.{Words, Out, LifeOut, status_grows, out_grows, life_grows, words_own, met_own, aided_own, onward_own, look_own, life_own}
+use Rattle.kc_pool.proofs.Published.{Words, Out, LifeOut, status_grows, out_grows, life_grows, words_own, life_own, Started}
+use Rattle.kc_pool.proofs.Remembered.{met_own, aided_own, onward_own, look_own}
 use Rattle.kc_pool.proofs.Filled.{OwnsIt, task_held, owner_moves, first_moves, second_moves, owner_own, firsts_own, seconds_own}
 use Rattle.kc_pool.proofs.Owners.{Differ, owned_before, owned_held}
 use Rattle.kc_pool.proofs.Statuses.{Owned, status_moves, control_grows, owned_own}
@@ -39,12 +40,12 @@ met_kept k e o t h = record {
 }
 
 met_step : (k : ℕ) {w w' : World} {s s' : Stand} → Effect k w s w' s' → Owned w s.own → Words w → Met w s → Met w' s'
-met_step k e o v h = record {
+met_step k {w} e o v h = record {
   life = life_own k e o h.aided h.life;
-  pass = out_grows k e o _ (met_own k e v h.pass);
-  aided = out_grows k e o _ (aided_own k e h.pass h.onward h.aided);
-  onward = out_grows k e o _ (onward_own k e h.pass h.onward);
-  look = out_grows k e o _ (look_own k e v h.look);
+  pass = out_grows k e o _ (met_own (Started w) k e v h.pass);
+  aided = out_grows k e o _ (aided_own (Started w) k e h.pass h.onward h.aided);
+  onward = out_grows k e o _ (onward_own (Started w) k e h.pass h.onward);
+  look = out_grows k e o _ (look_own (Started w) k e v h.look);
 }
 
 -- n seats stand so, at m descriptors
