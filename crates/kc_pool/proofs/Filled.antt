@@ -57,7 +57,7 @@ second_moves k _ d n = inl refl
 
 -- ---- the seat that steps
 
-past_end : (xs : List Line) (k : ℕ) → slice_get xs k ≡ None → length xs ≤ k
+pub past_end : (xs : List Line) (k : ℕ) → slice_get xs k ≡ None → length xs ≤ k
 past_end xs k e = by (slice_get_cases xs k).1
   where
     by : ((x : Line) × (k < length xs) × (slice_get xs k ≡ Some x) × (get_or xs k x ≡ x)) ⊎ ((length xs ≤ k) × (slice_get xs k ≡ None)) → length xs ≤ k

@@ -63,7 +63,7 @@ pub record Lives (n m : ℕ) (w : World) (at : ℕ → Stand) : Type 0 where
   pub filled : (k : ℕ) → k < n → Filled w (at k)
 
 -- the generation of a hold that fits
-fitting : (w : World) (d g : ℕ) → Fits w (Proper d g) → (w.control d).generation ≡ g
+pub fitting : (w : World) (d g : ℕ) → Fits w (Proper d g) → (w.control d).generation ≡ g
 fitting w d g h = search h
 
 module _ (n m k : ℕ) (l : k < n) {w w' : World} (at : ℕ → Stand) {s' : Stand} (e : Effect k w (at k) w' s') (p : Lives n m w at) where

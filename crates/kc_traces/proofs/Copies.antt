@@ -34,14 +34,14 @@ use Rattle.kc_pool.specs.Filled.{owner_word}
 use Rattle.kc_pool.specs.References.{met_by_aid}
 use Rattle.kc_pool.proofs.Statuses.{Fills}
 use Rattle.kc_pool.proofs.Shapes.{Shape, is_aiding}
-use Rattle.kc_pool.proofs.Lives.{Lives, lives_effect}
+use Rattle.kc_pool.proofs.Lives.{Lives, fitting, lives_effect}
 use Rattle.kc_pool.proofs.LifeLaws.{opened_lives}
 
 abbrev IsLoaded : World → Reference → Aided → Type 0
 IsLoaded w r c = LoadedOf w.owner w.first w.second r c
 
 -- the words of d stay
-record SameWords (w v : World) (d : ℕ) : Type 0 where
+pub record SameWords (w v : World) (d : ℕ) : Type 0 where
   pub owner : w.owner d ≡ v.owner d
   pub first : w.first d ≡ v.first d
   pub second : w.second d ≡ v.second d
@@ -69,24 +69,24 @@ stays_copied w v (Aids r c (aiding.Goes (aid.Drop stray o))) s h = tt
 stays_copied w v (Passes r c) s h = loaded_stays w v r c (s r.handle.descriptor r.handle.generation refl) h
 
 -- a word of a descriptor changes only as its owner fills it
-abbrev Filling : Stand → ℕ → Type 0
+abbrev pub Filling : Stand → ℕ → Type 0
 Filling s d = (g : ℕ) × Fills s d g
 
-owner_fills : (k : ℕ) {w w' : World} {s s' : Stand} → Effect k w s w' s' → (d : ℕ) → (w.owner d ≡ w'.owner d) ⊎ Filling s d
+pub owner_fills : (k : ℕ) {w w' : World} {s s' : Stand} → Effect k w s w' s' → (d : ℕ) → (w.owner d ≡ w'.owner d) ⊎ Filling s d
 owner_fills k (Effects.fill_owner {w} s {h = h} {i = i}) d =
     put_cases (λ x. (w.owner d ≡ x) ⊎ Filling (record s { own = Owns h i own.FillOwner }) d) w.owner h.descriptor (owner_word s.caller s.calls i) d
     (λ q. inr (h.generation, record { owns = ap (λ x. Proper x h.generation) (sym q); early = refl }))
     (λ ne. inl refl)
 owner_fills k _ d = inl refl
 
-first_fills : (k : ℕ) {w w' : World} {s s' : Stand} → Effect k w s w' s' → (d : ℕ) → (w.first d ≡ w'.first d) ⊎ Filling s d
+pub first_fills : (k : ℕ) {w w' : World} {s s' : Stand} → Effect k w s w' s' → (d : ℕ) → (w.first d ≡ w'.first d) ⊎ Filling s d
 first_fills k (Effects.fill_first {w} s {h = h} {i = i} {j = j} x e) d =
     put_cases (λ y. (w.first d ≡ y) ⊎ Filling (record s { own = Owns h i (own.FillFirst j) }) d) w.first h.descriptor (put (w.first h.descriptor) j (first_of x)) d
     (λ q. inr (h.generation, record { owns = ap (λ y. Proper y h.generation) (sym q); early = refl }))
     (λ ne. inl refl)
 first_fills k _ d = inl refl
 
-second_fills : (k : ℕ) {w w' : World} {s s' : Stand} → Effect k w s w' s' → (d : ℕ) → (w.second d ≡ w'.second d) ⊎ Filling s d
+pub second_fills : (k : ℕ) {w w' : World} {s s' : Stand} → Effect k w s w' s' → (d : ℕ) → (w.second d ≡ w'.second d) ⊎ Filling s d
 second_fills k (Effects.fill_second {w} s {h = h} {i = i} {j = j} x e) d =
     put_cases (λ y. (w.second d ≡ y) ⊎ Filling (record s { own = Owns h i (own.FillSecond j) }) d) w.second h.descriptor (put (w.second h.descriptor) j (second_of x)) d
     (λ q. inr (h.generation, record { owns = ap (λ y. Proper y h.generation) (sym q); early = refl }))
@@ -169,9 +169,6 @@ pub record Copies (n m : ℕ) (w : World) (at : ℕ → Stand) : Type 0 where
   pub lives : Lives n m w at
   pub copied : (k : ℕ) → k < n → CopyIsTrue w (at k).aid
   pub bound : (k : ℕ) → Bound (at k).aid
-
-fitting : (w : World) (d g : ℕ) → Fits w (Proper d g) → (w.control d).generation ≡ g
-fitting w d g h = search h
 
 -- what an aid holds was started
 held_out : (w : World) (x : Aiding) (d g : ℕ) → ((r : Reference) → met_by_aid x ≡ Some r → r.handle.generation ≤ (w.status r.handle.descriptor).generation) → aid_hold x ≡ Proper d g → g ≤ (w.status d).generation

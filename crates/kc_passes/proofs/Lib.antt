@@ -1,0 +1,4 @@
+pub mod Targets
+pub mod Lives
+pub mod Gone
+pub mod Owing
