@@ -53,7 +53,7 @@ pub aided_over : (e r : Handle) (m n : Mode) (xs ys : List Line) (o : Own) → S
 aided_over e r m n xs ys o q f = (same_course e r m n xs ys (q ∙ sym (aids_course o (Some (r, n, ys)) f))).0
 
 -- what a release leaves
-abbrev released : Line → Phase → Word
+abbrev pub released : Line → Phase → Word
 released x p = Plain (resolved_version (first_of x) p) (resolved_value (first_of x) (second_of x).after p)
 
 module _ (h : Handle) (i : ℕ) where

@@ -64,7 +64,7 @@ past_end xs k e = by (slice_get_cases xs k).1
     by (inl (x, lt, is, at)) = absurd (cc (e, is))
     by (inr (le, is)) = le
 
-one_behind : (j : ℕ) → after_line j ≤ j + 1
+pub one_behind : (j : ℕ) → after_line j ≤ j + 1
 one_behind j = go (nat_lt j 64) refl
   where
     go : (b : Bool) → nat_lt j 64 ≡ b → (if b then j + 1 else 64) ≤ j + 1

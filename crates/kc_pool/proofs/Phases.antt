@@ -246,14 +246,14 @@ knows_own k (Effects.halt_fill s n e) f h d g p o q = absurd (cc)
 knows_own k e f h d g p o q = h d g p o q
 
 -- a phase that isn't Active stays as it was found
-found_decided : (p q : Phase) → q ≢ Active → decided_as p q ≡ q
+pub found_decided : (p q : Phase) → q ≢ Active → decided_as p q ≡ q
 found_decided p Active n = absurd (n refl)
 found_decided p Succeeded n = refl
 found_decided p (Failed j) n = refl
 found_decided p (Crossed j) n = refl
 found_decided p Halted n = refl
 
-turn_reads : (t u : Turn) (p q : Phase) → t ≡ u → phase_released u ≡ Some p → phase_released t ≡ Some q → p ≡ q
+pub turn_reads : (t u : Turn) (p q : Phase) → t ≡ u → phase_released u ≡ Some p → phase_released t ≡ Some q → p ≡ q
 turn_reads t u p q e a b = some_phase (phase_released u) p q a (ap phase_released (sym e) ∙ b)
 
 at_phase : (w : World) (d : ℕ) (p q : Phase) → p ≡ q → Decided w d p → Decided w d q
