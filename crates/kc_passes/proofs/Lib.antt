@@ -5,3 +5,5 @@ pub mod Owing
 pub mod Moves
 pub mod Knowing
 pub mod Installing
+pub mod Halting
+pub mod Holders
