@@ -7,3 +7,5 @@ pub mod Knowing
 pub mod Installing
 pub mod Halting
 pub mod Holders
+pub mod Facts
+pub mod Always

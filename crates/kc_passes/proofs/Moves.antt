@@ -1,5 +1,5 @@
 -- How words come to refer to a line, and cease to.
-use Rattle.std.proofs.Common.{◌≡◌, ◌≢◌, ℕ, ◌<◌, ◌⊎◌, ◌∙◌, inl, inr, refl, sym, ap, true, List, Some}
+use Rattle.std.proofs.Common.{◌≡◌, ◌≢◌, ℕ, ◌<◌, ◌⊎◌, ◌∙◌, inl, inr, refl, sym, ap, true, false, List, None, Some}
 use Rattle.std.specs.Prelude.{slice_get}
 use Rattle.kc_model.specs.declared.footprint.TheConstants.{MOST}
 use Rattle.kc_model.specs.declared.word.Word.{Word}
@@ -9,11 +9,13 @@ use Rattle.kc_words.specs.declared.words.Reference.{Reference}
 use Rattle.kc_words.specs.declared.words.Mode.{Mode}
 use Rattle.kc_words.specs.declared.words.Phase.{Phase}
 use Rattle.kc_steps.specs.declared.line.Line.{Line}
+use Rattle.kc_steps.specs.declared.pass.PassStep.{PassStep}
 use Rattle.kc_steps.specs.declared.pass.PassStep.TheVariants.{Install, Release}
 use Rattle.kc_steps.specs.declared.aid.Aided.{Aided}
 use Rattle.kc_steps.specs.declared.aid.AidStep.TheVariants as aid
 use Rattle.kc_steps.specs.declared.aid.AidNext.TheVariants as aiding
-use Rattle.kc_steps.specs.Lines.{word_of, is_installed}
+use Rattle.kc_steps.specs.Lines.{after_line, word_of, is_installed}
+use Rattle.kc_steps.specs.Passes.{from_install}
 use Rattle.kc_machine.specs.Machine.{World}
 use Rattle.kc_machine.proofs.Functions.{put_cases}
 use Rattle.kc_effects.specs.Stands.{Stand, At, Passing, Over, Aiding, Aids}
@@ -21,8 +23,8 @@ use Rattle.kc_effects.specs.Changes.{with_word}
 use Rattle.kc_effects.specs.Effects
 use Rattle.kc_passes.proofs.Owing.{released}
 
--- the seat's pass installs line i of life (d, g) at l, where a plain word stood
-pub record Installs (w w' : World) (s : Stand) (l g d i : ℕ) : Type 0 where
+-- the seat's pass installs line i of life (d, g) at l, and goes on
+pub record Installs (w w' : World) (s s' : Stand) (l g d i : ℕ) : Type 0 where
   pub handle : Handle
   pub mode : Mode
   pub lines : List Line
@@ -34,19 +36,22 @@ pub record Installs (w w' : World) (s : Stand) (l g d i : ℕ) : Type 0 where
   pub put_in : is_installed mode line ≡ true
   pub low : step < MOST
   pub refers : word_of handle step ≡ Ref g d i
+  pub next : PassStep
+  pub goes : next ≡ from_install mode lines (after_line step)
+  pub after : s'.pass ≡ Over handle mode lines (At next)
   pub same : w'.status ≡ w.status
 
-pub word_before : (k : ℕ) {w w' : World} {s s' : Stand} → Effects.Effect k w s w' s' → (l g d i : ℕ) → w'.word l ≡ Ref g d i → (w.word l ≡ Ref g d i) ⊎ Installs w w' s l g d i
+pub word_before : (k : ℕ) {w w' : World} {s s' : Stand} → Effects.Effect k w s w' s' → (l g d i : ℕ) → w'.word l ≡ Ref g d i → (w.word l ≡ Ref g d i) ⊎ Installs w w' s s' l g d i
 word_before k (Effects.install {w} s {h = h} {m} {xs} {j} x q a b e z put_in low) l g d i =
-    put_cases (λ v. v ≡ Ref g d i → (w.word l ≡ Ref g d i) ⊎ Installs w (with_word w x.seen.loc.0 (word_of h j)) (Effects.passes s h m xs (Install j)) l g d i) w.word x.seen.loc.0 (word_of h j) l
-    (λ here y. inr (record { handle = h; mode = m; lines = xs; step = j; line = x; over = refl; is = a; here = here; put_in = put_in; low = low; refers = y; same = refl }))
+    put_cases (λ v. v ≡ Ref g d i → (w.word l ≡ Ref g d i) ⊎ Installs w (with_word w x.seen.loc.0 (word_of h j)) (Effects.passes s h m xs (Install j)) (Effects.passes s h m xs q) l g d i) w.word x.seen.loc.0 (word_of h j) l
+    (λ here y. inr (record { handle = h; mode = m; lines = xs; step = j; line = x; over = refl; is = a; here = here; put_in = put_in; low = low; refers = y; next = q; goes = e; after = refl; same = refl }))
     (λ ne y. inl y)
 word_before k (Effects.release {w} s {h} {m} {xs} {j} {p} x t a b e z) l g d i =
-    put_cases (λ v. v ≡ Ref g d i → (w.word l ≡ Ref g d i) ⊎ Installs w (with_word w x.seen.loc.0 (released x p)) (Effects.passes s h m xs (Release j p)) l g d i) w.word x.seen.loc.0 (released x p) l
+    put_cases (λ v. v ≡ Ref g d i → (w.word l ≡ Ref g d i) ⊎ Installs w (with_word w x.seen.loc.0 (released x p)) (Effects.passes s h m xs (Release j p)) (Effects.turns s h m xs t) l g d i) w.word x.seen.loc.0 (released x p) l
     (λ here y. absurd (cc))
     (λ ne y. inl y)
 word_before k (Effects.aid_release {w} s {r} {c} {p} {x} a) l g d i =
-    put_cases (λ v. v ≡ Ref g d i → (w.word l ≡ Ref g d i) ⊎ Installs w (with_word w x.seen.loc.0 (released x p)) (Effects.aided s r c (aid.Release p x)) l g d i) w.word x.seen.loc.0 (released x p) l
+    put_cases (λ v. v ≡ Ref g d i → (w.word l ≡ Ref g d i) ⊎ Installs w (with_word w x.seen.loc.0 (released x p)) (Effects.aided s r c (aid.Release p x)) (Effects.aided s r c (aid.Drop false None)) l g d i) w.word x.seen.loc.0 (released x p) l
     (λ here y. absurd (cc))
     (λ ne y. inl y)
 word_before k e l g d i = λ y. inl y

@@ -1,3 +1,5 @@
-use Rattle.kc_passes.proofs.Halting.{halted_kept}
-use Rattle.kc_passes.proofs.Holders.{undecided_owes}
+use Rattle.kc_passes.proofs.Always.{references_fit}
 use Rattle.kc_passes.proofs.laws.references_fit_their_lines.Goals as goal
+
+pub returns : goal.returns
+returns c = references_fit
