@@ -1,15 +1,12 @@
 -- The laws of deciding and aiding, over every opening and every schedule.
-use Rattle.std.proofs.Common.{◌≡◌, ◌≢◌, ℕ, ◌<◌, ◌⊎◌, ◌∙◌, ⊎_elim, inl, inr, refl, sym, ap, subst, List, Some}
+use Rattle.std.proofs.Common.{◌≡◌, ℕ, ◌⊎◌, ◌∙◌, ⊎_elim, inl, inr, refl, sym, subst, List}
 use Rattle.kc_model.specs.declared.word.Word.TheVariants.{Ref}
-use Rattle.kc_words.specs.declared.words.Reference.{Reference}
-use Rattle.kc_words.specs.declared.words.Status.{Status}
 use Rattle.kc_words.specs.declared.words.Phase.{Phase}
 use Rattle.kc_words.specs.declared.words.Phase.TheVariants.{Active, Succeeded, Failed, Crossed, Halted}
 use Rattle.kc_steps.specs.declared.task.Event.{Event}
 use Rattle.kc_steps.specs.Passes.{status}
-use Rattle.kc_machine.specs.Machine.{World, State, Opening, run, opened}
+use Rattle.kc_machine.specs.Machine.{Opening, run, opened}
 use Rattle.kc_effects.specs.Stands.{stand}
-use Rattle.kc_effects.specs.Holds.{Has}
 use Rattle.kc_effects.proofs.Runs.{holds_after}
 use Rattle.kc_seats.proofs.FitSeats.{fit_always}
 use Rattle.kc_pool.proofs.Remembered.{none_met}

@@ -1,47 +1,41 @@
 -- The facts of deciding and aiding, as one record, which each effect keeps: they need each other.
-use Rattle.std.proofs.Common.{◌≡◌, ◌≢◌, ℕ, ◌<◌, ◌≤◌, ◌⊎◌, ◌∙◌, ⊎_elim, inl, inr, refl, sym, ap, subst, arith, true, List, Option, None, Some}
-use Rattle.std.specs.Prelude.{slice_get}
+use Rattle.std.proofs.Common.{◌≡◌, ◌≢◌, ℕ, ◌<◌, ◌≤◌, ◌∙◌, ⊎_elim, inl, inr, refl, sym, ap, subst, arith, true, List, Option, Some}
 use Rattle.std.proofs.lemmas.Option.{slice_get_within}
-use Rattle.kc_model.specs.declared.word.Word.{Word}
 use Rattle.kc_model.specs.declared.word.Word.TheVariants.{Ref}
 use Rattle.kc_words.specs.declared.words.Handle.{Handle}
 use Rattle.kc_words.specs.declared.words.Reference.{Reference}
 use Rattle.kc_words.specs.declared.words.Mode.{Mode}
-use Rattle.kc_words.specs.declared.words.Owner.{Owner}
 use Rattle.kc_words.specs.declared.words.First.{First}
 use Rattle.kc_words.specs.declared.words.Second.{Second}
 use Rattle.kc_words.specs.declared.words.Status.{Status}
 use Rattle.kc_words.specs.declared.words.Phase.{Phase}
 use Rattle.kc_words.specs.declared.words.Phase.TheVariants.{Active, Succeeded, Failed, Crossed, Halted}
 use Rattle.kc_steps.specs.declared.line.Line.{Line}
-use Rattle.kc_steps.specs.declared.pass.PassStep.TheVariants.{Install}
 use Rattle.kc_steps.specs.declared.aid.Aided.{Aided}
 use Rattle.kc_steps.specs.declared.aid.AidStep.{AidStep}
 use Rattle.kc_steps.specs.declared.aid.AidStep.TheVariants as aid
 use Rattle.kc_steps.specs.declared.aid.AidNext.TheVariants as aiding
 use Rattle.kc_steps.specs.Lines.{after_line, word_of, is_installed}
-use Rattle.kc_steps.specs.Looks.{reference_of}
 use Rattle.kc_steps.specs.Passes.{status}
 use Rattle.kc_machine.specs.Machine.{World, put}
 use Rattle.kc_machine.proofs.Functions.{put_here, put_cases}
-use Rattle.kc_effects.specs.Stands.{Stand, At, Own, NoOwn, Owns, Runs, Waits, Passing, NoPass, Over, Aiding, NoAid, Aids, Passes}
-use Rattle.kc_effects.specs.Holds.{Proper, Has, held, own_hold, aid_hold}
+use Rattle.kc_effects.specs.Stands.{Stand, Own, NoOwn, Owns, Runs, Waits, Passing, NoPass, Over, Aiding, NoAid, Aids, Passes}
+use Rattle.kc_effects.specs.Holds.{Proper, held, own_hold, aid_hold}
 use Rattle.kc_effects.specs.Effects.{Effect}
 use Rattle.kc_pool.specs.Owners.{Follows, is_filling}
-use Rattle.kc_pool.specs.References.{met_by_pass, met_by_aid, onward_by_aid, met_by_look, IsPublished}
-use Rattle.kc_pool.specs.Started.{line_of_words}
+use Rattle.kc_pool.specs.References.{met_by_pass, met_by_aid, onward_by_aid, met_by_look}
 use Rattle.kc_pool.specs.Filled.{task}
 use Rattle.kc_pool.proofs.Shapes.{goes_over, works}
 use Rattle.kc_pool.proofs.Statuses.{control_grows}
 use Rattle.kc_pool.proofs.Published.{Started, Out}
 use Rattle.kc_pool.proofs.Remembered.{Met, InWords, met_own, aided_own, onward_own, look_own}
-use Rattle.kc_pool.proofs.Lives.{Lives, lives_effect}
+use Rattle.kc_pool.proofs.Lives.{Lives}
 use Rattle.kc_traces.proofs.Copies.{Copies, SameWords, copies_effect}
 use Rattle.kc_claims.specs.Claims.{step_owes, PassOwes, OwesRelease}
 use Rattle.kc_passes.specs.Lines.{IsLastLife, IsInstalledLine}
 use Rattle.kc_passes.specs.Phases.{IsDecided, StepKnows, AidKnows}
-use Rattle.kc_passes.specs.Passed.{gone_by, IsActive, InstalledBelow, PassedAreInstalled, WaitingAreInstalled}
-use Rattle.kc_passes.proofs.Targets.{Target, Grounds, Course, course, own_target, grounds}
+use Rattle.kc_passes.specs.Passed.{gone_by, InstalledBelow, PassedAreInstalled, WaitingAreInstalled}
+use Rattle.kc_passes.proofs.Targets.{Target, course, own_target, grounds}
 use Rattle.kc_passes.proofs.Lives.{SameLife, same_line, line_stays, held_counts, words_stay, life_stays, last_stays, decided_stays}
 use Rattle.kc_passes.proofs.Owing.{named, install_owes, owes_on}
 use Rattle.kc_passes.proofs.Moves.{Installs, word_before, Releases, in_pass, in_aid, word_after}

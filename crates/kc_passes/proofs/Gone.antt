@@ -1,5 +1,5 @@
 -- What a search for the next line passes by: no line that is installed.
-use Rattle.std.proofs.Common.{◌≡◌, ℕ, zero, suc, ◌+◌, ◌-◌, ◌<◌, ◌≤◌, ◌∙◌, refl, sym, arith, Bool, true, false, not, ◌==◌, if◌then◌else◌, List, Option, None, Some}
+use Rattle.std.proofs.Common.{◌≡◌, ℕ, zero, suc, ◌+◌, ◌-◌, ◌<◌, ◌≤◌, refl, sym, arith, Bool, true, false, not, ◌==◌, if◌then◌else◌, List, Option, None, Some}
 use Rattle.std.specs.Prelude.{slice_get, nat_lt}
 use Rattle.std.proofs.lemmas.Option.{slice_get_within}
 use borrow.Author.Tests.{eqb-true, eqb-false, ltb-true, ltb-false}

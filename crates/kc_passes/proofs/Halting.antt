@@ -1,10 +1,9 @@
 -- Only a halted owner decides Halted.
-use Rattle.std.proofs.Common.{◌≡◌, ℕ, ◌⊎◌, ◌∙◌, inl, inr, refl, sym, ap, subst, Bool, true, false, List, Option, None, Some}
+use Rattle.std.proofs.Common.{◌≡◌, ℕ, ◌⊎◌, ◌∙◌, inl, inr, refl, sym, ap, subst, Bool, true, List, None, Some}
 use Rattle.kc_model.specs.declared.footprint.Seen.{Seen}
 use Rattle.kc_words.specs.declared.words.Handle.{Handle}
 use Rattle.kc_words.specs.declared.words.Reference.{Reference}
 use Rattle.kc_words.specs.declared.words.Mode.{Mode}
-use Rattle.kc_words.specs.declared.words.Phase.{Phase}
 use Rattle.kc_words.specs.declared.words.Phase.TheVariants.{Active, Succeeded, Halted}
 use Rattle.kc_words.specs.declared.words.Status.{Status}
 use Rattle.kc_steps.specs.declared.line.Line.{Line}
@@ -26,9 +25,9 @@ use Rattle.kc_machine.specs.Works.{Work}
 use Rattle.kc_machine.specs.Works as work
 use Rattle.kc_machine.specs.declared.seat.Seat.{Seat}
 use Rattle.kc_steps.specs.Passes.{status}
-use Rattle.kc_machine.specs.Machine.{World, put}
+use Rattle.kc_machine.specs.Machine.{World}
 use Rattle.kc_machine.proofs.Functions.{put_cases}
-use Rattle.kc_effects.specs.Stands.{Stand, Turn, At, Own as Owning, NoOwn, Owns, Runs, Waits, Passing, NoPass, Over, Aiding, NoAid, stand, works, resting, commits, owns, aids, hangs}
+use Rattle.kc_effects.specs.Stands.{Stand, Turn, At, Own as Owning, NoOwn, Owns, Runs, Waits, NoPass, Over, stand, works, resting, commits, owns, aids, hangs}
 use Rattle.kc_effects.specs.Holds.{Proper, own_hold}
 use Rattle.kc_effects.specs.Effects
 use Rattle.kc_seats.specs.Fits.{StepFits, AidFits, OwnFits, StageFits, WorkFits}

@@ -1,14 +1,9 @@
 -- Who owes a release holds the life; and each reference in a word is owed by somebody.
-use Rattle.std.proofs.Common.{◌≡◌, ◌≢◌, ℕ, ◌<◌, ◌≤◌, ◌⊎◌, ◌∙◌, ⊎_elim, inl, inr, refl, sym, ap, subst, Bool, true, false, List, Option, None, Some}
+use Rattle.std.proofs.Common.{◌≡◌, ℕ, ◌<◌, ◌⊎◌, ◌∙◌, ⊎_elim, inl, inr, refl, ap, subst, true, None}
 use Rattle.kc_words.specs.declared.words.Handle.{Handle}
 use Rattle.kc_words.specs.declared.words.Reference.{Reference}
-use Rattle.kc_words.specs.declared.words.Mode.{Mode}
-use Rattle.kc_words.specs.declared.words.Phase.{Phase}
-use Rattle.kc_steps.specs.declared.line.Line.{Line}
-use Rattle.kc_steps.specs.declared.pass.PassStep.{PassStep}
 use Rattle.kc_steps.specs.declared.pass.PassStep.TheVariants.{Install, Check, CheckHold, CheckStatus, CheckFirst, CheckDrop, Decide, Release}
 use Rattle.kc_steps.specs.declared.aid.Aided.{Aided}
-use Rattle.kc_steps.specs.declared.aid.AidStep.{AidStep}
 use Rattle.kc_steps.specs.declared.aid.AidStep.TheVariants as aid
 use Rattle.kc_steps.specs.declared.aid.AidNext.{AidNext}
 use Rattle.kc_steps.specs.declared.aid.AidNext.TheVariants as aiding
@@ -19,7 +14,7 @@ use Rattle.kc_pool.specs.Owners.{phase_released, phase_of_pass}
 use Rattle.kc_pool.proofs.Shapes.{Shape, goes_over, own_course, aid_course, same_course, runs, works}
 use Rattle.kc_pool.proofs.Phases.{Undecides}
 use Rattle.kc_traces.proofs.Copies.{Copies}
-use Rattle.kc_claims.specs.Claims.{step_owes, turn_owes, PassOwes, OwnOwes, next_owes, AidOwes, OwesRelease}
+use Rattle.kc_claims.specs.Claims.{turn_owes, PassOwes, OwnOwes, next_owes, AidOwes, OwesRelease}
 use Rattle.kc_passes.proofs.Targets.{course}
 
 pub same_handle : (h : Handle) (d g : ℕ) → Proper h.descriptor h.generation ≡ Proper d g → h ≡ record { descriptor = d; generation = g }

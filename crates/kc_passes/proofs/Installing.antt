@@ -1,7 +1,7 @@
 -- How far a seat's pass has installed, behind each of its steps.
-use Rattle.std.proofs.Common.{◌≡◌, ◌≢◌, ℕ, ◌+◌, ◌<◌, ◌≤◌, ◌∙◌, refl, sym, ap, subst, arith, ◌==◌, Bool, true, false, if◌then◌else◌, List, Option, None, Some}
-use Rattle.std.specs.Prelude.{slice_get, nat_lt}
-use borrow.Author.Tests.{eqb-true, eqb-false, ltb-false}
+use Rattle.std.proofs.Common.{◌≡◌, ℕ, ◌≤◌, ◌∙◌, refl, sym, ap, subst, arith, ◌==◌, Bool, true, false, List, Option, None, Some}
+use Rattle.std.specs.Prelude.{slice_get}
+use borrow.Author.Tests.{eqb-true, eqb-false}
 use Rattle.kc_words.specs.declared.words.Handle.{Handle}
 use Rattle.kc_words.specs.declared.words.Mode.{Mode}
 use Rattle.kc_words.specs.declared.words.Phase.{Phase}
@@ -14,11 +14,11 @@ use Rattle.kc_steps.specs.declared.pass.AfterCheck.{AfterCheck}
 use Rattle.kc_steps.specs.declared.pass.AfterCheck.TheVariants as checked
 use Rattle.kc_steps.specs.declared.aid.AidStep.TheVariants as aid
 use Rattle.kc_steps.specs.Lines.{next_line, after_line, word_of, is_installed}
-use Rattle.kc_steps.specs.Passes.{status, from_install, from_check, from_release, release_or_finish, check_drop_next, decided_as}
+use Rattle.kc_steps.specs.Passes.{status, from_install, from_release, release_or_finish, check_drop_next, decided_as}
 use Rattle.kc_steps.specs.Halts.{halted_pass, halted_aid_pass}
 use Rattle.kc_machine.specs.Machine.{World}
 use Rattle.kc_machine.proofs.Functions.{put_here}
-use Rattle.kc_effects.specs.Stands.{Stand, Turn, At, Own, Waits, Passing, turn}
+use Rattle.kc_effects.specs.Stands.{Stand, Turn, turn}
 use Rattle.kc_effects.specs.Changes.{with_word, with_status, held_once_less}
 use Rattle.kc_effects.specs.Effects
 use Rattle.kc_effects.proofs.Tests.{some_line}

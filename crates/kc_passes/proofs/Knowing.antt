@@ -1,20 +1,19 @@
 -- What a seat knows of the phase by which it releases.
-use Rattle.std.proofs.Common.{◌≡◌, ◌≢◌, ℕ, ◌∙◌, refl, sym, ap, subst, List, Option, None, Some}
+use Rattle.std.proofs.Common.{◌≡◌, ◌≢◌, ℕ, ◌∙◌, refl, sym, ap, subst, None, Some}
 use Rattle.kc_words.specs.declared.words.Handle.{Handle}
 use Rattle.kc_words.specs.declared.words.Reference.{Reference}
 use Rattle.kc_words.specs.declared.words.Phase.{Phase}
-use Rattle.kc_words.specs.declared.words.Phase.TheVariants.{Active, Succeeded, Failed, Crossed, Halted}
+use Rattle.kc_words.specs.declared.words.Phase.TheVariants.{Active, Succeeded}
 use Rattle.kc_words.specs.declared.words.Status.{Status}
 use Rattle.kc_words.specs.declared.words.First.{First}
-use Rattle.kc_steps.specs.declared.line.Line.{Line}
 use Rattle.kc_steps.specs.declared.pass.PassStep.{PassStep}
 use Rattle.kc_steps.specs.declared.pass.PassStep.TheVariants.{Install, Check, CheckHold, CheckStatus, CheckFirst, CheckDrop, Decide, Release}
 use Rattle.kc_steps.specs.declared.aid.AidStep.{AidStep}
 use Rattle.kc_steps.specs.declared.aid.AidStep.TheVariants as aid
 use Rattle.kc_steps.specs.Lines.{after_line, joined}
-use Rattle.kc_steps.specs.Passes.{status, from_install, decided_as}
+use Rattle.kc_steps.specs.Passes.{status, decided_as}
 use Rattle.kc_steps.specs.Halts.{halted_aid, halted_aid_pass}
-use Rattle.kc_machine.specs.Machine.{World, put}
+use Rattle.kc_machine.specs.Machine.{World}
 use Rattle.kc_machine.proofs.Functions.{put_here}
 use Rattle.kc_effects.specs.Stands.{Stand, Turn, At, Passing, NoPass, Over}
 use Rattle.kc_effects.specs.Effects

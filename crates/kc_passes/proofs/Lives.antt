@@ -1,5 +1,5 @@
 -- A life that a seat holds stays as it is.
-use Rattle.std.proofs.Common.{◌≡◌, ◌≢◌, ℕ, ◌+◌, ◌<◌, ◌≤◌, ◌∙◌, ⊎_elim, sym, ap, subst, arith, true, List, Some}
+use Rattle.std.proofs.Common.{◌≡◌, ℕ, ◌<◌, ◌≤◌, ◌∙◌, ⊎_elim, sym, ap, subst, arith, true, List}
 use Rattle.kc_words.specs.declared.words.Handle.{Handle}
 use Rattle.kc_words.specs.declared.words.Owner.{Owner}
 use Rattle.kc_words.specs.declared.words.First.{First}
@@ -11,7 +11,7 @@ use Rattle.kc_steps.specs.declared.line.Line.{Line}
 use Rattle.kc_steps.specs.Lines.{joined, is_installed}
 use Rattle.kc_machine.specs.Machine.{World}
 use Rattle.kc_effects.specs.Stands.{Stand}
-use Rattle.kc_effects.specs.Holds.{Proper, Has, on, own_hold, check_hold, aid_hold, look_hold, holds_on}
+use Rattle.kc_effects.specs.Holds.{Proper, Has, on, holds_on}
 use Rattle.kc_effects.specs.Effects.{Effect}
 use Rattle.kc_effects.proofs.Sums.{total_part}
 use Rattle.kc_effects.proofs.Counted.{one_here}

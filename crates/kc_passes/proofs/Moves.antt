@@ -1,9 +1,8 @@
 -- How words come to refer to a line, and cease to.
-use Rattle.std.proofs.Common.{◌≡◌, ◌≢◌, ℕ, ◌<◌, ◌⊎◌, ◌∙◌, inl, inr, refl, sym, ap, true, false, List, None, Some}
+use Rattle.std.proofs.Common.{◌≡◌, ℕ, ◌<◌, ◌⊎◌, ◌∙◌, inl, inr, refl, sym, ap, true, false, List, None, Some}
 use Rattle.std.specs.Prelude.{slice_get}
 use Rattle.kc_model.specs.declared.footprint.TheConstants.{MOST}
-use Rattle.kc_model.specs.declared.word.Word.{Word}
-use Rattle.kc_model.specs.declared.word.Word.TheVariants.{Plain, Ref}
+use Rattle.kc_model.specs.declared.word.Word.TheVariants.{Ref}
 use Rattle.kc_words.specs.declared.words.Handle.{Handle}
 use Rattle.kc_words.specs.declared.words.Reference.{Reference}
 use Rattle.kc_words.specs.declared.words.Mode.{Mode}
@@ -18,7 +17,7 @@ use Rattle.kc_steps.specs.Lines.{after_line, word_of, is_installed}
 use Rattle.kc_steps.specs.Passes.{from_install}
 use Rattle.kc_machine.specs.Machine.{World}
 use Rattle.kc_machine.proofs.Functions.{put_cases}
-use Rattle.kc_effects.specs.Stands.{Stand, At, Passing, Over, Aiding, Aids}
+use Rattle.kc_effects.specs.Stands.{Stand, At, Over, Aids}
 use Rattle.kc_effects.specs.Changes.{with_word}
 use Rattle.kc_effects.specs.Effects
 use Rattle.kc_passes.proofs.Owing.{released}

@@ -1,15 +1,14 @@
 -- Who owes a release goes on to owe it until it is made.
-use Rattle.std.proofs.Common.{◌≡◌, ◌≢◌, ℕ, zero, suc, ◌+◌, ◌<◌, ◌≤◌, ◌⊎◌, ◌∙◌, ⊎_elim, inl, inr, refl, sym, ap, subst, arith, ◌==◌, Bool, true, false, not, if◌then◌else◌, List, [], ◌∷◌, length, Option, None, Some}
+use Rattle.std.proofs.Common.{◌≡◌, ◌≢◌, ℕ, zero, suc, ◌+◌, ◌<◌, ◌≤◌, ◌∙◌, ⊎_elim, inl, inr, refl, sym, ap, subst, arith, Bool, true, false, not, if◌then◌else◌, List, [], ◌∷◌, length, Option, None, Some}
 use Rattle.std.specs.Prelude.{slice_get, nat_lt}
-use borrow.Author.Tests.{eqb-true, eqb-false, ltb-true, ltb-false}
+use borrow.Author.Tests.{ltb-false}
 use Rattle.kc_model.specs.declared.word.Word.{Word}
-use Rattle.kc_model.specs.declared.word.Word.TheVariants.{Plain, Ref}
+use Rattle.kc_model.specs.declared.word.Word.TheVariants.{Plain}
 use Rattle.kc_words.specs.declared.words.Handle.{Handle}
 use Rattle.kc_words.specs.declared.words.Reference.{Reference}
 use Rattle.kc_words.specs.declared.words.Mode.{Mode}
-use Rattle.kc_words.specs.declared.words.Owner.{Owner}
 use Rattle.kc_words.specs.declared.words.Phase.{Phase}
-use Rattle.kc_words.specs.declared.words.Phase.TheVariants.{Active, Succeeded, Failed, Crossed, Halted}
+use Rattle.kc_words.specs.declared.words.Phase.TheVariants.{Active, Succeeded, Halted}
 use Rattle.kc_steps.specs.declared.line.Line.{Line}
 use Rattle.kc_steps.specs.declared.line.Pick.TheVariants.{Installed, Checked}
 use Rattle.kc_steps.specs.declared.pass.PassStep.{PassStep}
@@ -18,18 +17,16 @@ use Rattle.kc_steps.specs.declared.pass.AfterCheck.{AfterCheck}
 use Rattle.kc_steps.specs.declared.pass.AfterCheck.TheVariants as checked
 use Rattle.kc_steps.specs.declared.aid.AidStep.{AidStep}
 use Rattle.kc_steps.specs.declared.aid.AidStep.TheVariants as aid
-use Rattle.kc_steps.specs.declared.aid.AidNext.{AidNext}
 use Rattle.kc_steps.specs.declared.aid.AidNext.TheVariants as aiding
 use Rattle.kc_steps.specs.Lines.{next_line, after_line, word_of, is_installed, first_of, second_of, resolved_version, resolved_value}
 use Rattle.kc_steps.specs.Passes.{from_install, install_or_check, from_check, check_or_decide, from_release, decided_as, check_drop_next}
 use Rattle.kc_steps.specs.Halts.{halted_pass, halted_aid_pass, halted_aid}
 use Rattle.kc_machine.specs.Machine.{World, put}
 use Rattle.kc_machine.proofs.Functions.{put_here}
-use Rattle.kc_effects.specs.Stands.{Stand, Turn, At, Own, NoOwn, Owns, Runs, Waits, Aiding, NoAid, Aids, Passes, turn}
+use Rattle.kc_effects.specs.Stands.{Stand, Turn, Own, turn}
 use Rattle.kc_effects.specs.Effects
-use Rattle.kc_pool.proofs.Shapes.{Shape, own_course, same_course, aids_course, waits}
+use Rattle.kc_pool.proofs.Shapes.{own_course, same_course, aids_course, waits}
 use Rattle.kc_pool.proofs.Phases.{same_step}
-use Rattle.kc_pool.specs.Started.{line_of_words}
 use Rattle.kc_claims.specs.Claims.{step_owes, turn_owes, PassOwes, OwnOwes, next_owes, AidOwes, OwesRelease}
 use Rattle.kc_passes.specs.Lines.{IsInstalledLine}
 use Rattle.kc_passes.proofs.Targets.{Target, Grounds}
@@ -147,17 +144,17 @@ module _ (h : Handle) (i : ℕ) where
     pass_owes k (Effects.release {w} s {h = a} {m} {xs} {j} {p} x t b c e z) g f r o =
         let y = subst (λ y. Target w y m xs) o.0 (g.course a m xs refl) in
         let gone : i ≡ j → ⊥ = (λ q.
-            let here = ap (λ (v : Line). v.seen.loc.0) (y.line j x b) in
-            let stands = subst (λ n. put w.word x.seen.loc.0 (released x p) (w.second h.descriptor n).loc ≡ word_of h i) q r in
-            let plain = ap (put w.word x.seen.loc.0 (released x p)) here ∙ put_here w.word x.seen.loc.0 (released x p) in
-            absurd (cc)) in
+        let here = ap (λ (v : Line). v.seen.loc.0) (y.line j x b) in
+        let stands = subst (λ n. put w.word x.seen.loc.0 (released x p) (w.second h.descriptor n).loc ≡ word_of h i) q r in
+        let plain = ap (put w.word x.seen.loc.0 (released x p)) here ∙ put_here w.word x.seen.loc.0 (released x p) in
+        absurd (cc)) in
         inl (o.0, goes_on w (Release j p) m xs j x p t f y b gone o.1 e)
     pass_owes k (Effects.skip {w} s {h = a} {m} {xs} {j} {p} x t b c e z) g f r o =
         let y = subst (λ y. Target w y m xs) o.0 (g.course a m xs refl) in
         let gone : i ≡ j → ⊥ = (λ q.
-            let here = ap (λ (v : Line). v.seen.loc.0) (y.line j x b) in
-            let stands = subst (λ n. w.word (w.second h.descriptor n).loc ≡ word_of h n) q r in
-            c (ap w.word (sym here) ∙ stands ∙ ap (λ v. word_of v j) (sym o.0))) in
+        let here = ap (λ (v : Line). v.seen.loc.0) (y.line j x b) in
+        let stands = subst (λ n. w.word (w.second h.descriptor n).loc ≡ word_of h n) q r in
+        c (ap w.word (sym here) ∙ stands ∙ ap (λ v. word_of v j) (sym o.0))) in
         inl (o.0, goes_on w (Release j p) m xs j x p t f y b gone o.1 e)
     pass_owes k (Effects.own_meets s {h = a} {e} {m} {xs} {i = y} c) g f r o = inr (inl (sym (same_course e a m y.mode xs y.lines.items g.shape.0).0 ∙ o.0))
     pass_owes k (Effects.own_ends s) g f r o = absurd (cc)

@@ -1,5 +1,5 @@
 -- What a pass goes over is what its descriptor's words say, whoever's pass it is.
-use Rattle.std.proofs.Common.{◌≡◌, ℕ, zero, suc, ◌<◌, ◌≤◌, ◌∙◌, inl, inr, refl, sym, ap, subst, arith, Bool, true, false, List, [], ◌∷◌, length, Option, None, Some}
+use Rattle.std.proofs.Common.{◌≡◌, ℕ, zero, suc, ◌<◌, ◌∙◌, inl, inr, refl, sym, ap, subst, arith, true, false, List, length, Option, Some}
 use Rattle.std.specs.Prelude.{slice_get}
 use Rattle.kc_words.specs.declared.words.Handle.{Handle}
 use Rattle.kc_words.specs.declared.words.Reference.{Reference}
@@ -11,7 +11,7 @@ use Rattle.kc_steps.specs.declared.aid.Aided.{Aided}
 use Rattle.kc_steps.specs.declared.aid.AidStep.TheVariants as aid
 use Rattle.kc_steps.specs.declared.aid.AidNext.TheVariants as aiding
 use Rattle.kc_steps.specs.declared.commit.OwnStep.{OwnStep}
-use Rattle.kc_steps.specs.Lines.{joined, first_of, second_of}
+use Rattle.kc_steps.specs.Lines.{joined, first_of}
 use Rattle.kc_machine.specs.Machine.{World}
 use Rattle.kc_effects.specs.Stands.{Stand, Own, NoOwn, Owns, Runs, Waits, Aiding, NoAid, Aids, Passes}
 use Rattle.kc_effects.specs.Holds.{Proper, Has, held, own_hold, aid_hold}

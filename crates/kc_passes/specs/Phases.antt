@@ -1,5 +1,5 @@
 -- Who knows by which phase a line is released, and who has still to release it.
-use Rattle.std.specs.Prelude.{◌≡◌, ◌≢◌, ◌<◌, ℕ, List, true, Some}
+use Rattle.std.specs.Prelude.{◌≡◌, ◌≢◌, ◌<◌, ℕ, List, true}
 use Rattle.kc_model.specs.declared.word.Word.TheVariants.{Ref}
 use Rattle.kc_words.specs.declared.words.Handle.{Handle}
 use Rattle.kc_words.specs.declared.words.Reference.{Reference}

@@ -1,40 +1,29 @@
 -- What seats remember from words: what holds of each reference in a word holds of each that a seat remembers. That other
 -- effects keep it is for the caller to show.
-use Rattle.std.proofs.Common.{◌≡◌, ℕ, ◌≤◌, ◌∙◌, ⊎_elim, refl, sym, ap, subst, arith, Bool, true, false, List, Option, None, Some}
+use Rattle.std.proofs.Common.{◌≡◌, ℕ, ◌∙◌, refl, sym, ap, subst, List, Option, None, Some}
 use Rattle.kc_model.specs.declared.footprint.Seen.{Seen}
 use Rattle.kc_model.specs.declared.footprint.Loc.{Loc}
-use Rattle.kc_model.specs.declared.word.Word.{Word}
 use Rattle.kc_model.specs.declared.word.Word.TheVariants.{Ref}
-use Rattle.kc_words.specs.declared.words.Handle.{Handle}
 use Rattle.kc_words.specs.declared.words.Reference.{Reference}
 use Rattle.kc_words.specs.declared.words.Mode.{Mode}
 use Rattle.kc_words.specs.declared.words.Phase.{Phase}
-use Rattle.kc_words.specs.declared.words.Phase.TheVariants.{Active, Succeeded, Halted}
+use Rattle.kc_words.specs.declared.words.Phase.TheVariants.{Succeeded, Halted}
 use Rattle.kc_steps.specs.declared.line.Line.{Line}
 use Rattle.kc_steps.specs.declared.line.Pick.TheVariants.{Installed, Checked}
-use Rattle.kc_steps.specs.declared.look.LookStep.{LookStep}
-use Rattle.kc_steps.specs.declared.look.LookStep.TheVariants as look
-use Rattle.kc_steps.specs.declared.look.LookNext.TheVariants as looking
 use Rattle.kc_steps.specs.declared.pass.PassStep.{PassStep}
 use Rattle.kc_steps.specs.declared.pass.PassStep.TheVariants.{Install, Check, CheckHold, CheckStatus, CheckFirst, CheckDrop, Decide, Release}
 use Rattle.kc_steps.specs.declared.pass.AfterCheck.{AfterCheck}
 use Rattle.kc_steps.specs.declared.pass.AfterCheck.TheVariants as checked
 use Rattle.kc_steps.specs.declared.aid.AidStep.{AidStep}
 use Rattle.kc_steps.specs.declared.aid.AidStep.TheVariants as aid
-use Rattle.kc_steps.specs.declared.aid.AidNext.TheVariants as aiding
-use Rattle.kc_steps.specs.Lines.{next_line, after_line, word_of}
+use Rattle.kc_steps.specs.Lines.{next_line, after_line}
 use Rattle.kc_steps.specs.Looks.{reference_of, again_or_saw}
-use Rattle.kc_steps.specs.Passes.{status, from_install, install_or_check, from_check, check_or_decide, from_release, release_or_finish, decided_as, check_drop_next}
+use Rattle.kc_steps.specs.Passes.{from_install, install_or_check, from_check, check_or_decide, from_release, release_or_finish, decided_as, check_drop_next}
 use Rattle.kc_steps.specs.Halts.{halted_pass, halted_aid_pass, halted_aid}
-use Rattle.kc_machine.specs.Machine.{World, put}
-use Rattle.kc_machine.proofs.Functions.{put_here, put_cases}
-use Rattle.kc_effects.specs.Stands.{Stand, Turn, At, Meets, Ends, Leaves, Passing, NoPass, Over, Aiding, NoAid, Aids, Passes, Looking, NoLook, Looks, turn}
-use Rattle.kc_effects.specs.Holds.{NoHold, Proper, held, dropping, look_step_hold, check_hold, aid_hold, look_hold}
+use Rattle.kc_machine.specs.Machine.{World}
+use Rattle.kc_effects.specs.Stands.{Stand, Turn, Looks, turn}
 use Rattle.kc_effects.specs.Effects
-use Rattle.kc_pool.specs.Owners.{Follows}
-use Rattle.kc_pool.specs.References.{met_by_step, met_by_turn, met_by_pass, met_by_aid, onward_by_step, onward_by_aid, met_by_look, IsPublished}
-use Rattle.kc_pool.proofs.Statuses.{Owned, status_moves}
-use Rattle.kc_pool.proofs.Shapes.{pass_life}
+use Rattle.kc_pool.specs.References.{met_by_step, met_by_turn, met_by_pass, met_by_aid, onward_by_step, onward_by_aid, met_by_look}
 use Rattle.kc_pool.proofs.Phases.{same_step}
 
 check_unmet : (m : Mode) (xs : List Line) (j : ℕ) → met_by_step (from_check m xs j) ≡ None

@@ -1,5 +1,5 @@
 -- An aid loads no line more than the owner word says, so in its pass it has them all.
-use Rattle.std.proofs.Common.{◌≡◌, ℕ, ◌<◌, ◌≤◌, arith, sym, subst, ◌==◌, Bool, true, false, if◌then◌else◌, length, [], ◌∷◌, ◌++◌, Some}
+use Rattle.std.proofs.Common.{◌≡◌, ℕ, ◌<◌, ◌≤◌, arith, subst, ◌==◌, Bool, true, false, if◌then◌else◌, length, [], ◌∷◌, ◌++◌, Some}
 use Rattle.std.proofs.lemmas.List.{length-append}
 use borrow.Author.Tests.{ltb-false}
 use Rattle.kc_words.specs.declared.words.First.{First}
