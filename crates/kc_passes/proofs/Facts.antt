@@ -39,7 +39,7 @@ use Rattle.kc_passes.proofs.Targets.{Target, course, own_target, grounds}
 use Rattle.kc_passes.proofs.Lives.{SameLife, same_line, line_stays, held_counts, words_stay, life_stays, last_stays, decided_stays}
 use Rattle.kc_passes.proofs.Owing.{named, install_owes, owes_on}
 use Rattle.kc_passes.proofs.Moves.{Installs, word_before, Releases, in_pass, in_aid, word_after}
-use Rattle.kc_passes.proofs.Knowing.{PassKnows, pass_knows_own, aid_knows_own}
+use Rattle.kc_passes.proofs.Knowing.{at_phase, PassKnows, pass_knows_own, aid_knows_own}
 use Rattle.kc_passes.proofs.Installing.{passed_own, waiting_own}
 use Rattle.kc_passes.proofs.Halting.{halted_moves, halted_kept}
 use Rattle.kc_passes.proofs.Holders.{owes_held, undecided_owes}
@@ -75,9 +75,6 @@ pub record Facts (n m : ℕ) (w : World) (at : ℕ → Stand) : Type 0 where
   pub before : (l g d k i : ℕ) → w.word l ≡ Ref g d k → w.status d ≡ status g Active → i < k → IsInstalledLine w d i → w.word (w.second d i).loc ≡ Ref g d i
   pub halted : (j d g : ℕ) → j < n → own_hold (at j).own ≡ Proper d g → w.status d ≡ status g Halted → (at j).halted ≡ true
   pub exist : (j : ℕ) → j < n → AllExist w (at j)
-
-at_phase : (v : Status) (g : ℕ) (p : Phase) → v.generation ≡ g → v.phase ≡ p → v ≡ status g p
-at_phase v g p a b = λ i. record { generation = a i; phase = b i }
 
 same_named : (w : World) (l g d i h e j : ℕ) → Ref h e j ≡ Ref g d i → Named w l h e j → Named w l g d i
 same_named w l g d i h e j q y =

@@ -35,7 +35,7 @@ unread v h t e p q = let n = sym e ∙ q in absurd (cc)
 decided_here : (v : Status) (h : Handle) (p : Phase) (t u : Turn) → p ≢ Active → t ≡ u → phase_released u ≡ Some p → v ≡ status h.generation p → (x : Phase) → phase_released t ≡ Some x → (v ≡ status h.generation x) × (x ≢ Active)
 decided_here v h p t u n e r s x q = let y = turn_reads t u p x e r q in (s ∙ ap (status h.generation) y, λ z. n (y ∙ z))
 
-at_phase : (v : Status) (g : ℕ) (p : Phase) → v.generation ≡ g → v.phase ≡ p → v ≡ status g p
+pub at_phase : (v : Status) (g : ℕ) (p : Phase) → v.generation ≡ g → v.phase ≡ p → v ≡ status g p
 at_phase v g p a b = λ i. record { generation = a i; phase = b i }
 
 -- the words are those behind the step, but for what the step found

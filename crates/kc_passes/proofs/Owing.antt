@@ -1,5 +1,5 @@
 -- Who owes a release goes on to owe it until it is made.
-use Rattle.std.proofs.Common.{◌≡◌, ◌≢◌, ℕ, zero, suc, ◌+◌, ◌<◌, ◌≤◌, ◌∙◌, ⊎_elim, inl, inr, refl, sym, ap, subst, arith, Bool, true, false, not, if◌then◌else◌, List, [], ◌∷◌, length, Option, None, Some}
+use Rattle.std.proofs.Common.{◌≡◌, ◌≢◌, ℕ, ◌+◌, ◌<◌, ◌≤◌, ◌∙◌, ⊎_elim, inl, inr, refl, sym, ap, subst, arith, Bool, true, false, not, if◌then◌else◌, List, Option, None, Some}
 use Rattle.std.specs.Prelude.{slice_get, nat_lt}
 use borrow.Author.Tests.{ltb-false}
 use Rattle.kc_model.specs.declared.word.Word.{Word}
@@ -28,16 +28,12 @@ use Rattle.kc_effects.specs.Effects
 use Rattle.kc_pool.proofs.Shapes.{own_course, same_course, aids_course, waits}
 use Rattle.kc_pool.proofs.Phases.{same_step}
 use Rattle.kc_claims.specs.Claims.{step_owes, turn_owes, PassOwes, OwnOwes, next_owes, AidOwes, OwesRelease}
+use Rattle.kc_pool.proofs.Filled.{is_there}
 use Rattle.kc_passes.specs.Lines.{IsInstalledLine}
 use Rattle.kc_passes.proofs.Targets.{Target, Grounds}
 use Rattle.kc_passes.proofs.Gone.{release_owes}
 
 -- the line that a reference names is one of those that a pass goes over
-pub is_there : {A : Type 0} (xs : List A) (k : ℕ) → k < length xs → (x : A) × (slice_get xs k ≡ Some x)
-is_there [] k l = absurd (omega arith)
-is_there (x ∷ xs) zero l = (x, refl)
-is_there (x ∷ xs) (suc k) l = is_there xs k (omega arith)
-
 pub named : (w : World) (h : Handle) (mode : Mode) (xs : List Line) (i : ℕ) → Target w h mode xs → IsInstalledLine w h.descriptor i → (x : Line) × (slice_get xs i ≡ Some x) × (is_installed mode x ≡ true)
 named w h mode xs i t f =
     let n = t.lines in

@@ -1,5 +1,5 @@
 -- The words of an owned descriptor are those of its owner's intent, as far as they are stored.
-use Rattle.std.proofs.Common.{◌≡◌, ℕ, ◌+◌, ◌<◌, ◌≤◌, ◌⊎◌, ◌∙◌, inl, inr, refl, sym, ap, subst, arith, Bool, true, false, if◌then◌else◌, List, length, get_or, Option, None, Some}
+use Rattle.std.proofs.Common.{◌≡◌, ℕ, zero, suc, [], ◌∷◌, ◌+◌, ◌<◌, ◌≤◌, ◌⊎◌, ◌∙◌, inl, inr, refl, sym, ap, subst, arith, Bool, true, false, if◌then◌else◌, List, length, get_or, Option, None, Some}
 use Rattle.std.specs.Prelude.{slice_get, nat_lt}
 use Rattle.std.proofs.lemmas.Option.{slice_get_cases, slice_get_within}
 use Rattle.std.proofs.lemmas.Bool.{ltb-false}
@@ -63,6 +63,12 @@ past_end xs k e = by (slice_get_cases xs k).1
     by : ((x : Line) × (k < length xs) × (slice_get xs k ≡ Some x) × (get_or xs k x ≡ x)) ⊎ ((length xs ≤ k) × (slice_get xs k ≡ None)) → length xs ≤ k
     by (inl (x, lt, is, at)) = absurd (cc (e, is))
     by (inr (le, is)) = le
+
+-- an index within a list
+pub is_there : {A : Type 0} (xs : List A) (k : ℕ) → k < length xs → (x : A) × (slice_get xs k ≡ Some x)
+is_there [] k l = absurd (omega arith)
+is_there (x ∷ xs) zero l = (x, refl)
+is_there (x ∷ xs) (suc k) l = is_there xs k (omega arith)
 
 pub one_behind : (j : ℕ) → after_line j ≤ j + 1
 one_behind j = go (nat_lt j 64) refl
