@@ -29,7 +29,7 @@ use Rattle.kc_steps.specs.declared.pass.PassStep.TheVariants.{Install, Check, Ch
 use Rattle.kc_steps.specs.declared.aid.AidStep.TheVariants as aid
 use Rattle.kc_steps.specs.declared.aid.AidNext.{AidNext}
 use Rattle.kc_steps.specs.declared.aid.AidNext.TheVariants as aiding
-use Rattle.kc_steps.specs.declared.commit.OwnStep.TheVariants as own
+use Rattle.kc_commits.specs.declared.commit.OwnStep.TheVariants as own
 use Rattle.kc_steps.specs.Lines.{resolved_version, resolved_value}
 use Rattle.kc_steps.specs.Passes.{status}
 use Rattle.kc_machine.specs.Words.{bit_of}

@@ -18,19 +18,19 @@ use Rattle.kc_steps.specs.declared.pass.PassNext.TheVariants as pass
 use Rattle.kc_steps.specs.declared.aid.Aided.{Aided}
 use Rattle.kc_steps.specs.declared.aid.AidNext.{AidNext}
 use Rattle.kc_steps.specs.declared.aid.AidNext.TheVariants as aiding
-use Rattle.kc_steps.specs.declared.commit.Stage.{Stage}
-use Rattle.kc_steps.specs.declared.commit.Stage.TheVariants.{Scan, Take, Own}
-use Rattle.kc_steps.specs.declared.commit.OwnStep.{OwnStep}
-use Rattle.kc_steps.specs.declared.commit.OwnStep.TheVariants as own
-use Rattle.kc_steps.specs.declared.commit.Commit.{Commit}
-use Rattle.kc_steps.specs.Nexts.{Next}
-use Rattle.kc_steps.specs.Nexts.{Goes, Takes, Tells}
+use Rattle.kc_commits.specs.declared.commit.Stage.{Stage}
+use Rattle.kc_commits.specs.declared.commit.Stage.TheVariants.{Scan, Take, Own}
+use Rattle.kc_commits.specs.declared.commit.OwnStep.{OwnStep}
+use Rattle.kc_commits.specs.declared.commit.OwnStep.TheVariants as own
+use Rattle.kc_commits.specs.declared.commit.Commit.{Commit}
+use Rattle.kc_commits.specs.Nexts.{Next}
+use Rattle.kc_commits.specs.Nexts.{Goes, Takes, Tells}
 use Rattle.kc_steps.specs.declared.line.Pick.TheVariants.{Put}
 use Rattle.kc_steps.specs.Lines.{one_more, after_line, next_line}
 use Rattle.kc_machine.specs.Words.{control}
 use Rattle.kc_steps.specs.Passes.{from_install}
 use Rattle.kc_machine.specs.Seats.{blocked_by}
-use Rattle.kc_steps.specs.Commits.{own_access, commit_access, stage_access, stage_next, commit_next, tells_or_goes, fill_first, fill_second, fill_next, fill_or_start, finished, wake_or_drop, wake_or_signal, owed_next, wake_access, wake_next, after_own_pass, aid_or_back, copy_by, copy_by_own, loaded, after_scan, scan_next, told_of}
+use Rattle.kc_commits.specs.Commits.{own_access, commit_access, stage_access, stage_next, commit_next, tells_or_goes, fill_first, fill_second, fill_next, fill_or_start, finished, wake_or_drop, wake_or_signal, owed_next, wake_access, wake_next, after_own_pass, aid_or_back, copy_by, copy_by_own, loaded, after_scan, scan_next, told_of}
 use Rattle.kc_machine.specs.Machine.{State, World, touched, found_at, possible, put_some}
 use Rattle.kc_steps.specs.declared.pass.AfterCheck.TheVariants as checked
 use Rattle.kc_seats.specs.Fits.{OwnFits, StageFits}

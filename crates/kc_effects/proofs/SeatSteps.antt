@@ -10,9 +10,9 @@ use Rattle.kc_steps.specs.declared.look.LookStep.{LookStep}
 use Rattle.kc_steps.specs.declared.look.LookStep.TheVariants as look
 use Rattle.kc_steps.specs.declared.look.LookNext.{LookNext}
 use Rattle.kc_steps.specs.declared.look.LookNext.TheVariants as looking
-use Rattle.kc_steps.specs.declared.commit.Commit.{Commit}
-use Rattle.kc_steps.specs.Nexts.{Next}
-use Rattle.kc_steps.specs.Nexts as next
+use Rattle.kc_commits.specs.declared.commit.Commit.{Commit}
+use Rattle.kc_commits.specs.Nexts.{Next}
+use Rattle.kc_commits.specs.Nexts as next
 use Rattle.kc_machine.specs.Waits.{Hang}
 use Rattle.kc_machine.specs.declared.hang.HangNext.{HangNext}
 use Rattle.kc_machine.specs.declared.hang.HangNext.TheVariants as hanging
@@ -21,7 +21,7 @@ use Rattle.kc_machine.specs.Works.{Work}
 use Rattle.kc_machine.specs.Works as work
 use Rattle.kc_machine.specs.declared.seat.Seat.{Seat}
 use Rattle.kc_steps.specs.Looks.{look_access, look_next, looks_on, told_by}
-use Rattle.kc_steps.specs.Commits.{gone_on, onward_by}
+use Rattle.kc_commits.specs.Commits.{gone_on, onward_by}
 use Rattle.kc_machine.specs.Hangs.{hangs_on, onward_of, leaves_on, unblocks_or_tells}
 use Rattle.kc_machine.specs.Seats.{access_of, work_access, answer_of, answer_by, after, begun, begun_idle, is_idle, working}
 use Rattle.kc_machine.specs.Seats.{hanging as hanging_of}

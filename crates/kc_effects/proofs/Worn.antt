@@ -7,7 +7,7 @@ use Rattle.kc_words.specs.declared.words.Phase.{Phase}
 use Rattle.kc_words.specs.declared.words.Phase.TheVariants.{Active, Succeeded, Failed, Crossed, Halted}
 use Rattle.kc_steps.specs.declared.task.Told.{Told}
 use Rattle.kc_steps.specs.declared.task.Told.TheVariants as told
-use Rattle.kc_steps.specs.Commits.{after_scan, told_of}
+use Rattle.kc_commits.specs.Commits.{after_scan, told_of}
 use Rattle.kc_machine.specs.Machine.{World}
 use Rattle.kc_effects.specs.Stands.{Stand, Scanning, NoScan, Scans, Takes}
 use Rattle.kc_effects.specs.Claims.{IsWorn, back}

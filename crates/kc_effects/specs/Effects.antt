@@ -33,8 +33,8 @@ use Rattle.kc_steps.specs.declared.aid.Aided.{Aided}
 use Rattle.kc_steps.specs.declared.aid.AidStep.{AidStep}
 use Rattle.kc_steps.specs.declared.aid.AidStep.TheVariants as aid
 use Rattle.kc_steps.specs.declared.aid.AidNext.TheVariants as aiding
-use Rattle.kc_steps.specs.declared.commit.OwnStep.{OwnStep}
-use Rattle.kc_steps.specs.declared.commit.OwnStep.TheVariants as own
+use Rattle.kc_commits.specs.declared.commit.OwnStep.{OwnStep}
+use Rattle.kc_commits.specs.declared.commit.OwnStep.TheVariants as own
 use Rattle.kc_machine.specs.declared.hang.HangStep.TheVariants as hang
 use Rattle.kc_machine.specs.declared.hang.LeaveStep.TheVariants as leave
 use Rattle.kc_machine.specs.Words.{bits_after}
@@ -42,8 +42,8 @@ use Rattle.kc_steps.specs.Lines.{one_more, after_line, first_of, second_of, join
 use Rattle.kc_steps.specs.Looks.{reference_of, seen_at, seen_as, again_or_saw}
 use Rattle.kc_steps.specs.Passes.{status, fits, refers_to, from_install, from_check, from_release, decided_as, agrees_or_fails, check_drop_next}
 use Rattle.kc_steps.specs.Aids.{copy_owner, copy_line}
-use Rattle.kc_steps.specs.Commits.{after_scan, fill_next, finished, wake_next, owed_next, told_of}
-use Rattle.kc_steps.specs.Halts.{halted_pass, halted_aid_pass, halted_aid, halted_own}
+use Rattle.kc_commits.specs.Commits.{after_scan, fill_next, finished, wake_next, owed_next, told_of}
+use Rattle.kc_commits.specs.Halts.{halted_pass, halted_aid_pass, halted_aid, halted_own}
 use Rattle.kc_machine.specs.Machine.{World}
 use Rattle.kc_effects.specs.Stands.{NoOwn, Owns, Runs, Waits, Turn, At, Meets, Ends, Leaves, NoPass, Over, NoAid, Aids, Passes, NoLook, Looks, Scanning, NoScan, Scans, Takes, Hangs, HangLooks, Leaving, Stand, idle, turn, location_of, met_by_look_step}
 use Rattle.kc_effects.specs.Holds.{look_hold as hold_of_look}

@@ -3,11 +3,11 @@ use Rattle.std.specs.Prelude.{ℕ, List, None, Some}
 use Rattle.kc_words.specs.declared.words.Mode.{Mode}
 use Rattle.kc_steps.specs.declared.line.Line.{Line}
 use Rattle.kc_steps.specs.declared.task.Told.{Told}
-use Rattle.kc_steps.specs.declared.commit.Stage.{Stage}
-use Rattle.kc_steps.specs.declared.commit.Stage.TheVariants.{Scan}
+use Rattle.kc_commits.specs.declared.commit.Stage.{Stage}
+use Rattle.kc_commits.specs.declared.commit.Stage.TheVariants.{Scan}
 use Rattle.kc_steps.specs.Lines.{one_more}
-use Rattle.kc_steps.specs.Nexts.{Next, Goes, Takes, Tells}
-use Rattle.kc_steps.specs.Commits.{commit_at}
+use Rattle.kc_commits.specs.Nexts.{Next, Goes, Takes, Tells}
+use Rattle.kc_commits.specs.Commits.{commit_at}
 use Rattle.kc_machine.specs.declared.point.Point.{Point}
 use Rattle.kc_machine.specs.declared.seat.Seat.{Seat}
 use Rattle.kc_machine.specs.Works as work

@@ -10,9 +10,9 @@ mod tests;
 mod words;
 
 pub use hang::{HangStep, LeaveStep};
+pub use kc_commits::{Commit, OwnStep, Stage};
 pub use kc_steps::{
-    AfterCheck, AidStep, Aided, Commit, Event, Intent, Line, Look, LookStep, OwnStep, PassStep,
-    Stage, Task, Told,
+    AfterCheck, AidStep, Aided, Event, Intent, Line, Look, LookStep, PassStep, Task, Told,
 };
 pub use machine::Machine;
 pub use point::Point;

@@ -7,11 +7,11 @@ ghost use Rattle.kc_model.specs.declared.footprint.Footprint.{Footprint};
 ghost use Rattle.kc_steps.specs.declared.task.Task.TheVariants as task;
 ghost use Rattle.kc_steps.specs.declared.line.Line.{Line};
 ghost use Rattle.kc_steps.specs.Lines.{lines_of};
-ghost use Rattle.kc_steps.specs.Commits.{commit_at, stage_access, stage_next, aids};
+ghost use Rattle.kc_commits.specs.Commits.{commit_at, stage_access, stage_next, aids};
 ghost use Rattle.kc_machine.specs.declared.seat.Seat.{Seat};
 ghost use Rattle.kc_machine.specs.Seats.{access_of, answer_of, begun, is_idle};
 
-use kc_steps::Stage;
+use kc_commits::Stage;
 
 /// The steps that a seat has made, the descriptors that it has taken, and the stage of its commit.
 #[derive(Clone, Copy)]

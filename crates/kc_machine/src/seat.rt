@@ -7,7 +7,8 @@ use crate::hang::{HangStep, LeaveStep};
 use crate::point::Point;
 use arrayvec::ArrayVec;
 use kc_model::{Loc, MOST, Seen};
-use kc_steps::{Commit, Line, Look, LookStep, Onward, Task, Told, copy_reads, one_more};
+use kc_commits::Commit;
+use kc_steps::{Line, Look, LookStep, Onward, Task, Told, copy_reads, one_more};
 use kc_words::{Access, Found, Mode};
 use std::marker::Model;
 

@@ -15,7 +15,7 @@ use Rattle.kc_steps.specs.declared.pass.AfterCheck.TheVariants as checked
 use Rattle.kc_steps.specs.declared.aid.AidStep.TheVariants as aid
 use Rattle.kc_steps.specs.Lines.{next_line, after_line, word_of, is_installed}
 use Rattle.kc_steps.specs.Passes.{status, from_install, from_release, release_or_finish, check_drop_next, decided_as}
-use Rattle.kc_steps.specs.Halts.{halted_pass, halted_aid_pass}
+use Rattle.kc_commits.specs.Halts.{halted_pass, halted_aid_pass}
 use Rattle.kc_machine.specs.Machine.{World}
 use Rattle.kc_machine.proofs.Functions.{put_here}
 use Rattle.kc_effects.specs.Stands.{Stand, Turn, turn}

@@ -12,7 +12,7 @@ use Rattle.kc_steps.specs.declared.aid.AidStep.{AidStep}
 use Rattle.kc_steps.specs.declared.aid.AidStep.TheVariants as aid
 use Rattle.kc_steps.specs.Lines.{after_line, joined}
 use Rattle.kc_steps.specs.Passes.{status, decided_as}
-use Rattle.kc_steps.specs.Halts.{halted_aid, halted_aid_pass}
+use Rattle.kc_commits.specs.Halts.{halted_aid, halted_aid_pass}
 use Rattle.kc_machine.specs.Machine.{World}
 use Rattle.kc_machine.proofs.Functions.{put_here}
 use Rattle.kc_effects.specs.Stands.{Stand, Turn, At, Passing, NoPass, Over}

@@ -20,7 +20,7 @@ use Rattle.kc_steps.specs.declared.aid.AidStep.TheVariants as aid
 use Rattle.kc_steps.specs.declared.aid.AidNext.TheVariants as aiding
 use Rattle.kc_steps.specs.Lines.{next_line, after_line, word_of, is_installed, first_of, second_of, resolved_version, resolved_value}
 use Rattle.kc_steps.specs.Passes.{from_install, install_or_check, from_check, check_or_decide, from_release, decided_as, check_drop_next}
-use Rattle.kc_steps.specs.Halts.{halted_pass, halted_aid_pass, halted_aid}
+use Rattle.kc_commits.specs.Halts.{halted_pass, halted_aid_pass, halted_aid}
 use Rattle.kc_machine.specs.Machine.{World, put}
 use Rattle.kc_machine.proofs.Functions.{put_here}
 use Rattle.kc_effects.specs.Stands.{Stand, Turn, Own, turn}

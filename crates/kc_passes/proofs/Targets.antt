@@ -10,7 +10,7 @@ use Rattle.kc_steps.specs.declared.line.Intent.{Intent}
 use Rattle.kc_steps.specs.declared.aid.Aided.{Aided}
 use Rattle.kc_steps.specs.declared.aid.AidStep.TheVariants as aid
 use Rattle.kc_steps.specs.declared.aid.AidNext.TheVariants as aiding
-use Rattle.kc_steps.specs.declared.commit.OwnStep.{OwnStep}
+use Rattle.kc_commits.specs.declared.commit.OwnStep.{OwnStep}
 use Rattle.kc_steps.specs.Lines.{joined, first_of}
 use Rattle.kc_machine.specs.Machine.{World}
 use Rattle.kc_effects.specs.Stands.{Stand, Own, NoOwn, Owns, Runs, Waits, Aiding, NoAid, Aids, Passes}

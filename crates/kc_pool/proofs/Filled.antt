@@ -8,9 +8,9 @@ use Rattle.kc_words.specs.declared.words.First.{First}
 use Rattle.kc_words.specs.declared.words.Second.{Second}
 use Rattle.kc_steps.specs.declared.line.Line.{Line}
 use Rattle.kc_steps.specs.declared.line.Intent.{Intent}
-use Rattle.kc_steps.specs.declared.commit.OwnStep.TheVariants as own
+use Rattle.kc_commits.specs.declared.commit.OwnStep.TheVariants as own
 use Rattle.kc_steps.specs.Lines.{after_line, first_of, second_of}
-use Rattle.kc_steps.specs.Commits.{fill_next, fill_or_start}
+use Rattle.kc_commits.specs.Commits.{fill_next, fill_or_start}
 use Rattle.kc_machine.specs.Machine.{World, put}
 use Rattle.kc_machine.proofs.Functions.{put_here, put_cases}
 use Rattle.kc_effects.specs.Stands.{Stand, Own, NoOwn, Owns, Runs, Waits}

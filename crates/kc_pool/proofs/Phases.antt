@@ -14,12 +14,12 @@ use Rattle.kc_steps.specs.declared.pass.PassStep.TheVariants.{Install, Check, Ch
 use Rattle.kc_steps.specs.declared.pass.AfterCheck.{AfterCheck}
 use Rattle.kc_steps.specs.declared.pass.AfterCheck.TheVariants as checked
 use Rattle.kc_steps.specs.declared.aid.AidStep.TheVariants as aid
-use Rattle.kc_steps.specs.declared.commit.OwnStep.TheVariants as own
+use Rattle.kc_commits.specs.declared.commit.OwnStep.TheVariants as own
 use Rattle.std.specs.Prelude.{slice_get}
 use Rattle.kc_steps.specs.Lines.{next_line, after_line}
 use Rattle.kc_steps.specs.Passes.{status, from_install, install_or_check, from_check, check_or_decide, from_release, release_or_finish, decided_as, check_drop_next}
-use Rattle.kc_steps.specs.Commits.{fill_next, fill_or_start, finished, wake_or_drop, wake_next, wake_or_signal, owed_next}
-use Rattle.kc_steps.specs.Halts.{halted_pass, halted_aid_pass}
+use Rattle.kc_commits.specs.Commits.{fill_next, fill_or_start, finished, wake_or_drop, wake_next, wake_or_signal, owed_next}
+use Rattle.kc_commits.specs.Halts.{halted_pass, halted_aid_pass}
 use Rattle.kc_machine.specs.Machine.{World, put}
 use Rattle.kc_machine.proofs.Functions.{put_cases}
 use Rattle.kc_effects.specs.Stands.{Stand, Own, NoOwn, Owns, Runs, Waits, Turn, At, Passing, NoPass, Over, turn}

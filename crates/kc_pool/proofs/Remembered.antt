@@ -19,7 +19,7 @@ use Rattle.kc_steps.specs.declared.aid.AidStep.TheVariants as aid
 use Rattle.kc_steps.specs.Lines.{next_line, after_line}
 use Rattle.kc_steps.specs.Looks.{reference_of, again_or_saw}
 use Rattle.kc_steps.specs.Passes.{from_install, install_or_check, from_check, check_or_decide, from_release, release_or_finish, decided_as, check_drop_next}
-use Rattle.kc_steps.specs.Halts.{halted_pass, halted_aid_pass, halted_aid}
+use Rattle.kc_commits.specs.Halts.{halted_pass, halted_aid_pass, halted_aid}
 use Rattle.kc_machine.specs.Machine.{World}
 use Rattle.kc_effects.specs.Stands.{Stand, Turn, Looks, turn}
 use Rattle.kc_effects.specs.Effects

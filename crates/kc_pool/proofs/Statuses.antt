@@ -10,11 +10,11 @@ use Rattle.kc_steps.specs.declared.line.Intent.{Intent}
 use Rattle.kc_steps.specs.declared.line.Pick.TheVariants.{Put}
 use Rattle.kc_words.specs.declared.access.Found.TheVariants as found
 use Rattle.kc_steps.specs.declared.aid.AidStep.{AidStep}
-use Rattle.kc_steps.specs.declared.commit.OwnStep.{OwnStep}
-use Rattle.kc_steps.specs.declared.commit.OwnStep.TheVariants as own
+use Rattle.kc_commits.specs.declared.commit.OwnStep.{OwnStep}
+use Rattle.kc_commits.specs.declared.commit.OwnStep.TheVariants as own
 use Rattle.kc_steps.specs.Lines.{next_line}
-use Rattle.kc_steps.specs.Commits.{fill_next, fill_or_start, finished, wake_or_drop, wake_next, wake_or_signal, owed_next}
-use Rattle.kc_steps.specs.Halts.{halted_own, halted_aid, aid_or_decide}
+use Rattle.kc_commits.specs.Commits.{fill_next, fill_or_start, finished, wake_or_drop, wake_next, wake_or_signal, owed_next}
+use Rattle.kc_commits.specs.Halts.{halted_own, halted_aid, aid_or_decide}
 use Rattle.kc_machine.specs.Machine.{World, put}
 use Rattle.kc_machine.proofs.Functions.{put_cases}
 use Rattle.kc_steps.specs.Passes.{status}

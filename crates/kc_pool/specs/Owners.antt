@@ -3,8 +3,8 @@ use Rattle.std.specs.Prelude.{◌≡◌, ◌≢◌, ◌<◌, ◌≤◌, ℕ, Boo
 use Rattle.kc_words.specs.declared.words.Phase.{Phase}
 use Rattle.kc_words.specs.declared.words.Phase.TheVariants.{Active, Succeeded}
 use Rattle.kc_steps.specs.declared.pass.PassStep.TheVariants.{Release}
-use Rattle.kc_steps.specs.declared.commit.OwnStep.{OwnStep}
-use Rattle.kc_steps.specs.declared.commit.OwnStep.TheVariants as own
+use Rattle.kc_commits.specs.declared.commit.OwnStep.{OwnStep}
+use Rattle.kc_commits.specs.declared.commit.OwnStep.TheVariants as own
 use Rattle.kc_steps.specs.Passes.{status}
 use Rattle.kc_machine.specs.Machine.{State}
 use Rattle.kc_effects.specs.Stands.{Own, NoOwn, Owns, Runs, Waits, Turn, At, Ends, Passing, NoPass, Over, stand}

@@ -23,11 +23,11 @@ use Rattle.kc_steps.specs.declared.pass.AfterCheck.TheVariants as checked
 use Rattle.kc_steps.specs.declared.aid.Aided.{Aided}
 use Rattle.kc_steps.specs.declared.aid.AidStep.{AidStep}
 use Rattle.kc_steps.specs.declared.aid.AidStep.TheVariants as aid
-use Rattle.kc_steps.specs.declared.commit.OwnStep.{OwnStep}
-use Rattle.kc_steps.specs.declared.commit.OwnStep.TheVariants as own
-use Rattle.kc_steps.specs.declared.commit.Commit.{Commit}
-use Rattle.kc_steps.specs.declared.commit.Stage.{Stage}
-use Rattle.kc_steps.specs.declared.commit.Stage.TheVariants.{Scan, Take, Own}
+use Rattle.kc_commits.specs.declared.commit.OwnStep.{OwnStep}
+use Rattle.kc_commits.specs.declared.commit.OwnStep.TheVariants as own
+use Rattle.kc_commits.specs.declared.commit.Commit.{Commit}
+use Rattle.kc_commits.specs.declared.commit.Stage.{Stage}
+use Rattle.kc_commits.specs.declared.commit.Stage.TheVariants.{Scan, Take, Own}
 use Rattle.kc_machine.specs.declared.hang.HangStep.{HangStep}
 use Rattle.kc_machine.specs.declared.hang.HangStep.TheVariants as hang
 use Rattle.kc_machine.specs.declared.hang.LeaveStep.{LeaveStep}
@@ -38,7 +38,7 @@ use Rattle.kc_steps.specs.Lines.{next_version, resolved_version, succeeds, first
 use Rattle.kc_steps.specs.Looks.{look_access}
 use Rattle.kc_steps.specs.Passes.{pass_access, install_access, check_access, release_access, release_at}
 use Rattle.kc_steps.specs.Aids.{aid_access}
-use Rattle.kc_steps.specs.Commits.{own_access, stage_access, fill_first, fill_second, wake_access}
+use Rattle.kc_commits.specs.Commits.{own_access, stage_access, fill_first, fill_second, wake_access}
 use Rattle.kc_machine.specs.Hangs.{hang_access_of, hang_access_at, leave_access_at, clear_access, read_of}
 use Rattle.kc_machine.specs.Seats.{work_access, is_idle}
 use Rattle.kc_machine.specs.Machine.{Opening, pool_size}

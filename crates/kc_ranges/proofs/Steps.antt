@@ -35,13 +35,13 @@ use Rattle.kc_steps.specs.declared.aid.AidStep.{AidStep}
 use Rattle.kc_steps.specs.declared.aid.AidStep.TheVariants as aid
 use Rattle.kc_steps.specs.declared.aid.AidNext.{AidNext}
 use Rattle.kc_steps.specs.declared.aid.AidNext.TheVariants as aiding
-use Rattle.kc_steps.specs.declared.commit.OwnStep.{OwnStep}
-use Rattle.kc_steps.specs.declared.commit.OwnStep.TheVariants as own
-use Rattle.kc_steps.specs.declared.commit.Commit.{Commit}
-use Rattle.kc_steps.specs.declared.commit.Stage.{Stage}
-use Rattle.kc_steps.specs.declared.commit.Stage.TheVariants.{Scan, Take, Own}
-use Rattle.kc_steps.specs.Nexts.{Next}
-use Rattle.kc_steps.specs.Nexts as next
+use Rattle.kc_commits.specs.declared.commit.OwnStep.{OwnStep}
+use Rattle.kc_commits.specs.declared.commit.OwnStep.TheVariants as own
+use Rattle.kc_commits.specs.declared.commit.Commit.{Commit}
+use Rattle.kc_commits.specs.declared.commit.Stage.{Stage}
+use Rattle.kc_commits.specs.declared.commit.Stage.TheVariants.{Scan, Take, Own}
+use Rattle.kc_commits.specs.Nexts.{Next}
+use Rattle.kc_commits.specs.Nexts as next
 use Rattle.kc_machine.specs.Waits.{Hang, Leave}
 use Rattle.kc_machine.specs.declared.hang.HangStep.{HangStep}
 use Rattle.kc_machine.specs.declared.hang.HangStep.TheVariants as hang
@@ -55,8 +55,8 @@ use Rattle.kc_steps.specs.Looks.{look_next, looks_on, told_by, reference_of, hal
 use Rattle.kc_steps.specs.Looks as looks
 use Rattle.kc_steps.specs.Passes.{check_or_decide, from_check, install_or_check, from_install, release_or_finish, from_release, fits, refers_to, install_found, check_found, check_hold_next, crossed_or_first, check_status_next, agrees_or_fails, check_first_found, check_drop_next, decided_as, decide_next, pass_next}
 use Rattle.kc_steps.specs.Aids.{aid_copy, copy_owner, copy_line, aid_next, hold_next, owner_or_first, status_next, first_next, second_next, load_next, owner_next, load_first_next, load_second_next, after_pass, drop_or_release, leave_next}
-use Rattle.kc_steps.specs.Commits.{own_next, stage_next, tells_or_goes, fill_or_start, fill_next, after_own_pass, onward_or_back, aid_or_back, finished, wake_or_drop, wake_or_signal, wake_next, owed_next, copy_by_own, copy_by, loaded, gone_on, onward_by, after_scan, take_next}
-use Rattle.kc_steps.specs.Halts.{halted_pass, halted_aid_pass, halted_own, unowned, halted_at}
+use Rattle.kc_commits.specs.Commits.{own_next, stage_next, tells_or_goes, fill_or_start, fill_next, after_own_pass, onward_or_back, aid_or_back, finished, wake_or_drop, wake_or_signal, wake_next, owed_next, copy_by_own, copy_by, loaded, gone_on, onward_by, after_scan, take_next}
+use Rattle.kc_commits.specs.Halts.{halted_pass, halted_aid_pass, halted_own, unowned, halted_at}
 use Rattle.kc_machine.specs.Hangs.{set_or_look, after_set, clear_or_changed, after_clear, look_or_end, look_goes_on, look_of, hang_next, hangs_on, onward_of, leaves_on, unblocks_or_tells}
 use Rattle.kc_machine.specs.Seats.{answer_of, answer_by, after, begun, begun_idle, is_idle, working, halted, halted_by, ended}
 use Rattle.kc_machine.specs.Seats.{hanging as hanging_of}

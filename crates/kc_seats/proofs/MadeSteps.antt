@@ -10,11 +10,11 @@ use Rattle.kc_steps.specs.declared.look.LookStep.{LookStep}
 use Rattle.kc_steps.specs.declared.look.LookStep.TheVariants as look
 use Rattle.kc_steps.specs.declared.look.LookNext.{LookNext}
 use Rattle.kc_steps.specs.declared.look.LookNext.TheVariants as looking
-use Rattle.kc_steps.specs.declared.commit.Commit.{Commit}
-use Rattle.kc_steps.specs.declared.commit.Stage.{Stage}
-use Rattle.kc_steps.specs.declared.commit.Stage.TheVariants.{Scan, Take, Own}
-use Rattle.kc_steps.specs.Nexts.{Next}
-use Rattle.kc_steps.specs.Nexts as next
+use Rattle.kc_commits.specs.declared.commit.Commit.{Commit}
+use Rattle.kc_commits.specs.declared.commit.Stage.{Stage}
+use Rattle.kc_commits.specs.declared.commit.Stage.TheVariants.{Scan, Take, Own}
+use Rattle.kc_commits.specs.Nexts.{Next}
+use Rattle.kc_commits.specs.Nexts as next
 use Rattle.kc_machine.specs.Waits.{Hang}
 use Rattle.kc_machine.specs.declared.hang.HangNext.{HangNext}
 use Rattle.kc_machine.specs.declared.hang.HangNext.TheVariants as hanging
@@ -23,8 +23,8 @@ use Rattle.kc_machine.specs.Works.{Work}
 use Rattle.kc_machine.specs.Works as work
 use Rattle.kc_machine.specs.declared.seat.Seat.{Seat}
 use Rattle.kc_steps.specs.Looks.{look_next, looks_on, told_by, halts_at_once, look_halted_at}
-use Rattle.kc_steps.specs.Commits.{loaded, gone_on, onward_by, commit_next}
-use Rattle.kc_steps.specs.Halts.{unowned, halted_at}
+use Rattle.kc_commits.specs.Commits.{loaded, gone_on, onward_by, commit_next}
+use Rattle.kc_commits.specs.Halts.{unowned, halted_at}
 use Rattle.kc_machine.specs.Hangs.{hang_step, hangs_on, onward_of, leaves_on, unblocks_or_tells, next_read}
 use Rattle.kc_machine.specs.Seats.{answer_of, answer_by, after, begun, begun_idle, is_idle, working, halted, halted_by, ended}
 use Rattle.kc_machine.specs.Seats.{hanging as hanging_of}

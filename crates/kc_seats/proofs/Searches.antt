@@ -6,14 +6,14 @@ use Rattle.kc_words.specs.declared.words.Mode.{Mode}
 use Rattle.kc_words.specs.declared.access.Found.{Found}
 use Rattle.kc_words.specs.declared.access.Found.TheVariants as found
 use Rattle.kc_steps.specs.declared.task.Told.TheVariants as told
-use Rattle.kc_steps.specs.declared.commit.OwnStep.TheVariants as own
-use Rattle.kc_steps.specs.declared.commit.Stage.TheVariants.{Scan, Take, Own}
-use Rattle.kc_steps.specs.Nexts.{Next}
-use Rattle.kc_steps.specs.Nexts.{Goes, Takes, Tells}
+use Rattle.kc_commits.specs.declared.commit.OwnStep.TheVariants as own
+use Rattle.kc_commits.specs.declared.commit.Stage.TheVariants.{Scan, Take, Own}
+use Rattle.kc_commits.specs.Nexts.{Next}
+use Rattle.kc_commits.specs.Nexts.{Goes, Takes, Tells}
 use Rattle.kc_steps.specs.declared.line.Line.{Line}
 use Rattle.kc_steps.specs.declared.line.Pick.{Pick}
 use Rattle.kc_steps.specs.Lines.{picks, picked, next_among, next_line}
-use Rattle.kc_steps.specs.Commits.{after_scan, scan_next, take_next}
+use Rattle.kc_commits.specs.Commits.{after_scan, scan_next, take_next}
 
 abbrev pub IsPicked : Pick → Mode → List Line → Option ℕ → Type 0
 IsPicked p m xs None = Unit {0}

@@ -13,13 +13,13 @@ use Rattle.kc_steps.specs.declared.task.Told.TheVariants as told
 use Rattle.kc_steps.specs.declared.look.Look.{Look}
 use Rattle.kc_steps.specs.declared.look.LookNext.{LookNext}
 use Rattle.kc_steps.specs.declared.look.LookNext.TheVariants as looking
-use Rattle.kc_steps.specs.declared.commit.OwnStep.{OwnStep}
-use Rattle.kc_steps.specs.declared.commit.OwnStep.TheVariants as own
-use Rattle.kc_steps.specs.declared.commit.Commit.{Commit}
-use Rattle.kc_steps.specs.declared.commit.Stage.{Stage}
-use Rattle.kc_steps.specs.declared.commit.Stage.TheVariants.{Scan, Take, Own}
-use Rattle.kc_steps.specs.Nexts.{Next}
-use Rattle.kc_steps.specs.Nexts as next
+use Rattle.kc_commits.specs.declared.commit.OwnStep.{OwnStep}
+use Rattle.kc_commits.specs.declared.commit.OwnStep.TheVariants as own
+use Rattle.kc_commits.specs.declared.commit.Commit.{Commit}
+use Rattle.kc_commits.specs.declared.commit.Stage.{Stage}
+use Rattle.kc_commits.specs.declared.commit.Stage.TheVariants.{Scan, Take, Own}
+use Rattle.kc_commits.specs.Nexts.{Next}
+use Rattle.kc_commits.specs.Nexts as next
 use Rattle.kc_steps.specs.declared.task.Onward.{Onward}
 use Rattle.kc_steps.specs.declared.task.Onward.TheVariants as onward
 use Rattle.kc_machine.specs.Waits.{Hang}
@@ -30,8 +30,8 @@ use Rattle.kc_machine.specs.Works.{Work}
 use Rattle.kc_machine.specs.Works as work
 use Rattle.kc_machine.specs.declared.seat.Seat.{Seat}
 use Rattle.kc_steps.specs.Looks.{look_next, look_tells, look_halted, looks_on, told_by, halts_at_once}
-use Rattle.kc_steps.specs.Commits.{after_scan, scan_next, take_next, stage_next, tells_or_goes, loaded, gone_on, onward_by, commit_next, commit_onward}
-use Rattle.kc_steps.specs.Halts.{unowned, halted_at}
+use Rattle.kc_commits.specs.Commits.{after_scan, scan_next, take_next, stage_next, tells_or_goes, loaded, gone_on, onward_by, commit_next, commit_onward}
+use Rattle.kc_commits.specs.Halts.{unowned, halted_at}
 use Rattle.kc_machine.specs.Hangs.{hang_step, hangs_on, hang_onward, onward_of, leaves_on, leave_onward, unblocks_or_tells, next_read}
 use Rattle.kc_machine.specs.Seats.{answer_of, answer_by, after, begun, begun_idle, is_idle, working, halted, halted_by, ended}
 use Rattle.kc_machine.specs.Seats.{hanging as hanging_of}

@@ -2,8 +2,3 @@ pub mod Lines
 pub mod Looks
 pub mod Passes
 pub mod Aids
-pub mod Nexts
-pub mod CommitValue
-pub mod CommitView
-pub mod Commits
-pub mod Halts

@@ -1,21 +1,20 @@
-//! The steps of looks, passes, aids and commits, each one access and one answer.
+//! The steps of looks, passes and aids, each one access and one answer.
 #![tactic(auto)]
 
-mod advance;
 mod aid;
-mod commit;
-mod halt;
 mod line;
 mod look;
 mod pass;
-mod stand;
 mod task;
 
-pub use aid::{AidStep, Aided};
-pub use commit::{Commit, OwnStep, Stage};
+pub use aid::{AidNext, AidStep, Aided, aid_access};
 pub use line::{
-    Intent, Line, Pick, after_line, copy_reads, first_of, next_line, one_more, second_of,
+    Intent, Line, Pick, after_line, copy_lines, copy_reads, fill_lines, first_of, next_line,
+    one_more, second_of,
 };
-pub use look::{Look, LookNext, LookStep, look_access, look_next};
-pub use pass::{AfterCheck, PassNext, PassStep, from_install};
+pub use look::{Look, LookNext, LookStep, look_access, look_next, reference_of};
+pub use pass::{
+    AfterCheck, PassNext, PassStep, check_access, decide_access, decided_as, fits, from_install,
+    install_access, pass_access, pass_next, refers_to, release_at,
+};
 pub use task::{Event, Onward, Task, Told};

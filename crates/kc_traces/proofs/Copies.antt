@@ -7,13 +7,13 @@ use Rattle.kc_steps.specs.declared.aid.Aided.{Aided}
 use Rattle.kc_steps.specs.declared.aid.AidStep.{AidStep}
 use Rattle.kc_steps.specs.declared.aid.AidStep.TheVariants as aid
 use Rattle.kc_steps.specs.declared.aid.AidNext.TheVariants as aiding
-use Rattle.kc_steps.specs.declared.commit.OwnStep.TheVariants as own
+use Rattle.kc_commits.specs.declared.commit.OwnStep.TheVariants as own
 use Rattle.kc_steps.specs.declared.pass.PassStep.{PassStep}
 use Rattle.kc_steps.specs.declared.pass.PassStep.TheVariants.{Install, Check, CheckHold, CheckStatus, CheckFirst, CheckDrop, Decide, Release}
 use Rattle.kc_steps.specs.declared.task.Event.{Event}
 use Rattle.kc_steps.specs.Aids.{copy_line}
 use Rattle.kc_steps.specs.Lines.{joined}
-use Rattle.kc_steps.specs.Halts.{halted_aid, halted_aid_pass}
+use Rattle.kc_commits.specs.Halts.{halted_aid, halted_aid_pass}
 use Rattle.kc_machine.specs.Machine.{World, Opening, put, run, opened}
 use Rattle.kc_machine.proofs.Functions.{put_cases}
 use Rattle.kc_effects.specs.Stands.{Stand, Owns, Aiding, NoAid, Aids, Passes, stand}

@@ -14,11 +14,11 @@ use Rattle.kc_steps.specs.declared.line.Line.{Line}
 use Rattle.kc_steps.specs.declared.aid.Aided.{Aided}
 use Rattle.kc_steps.specs.declared.aid.AidStep.{AidStep}
 use Rattle.kc_steps.specs.declared.aid.AidStep.TheVariants as aid
-use Rattle.kc_steps.specs.declared.commit.Commit.{Commit}
-use Rattle.kc_steps.specs.declared.commit.Stage.{Stage}
-use Rattle.kc_steps.specs.declared.commit.Stage.TheVariants as stage
-use Rattle.kc_steps.specs.declared.commit.OwnStep.{OwnStep}
-use Rattle.kc_steps.specs.declared.commit.OwnStep.TheVariants as own
+use Rattle.kc_commits.specs.declared.commit.Commit.{Commit}
+use Rattle.kc_commits.specs.declared.commit.Stage.{Stage}
+use Rattle.kc_commits.specs.declared.commit.Stage.TheVariants as stage
+use Rattle.kc_commits.specs.declared.commit.OwnStep.{OwnStep}
+use Rattle.kc_commits.specs.declared.commit.OwnStep.TheVariants as own
 use Rattle.kc_steps.specs.declared.task.Event.{Event}
 use Rattle.kc_machine.specs.Words.{phase_is}
 use Rattle.kc_machine.specs.Works.{Work}

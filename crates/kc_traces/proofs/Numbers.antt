@@ -12,8 +12,8 @@ use Rattle.kc_steps.specs.declared.task.Event.{Event}
 use Rattle.kc_steps.specs.declared.task.Event.TheVariants.{Begin, Step, Halt}
 use Rattle.kc_steps.specs.Lines.{one_more}
 use Rattle.kc_steps.specs.Looks.{look_tells, halts_at_once}
-use Rattle.kc_steps.specs.Commits.{commit_onward}
-use Rattle.kc_steps.specs.Halts.{unowned}
+use Rattle.kc_commits.specs.Commits.{commit_onward}
+use Rattle.kc_commits.specs.Halts.{unowned}
 use Rattle.kc_machine.specs.Hangs.{hang_onward, leave_onward}
 use Rattle.kc_machine.specs.Works.{Work}
 use Rattle.kc_machine.specs.Works as work

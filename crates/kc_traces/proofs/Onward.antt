@@ -20,19 +20,19 @@ use Rattle.kc_steps.specs.declared.pass.PassNext.TheVariants as pass
 use Rattle.kc_steps.specs.declared.aid.AidStep.{AidStep}
 use Rattle.kc_steps.specs.declared.aid.AidNext.{AidNext}
 use Rattle.kc_steps.specs.declared.aid.AidNext.TheVariants as aiding
-use Rattle.kc_steps.specs.declared.commit.Commit.{Commit}
-use Rattle.kc_steps.specs.declared.commit.Stage.{Stage}
-use Rattle.kc_steps.specs.declared.commit.Stage.TheVariants as stage
-use Rattle.kc_steps.specs.declared.commit.OwnStep.{OwnStep}
-use Rattle.kc_steps.specs.declared.commit.OwnStep.TheVariants as own
-use Rattle.kc_steps.specs.Nexts.{Next}
-use Rattle.kc_steps.specs.Nexts as next
+use Rattle.kc_commits.specs.declared.commit.Commit.{Commit}
+use Rattle.kc_commits.specs.declared.commit.Stage.{Stage}
+use Rattle.kc_commits.specs.declared.commit.Stage.TheVariants as stage
+use Rattle.kc_commits.specs.declared.commit.OwnStep.{OwnStep}
+use Rattle.kc_commits.specs.declared.commit.OwnStep.TheVariants as own
+use Rattle.kc_commits.specs.Nexts.{Next}
+use Rattle.kc_commits.specs.Nexts as next
 use Rattle.kc_steps.specs.Lines.{one_more, after_line, lines_of}
 use Rattle.kc_steps.specs.Looks.{look_next, look_after, told_by, halts_at_once}
 use Rattle.kc_steps.specs.Aids.{aid_next}
 use Rattle.kc_steps.specs.Passes.{pass_next}
-use Rattle.kc_steps.specs.Commits.{scan_next, take_next, after_scan, after_own_pass, aid_or_back, wake_next, told_of, stage_next, loaded, gone_on, onward_by}
-use Rattle.kc_steps.specs.Halts.{unowned, halted_aid, aid_or_decide, halted_own, halted_at}
+use Rattle.kc_commits.specs.Commits.{scan_next, take_next, after_scan, after_own_pass, aid_or_back, wake_next, told_of, stage_next, loaded, gone_on, onward_by}
+use Rattle.kc_commits.specs.Halts.{unowned, halted_aid, aid_or_decide, halted_own, halted_at}
 use Rattle.kc_machine.specs.declared.hang.HangStep.{HangStep}
 use Rattle.kc_machine.specs.declared.hang.HangStep.TheVariants as hang
 use Rattle.kc_machine.specs.declared.hang.HangNext.{HangNext}

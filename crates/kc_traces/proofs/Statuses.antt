@@ -15,11 +15,11 @@ use Rattle.kc_steps.specs.declared.pass.PassStep.TheVariants.{Install, Check, Ch
 use Rattle.kc_steps.specs.declared.aid.Aided.{Aided}
 use Rattle.kc_steps.specs.declared.aid.AidStep.{AidStep}
 use Rattle.kc_steps.specs.declared.aid.AidStep.TheVariants as aid
-use Rattle.kc_steps.specs.declared.commit.Commit.{Commit}
-use Rattle.kc_steps.specs.declared.commit.Stage.{Stage}
-use Rattle.kc_steps.specs.declared.commit.Stage.TheVariants as stage
-use Rattle.kc_steps.specs.declared.commit.OwnStep.{OwnStep}
-use Rattle.kc_steps.specs.declared.commit.OwnStep.TheVariants as own
+use Rattle.kc_commits.specs.declared.commit.Commit.{Commit}
+use Rattle.kc_commits.specs.declared.commit.Stage.{Stage}
+use Rattle.kc_commits.specs.declared.commit.Stage.TheVariants as stage
+use Rattle.kc_commits.specs.declared.commit.OwnStep.{OwnStep}
+use Rattle.kc_commits.specs.declared.commit.OwnStep.TheVariants as own
 use Rattle.kc_machine.specs.declared.hang.HangStep.{HangStep}
 use Rattle.kc_machine.specs.declared.hang.HangStep.TheVariants as hang
 use Rattle.kc_machine.specs.declared.hang.LeaveStep.{LeaveStep}
@@ -30,7 +30,7 @@ use Rattle.kc_machine.specs.declared.seat.Seat.{Seat}
 use Rattle.kc_steps.specs.Looks.{look_access}
 use Rattle.kc_steps.specs.Passes.{pass_access, install_access, check_access, release_at, status}
 use Rattle.kc_steps.specs.Aids.{aid_access}
-use Rattle.kc_steps.specs.Commits.{own_access, stage_access, fill_first, fill_second, wake_access}
+use Rattle.kc_commits.specs.Commits.{own_access, stage_access, fill_first, fill_second, wake_access}
 use Rattle.kc_machine.specs.Hangs.{hang_access_of, leave_access_at, clear_access, read_of}
 use Rattle.kc_machine.specs.Words.{status_is}
 use Rattle.kc_machine.specs.Seats.{work_access, access_of}

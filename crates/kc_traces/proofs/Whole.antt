@@ -13,7 +13,7 @@ use Rattle.kc_steps.specs.declared.pass.PassStep.{PassStep}
 use Rattle.kc_steps.specs.declared.pass.PassStep.TheVariants.{Install, Check, CheckHold, CheckStatus, CheckFirst, CheckDrop, Decide, Release}
 use Rattle.kc_steps.specs.Aids.{copy_line}
 use Rattle.kc_steps.specs.Lines.{joined}
-use Rattle.kc_steps.specs.Halts.{halted_aid, halted_aid_pass}
+use Rattle.kc_commits.specs.Halts.{halted_aid, halted_aid_pass}
 use Rattle.kc_machine.specs.Machine.{World}
 use Rattle.kc_effects.specs.Stands.{Stand, Aiding, NoAid, Aids, Passes}
 use Rattle.kc_effects.specs.Effects

@@ -1,10 +1,10 @@
 //! A commit is put at a stage that was come to outside of it.
 
 ghost use Rattle.std.specs.Prelude.{◌≡◌, ◌≤◌, length, true};
-ghost use Rattle.kc_steps.specs.Commits.{commit_at, owned, stepped};
+ghost use Rattle.kc_commits.specs.Commits.{commit_at, owned, stepped};
 
 use crate::commit::{At, Commit, OwnStep, Place, Stage};
-use crate::line::{Line, copy_lines};
+use kc_steps::{Line, copy_lines};
 use kc_model::MOST;
 use kc_words::Mode;
 

@@ -2,15 +2,15 @@
 //! dropped.
 
 ghost use Rattle.std.specs.Prelude.{◌≡◌, [], slice_get, true};
-ghost use Rattle.kc_steps.specs.declared.commit.Stage.TheVariants.{Scan};
+ghost use Rattle.kc_commits.specs.declared.commit.Stage.TheVariants.{Scan};
 ghost use Rattle.kc_steps.specs.Lines.{lines_of};
-ghost use Rattle.kc_steps.specs.Commits.{owner_of, fill_first, fill_second, wake_access, commit_access, commit_at, owned, handle_of};
+ghost use Rattle.kc_commits.specs.Commits.{owner_of, fill_first, fill_second, wake_access, commit_access, commit_at, owned, handle_of};
 
-use crate::aid::{AidStep, Aided, aid_access};
-use crate::line::{Intent, Line, fill_lines, first_of, second_of};
-use crate::pass::{PassStep, check_access, decide_access, install_access, pass_access, release_at};
 use arrayvec::ArrayVec;
 use kc_model::Footprint;
+use kc_steps::{
+    AidStep, Aided, Intent, Line, PassStep, aid_access, check_access, decide_access, fill_lines, first_of, install_access, pass_access, release_at, second_of,
+};
 use kc_words::{Access, Bits, Grip, Handle, Mode, Owner, Phase, Reference, Status, Touch};
 use std::marker::Model;
 
@@ -105,11 +105,11 @@ pub struct Commit {
 }
 
 impl Model for Commit {
-    ghost use Rattle.kc_steps.specs.CommitValue.{CommitValue};
+    ghost use Rattle.kc_commits.specs.CommitValue.{CommitValue};
 
     ghost Value = { CommitValue };
 
-    ghost use Rattle.kc_steps.specs.CommitView.{commit_view};
+    ghost use Rattle.kc_commits.specs.CommitView.{commit_view};
 
     ghost view = { commit_view };
 }
@@ -141,16 +141,14 @@ fn wake_access(lines: &[Line], line: u32) -> Access
     }
 }
 
-impl Intent {
-    fn owner(&self, caller: u32, calls: u64) -> Owner
-        ensures { result ≡ owner_of caller calls self.now }
-    {
-        Owner {
-            caller,
-            mode: self.mode,
-            lines: self.lines.len() as u32,
-            number: calls,
-        }
+fn owner_of(intent: &Intent, caller: u32, calls: u64) -> Owner
+    ensures { result ≡ owner_of caller calls intent.now }
+{
+    Owner {
+        caller,
+        mode: intent.mode,
+        lines: intent.lines.len() as u32,
+        number: calls,
     }
 }
 
@@ -229,7 +227,7 @@ impl Commit {
         let d = self.own.descriptor;
         let lines = self.intent.lines.as_slice();
         match self.at {
-            At::FillOwner => Access::Owner(d, Touch::Store(self.intent.owner(caller, calls))),
+            At::FillOwner => Access::Owner(d, Touch::Store(owner_of(&self.intent, caller, calls))),
             At::FillFirst => fill_first(d, lines, self.line),
             At::FillSecond => fill_second(d, lines, self.line),
             At::Start => Access::Status(

@@ -25,14 +25,14 @@ use Rattle.kc_steps.specs.declared.aid.Aided.{Aided}
 use Rattle.kc_steps.specs.declared.aid.AidStep.TheVariants as aid
 use Rattle.kc_steps.specs.declared.aid.AidNext.{AidNext}
 use Rattle.kc_steps.specs.declared.aid.AidNext.TheVariants as aiding
-use Rattle.kc_steps.specs.declared.commit.Stage.{Stage}
-use Rattle.kc_steps.specs.declared.commit.Stage.TheVariants.{Scan, Take, Own}
-use Rattle.kc_steps.specs.declared.commit.OwnStep.{OwnStep}
-use Rattle.kc_steps.specs.declared.commit.OwnStep.TheVariants as own
-use Rattle.kc_steps.specs.declared.commit.Commit.{Commit}
+use Rattle.kc_commits.specs.declared.commit.Stage.{Stage}
+use Rattle.kc_commits.specs.declared.commit.Stage.TheVariants.{Scan, Take, Own}
+use Rattle.kc_commits.specs.declared.commit.OwnStep.{OwnStep}
+use Rattle.kc_commits.specs.declared.commit.OwnStep.TheVariants as own
+use Rattle.kc_commits.specs.declared.commit.Commit.{Commit}
 use Rattle.kc_steps.specs.declared.task.Onward.{Onward}
 use Rattle.kc_steps.specs.declared.task.Onward.TheVariants as onward
-use Rattle.kc_steps.specs.Nexts.{Next, Goes, Takes, Tells}
+use Rattle.kc_commits.specs.Nexts.{Next, Goes, Takes, Tells}
 use Rattle.kc_steps.specs.Lines.{after_line, first_of, second_of, next_line}
 use Rattle.kc_steps.specs.Passes.{pass_access, pass_next, from_install, status}
 use Rattle.kc_words.specs.declared.words.Mode.{Mode}

@@ -2,20 +2,18 @@
 
 ghost use Rattle.std.specs.Prelude.{◌≡◌, ℕ, true};
 ghost use Rattle.kc_steps.specs.declared.pass.PassStep.TheVariants.{Install, Check, Decide, Release};
-ghost use Rattle.kc_steps.specs.declared.commit.Stage.TheVariants.{Scan, Take, Own};
-ghost use Rattle.kc_steps.specs.declared.commit.OwnStep.TheVariants as own;
+ghost use Rattle.kc_commits.specs.declared.commit.Stage.TheVariants.{Scan, Take, Own};
+ghost use Rattle.kc_commits.specs.declared.commit.OwnStep.TheVariants as own;
 ghost use Rattle.kc_steps.specs.declared.aid.AidStep.TheVariants as aid;
 ghost use Rattle.kc_steps.specs.Lines.{after_line};
 ghost use Rattle.kc_steps.specs.Passes.{from_check, from_install, from_release, install_next, check_next, decide_next, pass_next};
 ghost use Rattle.kc_steps.specs.Aids.{aid_next};
-ghost use Rattle.kc_steps.specs.Commits.{after_scan, scan_next, take_next, fill_next, owed_next, resumed, aid_or_back, told_of, finished, after_own_pass, wake_next, loaded, onward_by, gone_on, commit_onward, commit_after, owned, stepped};
+ghost use Rattle.kc_commits.specs.Commits.{after_scan, scan_next, take_next, fill_next, owed_next, resumed, aid_or_back, told_of, finished, after_own_pass, wake_next, loaded, onward_by, gone_on, commit_onward, commit_after, owned, stepped};
 
-use crate::aid::{AidNext, AidStep};
 use crate::commit::{At, Commit, Place};
-use crate::line::{Pick, after_line, next_line};
-use crate::look::reference_of;
-use crate::pass::{PassNext, PassStep, decided_as, fits, pass_next, refers_to};
-use crate::task::{Onward, Told};
+use kc_steps::{
+    AidNext, AidStep, Onward, PassNext, PassStep, Pick, Told, after_line, decided_as, fits, next_line, pass_next, reference_of, refers_to,
+};
 use kc_model::Word;
 use kc_words::{Found, Handle, LAST_GENERATION, Phase, Reference};
 
