@@ -5,7 +5,7 @@ use Rattle.kc_words.specs.declared.words.Mode.{Mode}
 use Rattle.kc_steps.specs.declared.line.Line.{Line}
 use Rattle.kc_steps.specs.declared.line.Intent.{Intent}
 use Rattle.kc_steps.specs.declared.task.Event.{Event}
-use Rattle.kc_steps.specs.Commits.{intent_of}
+use Rattle.kc_commits.specs.Commits.{intent_of}
 use Rattle.kc_machine.specs.Machine.{World, Opening, run}
 use Rattle.kc_machine.specs.Schedules.{IsSchedule}
 use Rattle.kc_effects.specs.Stands.{Own, NoOwn, Owns, Runs, Waits, stand}

@@ -4,7 +4,7 @@ use Rattle.kc_words.specs.declared.words.Handle.{Handle}
 use Rattle.kc_words.specs.declared.words.Mode.{Mode}
 use Rattle.kc_words.specs.declared.words.Phase.TheVariants.{Active}
 use Rattle.kc_steps.specs.declared.line.Line.{Line}
-use Rattle.kc_steps.specs.Commits.{intent_of}
+use Rattle.kc_commits.specs.Commits.{intent_of}
 use Rattle.kc_steps.specs.Passes.{status}
 use Rattle.kc_machine.specs.Machine.{State}
 use Rattle.kc_effects.specs.Stands.{Turn, Over, stand}
