@@ -1,0 +1,4 @@
+pub mod Filters
+pub mod Insertions
+pub mod Growth
+pub mod Legality

@@ -1,0 +1,9 @@
+//! What holds of histories: of lists of entries with places, and of the one that a schedule makes.
+#![tactic(auto)]
+
+mod lists;
+
+pub use lists::{
+    an_entry_adds_one_value, earlier_reads_bound_places, histories_grow, insertions_by_location,
+    insertions_keep_legal, insertions_rise, versions_tell_values,
+};
