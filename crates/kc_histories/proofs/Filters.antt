@@ -1,5 +1,5 @@
 -- Filters of lists, and fronts of them.
-use Rattle.std.proofs.Common.{arith, ◌≡◌, ◌++◌, ◌∙◌, ◌⊎◌, inl, inr, refl, sym, ap, cond, Bool, true, false, List, [], ◌∷◌, Contains}
+use Rattle.std.proofs.Common.{◌≡◌, ◌++◌, ◌∙◌, ◌⊎◌, inl, inr, refl, sym, ap, cond, Bool, true, false, List, [], ◌∷◌, Contains}
 use Rattle.std.specs.List.{filter}
 use Rattle.kc_model.proofs.Stores.{Contains-first, Contains-later}
 

@@ -1,17 +1,16 @@
 -- What is known to a history, and what it says of later ones.
-use Rattle.std.proofs.Common.{arith, ◌≡◌, ◌<◌, ◌≤◌, ◌+◌, ◌++◌, ◌∙◌, ◌⊎◌, inl, inr, ℕ, refl, sym, ap, subst, true, List, [], ◌∷◌, length, take, Contains, Option, None, Some, append_assoc, append-nil}
+use Rattle.std.proofs.Common.{arith, ◌≡◌, ◌<◌, ◌≤◌, ◌+◌, ◌++◌, ◌∙◌, ◌⊎◌, inl, inr, ℕ, refl, sym, ap, subst, true, [], ◌∷◌, length, take, Contains, Option, None, Some, append_assoc}
 use Rattle.std.specs.Option.{is_some}
 use Rattle.std.specs.List.{filter}
 use Rattle.std.proofs.Math.Seq.{take-length}
 use Rattle.std.proofs.lemmas.Bool.{lt-ltb}
-use Rattle.std.proofs.lemmas.List.{length-append}
 use Rattle.std.proofs.lemmas.List.Elements.{filter-append, filter_passes, All-filter, All-contains, Contains-append_left, Contains-append_right}
 use Rattle.kc_model.proofs.Stores.{Contains-first, Contains-later}
 use Rattle.kc_model.specs.declared.footprint.Put.{Put}
 use Rattle.kc_model.specs.declared.footprint.Seen.{Seen}
 use Rattle.kc_model.specs.declared.plain_store.Cell.{Cell}
 use Rattle.kc_model.specs.Store.{Store, cell_after}
-use Rattle.kc_claims.specs.Histories.{History, Placed, inserted, ending, at_place, putting, cell_of, IsKnown, RisesByPlace, IsFront, Grows}
+use Rattle.kc_claims.specs.Histories.{History, Placed, inserted, ending, at_place, putting, cell_of, IsKnown, RisesByPlace, Grows}
 use Rattle.kc_histories.specs.Insertions.{put_by, NonePutsAbove}
 use Rattle.kc_claims.proofs.ByPlace.{low}
 use Rattle.kc_traces.proofs.Known.{cell_from, cell_append, front_taken, front_putting}

@@ -1,5 +1,5 @@
 -- An entry that comes to a history at its place.
-use Rattle.std.proofs.Common.{arith, ◌≡◌, ◌≢◌, ◌<◌, ◌≤◌, ◌++◌, ◌∙◌, ◌⊎◌, inl, inr, ℕ, refl, sym, ap, subst, cond, Bool, true, false, List, [], ◌∷◌, Contains, Option, None, Some, if◌then◌else◌, append-nil}
+use Rattle.std.proofs.Common.{arith, ◌≡◌, ◌<◌, ◌≤◌, ◌++◌, ◌∙◌, ℕ, refl, sym, ap, cond, Bool, true, false, [], ◌∷◌, Contains, Option, None, Some, if◌then◌else◌, append-nil}
 use Rattle.std.specs.Prelude.{nat_lt}
 use Rattle.std.specs.Option.{is_some}
 use Rattle.std.specs.List.{filter}

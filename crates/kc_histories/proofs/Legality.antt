@@ -1,12 +1,12 @@
 -- Legal histories with an entry more.
-use Rattle.std.proofs.Common.{arith, ◌≡◌, ◌<◌, ◌∙◌, refl, sym, ap, subst, Bool, true, false, None, Contains}
+use Rattle.std.proofs.Common.{arith, ◌≡◌, ◌<◌, ◌∙◌, refl, sym, subst, Bool, true, false, None, Contains}
 use Rattle.std.specs.Prelude.{nat_lt}
 use Rattle.std.proofs.lemmas.Bool.{ltb-true, ltb-false}
 use Rattle.kc_model.specs.declared.footprint.Seen.{Seen}
 use Rattle.kc_model.specs.Footprint.{Reads}
 use Rattle.kc_model.specs.Store.{Store, Finds}
-use Rattle.kc_claims.specs.Histories.{History, Placed, inserted, at_place, cell_of, installs, FindsInstalled, EachFindsItsReads, IsLegalHistory, IsLegalWhereInstalled, RisesByPlace}
-use Rattle.kc_claims.proofs.ByPlace.{InOrder, in_order, at_places, legal_in_order, legal_at_places}
+use Rattle.kc_claims.specs.Histories.{History, Placed, inserted, at_place, cell_of, installs, FindsInstalled, IsLegalHistory, IsLegalWhereInstalled, RisesByPlace}
+use Rattle.kc_claims.proofs.ByPlace.{in_order, at_places, legal_in_order, legal_at_places}
 use Rattle.kc_histories.specs.Insertions.{put_by, IsNewPlace, NoneReadsAbove, NoneInstallsAbove, EachFindsInstalled}
 use Rattle.kc_histories.proofs.Insertions.{inserted_contains, rises_inserted, at_lower, at_else}
 

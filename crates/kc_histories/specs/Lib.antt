@@ -1,1 +1,3 @@
 pub mod Insertions
+pub mod Places
+pub mod Decisions

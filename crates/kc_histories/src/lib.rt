@@ -2,8 +2,13 @@
 #![tactic(auto)]
 
 mod lists;
+mod traces;
 
 pub use lists::{
     an_entry_adds_one_value, earlier_reads_bound_places, histories_grow, insertions_by_location,
     insertions_keep_legal, insertions_rise, versions_tell_values,
+};
+pub use traces::{
+    histories_move_by_decisions, histories_rise_by_place, passes_have_places, placed_passes_stay,
+    places_differ,
 };

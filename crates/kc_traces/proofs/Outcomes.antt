@@ -43,13 +43,13 @@ use Rattle.kc_claims.specs.Histories.{History, Placed, inserted, footprint_of}
 use Rattle.kc_claims.specs.Traces.{is_success, decides, entry_for, history_after, place_or, trace, now}
 use Rattle.kc_traces.specs.Moments.{BeginsNothing}
 use Rattle.kc_traces.specs.Parts.{IsNoStep}
-use Rattle.kc_traces.specs.Entries.{by}
+use Rattle.kc_traces.specs.Entries.{by, own_intent}
 use Rattle.kc_traces.specs.Outcomes.{IsEntryOf, GainsTheCall, GainsAsTold}
 use Rattle.kc_traces.proofs.Joins.{run-append}
 use Rattle.kc_traces.proofs.Answers.{head_of}
 use Rattle.kc_traces.proofs.Others.{run_shape, event_in, event_else, history_kept}
 use Rattle.kc_traces.proofs.Statuses.{Moves, Starts, Decides, IsOver, step_moves}
-use Rattle.kc_traces.proofs.Entries.{own_intent, Entered, Enters, enters, history_by, history_grows, by_inserted, idle_keeps}
+use Rattle.kc_traces.proofs.Entries.{Entered, Enters, enters, history_by, history_grows, by_inserted, idle_keeps}
 use Rattle.kc_traces.proofs.Onward.{IsIntentOf, IfDone, succeeded, StageLeft, StageKnows, Left, SeatLeft, Knows, answer_left, halted_left, begun_left, ended_left}
 
 -- ---- one entry more
@@ -97,10 +97,10 @@ aid_owned t h i j r c (aid.Pass p) = refl
 aid_owned t h i j r c (aid.Leave o) = refl
 aid_owned t h i j r c (aid.Drop stray o) = refl
 
-abbrev Owns_it : Own → Handle → Intent → OwnStep → Type 0
-Owns_it x h i step = (own_hold x ≡ Proper h.descriptor h.generation) × (is_filling x ≡ fills step) × (own_intent x ≡ Some i)
+abbrev pub OwnsIt : Own → Handle → Intent → OwnStep → Type 0
+OwnsIt x h i step = (own_hold x ≡ Proper h.descriptor h.generation) × (is_filling x ≡ fills step) × (own_intent x ≡ Some i)
 
-owned : (t : Stand) (i : Intent) (c : Aided) (h : Handle) (step : OwnStep) → Owns_it (owns t i c h step).own h i step
+pub owned : (t : Stand) (i : Intent) (c : Aided) (h : Handle) (step : OwnStep) → OwnsIt (owns t i c h step).own h i step
 owned t i c h own.FillOwner = (refl, refl, refl)
 owned t i c h (own.FillFirst j) = (refl, refl, refl)
 owned t i c h (own.FillSecond j) = (refl, refl, refl)
@@ -253,7 +253,7 @@ module _ (o : Opening) (es : List Event) (e : Event) (k : ℕ) (l : k < o.caller
     stage_goes c (stage.Take d g) y q r = unstarted (λ d g i. absurd (no_hold d g (ap own_hold q ∙ i))) ∙ r
     stage_goes c (stage.Own h step) y q r = go (fills step) refl r
       where
-        f : Owns_it (owns (record (resting s) { halted = c.halted }) c.intent c.copy h step).own h c.intent step
+        f : OwnsIt (owns (record (resting s) { halted = c.halted }) c.intent c.copy h step).own h c.intent step
         f = owned (record (resting s) { halted = c.halted }) c.intent c.copy h step
 
         fill : is_filling (stand s).own ≡ fills step
