@@ -6,3 +6,5 @@ pub mod Passes
 pub mod Deciding
 pub mod Places
 pub mod Decisions
+pub mod Calls
+pub mod Differ

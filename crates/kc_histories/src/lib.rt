@@ -9,6 +9,6 @@ pub use lists::{
     insertions_keep_legal, insertions_rise, versions_tell_values,
 };
 pub use traces::{
-    histories_move_by_decisions, histories_rise_by_place, passes_have_places, placed_passes_stay,
+    entries_differ, histories_move_by_decisions, histories_rise_by_place, passes_have_places, placed_passes_stay,
     places_differ,
 };

@@ -8,7 +8,8 @@ ghost use Rattle.kc_steps.specs.declared.line.Line.{Line};
 ghost use Rattle.kc_steps.specs.declared.task.Event.{Event};
 ghost use Rattle.kc_machine.specs.Machine.{Opening, seat_of};
 ghost use Rattle.kc_effects.specs.Stands.{Over, Turn};
-ghost use Rattle.kc_claims.specs.Histories.{RisesByPlace};
+ghost use Rattle.kc_machine.specs.Schedules.{IsSchedule};
+ghost use Rattle.kc_claims.specs.Histories.{EntriesDiffer, RisesByPlace};
 ghost use Rattle.kc_claims.specs.Traces.{is_placed, trace};
 ghost use Rattle.kc_histories.specs.Decisions.{MovesByDecision};
 ghost use Rattle.kc_histories.specs.Insertions.{IsBelowPlace, IsNewPlace};
@@ -45,4 +46,9 @@ pub fn placed_passes_stay()
 /// An event leaves the history, or inserts one entry: at the place of its seat's pass, which decides for success what was Active, with the call, the mode and the lines of its owner.
 pub fn histories_move_by_decisions()
     ensures { (o : Opening) (es : List Event) (e : Event) → MovesByDecision o es e }
+{}
+
+/// Where the tasks are well made, no call has two entries.
+pub fn entries_differ()
+    ensures { (o : Opening) (es : List Event) → IsSchedule o es → EntriesDiffer (trace o es).history }
 {}

@@ -119,7 +119,7 @@ hang_unowned s reads (hang.Clear j n) = refl
 
 -- ---- how an event moves a status
 
-event_moves : (m : State) (e : Event) → Moves m.world (event_of m e).world (stand (m.seats (seat_of e)))
+pub event_moves : (m : State) (e : Event) → Moves m.world (event_of m e).world (stand (m.seats (seat_of e)))
 event_moves m e = go (nat_lt (seat_of e) m.callers)
   where
     step : (k : ℕ) (b : Bool) → Moves m.world (if b then record m { world = touched m.world (access_of (m.seats k)); seats = put m.seats k (answer_of (m.seats k) (found_at m.world (access_of (m.seats k)))) } else m).world (stand (m.seats k))
