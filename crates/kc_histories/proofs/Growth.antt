@@ -140,6 +140,11 @@ module _ (s : Store) (b h : History) (p : ℕ) (r : Seen) (below : (x : Placed) 
 
 -- ---- an entry more
 
+pub known_same : (s : Store) (x : Placed) (h : History) (r : Seen) → put_by x r.loc.0 ≡ None → IsKnown s (inserted x h) r → IsKnown s h r
+known_same s x h r e k =
+    let g = front_of s (inserted x h) r k in
+    known_of s h r (record { front = g.front; rest = g.rest; is = sym (putting_same x h r.loc.0 e) ∙ g.is; makes = g.makes })
+
 pub known_or_end : (s : Store) (x : Placed) (h : History) (r : Seen) → RisesByPlace h → NonePutsAbove x.place h r.loc.0 → IsKnown s (inserted x h) r → IsKnown s h r ⊎ (ending s (inserted x h) r.loc.0 ≡ cell_of r)
 known_or_end s x h r rise f k = go (put_by x r.loc.0) refl
   where
@@ -154,7 +159,5 @@ known_or_end s x h r rise f k = go (put_by x r.loc.0) refl
         at (inr q) = inr (ending_putting s (inserted x h) r.loc.0 ∙ ap (cell_from r.loc.0 (s r.loc.0)) (p ∙ sym q) ∙ g.makes)
 
     go : (o : Option Put) → put_by x r.loc.0 ≡ o → IsKnown s h r ⊎ (ending s (inserted x h) r.loc.0 ≡ cell_of r)
-    go None e =
-        let g = front_of s (inserted x h) r k in
-        inl (known_of s h r (record { front = g.front; rest = g.rest; is = sym (putting_same x h r.loc.0 e) ∙ g.is; makes = g.makes }))
+    go None e = inl (known_same s x h r e k)
     go (Some p) e = last (ap is_some e) (front_of s (inserted x h) r k)

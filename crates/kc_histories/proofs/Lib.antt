@@ -8,3 +8,4 @@ pub mod Places
 pub mod Decisions
 pub mod Calls
 pub mod Differ
+pub mod Growing

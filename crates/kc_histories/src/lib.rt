@@ -5,10 +5,11 @@ mod lists;
 mod traces;
 
 pub use lists::{
-    an_entry_adds_one_value, earlier_reads_bound_places, histories_grow, insertions_by_location,
+    an_entry_adds_one_value, earlier_reads_bound_places, growth_goes_on, insertions_by_location,
     insertions_keep_legal, insertions_rise, versions_tell_values,
 };
 pub use traces::{
-    entries_differ, histories_move_by_decisions, histories_rise_by_place, passes_have_places, placed_passes_stay,
+    decisions_put_last, entries_differ, histories_grow, histories_move_by_decisions,
+    histories_rise_by_place, known_values_stood, passes_have_places, placed_passes_stay,
     places_differ,
 };

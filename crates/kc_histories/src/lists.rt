@@ -31,7 +31,7 @@ pub fn insertions_rise()
 {}
 
 /// A history grows by an entry, where no entry with a higher place puts what it puts; and to grow is to grow on.
-pub fn histories_grow()
+pub fn growth_goes_on()
     ensures same { (h : History) → Grows h h }
     ensures on { (a b c : History) → Grows a b → Grows b c → Grows a c }
     ensures inserted { (x : Placed) (h : History) → RisesByPlace h → IsLastWherePut x h → Grows h (inserted x h) }

@@ -9,10 +9,16 @@ ghost use Rattle.kc_steps.specs.declared.task.Event.{Event};
 ghost use Rattle.kc_machine.specs.Machine.{Opening, seat_of};
 ghost use Rattle.kc_effects.specs.Stands.{Over, Turn};
 ghost use Rattle.kc_machine.specs.Schedules.{IsSchedule};
-ghost use Rattle.kc_claims.specs.Histories.{EntriesDiffer, RisesByPlace};
-ghost use Rattle.kc_claims.specs.Traces.{is_placed, trace};
-ghost use Rattle.kc_histories.specs.Decisions.{MovesByDecision};
-ghost use Rattle.kc_histories.specs.Insertions.{IsBelowPlace, IsNewPlace};
+ghost use Rattle.kc_model.specs.declared.footprint.Seen.{Seen};
+ghost use Rattle.kc_model.specs.Store.{cell_after};
+ghost use Rattle.kc_claims.specs.Claims.{HistoriesGrow, history_at};
+ghost use Rattle.kc_claims.specs.Histories.{
+    EntriesDiffer, FindsInstalled, Grows, IsKnown, IsLegalWhereInstalled, Placed, RisesByPlace, cell_of, ending, inserted
+};
+ghost use Rattle.kc_claims.specs.Traces.{first_store, is_placed, trace};
+ghost use Rattle.kc_histories.specs.Decisions.{Decision, MovesByDecision};
+ghost use Rattle.kc_histories.specs.Insertions.{IsBelowPlace, IsNewPlace, put_by};
+ghost use Rattle.kc_histories.specs.Later.{NothingLaterTouches, NothingLaterTouchesAlong};
 ghost use Rattle.kc_histories.specs.Places.{began, pass_of, place_of};
 
 /// A history rises by place, and its places are numbers of events of the schedule. The history of a task's beginning has
@@ -51,4 +57,25 @@ pub fn histories_move_by_decisions()
 /// Where the tasks are well made, no call has two entries.
 pub fn entries_differ()
     ensures { (o : Opening) (es : List Event) → IsSchedule o es → EntriesDiffer (trace o es).history }
+{}
+
+/// Where nothing later touches what a placed pass installs, which is a premise here, each decision's puts are the last ones at
+/// their locations: the history makes each of them, grows, and stays legal where entries installed, if what the entry
+/// installed is what the history made.
+pub fn decisions_put_last()
+    ensures makes { (o : Opening) (es : List Event) (e : Event) → NothingLaterTouches o es → (x : Placed) → Decision o es e x → (l : ℕ) → ending (first_store o) (inserted x (trace o es).history) l ≡ cell_after (put_by x l) (ending (first_store o) (trace o es).history l) }
+    ensures grows { (o : Opening) (es : List Event) (e : Event) → NothingLaterTouches o es → Grows (trace o es).history (trace o (es ++ e ∷ [])).history }
+    ensures legal { (o : Opening) (es : List Event) (e : Event) → NothingLaterTouches o es → IsLegalWhereInstalled (first_store o) (trace o es).history
+        → ((x : Placed) → Decision o es e x → FindsInstalled x (ending (first_store o) (trace o es).history)) → IsLegalWhereInstalled (first_store o) (trace o (es ++ e ∷ [])).history }
+{}
+
+/// Where nothing later touches what placed passes install, at each moment of a schedule, its histories grow.
+pub fn histories_grow()
+    ensures { (o : Opening) (es : List Event) → NothingLaterTouchesAlong o es → HistoriesGrow o es }
+{}
+
+/// There, what is known to the history stood at its location at some moment; and at one since any moment at which the version was no higher.
+pub fn known_values_stood()
+    ensures { (o : Opening) (es : List Event) → NothingLaterTouchesAlong o es → (r : Seen) (n : ℕ) → n ≤ length es → (ending (first_store o) (history_at o es n) r.loc.0).version ≤ r.version → IsKnown (first_store o) (trace o es).history r
+        → (i : ℕ) × (n ≤ i) × (i ≤ length es) × (ending (first_store o) (history_at o es i) r.loc.0 ≡ cell_of r) }
 {}

@@ -1,5 +1,5 @@
 use Rattle.kc_histories.proofs.Insertions.{grows_same, grows_on, grows_inserted}
-use Rattle.kc_histories.proofs.lists.histories_grow.Goals as goal
+use Rattle.kc_histories.proofs.lists.growth_goes_on.Goals as goal
 
 pub returns-clause-same : goal.returns-clause-same
 returns-clause-same c = grows_same
