@@ -83,9 +83,9 @@ own_is s = go s.work
 
 -- ---- from one to the next
 
--- a life that is owned was owned, by the same call, and is filled no longer than it was; or it is taken now, by one call more
+-- a life that is owned was owned, by the same call, and is filled no longer than it was; or it is taken now, by one call more, to be filled
 abbrev pub OwnedOn : Hold → Bool → ℕ → Hold → Bool → ℕ → Type 0
-OwnedOn x was a y fill b = (d g : ℕ) → y ≡ Proper d g → ((x ≡ Proper d g) × (b ≡ a) × (fill ≡ true → was ≡ true)) ⊎ ((x ≡ NoHold) × (b ≡ one_more a))
+OwnedOn x was a y fill b = (d g : ℕ) → y ≡ Proper d g → ((x ≡ Proper d g) × (b ≡ a) × (fill ≡ true → was ≡ true)) ⊎ ((x ≡ NoHold) × (b ≡ one_more a) × (fill ≡ true))
 
 not_owned : {x : Hold} {was : Bool} {a : ℕ} {fill : Bool} {b : ℕ} (y : Hold) → y ≡ NoHold → OwnedOn x was a y fill b
 not_owned y e d g q = absurd (cc)
@@ -135,7 +135,7 @@ module _ (s : Seat) where
   take_on d g (found.Control c) = go ((c.generation == g) && (c.holds == 0) && nat_lt g 1099511627775)
     where
       go : (x : Bool) → NextOn (stage.Take d g) n (if x then next.Takes (stage.Own (record { descriptor = d; generation = g + 1 }) own.FillOwner) else next.Goes (stage.Scan (after_scan s.descriptors d) 0))
-      go true = λ e i q. inr (refl, refl)
+      go true = λ e i q. inr (refl, refl, refl)
       go false = not_owned NoHold refl
   take_on d g f = not_owned NoHold refl
 

@@ -136,7 +136,7 @@ module _ (o : Opening) (es : List Event) (e : Event) (w : IsSchedule o es) (old 
     below = go (own_goes m e k h.descriptor h.generation h.owns)
       where
         go : ((own_hold (stand (m.seats k)).own ≡ Proper h.descriptor h.generation) × ((n.seats k).calls ≡ (m.seats k).calls) × (is_filling (stand (n.seats k)).own ≡ true → is_filling (stand (m.seats k)).own ≡ true))
-            ⊎ ((own_hold (stand (m.seats k)).own ≡ NoHold) × ((n.seats k).calls ≡ one_more (m.seats k).calls)) → Below (trace o (es ++ e ∷ [])).history
+            ⊎ ((own_hold (stand (m.seats k)).own ≡ NoHold) × ((n.seats k).calls ≡ one_more (m.seats k).calls) × (is_filling (stand (n.seats k)).own ≡ true)) → Below (trace o (es ++ e ∷ [])).history
         go (inl z) = goes_on z.0 z.1 z.2
         go (inr z) = takes z.0 z.1
 

@@ -9,3 +9,4 @@ pub mod Decisions
 pub mod Calls
 pub mod Differ
 pub mod Growing
+pub mod Begun

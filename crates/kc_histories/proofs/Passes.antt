@@ -1,5 +1,5 @@
 -- What the pass of a seat touches, and what an event of the seat makes of it.
-use Rattle.std.proofs.Common.{◌≡◌, ℕ, Bool, true, false, List, Option, None, Some, refl, sym, ap, subst, ◌∙◌, if◌then◌else◌}
+use Rattle.std.proofs.Common.{◌≡◌, inl, inr, ℕ, Bool, true, false, List, Option, None, Some, refl, sym, ap, subst, ◌∙◌, if◌then◌else◌}
 use Rattle.kc_words.specs.declared.words.Handle.{Handle}
 use Rattle.kc_words.specs.declared.words.Reference.{Reference}
 use Rattle.kc_words.specs.declared.words.Phase.{Phase}
@@ -40,7 +40,9 @@ use Rattle.kc_machine.specs.Works as work
 use Rattle.kc_machine.specs.declared.seat.Seat.{Seat}
 use Rattle.kc_machine.specs.Seats.{access_of, work_access, answer_of, answer_by, after, is_idle, begun, begun_idle, working, hanging, halted, halted_by, ended}
 use Rattle.kc_machine.specs.Machine.{World, State, found_at, event_of, seat_of}
-use Rattle.kc_effects.specs.Stands.{Passing, NoPass, Over, Turn, At, Stand, stand, works, resting, commits, owns, aids, hangs, Waits}
+use Rattle.kc_effects.specs.Stands.{Own, NoOwn, Passing, NoPass, Over, Turn, At, Stand, stand, works, resting, commits, owns, aids, hangs, Waits}
+use Rattle.kc_effects.specs.Holds.{Holds}
+use Rattle.kc_pool.specs.Owners.{is_filling}
 use Rattle.kc_claims.specs.Traces.{is_placed, is_placed_in}
 use Rattle.kc_traces.proofs.Answers.{moved, seat_cases}
 
@@ -156,6 +158,57 @@ pass_touches s = subst (λ p. Touches p (access_of s)) (sym (pass_is s)) (go s.w
     go (work.Hang h) = tt
     go (work.Leave l) = tt
 
+-- ---- the life that it goes over is held
+
+abbrev pub HoldsLife : Passing → Stand → Type 0
+HoldsLife NoPass t = Unit {0}
+HoldsLife (Over h m xs u) t = Holds t h.descriptor h.generation × (is_filling t.own ≡ false)
+
+pub pass_holds : (s : Seat) → HoldsLife (stand s).pass (stand s)
+pass_holds s = go s.work
+  where
+    aiding : (t : Stand) (h : Handle) (i : Intent) (j : ℕ) (r : Reference) (c : Aided) (a : AidStep) → t.pass ≡ NoPass → HoldsLife (aids (record t { own = Waits h i j }) r c a).pass (aids (record t { own = Waits h i j }) r c a)
+    aiding t h i j r c aid.Hold e = subst (λ p. HoldsLife p (aids (record t { own = Waits h i j }) r c aid.Hold)) (sym e) tt
+    aiding t h i j r c aid.Status e = subst (λ p. HoldsLife p (aids (record t { own = Waits h i j }) r c aid.Status)) (sym e) tt
+    aiding t h i j r c (aid.First p) e = subst (λ q. HoldsLife q (aids (record t { own = Waits h i j }) r c (aid.First p))) (sym e) tt
+    aiding t h i j r c (aid.Second p f) e = subst (λ q. HoldsLife q (aids (record t { own = Waits h i j }) r c (aid.Second p f))) (sym e) tt
+    aiding t h i j r c (aid.Release p x) e = subst (λ q. HoldsLife q (aids (record t { own = Waits h i j }) r c (aid.Release p x))) (sym e) tt
+    aiding t h i j r c aid.Owner e = subst (λ p. HoldsLife p (aids (record t { own = Waits h i j }) r c aid.Owner)) (sym e) tt
+    aiding t h i j r c aid.LoadFirst e = subst (λ p. HoldsLife p (aids (record t { own = Waits h i j }) r c aid.LoadFirst)) (sym e) tt
+    aiding t h i j r c (aid.LoadSecond f) e = subst (λ p. HoldsLife p (aids (record t { own = Waits h i j }) r c (aid.LoadSecond f))) (sym e) tt
+    aiding t h i j r c (aid.Pass p) e = (inr (inr (inl refl)), refl)
+    aiding t h i j r c (aid.Leave o) e = subst (λ p. HoldsLife p (aids (record t { own = Waits h i j }) r c (aid.Leave o))) (sym e) tt
+    aiding t h i j r c (aid.Drop stray o) e = subst (λ p. HoldsLife p (aids (record t { own = Waits h i j }) r c (aid.Drop stray o))) (sym e) tt
+
+    owning : (b : Bool) (i : Intent) (c : Aided) (h : Handle) (step : OwnStep) → HoldsLife (owns (record (resting s) { halted = b }) i c h step).pass (owns (record (resting s) { halted = b }) i c h step)
+    owning b i c h own.FillOwner = tt
+    owning b i c h (own.FillFirst j) = tt
+    owning b i c h (own.FillSecond j) = tt
+    owning b i c h own.Start = tt
+    owning b i c h own.Abandon = tt
+    owning b i c h (own.Pass p) = (inl refl, refl)
+    owning b i c h (own.Aid j r a) = aiding (record (resting s) { halted = b }) h i j r c a refl
+    owning b i c h (own.Wake j owed) = tt
+    owning b i c h (own.Signal owed) = tt
+    owning b i c h (own.Drop p) = tt
+
+    stages : (c : Commit) (x : Stage) → HoldsLife (commits (record (resting s) { halted = c.halted }) c.intent c.copy x).pass (commits (record (resting s) { halted = c.halted }) c.intent c.copy x)
+    stages c (stage.Scan d worn) = tt
+    stages c (stage.Take d g) = tt
+    stages c (stage.Own h step) = owning c.halted c.intent c.copy h step
+
+    waits : (reads : List Seen) (step : HangStep) → HoldsLife (hangs (resting s) reads step).pass (hangs (resting s) reads step)
+    waits reads (hang.Set j) = tt
+    waits reads (hang.Look j step) = tt
+    waits reads (hang.Clear j n) = tt
+
+    go : (x : Work) → HoldsLife (works (resting s) x).pass (works (resting s) x)
+    go work.Idle = tt
+    go (work.Look l) = tt
+    go (work.Commit c) = stages c c.stage
+    go (work.Hang h) = waits h.reads.items h.step
+    go (work.Leave l) = tt
+
 -- ---- what follows it
 
 -- a placed pass that stays placed goes over the same; behind a decision it isn't placed
@@ -211,6 +264,9 @@ abbrev next_pass : Commit → Next → Passing
 next_pass c (next.Goes y) = stage_pass c.intent c.copy y
 next_pass c (next.Takes y) = stage_pass c.intent c.copy y
 next_pass c (next.Tells t) = NoPass
+
+abbrev pub IsFresh : Stand → Type 0
+IsFresh t = (t.pass ≡ NoPass) × (t.own ≡ NoOwn)
 
 module _ (s : Seat) where
   next_is : (c : Commit) (n : Next) → work_pass (after (record s { work = work.Commit (gone_on c n) }) (onward_by n)).work ≡ next_pass c n
@@ -363,35 +419,29 @@ module _ (s : Seat) where
       go (work.Hang h) e = tt
       go (work.Leave l) e = tt
 
-  -- what has begun has no pass
-  pub begun_unplaced : (t : Task) → is_idle s.work ≡ true → is_placed (stand (begun_idle s t)).pass ≡ false
-  begun_unplaced t e = ap is_placed (pass_is (begun_idle s t)) ∙ starts t
+  -- what has begun has no pass and owns nothing
+  pub begun_fresh : (t : Task) → is_idle s.work ≡ true → IsFresh (stand (begun_idle s t))
+  begun_fresh (task.Look l) e = (refl, refl)
+  begun_fresh (task.Commit f m) e = (refl, refl)
+  begun_fresh (task.Hang reads) e = go s.blocked
     where
-      idle : is_placed (work_pass s.work) ≡ false
-      idle = go s.work e
-        where
-          go : (x : Work) → is_idle x ≡ true → is_placed (work_pass x) ≡ false
-          go work.Idle e = refl
-          go (work.Look l) e = refl
-          go (work.Commit c) e = absurd (cc)
-          go (work.Hang h) e = refl
-          go (work.Leave l) e = refl
+      idle : (x : Work) → is_idle x ≡ true → IsFresh (works (resting s) x)
+      idle work.Idle e = (refl, refl)
+      idle (work.Look l) e = (refl, refl)
+      idle (work.Commit c) e = absurd (cc)
+      idle (work.Hang h) e = absurd (cc)
+      idle (work.Leave l) e = (refl, refl)
 
-      starts : (t : Task) → is_placed (work_pass (begun_idle s t).work) ≡ false
-      starts (task.Look l) = refl
-      starts (task.Commit f m) = refl
-      starts (task.Hang reads) = go s.blocked
-        where
-          go : (b : Bool) → is_placed (work_pass (if b then s else working s (hanging reads.items)).work) ≡ false
-          go true = idle
-          go false = refl
-      starts (task.Leave reads) = refl
+      go : (b : Bool) → IsFresh (stand (if b then s else working s (hanging reads.items)))
+      go true = idle s.work e
+      go false = (refl, refl)
+  begun_fresh (task.Leave reads) e = (refl, refl)
 
   begun_keeps : (t : Task) → Keeps (stand s).pass (stand (begun s t)).pass
   begun_keeps t = go (is_idle s.work) refl
     where
       go : (b : Bool) → is_idle s.work ≡ b → Keeps (stand s).pass (stand (if b then begun_idle s t else s)).pass
-      go true e = unplaced (stand s).pass (stand (begun_idle s t)).pass (begun_unplaced t e)
+      go true e = unplaced (stand s).pass (stand (begun_idle s t)).pass (ap is_placed (begun_fresh t e).0)
       go false e = keeps_itself (stand s).pass
 
 -- ---- an event

@@ -24,7 +24,7 @@ use Rattle.kc_traces.proofs.Answers.{moved, seat_cases}
 use Rattle.kc_histories.specs.Insertions.{IsNewPlace, IsBelowPlace}
 use Rattle.kc_histories.proofs.Insertions.{inserted_contains, rises_inserted}
 use Rattle.kc_histories.specs.Places.{pass_of, place_of, began}
-use Rattle.kc_histories.proofs.Passes.{Keeps, event_keeps, begun_unplaced}
+use Rattle.kc_histories.proofs.Passes.{Keeps, event_keeps, IsFresh, begun_fresh}
 use Rattle.kc_histories.proofs.Deciding.{Entrance, history_cases}
 
 pub record Placing (t : Trace) : Type 0 where
@@ -43,13 +43,13 @@ module _ (t : Trace) (e : Event) (h : Placing t) where
   abbrev pub j : ℕ
   j = seat_of e
 
-  abbrev m : State
+  abbrev pub m : State
   m = event_of t.machine e
 
   abbrev x : Shadow
   x = t.shadows j
 
-  abbrev r : Seat
+  abbrev pub r : Seat
   r = m.seats j
 
   -- the place stays, or is the number of the event
@@ -94,37 +94,37 @@ module _ (t : Trace) (e : Event) (h : Placing t) where
       go true = refl
       go false = refl
 
-  -- a seat that begins has no placed pass
-  begins_unplaced : (u : Task) → begins e (t.machine.seats j) r ≡ Some u → is_placed (stand r).pass ≡ false
-  begins_unplaced u = seat_cases (λ y. begins e (t.machine.seats j) y ≡ Some u → is_placed (stand y).pass ≡ false) t.machine e (same e) (new e)
+  -- a seat that begins has no placed pass, and owns nothing
+  begins_fresh : (u : Task) → begins e (t.machine.seats j) r ≡ Some u → IsFresh (stand r)
+  begins_fresh u = seat_cases (λ y. begins e (t.machine.seats j) y ≡ Some u → IsFresh (stand y)) t.machine e (same e) (new e)
     where
-      same : (e : Event) → begins e (t.machine.seats (seat_of e)) (t.machine.seats (seat_of e)) ≡ Some u → is_placed (stand (t.machine.seats (seat_of e))).pass ≡ false
+      same : (e : Event) → begins e (t.machine.seats (seat_of e)) (t.machine.seats (seat_of e)) ≡ Some u → IsFresh (stand (t.machine.seats (seat_of e)))
       same (Begin k w) q = go (is_idle (t.machine.seats k).work) q
         where
-          go : (b : Bool) → (if b && not b then Some w else None) ≡ Some u → is_placed (stand (t.machine.seats k)).pass ≡ false
+          go : (b : Bool) → (if b && not b then Some w else None) ≡ Some u → IsFresh (stand (t.machine.seats k))
           go true q = absurd (cc)
           go false q = absurd (cc)
       same (Step k) q = absurd (cc)
       same (Halt k) q = absurd (cc)
 
-      new : (e : Event) → begins e (t.machine.seats (seat_of e)) (moved t.machine e) ≡ Some u → is_placed (stand (moved t.machine e)).pass ≡ false
+      new : (e : Event) → begins e (t.machine.seats (seat_of e)) (moved t.machine e) ≡ Some u → IsFresh (stand (moved t.machine e))
       new (Begin k w) q = go (is_idle (t.machine.seats k).work) refl q
         where
           s : Seat
           s = t.machine.seats k
 
-          go : (b : Bool) → is_idle s.work ≡ b → (if b && not (is_idle (if b then begun_idle s w else s).work) then Some w else None) ≡ Some u → is_placed (stand (if b then begun_idle s w else s)).pass ≡ false
-          go true i q = begun_unplaced s w i
+          go : (b : Bool) → is_idle s.work ≡ b → (if b && not (is_idle (if b then begun_idle s w else s).work) then Some w else None) ≡ Some u → IsFresh (stand (if b then begun_idle s w else s))
+          go true i q = begun_fresh s w i
           go false i q = absurd (cc)
       new (Step k) q = absurd (cc)
       new (Halt k) q = absurd (cc)
 
-  abbrev began_at : ℕ → ℕ
+  abbrev pub began_at : ℕ → ℕ
   began_at k = ((traced t e).shadows k).begun.clock
 
   -- its beginning stays, or is now, and then it has no placed pass
-  began_cases : (k : ℕ) → (began_at k ≡ (t.shadows k).begun.clock) ⊎ ((k ≡ j) × (began_at k ≡ t.clock) × (is_placed (stand r).pass ≡ false))
-  began_cases k = put_cases (λ y. (y.begun.clock ≡ (t.shadows k).begun.clock) ⊎ ((k ≡ j) × (y.begun.clock ≡ t.clock) × (is_placed (stand r).pass ≡ false))) t.shadows j (shadow_after (now t) e (t.machine.seats j) r x) k
+  pub began_cases : (k : ℕ) → (began_at k ≡ (t.shadows k).begun.clock) ⊎ ((k ≡ j) × (began_at k ≡ t.clock) × IsFresh (stand r))
+  began_cases k = put_cases (λ y. (y.begun.clock ≡ (t.shadows k).begun.clock) ⊎ ((k ≡ j) × (y.begun.clock ≡ t.clock) × IsFresh (stand r))) t.shadows j (shadow_after (now t) e (t.machine.seats j) r x) k
       (λ q. go q (begins e (t.machine.seats j) r) refl)
       (λ ne. inl refl)
     where
@@ -135,9 +135,9 @@ module _ (t : Trace) (e : Event) (h : Placing t) where
         blocking = blocking_after (t.machine.seats j).blocked r.blocked (stand (t.machine.seats j)).wait x.blocking;
       }
 
-      go : k ≡ j → (o : Option Task) → begins e (t.machine.seats j) r ≡ o → ((with_task o (now t) y).begun.clock ≡ (t.shadows k).begun.clock) ⊎ ((k ≡ j) × ((with_task o (now t) y).begun.clock ≡ t.clock) × (is_placed (stand r).pass ≡ false))
+      go : k ≡ j → (o : Option Task) → begins e (t.machine.seats j) r ≡ o → ((with_task o (now t) y).begun.clock ≡ (t.shadows k).begun.clock) ⊎ ((k ≡ j) × ((with_task o (now t) y).begun.clock ≡ t.clock) × IsFresh (stand r))
       go q None z = inl (ap (λ i. (t.shadows i).begun.clock) (sym q))
-      go q (Some u) z = inr (q, refl, begins_unplaced u z)
+      go q (Some u) z = inr (q, refl, begins_fresh u z)
 
   below_now : (k p : ℕ) → ((traced t e).shadows k).place ≡ Some p → p < t.clock + 1
   below_now k p q = go (stood k p q).was
@@ -146,20 +146,20 @@ module _ (t : Trace) (e : Event) (h : Placing t) where
       go (inl z) = let b = h.below k p z in omega arith
       go (inr z) = let c = z.1 in omega arith
 
-  reached_now : (k : ℕ) → began_at k ≤ t.clock
+  pub reached_now : (k : ℕ) → began_at k ≤ t.clock
   reached_now k = go (began_cases k)
     where
-      go : (began_at k ≡ (t.shadows k).begun.clock) ⊎ ((k ≡ j) × (began_at k ≡ t.clock) × (is_placed (stand r).pass ≡ false)) → began_at k ≤ t.clock
+      go : (began_at k ≡ (t.shadows k).begun.clock) ⊎ ((k ≡ j) × (began_at k ≡ t.clock) × IsFresh (stand r)) → began_at k ≤ t.clock
       go (inl z) = let b = h.reached k in omega arith
       go (inr z) = let b = z.1 in omega arith
 
   begun_now : (k p : ℕ) → ((traced t e).shadows k).place ≡ Some p → began_at k ≤ p
   begun_now k p q = go (stood k p q).was (began_cases k)
     where
-      go : Was k p → (began_at k ≡ (t.shadows k).begun.clock) ⊎ ((k ≡ j) × (began_at k ≡ t.clock) × (is_placed (stand r).pass ≡ false)) → began_at k ≤ p
+      go : Was k p → (began_at k ≡ (t.shadows k).begun.clock) ⊎ ((k ≡ j) × (began_at k ≡ t.clock) × IsFresh (stand r)) → began_at k ≤ p
       go (inl z) (inl b) = let a = h.begun k p z in omega arith
       go (inr z) b = let c = z.1 in let a = reached_now k in omega arith
-      go (inl z) (inr b) = let a = (stood k p q).placed b.0 in let c = b.2 in absurd (cc)
+      go (inl z) (inr b) = let a = (stood k p q).placed b.0 in let c : is_placed (stand r).pass ≡ false = ap is_placed b.2.0 in absurd (cc)
 
   apart_now : (i k p : ℕ) → ((traced t e).shadows i).place ≡ Some p → ((traced t e).shadows k).place ≡ Some p → i ≡ k
   apart_now i k p a b = go (stood i p a).was (stood k p b).was
