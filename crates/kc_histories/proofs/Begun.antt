@@ -35,9 +35,9 @@ same_life a b c d q = (cc, cc)
 same_handle : {h g : Handle} {m n : Mode} {xs ys : List Line} {t u : Turn} → Over h m xs t ≡ Over g n ys u → h ≡ g
 same_handle q = cc
 
-no_pass : (p : Passing) → is_placed p ≡ true → (h : Handle) × (m : Mode) × (xs : List Line) × (t : Turn) × (p ≡ Over h m xs t)
-no_pass NoPass e = absurd (cc)
-no_pass (Over h m xs t) e = (h, m, xs, t, refl)
+placed_over : (p : Passing) → is_placed p ≡ true → (h : Handle) × (m : Mode) × (xs : List Line) × (t : Turn) × (p ≡ Over h m xs t)
+placed_over NoPass e = absurd (cc)
+placed_over (Over h m xs t) e = (h, m, xs, t, refl)
 
 module _ (o : Opening) (es : List Event) (e : Event) (old : OwnersBeganBefore o es) where
   abbrev m : State
@@ -68,7 +68,7 @@ module _ (o : Opening) (es : List Event) (e : Event) (old : OwnersBeganBefore o 
 
     -- a place that was there
     before : place_of o es j ≡ Some p → began o es k ≤ p
-    before was = go (no_pass (pass_of o es j) placed)
+    before was = go (placed_over (pass_of o es j) placed)
       where
         placed : is_placed (pass_of o es j) ≡ true
         placed = sym (has_place o es j) ∙ ap is_some was

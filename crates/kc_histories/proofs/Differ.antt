@@ -146,11 +146,11 @@ module _ (o : Opening) (es : List Event) (e : Event) (w : IsSchedule o es) (old 
 
 -- ---- an entry that differs from all
 
-abbrev SameCall : Placed → Placed → Type 0
+abbrev pub SameCall : Placed → Placed → Type 0
 SameCall x y = (x.entry.caller ≡ y.entry.caller) × (x.entry.number ≡ y.entry.number)
 
 -- no two are of one call
-abbrev AreApart : History → Type 0
+abbrev pub AreApart : History → Type 0
 AreApart [] = Unit {0}
 AreApart (x ∷ h) = ((y : Placed) → Contains h y → SameCall x y → ⊥) × AreApart h
 
@@ -198,5 +198,8 @@ are_new o = every (λ es. IsSchedule o es → AreNew o es) step (λ w. record { 
               omega arith) a.apart);
         }
 
+pub entries_apart : (o : Opening) (es : List Event) → IsSchedule o es → AreApart (trace o es).history
+entries_apart o es w = (are_new o es w).apart
+
 pub entries_differ : (o : Opening) (es : List Event) → IsSchedule o es → EntriesDiffer (trace o es).history
-entries_differ o es w = differ_of (trace o es).history (are_new o es w).apart
+entries_differ o es w = differ_of (trace o es).history (entries_apart o es w)

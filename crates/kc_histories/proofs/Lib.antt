@@ -10,3 +10,5 @@ pub mod Calls
 pub mod Differ
 pub mod Growing
 pub mod Begun
+pub mod Footprints
+pub mod Successes

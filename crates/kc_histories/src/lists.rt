@@ -2,10 +2,13 @@
 
 ghost use Rattle.std.specs.Prelude.{◌≡◌, ℕ, ◌<◌, ◌≤◌, ◌+◌, ◌⊎◌, ◌++◌, ◌∷◌, [], length, true, Contains, None};
 ghost use Rattle.std.specs.Option.{is_some};
+ghost use Rattle.kc_model.specs.declared.footprint.Footprint.{Footprint};
 ghost use Rattle.kc_model.specs.declared.footprint.Seen.{Seen};
+ghost use Rattle.kc_model.specs.Footprint.{IsWellMade};
 ghost use Rattle.kc_model.specs.Store.{Finds, Store, cell_after};
+ghost use Rattle.kc_steps.specs.Lines.{lines_of};
 ghost use Rattle.kc_claims.specs.Histories.{
-    FindsInstalled, Grows, History, IsKnown, IsLegalHistory, IsLegalWhereInstalled, Placed, RisesByPlace, at_place, cell_of, ending, inserted, putting
+    FindsInstalled, Grows, History, IsKnown, IsLegalHistory, IsLegalWhereInstalled, Placed, RisesByPlace, at_place, cell_of, ending, footprint_of, inserted, putting
 };
 ghost use Rattle.kc_histories.specs.Insertions.{
     EachFindsInstalled, IsBelowPlace, IsLastWherePut, IsNewPlace, NoneInstallsAbove, NonePutsAbove, NoneReadsAbove, put_by
@@ -62,4 +65,9 @@ pub fn insertions_keep_legal()
     ensures places { (s : Store) (h : History) → RisesByPlace h → IsLegalWhereInstalled s h → EachFindsInstalled s h }
     ensures installed { (s : Store) (x : Placed) (h : History) → RisesByPlace h → IsNewPlace x.place h → IsLegalWhereInstalled s h → FindsInstalled x (at_place s h x.place) → NoneInstallsAbove x h → IsLegalWhereInstalled s (inserted x h) }
     ensures all { (s : Store) (x : Placed) (h : History) → RisesByPlace h → IsNewPlace x.place h → IsLegalHistory s h → Finds x.entry.footprint (at_place s h x.place) → NoneReadsAbove x h → IsLegalHistory s (inserted x h) }
+{}
+
+/// The footprint of a well-made footprint's lines is that footprint.
+pub fn lines_say_their_footprint()
+    ensures { (f : Footprint) → IsWellMade f → footprint_of (lines_of f) ≡ f }
 {}

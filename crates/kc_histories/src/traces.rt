@@ -11,7 +11,7 @@ ghost use Rattle.kc_effects.specs.Stands.{Over, Turn};
 ghost use Rattle.kc_machine.specs.Schedules.{IsSchedule};
 ghost use Rattle.kc_model.specs.declared.footprint.Seen.{Seen};
 ghost use Rattle.kc_model.specs.Store.{cell_after};
-ghost use Rattle.kc_claims.specs.Claims.{HistoriesGrow, history_at};
+ghost use Rattle.kc_claims.specs.Claims.{HistoriesGrow, SuccessesHaveTheirEntry, history_at};
 ghost use Rattle.kc_claims.specs.Histories.{
     EntriesDiffer, FindsInstalled, Grows, IsKnown, IsLegalWhereInstalled, Placed, RisesByPlace, cell_of, ending, inserted
 };
@@ -57,6 +57,13 @@ pub fn histories_move_by_decisions()
 /// Where the tasks are well made, no call has two entries.
 pub fn entries_differ()
     ensures { (o : Opening) (es : List Event) → IsSchedule o es → EntriesDiffer (trace o es).history }
+{}
+
+/// An entry comes to stand behind the beginning of its caller's task. So where the tasks are well made, a commit that was told
+/// Succeeded has its entry in the history, behind all that stood there when it began.
+pub fn successes_have_their_entry()
+    ensures begun { (o : Opening) (es : List Event) (e : Event) (x : Placed) → Decision o es e x → began o es x.entry.caller ≤ x.place }
+    ensures entries { (o : Opening) (es : List Event) → IsSchedule o es → SuccessesHaveTheirEntry o es }
 {}
 
 /// Where nothing later touches what a placed pass installs, which is a premise here, each decision's puts are the last ones at

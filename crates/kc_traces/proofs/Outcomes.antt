@@ -346,10 +346,10 @@ module _ (o : Opening) (k : ℕ) (l : k < o.callers) where
 
   -- ---- a whole task
 
-  abbrev LeftAfter : Task → History → List Event → Type 0
+  abbrev pub LeftAfter : Task → History → List Event → Type 0
   LeftAfter u a es = SeatLeft (run o es).world k u ((run o es).seats k) a (by k (trace o es).history)
 
-  one_more : (u : Task) (a : History) (es : List Event) (e : Event) → BeginsNothing k (e ∷ []) → LeftAfter u a es → LeftAfter u a (es ++ e ∷ [])
+  pub one_more : (u : Task) (a : History) (es : List Event) (e : Event) → BeginsNothing k (e ∷ []) → LeftAfter u a es → LeftAfter u a (es ++ e ∷ [])
   one_more u a es e n r = subst (λ (m : State). SeatLeft m.world k u (m.seats k) a (by k (trace o (es ++ e ∷ [])).history)) (sym (run-append o es (e ∷ [])))
       (seat_goes es u a (by k (trace o (es ++ e ∷ [])).history) e n (words_go o es e k l u a r))
 
@@ -359,7 +359,7 @@ module _ (o : Opening) (k : ℕ) (l : k < o.callers) where
       let h = head_of k e more n in
       subst (LeftAfter u a) (append_assoc es (e ∷ []) more) (goes_on u a (es ++ e ∷ []) more h.1 (one_more u a es e h.0 r))
 
-  begins_left : (es : List Event) (t : Task) → is_idle ((run o es).seats k).work ≡ true → is_idle (begun ((run o es).seats k) t).work ≡ false → LeftAfter t (by k (trace o es).history) (es ++ Begin k t ∷ [])
+  pub begins_left : (es : List Event) (t : Task) → is_idle ((run o es).seats k).work ≡ true → is_idle (begun ((run o es).seats k) t).work ≡ false → LeftAfter t (by k (trace o es).history) (es ++ Begin k t ∷ [])
   begins_left es t i b =
       let s = (run o es).seats k in
       let n = (run_shape o es).2 in

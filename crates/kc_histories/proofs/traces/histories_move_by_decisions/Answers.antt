@@ -1,4 +1,3 @@
-use Rattle.kc_histories.proofs.Begun.{entry_behind}
 use Rattle.kc_histories.proofs.Decisions.{moves_by_decision}
 use Rattle.kc_histories.proofs.traces.histories_move_by_decisions.Goals as goal
 
