@@ -1,5 +1,5 @@
 -- Entries stand behind the beginning of their caller's task.
-use Rattle.std.proofs.Common.{arith, ◌≡◌, ◌≢◌, ◌<◌, ◌≤◌, ◌⊎◌, inl, inr, ℕ, ◌++◌, Bool, true, false, List, [], ◌∷◌, length, Option, None, Some, refl, sym, ap, subst, ◌∙◌, Contains}
+use Rattle.std.proofs.Common.{arith, ◌≡◌, ◌<◌, ◌≤◌, ◌⊎◌, inl, inr, ℕ, ◌++◌, Bool, true, false, List, [], ◌∷◌, length, None, Some, refl, sym, ap, subst, ◌∙◌}
 use Rattle.std.specs.Option.{is_some}
 use Rattle.kc_words.specs.declared.words.Handle.{Handle}
 use Rattle.kc_words.specs.declared.words.Mode.{Mode}
@@ -9,12 +9,12 @@ use Rattle.kc_steps.specs.declared.pass.PassStep.TheVariants.{Decide}
 use Rattle.kc_steps.specs.declared.task.Event.{Event}
 use Rattle.kc_steps.specs.Lines.{one_more}
 use Rattle.kc_machine.specs.Machine.{State, Opening, event_of, seat_of, run}
-use Rattle.kc_effects.specs.Stands.{Passing, NoPass, Over, Turn, At, Stand, stand}
+use Rattle.kc_effects.specs.Stands.{Passing, NoPass, Over, Turn, At, stand}
 use Rattle.kc_effects.specs.Holds.{NoHold, Proper, own_hold}
 use Rattle.kc_pool.specs.Owners.{Follows, OwnsLife, is_filling}
 use Rattle.kc_pool.proofs.LifeLaws.{statuses_follow, held_started}
-use Rattle.kc_claims.specs.Histories.{History, Placed, inserted}
-use Rattle.kc_claims.specs.Traces.{Trace, is_placed, traced, trace}
+use Rattle.kc_claims.specs.Histories.{Placed}
+use Rattle.kc_claims.specs.Traces.{Trace, is_placed, trace}
 use Rattle.kc_claims.proofs.Follows.{trace_runs, trace_counts}
 use Rattle.kc_traces.proofs.Joins.{run-append, trace-append, every}
 use Rattle.kc_traces.proofs.Others.{run_shape}

@@ -1,5 +1,5 @@
 -- What an event makes of what a seat owns, and of its calls.
-use Rattle.std.proofs.Common.{◌≡◌, ◌≢◌, ℕ, ◌+◌, ◌-◌, ◌⊎◌, inl, inr, ◌==◌, ◌&&◌, Bool, true, false, List, Option, None, Some, refl, sym, ap, subst, ◌∙◌, if◌then◌else◌}
+use Rattle.std.proofs.Common.{◌≡◌, ℕ, ◌+◌, ◌-◌, ◌⊎◌, inl, inr, ◌==◌, ◌&&◌, Bool, true, false, List, refl, sym, ap, subst, ◌∙◌, if◌then◌else◌}
 use Rattle.std.specs.Prelude.{nat_lt}
 use borrow.Author.Tests.{eqb-true, eqb-false}
 use Rattle.kc_model.specs.declared.footprint.Seen.{Seen}
@@ -25,7 +25,7 @@ use Rattle.kc_steps.specs.Looks.{look_tells, halts_at_once}
 use Rattle.kc_steps.specs.Passes.{pass_next}
 use Rattle.kc_steps.specs.Aids.{aid_next}
 use Rattle.kc_steps.specs.Commits.{after_scan, scan_next, take_next, own_next, stage_next, loaded, gone_on, onward_by}
-use Rattle.kc_steps.specs.Halts.{unowned, halted_own, halted_at}
+use Rattle.kc_steps.specs.Halts.{unowned, halted_at}
 use Rattle.kc_machine.specs.declared.hang.HangStep.{HangStep}
 use Rattle.kc_machine.specs.declared.hang.HangStep.TheVariants as hang
 use Rattle.kc_machine.specs.Hangs.{hang_onward, leave_onward}
@@ -37,7 +37,7 @@ use Rattle.kc_machine.specs.Machine.{State, found_at, event_of, seat_of}
 use Rattle.kc_effects.specs.Stands.{stand, works, resting, commits, hangs}
 use Rattle.kc_effects.specs.Holds.{Hold, NoHold, Proper, own_hold}
 use Rattle.kc_pool.specs.Owners.{fills, is_filling}
-use Rattle.kc_pool.proofs.Statuses.{fill_fills, owed_started}
+use Rattle.kc_pool.proofs.Statuses.{owed_started}
 use Rattle.kc_traces.proofs.Others.{event_else}
 use Rattle.kc_traces.proofs.Answers.{moved, seat_cases}
 use Rattle.kc_traces.proofs.Onward.{pass_started, aid_started, woken_started, halted_same}

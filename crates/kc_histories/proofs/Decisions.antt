@@ -50,8 +50,8 @@ module _ (o : Opening) (es : List Event) (e : Event) where
       let was : (run o es).world.status n.handle.descriptor ≡ status n.handle.generation Active = sym (ap (λ (m : State). m.world.status n.handle.descriptor) m) ∙ n.was in
       let z = n.entry ∙ ap (λ (m : State). entry_for (stand (m.seats (seat_of e))) n.lines) m in
       let caller : x.entry.caller ≡ caller_for st.caller st.aid = ap (λ (w : Entry). w.caller) z in
-      let follows : (( run o es).world.status a.descriptor).generation ≡ a.generation = subst (λ b. Follows b ((run o es).world.status a.descriptor).generation a.generation) a.started
-          (statuses_follow o es (caller_for st.caller st.aid) a.descriptor a.generation (let c = (run_shape o es).2 in let l = a.within in omega arith) a.owns) in
+      let follows : ((run o es).world.status a.descriptor).generation ≡ a.generation = subst (λ b. Follows b ((run o es).world.status a.descriptor).generation a.generation) a.started
+      (statuses_follow o es (caller_for st.caller st.aid) a.descriptor a.generation (let c = (run_shape o es).2 in let l = a.within in omega arith) a.owns) in
       let life : a.generation ≡ n.handle.generation = sym follows ∙ ap (λ i. ((run o es).world.status i).generation) y.over ∙ ap (λ (w : Status). w.generation) was in
       let same : Proper a.descriptor a.generation ≡ Proper n.handle.descriptor n.handle.generation = (λ i. Proper (y.over i) (life i)) in
       let intent : a.intent ≡ record { mode = x.mode; lines = record { items = n.lines } } = (λ i. record { mode = sym y.mode i; lines = record { items = sym y.lines i } }) in

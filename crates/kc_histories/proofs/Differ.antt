@@ -1,17 +1,17 @@
 -- No call has two entries.
-use Rattle.std.proofs.Common.{arith, ◌≡◌, ◌≢◌, ◌<◌, ◌≤◌, ◌+◌, ◌⊎◌, inl, inr, ℕ, zero, suc, ◌++◌, Bool, true, false, List, [], ◌∷◌, All, Option, Some, None, refl, sym, ap, subst, ◌∙◌, if◌then◌else◌, Contains, cond}
+use Rattle.std.proofs.Common.{arith, ◌≡◌, ◌<◌, ◌≤◌, ◌+◌, ◌⊎◌, inl, inr, ℕ, zero, suc, ◌++◌, Bool, true, false, List, [], ◌∷◌, Some, refl, sym, ap, subst, ◌∙◌, if◌then◌else◌, Contains}
 use Rattle.std.specs.Prelude.{nat_lt, slice_get}
 use Rattle.std.proofs.lemmas.Bool.{ltb-true, lt-ltb}
-use Rattle.std.proofs.lemmas.List.Elements.{All-contains, All-head, All-tail}
+use Rattle.std.proofs.lemmas.List.Elements.{All-contains}
 use Rattle.kc_model.proofs.Stores.{Contains-first, Contains-later}
 use Rattle.kc_words.specs.declared.words.Status.{Status}
-use Rattle.kc_words.specs.declared.words.Phase.TheVariants.{Active, Succeeded}
+use Rattle.kc_words.specs.declared.words.Phase.TheVariants.{Succeeded}
 use Rattle.kc_steps.specs.declared.task.Event.{Event}
 use Rattle.kc_steps.specs.Lines.{one_more}
 use Rattle.kc_steps.specs.Passes.{status}
-use Rattle.kc_machine.specs.Machine.{World, State, Opening, event_of, seat_of, run}
-use Rattle.kc_machine.specs.Schedules.{BeginsWellMade, IsSchedule}
-use Rattle.kc_effects.specs.Stands.{NoOwn, stand}
+use Rattle.kc_machine.specs.Machine.{State, Opening, event_of, seat_of, run}
+use Rattle.kc_machine.specs.Schedules.{IsSchedule}
+use Rattle.kc_effects.specs.Stands.{stand}
 use Rattle.kc_effects.specs.Holds.{NoHold, Proper, own_hold}
 use Rattle.kc_pool.specs.Owners.{OwnsLife, is_filling}
 use Rattle.kc_pool.proofs.LifeLaws.{owners_differ}
@@ -26,7 +26,7 @@ use Rattle.kc_ranges.proofs.Runs.{called}
 use Rattle.kc_histories.specs.Decisions.{own_of, Decision}
 use Rattle.kc_histories.proofs.Insertions.{inserted_contains}
 use Rattle.kc_histories.proofs.Decisions.{history_moves}
-use Rattle.kc_histories.proofs.Calls.{OwnGoes, own_goes}
+use Rattle.kc_histories.proofs.Calls.{own_goes}
 
 -- ---- the entries of a caller whose present call has none
 

@@ -1,5 +1,5 @@
 -- Where nothing later touches what is installed, histories grow, and stay legal.
-use Rattle.std.proofs.Common.{arith, ◌≡◌, ◌≢◌, ◌<◌, ◌≤◌, ◌+◌, ◌⊎◌, inl, inr, ℕ, zero, suc, ◌++◌, ◌==◌, Bool, true, false, List, [], ◌∷◌, length, take, map, Option, None, Some, refl, sym, ap, subst, ◌∙◌, Contains, cond}
+use Rattle.std.proofs.Common.{arith, ◌≡◌, ◌<◌, ◌≤◌, ◌⊎◌, inl, inr, ℕ, zero, suc, ◌++◌, ◌==◌, Bool, true, false, List, [], ◌∷◌, length, take, map, Option, None, Some, refl, sym, ap, subst, ◌∙◌, Contains, cond}
 use Rattle.std.specs.Option.{is_some}
 use Rattle.std.specs.List.{filter_map}
 use Rattle.std.proofs.lemmas.Bool.{cases_lt}
@@ -11,7 +11,7 @@ use Rattle.kc_model.specs.declared.footprint.Put.{Put}
 use Rattle.kc_model.specs.declared.footprint.Seen.{Seen}
 use Rattle.kc_model.specs.Footprint.{Reads, put_at}
 use Rattle.kc_model.specs.declared.plain_store.Cell.{Cell}
-use Rattle.kc_model.specs.Store.{Store, Finds, cell_after}
+use Rattle.kc_model.specs.Store.{Store, cell_after}
 use Rattle.kc_model.proofs.Stores.{Contains-first, Contains-later}
 use Rattle.kc_words.specs.declared.words.Mode.{Mode}
 use Rattle.kc_words.specs.declared.words.Mode.TheVariants.{All, Light}
@@ -23,12 +23,12 @@ use Rattle.kc_steps.specs.Lines.{has_put, is_installed}
 use Rattle.kc_machine.specs.Machine.{Opening, seat_of}
 use Rattle.kc_effects.specs.Stands.{At}
 use Rattle.kc_claims.specs.Claims.{HistoriesGrow, history_at}
-use Rattle.kc_claims.specs.Histories.{History, Placed, inserted, ending, at_place, put_of_line, footprint_of, installs, cell_of, FindsInstalled, Grows, IsKnown, IsLegalHistory, IsLegalWhereInstalled}
+use Rattle.kc_claims.specs.Histories.{History, Placed, inserted, ending, at_place, put_of_line, footprint_of, installs, cell_of, FindsInstalled, Grows, IsKnown, IsLegalWhereInstalled}
 use Rattle.kc_claims.specs.Traces.{first_store, trace}
 use Rattle.kc_traces.proofs.Joins.{every}
 use Rattle.kc_traces.proofs.Known.{known_stays, versions_rise}
 use Rattle.kc_histories.specs.Decisions.{Decision, MovesByDecision}
-use Rattle.kc_histories.specs.Insertions.{put_by, NonePutsAbove, IsLastWherePut, NoneInstallsAbove}
+use Rattle.kc_histories.specs.Insertions.{put_by, IsLastWherePut, NoneInstallsAbove}
 use Rattle.kc_histories.specs.Later.{NoneTouchesAbove, DecidesSoon, NothingLaterTouches, NothingLaterTouchesAlong}
 use Rattle.kc_histories.proofs.Insertions.{ending_same, ending_last, at_new, grows_same, grows_on, grows_inserted}
 use Rattle.kc_histories.proofs.Legality.{installed_inserted}

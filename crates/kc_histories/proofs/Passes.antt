@@ -1,5 +1,5 @@
 -- What the pass of a seat touches, and what an event of the seat makes of it.
-use Rattle.std.proofs.Common.{◌≡◌, inl, inr, ℕ, Bool, true, false, List, Option, None, Some, refl, sym, ap, subst, ◌∙◌, if◌then◌else◌}
+use Rattle.std.proofs.Common.{◌≡◌, inl, inr, ℕ, Bool, true, false, List, Option, None, Some, refl, sym, ap, subst, if◌then◌else◌}
 use Rattle.kc_words.specs.declared.words.Handle.{Handle}
 use Rattle.kc_words.specs.declared.words.Reference.{Reference}
 use Rattle.kc_words.specs.declared.words.Phase.{Phase}
@@ -40,7 +40,7 @@ use Rattle.kc_machine.specs.Works as work
 use Rattle.kc_machine.specs.declared.seat.Seat.{Seat}
 use Rattle.kc_machine.specs.Seats.{access_of, work_access, answer_of, answer_by, after, is_idle, begun, begun_idle, working, hanging, halted, halted_by, ended}
 use Rattle.kc_machine.specs.Machine.{World, State, found_at, event_of, seat_of}
-use Rattle.kc_effects.specs.Stands.{Own, NoOwn, Passing, NoPass, Over, Turn, At, Stand, stand, works, resting, commits, owns, aids, hangs, Waits}
+use Rattle.kc_effects.specs.Stands.{NoOwn, Passing, NoPass, Over, Turn, At, Stand, stand, works, resting, commits, owns, aids, hangs, Waits}
 use Rattle.kc_effects.specs.Holds.{Holds}
 use Rattle.kc_pool.specs.Owners.{is_filling}
 use Rattle.kc_claims.specs.Traces.{is_placed, is_placed_in}

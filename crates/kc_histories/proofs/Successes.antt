@@ -1,37 +1,35 @@
 -- A commit that succeeded has its entry, behind all that stood there when it began.
-use Rattle.std.proofs.Common.{arith, ◌≡◌, ◌≢◌, ◌<◌, ◌≤◌, ◌⊎◌, inl, inr, ℕ, zero, suc, ◌++◌, ◌==◌, ◌&&◌, Bool, true, false, not, List, [], ◌∷◌, All, length, Option, None, Some, refl, sym, ap, subst, ◌∙◌, if◌then◌else◌, Contains, cond, get_or}
+use Rattle.std.proofs.Common.{arith, ◌≡◌, ◌≢◌, ◌<◌, ◌≤◌, ◌⊎◌, inl, inr, ℕ, zero, suc, ◌++◌, ◌==◌, ◌&&◌, Bool, true, false, not, List, [], ◌∷◌, All, Option, None, Some, refl, sym, ap, subst, ◌∙◌, if◌then◌else◌, Contains, cond, get_or}
 use Rattle.std.specs.List.{filter}
-use Rattle.std.proofs.lemmas.List.Elements.{All-nil, All-cons, All-head, All-tail, All-filter, All-contains, All-contains_itself, Contains-get_or}
+use Rattle.std.proofs.lemmas.List.Elements.{All-nil, All-cons, All-head, All-filter, All-contains, All-contains_itself, Contains-get_or}
 use borrow.Author.Tests.{eqb-true, eqb-false, eq-eqb}
 use Rattle.kc_model.specs.declared.footprint.Footprint.{Footprint}
 use Rattle.kc_model.proofs.Stores.{Contains-first, Contains-later}
 use Rattle.kc_words.specs.declared.words.Mode.{Mode}
 use Rattle.kc_steps.specs.declared.task.Task.{Task}
 use Rattle.kc_steps.specs.declared.task.Task.TheVariants as task
-use Rattle.kc_steps.specs.declared.task.Told.{Told}
 use Rattle.kc_steps.specs.declared.task.Told.TheVariants as told
 use Rattle.kc_steps.specs.declared.task.Event.{Event}
 use Rattle.kc_steps.specs.declared.task.Event.TheVariants.{Begin, Step, Halt}
 use Rattle.kc_machine.specs.declared.seat.Seat.{Seat}
 use Rattle.kc_machine.specs.Seats.{is_idle, begun, begun_idle, working, hanging}
-use Rattle.kc_machine.specs.Machine.{World, State, Opening, put, event_of, seat_of, happened, run}
+use Rattle.kc_machine.specs.Machine.{State, Opening, event_of, seat_of, run}
 use Rattle.kc_machine.specs.Schedules.{IsWellMadeTask, BeginsWellMade, IsSchedule}
-use Rattle.kc_machine.proofs.Functions.{put_here, put_else, put_cases}
+use Rattle.kc_machine.proofs.Functions.{put_here, put_else}
 use Rattle.kc_claims.specs.Claims.{SuccessesHaveTheirEntry}
-use Rattle.kc_claims.specs.Histories.{History, Placed, inserted, footprint_of}
+use Rattle.kc_claims.specs.Histories.{History, Placed}
 use Rattle.kc_claims.specs.Traces.{Trace, Shadow, Moment, listens, place_after, blocking_after, begins, with_task, shadow_after, now, traced, trace}
 use Rattle.kc_effects.specs.Stands.{stand}
-use Rattle.kc_claims.proofs.Follows.{trace_runs, trace_counts}
+use Rattle.kc_claims.proofs.Follows.{trace_runs}
 use Rattle.kc_traces.specs.Entries.{by}
 use Rattle.kc_traces.specs.Moments.{BeginsNothing}
-use Rattle.kc_traces.specs.Outcomes.{IsEntryOf, GainsTheCall, GainsAsTold}
+use Rattle.kc_traces.specs.Outcomes.{GainsTheCall, GainsAsTold}
 use Rattle.kc_traces.specs.Parts.{IsNoStep}
 use Rattle.kc_traces.proofs.Joins.{run-append, trace-append, every, made_parts}
-use Rattle.kc_traces.proofs.Others.{run_shape, event_in, event_else, words_kept, history_kept}
+use Rattle.kc_traces.proofs.Others.{run_shape, event_in, words_kept, history_kept}
 use Rattle.kc_traces.proofs.Answers.{answers_when_done}
 use Rattle.kc_traces.proofs.Onward.{SeatLeft, ended_left}
 use Rattle.kc_traces.proofs.Outcomes.{LeftAfter, one_more, begins_left}
-use Rattle.kc_histories.specs.Decisions.{Decision}
 use Rattle.kc_histories.specs.Places.{began}
 use Rattle.kc_histories.proofs.Insertions.{inserted_contains}
 use Rattle.kc_histories.proofs.Decisions.{history_moves}

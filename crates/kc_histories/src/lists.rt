@@ -8,10 +8,30 @@ ghost use Rattle.kc_model.specs.Footprint.{IsWellMade};
 ghost use Rattle.kc_model.specs.Store.{Finds, Store, cell_after};
 ghost use Rattle.kc_steps.specs.Lines.{lines_of};
 ghost use Rattle.kc_claims.specs.Histories.{
-    FindsInstalled, Grows, History, IsKnown, IsLegalHistory, IsLegalWhereInstalled, Placed, RisesByPlace, at_place, cell_of, ending, footprint_of, inserted, putting
+  FindsInstalled,
+  Grows,
+  History,
+  IsKnown,
+  IsLegalHistory,
+  IsLegalWhereInstalled,
+  Placed,
+  RisesByPlace,
+  at_place,
+  cell_of,
+  ending,
+  footprint_of,
+  inserted,
+  putting,
 };
 ghost use Rattle.kc_histories.specs.Insertions.{
-    EachFindsInstalled, IsBelowPlace, IsLastWherePut, IsNewPlace, NoneInstallsAbove, NonePutsAbove, NoneReadsAbove, put_by
+  EachFindsInstalled,
+  IsBelowPlace,
+  IsLastWherePut,
+  IsNewPlace,
+  NoneInstallsAbove,
+  NonePutsAbove,
+  NoneReadsAbove,
+  put_by,
 };
 
 /// Of an entry that comes to a history at its place, seen location by location: a location that it doesn't put stays as it

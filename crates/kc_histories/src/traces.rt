@@ -13,7 +13,16 @@ ghost use Rattle.kc_model.specs.declared.footprint.Seen.{Seen};
 ghost use Rattle.kc_model.specs.Store.{cell_after};
 ghost use Rattle.kc_claims.specs.Claims.{HistoriesGrow, SuccessesHaveTheirEntry, history_at};
 ghost use Rattle.kc_claims.specs.Histories.{
-    EntriesDiffer, FindsInstalled, Grows, IsKnown, IsLegalWhereInstalled, Placed, RisesByPlace, cell_of, ending, inserted
+  EntriesDiffer,
+  FindsInstalled,
+  Grows,
+  IsKnown,
+  IsLegalWhereInstalled,
+  Placed,
+  RisesByPlace,
+  cell_of,
+  ending,
+  inserted,
 };
 ghost use Rattle.kc_claims.specs.Traces.{first_store, is_placed, trace};
 ghost use Rattle.kc_histories.specs.Decisions.{Decision, MovesByDecision};
