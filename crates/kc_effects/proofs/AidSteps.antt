@@ -23,6 +23,8 @@ use Rattle.kc_steps.specs.Lines.{first_of, second_of, resolved_version, resolved
 use Rattle.kc_steps.specs.Passes.{from_install, from_release}
 use Rattle.kc_steps.specs.Aids.{aid_access, aid_next, aid_copy, after_pass, owner_or_first, drop_or_release, copy_owner, copy_line}
 use Rattle.kc_machine.specs.Machine.{State, World, touched, found_at, possible, put_some}
+use Rattle.kc_steps.specs.declared.pass.AfterCheck.TheVariants as checked
+use Rattle.kc_seats.specs.Fits.{AidFits}
 use Rattle.kc_effects.specs.Stands.{Stand, turn, Over, NoPass, Aids, Passes, aids}
 use Rattle.kc_effects.specs.Changes.{held_once_more}
 use Rattle.kc_effects.specs.Effects
@@ -85,22 +87,23 @@ module _ (k : ℕ) (m : State) (t : Stand) (r : Reference) where
   abbrev found_by : Aided → AidStep → Found
   found_by c a = found_at m.world (aid_access r c.lines.items a)
 
-  pub aid_steps : (c : Aided) (a : AidStep) → possible m (aid_access r c.lines.items a) ≡ true
+  -- the task is halted or not
+  pub aid_steps : (b : Bool) (c : Aided) (a : AidStep) → AidFits b c a → possible m (aid_access r c.lines.items a) ≡ true
       → To c a (touched m.world (aid_access r c.lines.items a)) (aid_copy c a (found_by c a)) (aid_next r (aid_copy c a (found_by c a)) a (found_by c a))
-  aid_steps c aid.Hold y =
+  aid_steps halted c aid.Hold i y =
       let d = r.handle.descriptor in
       let b = both (nat_lt d m.descriptors) (nat_lt (m.world.control d).holds 16777215) y in
       subst (λ v. To c aid.Hold v c (aid_next r c aid.Hold (found.Control (m.world.control d)))) (sym (adds m.world d b.1)) (holds c _ refl)
-  aid_steps c aid.Status y = statuses c _ refl
-  aid_steps c (aid.First p) y = one (Effects.aid_first s)
-  aid_steps c (aid.Second p f) y = one (Effects.aid_second s)
-  aid_steps c (aid.Release p x) y = releases c p x _ refl
-  aid_steps c aid.Owner y = let e = copy_owner c (found.Owner (m.world.owner r.handle.descriptor)) in onward (Effects.aid_owner s) (loads e m.world _ refl)
-  aid_steps c aid.LoadFirst y = one (Effects.aid_load_first s)
-  aid_steps c (aid.LoadSecond f) y = let e = copy_line c f (found.Second (m.world.second r.handle.descriptor (length c.lines.items))) in onward (Effects.aid_load_second s) (loads e m.world _ refl)
-  aid_steps c (aid.Pass p) y = onward (passes k m (record s { aid = Passes r c }) r.handle c.owner.mode c.lines.items p y) (turned c _ p _)
-  aid_steps c (aid.Leave o) y = leaves c o _ refl
-  aid_steps c (aid.Drop stray o) y =
+  aid_steps halted c aid.Status i y = statuses c _ refl
+  aid_steps halted c (aid.First p) i y = one (Effects.aid_first s)
+  aid_steps halted c (aid.Second p f) i y = one (Effects.aid_second s)
+  aid_steps halted c (aid.Release p x) i y = releases c p x _ refl
+  aid_steps halted c aid.Owner i y = let e = copy_owner c (found.Owner (m.world.owner r.handle.descriptor)) in onward (Effects.aid_owner s) (loads e m.world _ refl)
+  aid_steps halted c aid.LoadFirst i y = one (Effects.aid_load_first s i)
+  aid_steps halted c (aid.LoadSecond f) i y = let e = copy_line c f (found.Second (m.world.second r.handle.descriptor (length c.lines.items))) in onward (Effects.aid_load_second s) (loads e m.world _ refl)
+  aid_steps halted c (aid.Pass p) i y = onward (passes k m (record s { aid = Passes r c }) r.handle c.owner.mode c.lines.items halted checked.Leave (λ q e. absurd (cc)) p i y) (turned c _ p _)
+  aid_steps halted c (aid.Leave o) i y = leaves c o _ refl
+  aid_steps halted c (aid.Drop stray o) i y =
       let d = r.handle.descriptor in
       let b = both (nat_lt d m.descriptors) (nat_lt 0 (m.world.control d).holds) y in
       subst (λ v. To c (aid.Drop stray o) v c (aiding.Back o)) (sym (subtracts m.world d b.1)) (one (Effects.aid_drop s))

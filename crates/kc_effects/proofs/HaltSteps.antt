@@ -36,10 +36,10 @@ module _ (k : ℕ) (w : World) (s : Seat) where
   look_halts : (l : Look) (step : LookStep) → Path k w (record (resting s) { halted = l.halted; look = Looks l.loc (looking.Goes step) }) w (stand (if halts_at_once step then ended s else record s { work = work.Look (look_halted_at l step) }))
   look_halts l look.Load = one (Effects.look_halts (resting s) refl)
   look_halts l (look.Hold r) = one (Effects.look_halts (resting s) refl)
-  look_halts l (look.Status r) = one (Effects.halt_look (record (resting s) { halted = l.halted }) r false refl)
-  look_halts l (look.First r p) = one (Effects.halt_look (record (resting s) { halted = l.halted }) r false refl)
-  look_halts l (look.Second r p f) = one (Effects.halt_look (record (resting s) { halted = l.halted }) r false refl)
-  look_halts l (look.Drop r stray o) = one (Effects.halt_look (record (resting s) { halted = l.halted }) r stray refl)
+  look_halts l (look.Status r) = one (Effects.halt_look (record (resting s) { halted = l.halted }) r false refl refl)
+  look_halts l (look.First r p) = one (Effects.halt_look (record (resting s) { halted = l.halted }) r false refl refl)
+  look_halts l (look.Second r p f) = one (Effects.halt_look (record (resting s) { halted = l.halted }) r false refl refl)
+  look_halts l (look.Drop r stray o) = one (Effects.halt_look (record (resting s) { halted = l.halted }) r stray refl refl)
 
   module _ (c : Commit) (h : Handle) where
     -- the halt is noted
@@ -118,8 +118,8 @@ module _ (k : ℕ) (w : World) (s : Seat) where
     noted (own.Drop p) = Effects.halt_commit
 
   commit_halts : (c : Commit) (x : Stage) → Path k w (commits (record (resting s) { halted = c.halted }) c.intent c.copy x) w (stand (if unowned x then ended s else record s { work = work.Commit (halted_at c x) }))
-  commit_halts c (Scan d n) = one (Effects.halt_scan (resting s))
-  commit_halts c (Take d g) = one (Effects.halt_scan (resting s))
+  commit_halts c (Scan d n) = one (Effects.halt_scan (resting s) (λ q. cc))
+  commit_halts c (Take d g) = one (Effects.halt_scan (resting s) (λ q. cc))
   commit_halts c (Own h step) = onward (noted c h step) (own_halts c h step)
 
   -- the effects of a halt

@@ -16,7 +16,7 @@ abbrev pub Counts : World → Hold → Type 0
 Counts w x = (d : ℕ) → on d x ≤ (w.control d).holds
 
 -- what is held isn't taken
-stays : (k : ℕ) {w w' : World} {s s' : Stand} → Effects.Effect k w s w' s' → (i : ℕ) → one_at i i ≤ (w.control i).holds → (w'.control i).generation ≡ (w.control i).generation
+pub stays : (k : ℕ) {w w' : World} {s s' : Stand} → Effects.Effect k w s w' s' → (i : ℕ) → one_at i i ≤ (w.control i).holds → (w'.control i).generation ≡ (w.control i).generation
 stays k (Effects.take s d g e z l) i c = let o = one_here i in grind cells
 stays k _ i c = grind cells
 
@@ -28,21 +28,21 @@ kept k e (Stray d g) c h = λ q. h (sym (stays k e d (c d)) ∙ q)
 
 pub own_fits : (k : ℕ) {w w' : World} {s s' : Stand} → Effects.Effect k w s w' s' → Counts w (own_hold s.own) → Fits w (own_hold s.own) → Fits w' (own_hold s'.own)
 own_fits k (Effects.take s d g e z l) c h = grind cells
-own_fits k (Effects.abandon s) c h = tt
+own_fits k (Effects.abandon s stopped) c h = tt
 own_fits k (Effects.drop s p) c h = tt
 own_fits k {s = s} e c h = kept k e (own_hold s.own) c h
 
 pub check_fits : (k : ℕ) {w w' : World} {s s' : Stand} → Effects.Effect k w s w' s' → Counts w (check_hold s.pass) → Fits w (check_hold s.pass) → Fits w' (check_hold s'.pass)
 check_fits k (Effects.start s q e z) c h = rw z tt
-check_fits k (Effects.install s x q a b e z) c h = rw z tt
+check_fits k (Effects.install s x q a b e z put_in low) c h = rw z tt
 check_fits k (Effects.installed s x q a b e z) c h = rw z tt
 check_fits k (Effects.check_fits s x q a b e f z) c h = rw z tt
 check_fits k (Effects.check_hold s f) c h = grind cells
 check_fits k (Effects.check_stray s f) c h = grind cells
 check_fits k (Effects.check_drop s t e z) c h = rw z tt
-check_fits k (Effects.decide s p t a b e z) c h = rw z tt
+check_fits k (Effects.decide s p t a b e z may halts) c h = rw z tt
 check_fits k (Effects.succeed s t a b z) c h = rw z tt
-check_fits k (Effects.learn s p t a b z) c h = rw z tt
+check_fits k (Effects.learn s p t a b z may) c h = rw z tt
 check_fits k (Effects.release s x t a b e z) c h = rw z tt
 check_fits k (Effects.skip s x t a b e z) c h = rw z tt
 check_fits k (Effects.aid_passes s q a b z) c h = rw z tt
@@ -65,5 +65,5 @@ look_fits k (Effects.look_hold s f) c h = grind cells
 look_fits k (Effects.look_stray s f) c h = grind cells
 look_fits k (Effects.look_drop s n e z) c h = rw z tt
 look_fits k (Effects.look_halts s z) c h = tt
-look_fits k (Effects.halt_look {w} s r stray z) c h = subst (Fits w) z h
+look_fits k (Effects.halt_look {w} s r stray z met) c h = subst (Fits w) z h
 look_fits k {s = s} e c h = kept k e (look_hold s.look) c h

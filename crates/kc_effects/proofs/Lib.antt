@@ -8,7 +8,6 @@ pub mod OwnSteps
 pub mod WaitSteps
 pub mod SeatSteps
 pub mod HaltSteps
-pub mod FormedSteps
 pub mod Held
 pub mod Worn
 pub mod Pools

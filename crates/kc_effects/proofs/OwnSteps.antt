@@ -32,6 +32,9 @@ use Rattle.kc_steps.specs.Passes.{from_install}
 use Rattle.kc_machine.specs.Seats.{blocked_by}
 use Rattle.kc_steps.specs.Commits.{own_access, commit_access, stage_access, stage_next, commit_next, tells_or_goes, fill_first, fill_second, fill_next, fill_or_start, finished, wake_or_drop, wake_or_signal, owed_next, wake_access, wake_next, after_own_pass, aid_or_back, copy_by, copy_by_own, loaded, after_scan, scan_next, told_of}
 use Rattle.kc_machine.specs.Machine.{State, World, touched, found_at, possible, put_some}
+use Rattle.kc_steps.specs.declared.pass.AfterCheck.TheVariants as checked
+use Rattle.kc_seats.specs.Fits.{OwnFits, StageFits}
+use Rattle.kc_seats.proofs.FitSteps.{NextFits, pass_fits, halted_decided}
 use Rattle.kc_effects.specs.Stands.{Stand, turn, Over, Runs, Waits, Owns, owns, commits, idle}
 use Rattle.kc_effects.specs.Changes.{held_once_less}
 use Rattle.kc_effects.specs.Effects
@@ -108,11 +111,11 @@ module _ (k : ℕ) (m : State) (s : Stand) (c : Commit) (h : Handle) where
   one e = onward e stay
 
   -- the own pass ends, or goes on
-  turned : (v : World) (p : PassStep) (n : PassNext) → Path k v (record t { own = Runs h c.intent; pass = Over h c.intent.mode c.intent.lines.items (turn p n) }) v (at c.copy (after_own_pass c.intent n))
-  turned v p (pass.Goes q) = stay
-  turned v p (pass.Met j x) = one (Effects.own_meets t {xs = c.intent.lines.items} c.copy)
-  turned v p pass.Left = one (Effects.own_leaves t {xs = c.intent.lines.items})
-  turned v p (pass.Finished q) = to k (finished_kept t c.intent c.copy h q) (Effects.own_ends t {xs = c.intent.lines.items} {i = c.intent} {p = q})
+  turned : (v : World) (p : PassStep) (n : PassNext) → NextFits c.halted (checked.Decide Halted) c.intent.mode c.intent.lines.items p n → Path k v (record t { own = Runs h c.intent; pass = Over h c.intent.mode c.intent.lines.items (turn p n) }) v (at c.copy (after_own_pass c.intent n))
+  turned v p (pass.Goes q) z = stay
+  turned v p (pass.Met j x) z = one (Effects.own_meets t {xs = c.intent.lines.items} c.copy)
+  turned v p pass.Left z = absurd (cc)
+  turned v p (pass.Finished q) z = to k (finished_kept t c.intent c.copy h q) (Effects.own_ends t {xs = c.intent.lines.items} {i = c.intent} {p = q})
 
   fills_first : (j : ℕ) (o : Option Line) → slice_get c.intent.lines.items j ≡ o → possible m (fill_first h.descriptor j o) ≡ true → To (own.FillFirst j) (touched m.world (fill_first h.descriptor j o)) c.copy (own.FillSecond j)
   fills_first j None e y = absurd (cc)
@@ -153,19 +156,19 @@ module _ (k : ℕ) (m : State) (s : Stand) (c : Commit) (h : Handle) where
   drops (Crossed j) = one (Effects.drop s {h = h} {i = c.intent} {b = c.halted} (Crossed j))
   drops Halted = one (Effects.drop s {h = h} {i = c.intent} {b = c.halted} Halted)
 
-  pub own_steps : (step : OwnStep) → possible m (touch step) ≡ true → Steps step
-  own_steps own.FillOwner y = to k (fill_kept t c.intent c.copy h 0) (Effects.fill_owner t {h = h} {i = c.intent})
-  own_steps (own.FillFirst j) y = fills_first j (slice_get c.intent.lines.items j) refl y
-  own_steps (own.FillSecond j) y = fills_second j (slice_get c.intent.lines.items j) refl y
-  own_steps own.Start y = one (Effects.start t {h = h} {i = c.intent} (from_install c.intent.mode c.intent.lines.items 0) refl (install_unheld c.intent.mode c.intent.lines.items 0))
-  own_steps own.Abandon y =
+  pub own_steps : (step : OwnStep) → OwnFits c.halted c.intent c.copy step → possible m (touch step) ≡ true → Steps step
+  own_steps own.FillOwner z y = to k (fill_kept t c.intent c.copy h 0) (Effects.fill_owner t {h = h} {i = c.intent})
+  own_steps (own.FillFirst j) z y = fills_first j (slice_get c.intent.lines.items j) refl y
+  own_steps (own.FillSecond j) z y = fills_second j (slice_get c.intent.lines.items j) refl y
+  own_steps own.Start z y = one (Effects.start t {h = h} {i = c.intent} (from_install c.intent.mode c.intent.lines.items 0) refl (install_unheld c.intent.mode c.intent.lines.items 0))
+  own_steps own.Abandon z y =
       let b = both (nat_lt h.descriptor m.descriptors) (nat_lt 0 (m.world.control h.descriptor).holds) y in
-      subst (λ v. Path k m.world (at c.copy own.Abandon) v (next_commit s c (Tells told.Halted))) (sym (subtracts m.world h.descriptor b.1)) (one (Effects.abandon s {h = h} {i = c.intent} {b = c.halted}))
-  own_steps (own.Pass p) y = onward (passes k m (record t { own = Runs h c.intent }) h c.intent.mode c.intent.lines.items p y) (turned _ p _)
-  own_steps (own.Aid j r a) y = join k (aid_steps k m (record t { own = Waits h c.intent j }) r c.copy a y) (returned _ j r _ _ c.halted refl)
-  own_steps (own.Wake j owed) y = wakes j owed (slice_get c.intent.lines.items j) refl y
-  own_steps (own.Signal owed) y = to k (owed_kept t c.intent c.copy h (bit_and owed (owed - 1))) (Effects.signal t {h = h} {i = c.intent} {owed = owed})
-  own_steps (own.Drop p) y =
+      subst (λ v. Path k m.world (at c.copy own.Abandon) v (next_commit s c (Tells told.Halted))) (sym (subtracts m.world h.descriptor b.1)) (one (Effects.abandon s {h = h} {i = c.intent} {b = c.halted} z))
+  own_steps (own.Pass p) z y = onward (passes k m (record t { own = Runs h c.intent }) h c.intent.mode c.intent.lines.items c.halted (checked.Decide Halted) (λ q e. (q, refl)) p z y) (turned _ p _ (pass_fits c.halted (checked.Decide Halted) c.intent.mode c.intent.lines.items halted_decided h p _ z))
+  own_steps (own.Aid j r a) z y = join k (aid_steps k m (record t { own = Waits h c.intent j }) r c.halted c.copy a z.1 y) (returned _ j r _ _ c.halted refl)
+  own_steps (own.Wake j owed) z y = wakes j owed (slice_get c.intent.lines.items j) refl y
+  own_steps (own.Signal owed) z y = to k (owed_kept t c.intent c.copy h (bit_and owed (owed - 1))) (Effects.signal t {h = h} {i = c.intent} {owed = owed})
+  own_steps (own.Drop p) z y =
       let b = both (nat_lt h.descriptor m.descriptors) (nat_lt 0 (m.world.control h.descriptor).holds) y in
       subst (λ v. Path k m.world (at c.copy (own.Drop p)) v (next_commit s c (Tells (told_of p s.calls)))) (sym (subtracts m.world h.descriptor b.1)) (drops p)
 
@@ -208,13 +211,13 @@ module _ (k : ℕ) (m : State) (s : Stand) (c : Commit) where
       only (Effects.take u {i = c.intent} d g (eqb-true _ _ b.0) (eqb-true _ _ b.1) (ltb-true _ _ a.1))
   takes d g false e = only (Effects.take_lost u {i = c.intent} {d = d} {g = g})
 
-  stages : (x : Stage) → possible m (stage_access s.caller s.calls c x) ≡ true
+  stages : (x : Stage) → StageFits c.halted c.intent c.copy x → possible m (stage_access s.caller s.calls c x) ≡ true
       → Path k m.world (commits u c.intent c.copy x) (touched m.world (stage_access s.caller s.calls c x)) (next_commit s (record c { copy = copy_by c.copy x (found_at m.world (stage_access s.caller s.calls c x)) }) (stage_next s.descriptors s.calls (record c { copy = copy_by c.copy x (found_at m.world (stage_access s.caller s.calls c x)) }) x (found_at m.world (stage_access s.caller s.calls c x))))
-  stages (Scan d worn) y = scans d worn
-  stages (Take d g) y = takes d g _ refl
-  stages (Own h step) y = own_steps k m s c h step y
+  stages (Scan d worn) z y = scans d worn
+  stages (Take d g) z y = takes d g _ refl
+  stages (Own h step) z y = own_steps k m s c h step z y
 
-  pub commit_steps : possible m (commit_access s.caller s.calls c) ≡ true
+  pub commit_steps : StageFits c.halted c.intent c.copy c.stage → possible m (commit_access s.caller s.calls c) ≡ true
       → Path k m.world (commits u c.intent c.copy c.stage) (touched m.world (commit_access s.caller s.calls c))
       (next_commit s (loaded c (found_at m.world (commit_access s.caller s.calls c))) (commit_next s.descriptors s.calls (loaded c (found_at m.world (commit_access s.caller s.calls c))) (found_at m.world (commit_access s.caller s.calls c))))
-  commit_steps y = stages c.stage y
+  commit_steps z y = stages c.stage z y

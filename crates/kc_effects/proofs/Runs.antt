@@ -10,9 +10,8 @@ use Rattle.kc_machine.specs.Seats.{access_of, answer_of}
 use Rattle.kc_machine.specs.Machine.{World, State, Opening, put, touched, found_at, possible, stepped, happened, event_of, seat_of, run_from, run, opened}
 use Rattle.kc_machine.proofs.Functions.{put_here, put_cases}
 use Rattle.kc_effects.specs.Stands.{Stand, stand}
-use Rattle.kc_effects.specs.Formed.{Formed}
 use Rattle.kc_effects.specs.Effects.{Effect, Path, stay, onward}
-use Rattle.kc_effects.proofs.FormedSteps.{answer_formed, begun_formed, halted_formed}
+use Rattle.kc_seats.proofs.FormedSteps.{FitsAndFormed, answer_keeps, begun_keeps, halted_keeps}
 use Rattle.kc_effects.proofs.SeatSteps.{step_path, begin_path}
 use Rattle.kc_effects.proofs.HaltSteps.{halt_path}
 
@@ -50,24 +49,24 @@ module _ (Facts : ℕ → ℕ → World → (ℕ → Stand) → Type 0) (keeps :
       subst (Facts n m v) (put_twice at k r t) (path_keeps n m k l x (put at k r) (put_here at k r) one)
 
   abbrev Good : State → Type 0
-  Good m = ((k : ℕ) → Formed (m.seats k)) × Facts m.callers m.descriptors m.world (λ k. stand (m.seats k))
+  Good m = ((k : ℕ) → FitsAndFormed (m.seats k)) × Facts m.callers m.descriptors m.world (λ k. stand (m.seats k))
 
   -- seat k becomes s, the words w
-  moved : (m : State) (k : ℕ) (w : World) (s : Seat) → k < m.callers → Path k m.world (stand (m.seats k)) w (stand s) → Formed s → Good m → Good (record m { world = w; seats = put m.seats k s })
-  moved m k w s l p y g = (λ j. put_cases Formed m.seats k s j (λ q. y) (λ ne. g.0 j), subst (Facts m.callers m.descriptors w) (put_map m.seats k s) (path_keeps m.callers m.descriptors k l p (λ j. stand (m.seats j)) refl g.1))
+  moved : (m : State) (k : ℕ) (w : World) (s : Seat) → k < m.callers → Path k m.world (stand (m.seats k)) w (stand s) → FitsAndFormed s → Good m → Good (record m { world = w; seats = put m.seats k s })
+  moved m k w s l p y g = (λ j. put_cases FitsAndFormed m.seats k s j (λ q. y) (λ ne. g.0 j), subst (Facts m.callers m.descriptors w) (put_map m.seats k s) (path_keeps m.callers m.descriptors k l p (λ j. stand (m.seats j)) refl g.1))
 
   step_good : (m : State) (k : ℕ) → k < m.callers → Good m → Good (stepped m k)
   step_good m k l g = go (possible m (access_of (m.seats k))) refl
     where
       go : (b : Bool) → possible m (access_of (m.seats k)) ≡ b
           → Good (if b then record m { world = touched m.world (access_of (m.seats k)); seats = put m.seats k (answer_of (m.seats k) (found_at m.world (access_of (m.seats k)))) } else m)
-      go true e = moved m k _ _ l (step_path k m (m.seats k) (g.0 k) e) (answer_formed (m.seats k) _ (g.0 k)) g
+      go true e = moved m k _ _ l (step_path k m (m.seats k) (g.0 k) e) (answer_keeps (m.seats k) _ (g.0 k)) g
       go false e = g
 
   happened_good : (m : State) (e : Event) → seat_of e < m.callers → Good m → Good (happened m e)
-  happened_good m (Begin k t) l g = moved m k m.world _ l (begin_path k m.world (m.seats k) t) (begun_formed (m.seats k) t (g.0 k)) g
+  happened_good m (Begin k t) l g = moved m k m.world _ l (begin_path k m.world (m.seats k) t) (begun_keeps (m.seats k) t (g.0 k)) g
   happened_good m (Step k) l g = step_good m k l g
-  happened_good m (Halt k) l g = moved m k m.world _ l (halt_path k m.world (m.seats k)) (halted_formed (m.seats k) (g.0 k)) g
+  happened_good m (Halt k) l g = moved m k m.world _ l (halt_path k m.world (m.seats k)) (halted_keeps (m.seats k) (g.0 k)) g
 
   event_good : (m : State) (e : Event) → Good m → Good (event_of m e)
   event_good m e g = go (nat_lt (seat_of e) m.callers) refl
@@ -83,4 +82,4 @@ module _ (Facts : ℕ → ℕ → World → (ℕ → Stand) → Type 0) (keeps :
   -- the facts hold after every schedule of an opening at which they hold
   pub holds_after : (o : Opening) (schedule : List Event) → Facts (opened o).callers (opened o).descriptors (opened o).world (λ k. stand ((opened o).seats k))
       → Facts (run o schedule).callers (run o schedule).descriptors (run o schedule).world (λ k. stand ((run o schedule).seats k))
-  holds_after o schedule f = (run_good (opened o) schedule (λ k. tt, f)).1
+  holds_after o schedule f = (run_good (opened o) schedule (λ k. (tt, tt), f)).1

@@ -28,7 +28,9 @@ use Rattle.kc_machine.specs.Seats.{hanging as hanging_of}
 use Rattle.kc_machine.specs.Machine.{State, World, touched, found_at, possible}
 use Rattle.kc_effects.specs.Stands.{stand, works, resting, Looks}
 use Rattle.kc_effects.specs.Holds.{look_hold, NoHold}
-use Rattle.kc_effects.specs.Formed.{FormedWork, Formed, Drops}
+use Rattle.kc_seats.specs.Fits.{WorkFits}
+use Rattle.kc_seats.specs.Formed.{WorkIsFormed, Drops}
+use Rattle.kc_seats.proofs.FormedSteps.{FitsAndFormed}
 use Rattle.kc_effects.specs.Effects
 use Rattle.kc_effects.specs.Effects.{Path, stay, onward}
 use Rattle.kc_effects.proofs.LookSteps.{looks, saw_unheld}
@@ -68,20 +70,20 @@ module _ (k : ℕ) (m : State) (s : Seat) where
   abbrev found_by : Work → Found
   found_by x = found_at m.world (work_access s.caller s.calls x)
 
-  work_steps : (x : Work) → FormedWork x → possible m (work_access s.caller s.calls x) ≡ true
+  work_steps : (x : Work) → WorkFits x → WorkIsFormed s.calls s.blocked x → possible m (work_access s.caller s.calls x) ≡ true
       → Path k m.world (works (resting s) x) (touched m.world (work_access s.caller s.calls x)) (stand (answer_by s (found_by x) x))
-  work_steps work.Idle f y = absurd (cc)
-  work_steps (work.Look l) f y =
+  work_steps work.Idle w f y = absurd (cc)
+  work_steps (work.Look l) w f y =
       let a = look_access l.loc l.step in
       let n = look_next l.loc l.step (found_at m.world a) in
       onward (looks k m (record (resting s) { halted = l.halted }) l.loc l.step y) (look_gone (touched m.world a) l n l.halted refl (λ e. unheld l.loc l.step (f e)))
-  work_steps (work.Commit c) f y = path_to k (commit_gone _ _) (commit_steps k m (resting s) c y)
-  work_steps (work.Hang h) f y = path_to k (hang_gone h _) (hang_steps k m (resting s) h.reads.items h.step y)
-  work_steps (work.Leave l) f y = path_to k (leave_gone l _ _) (leave_steps k m (resting s) l.reads.items l.step y)
+  work_steps (work.Commit c) w f y = path_to k (commit_gone _ _) (commit_steps k m (resting s) c w y)
+  work_steps (work.Hang h) w f y = path_to k (hang_gone h _) (hang_steps k m (resting s) h.reads.items h.step y)
+  work_steps (work.Leave l) w f y = path_to k (leave_gone l _ _) (leave_steps k m (resting s) l.reads.items l.step y)
 
   -- the effects of a step
-  pub step_path : Formed s → possible m (access_of s) ≡ true → Path k m.world (stand s) (touched m.world (access_of s)) (stand (answer_of s (found_at m.world (access_of s))))
-  step_path f y = work_steps s.work f y
+  pub step_path : FitsAndFormed s → possible m (access_of s) ≡ true → Path k m.world (stand s) (touched m.world (access_of s)) (stand (answer_of s (found_at m.world (access_of s))))
+  step_path f y = work_steps s.work f.0 f.1 y
 
 module _ (k : ℕ) (w : World) (s : Seat) where
   -- nothing changes

@@ -30,6 +30,9 @@ both true true e = (refl, refl)
 both true false e = cc
 both false b e = cc
 
+pub some_line : (o : Option Line) (x y : Line) → o ≡ Some x → o ≡ Some y → x ≡ y
+some_line o x y a b = cc
+
 is_active : (p : Phase) → phase_is p Active ≡ true → p ≡ Active
 is_active Active e = refl
 is_active Succeeded e = cc

@@ -113,7 +113,7 @@ placed n k (Effects.scan_worn s {d = x} {n = y} a b) r h = λ d worn q. let l = 
 placed n k (Effects.scan_ends s a b) r h = λ d worn q. absurd (cc)
 placed n k (Effects.take s d g e z l) r h = λ d' worn q. absurd (cc)
 placed n k (Effects.take_lost s {d = x} {g = y}) r h = λ d worn q. let l = after_placed n x (h x 0 refl) in let o = r.0 in grind arith
-placed n k (Effects.halt_scan s) r h = λ d worn q. absurd (cc)
+placed n k (Effects.halt_scan s searches) r h = λ d worn q. absurd (cc)
 placed n k _ r h = h
 
 pub scanned : (n k : ℕ) {w w' : World} {s s' : Stand} → Effects.Effect k w s w' s' → InRound n s → Placed n s.scan → Scanned n w s.scan → Scanned n w' s'.scan
@@ -124,7 +124,7 @@ scanned n k (Effects.scan_worn {w} s {d = x} {n = y} a b) r p h = λ d worn e q 
 scanned n k (Effects.scan_ends s a b) r p h = λ d worn e q m c. absurd (cc)
 scanned n k (Effects.take s d g e z l) r p h = λ d' worn e' q m c. absurd (cc)
 scanned n k (Effects.take_lost s {d = x} {g = y}) r p h = λ d worn e q m c. let o = back_some n d e m in absurd (grind arith)
-scanned n k (Effects.halt_scan s) r p h = λ d worn e q m c. absurd (cc)
+scanned n k (Effects.halt_scan s searches) r p h = λ d worn e q m c. absurd (cc)
 scanned n k x r p h = λ d worn e q m c. worn_stays k x e (h d worn e q m c)
 
 not_worn : (p : Phase) (c : ℕ) → told_of p c ≡ told.Worn → ⊥
@@ -143,12 +143,12 @@ told_worn n k (Effects.begin_look s l) r p f h = λ e q m. absurd (cc)
 told_worn n k (Effects.begin_commit s i j) r p f h = λ e q m. absurd (cc)
 told_worn n k (Effects.begin_hang s x b) r p f h = λ e q m. absurd (cc)
 told_worn n k (Effects.begin_leave s x) r p f h = λ e q m. absurd (cc)
-told_worn n k (Effects.abandon s) r p f h = λ e q m. absurd (cc)
+told_worn n k (Effects.abandon s stopped) r p f h = λ e q m. absurd (cc)
 told_worn n k (Effects.drop s x) r p f h = λ e q m. absurd (not_worn x _ (some_same _ _ q))
 told_worn n k (Effects.look_ends s b) r p f h = λ e q m. absurd (cc)
 told_worn n k (Effects.look_halts s z) r p f h = λ e q m. absurd (cc)
 told_worn n k (Effects.hang_ends s z) r p f h = λ e q m. absurd (cc)
 told_worn n k (Effects.hang_gives_up s z) r p f h = λ e q m. absurd (cc)
 told_worn n k (Effects.leave_ends s z) r p f h = λ e q m. absurd (cc)
-told_worn n k (Effects.halt_scan s) r p f h = λ e q m. absurd (cc)
+told_worn n k (Effects.halt_scan s searches) r p f h = λ e q m. absurd (cc)
 told_worn n k x r p f h = λ e q m. worn_stays k x e (h e q m)

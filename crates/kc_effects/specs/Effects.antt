@@ -4,6 +4,7 @@
 use Rattle.std.specs.Prelude.{◌≡◌, ◌≢◌, ℕ, ◌+◌, ◌-◌, ◌<◌, ◌≤◌, ◌==◌, List, length, slice_get, nat_lt, bit_and, Bool, true, false, Option, None, Some}
 use Rattle.std.specs.Int.Count.{count_trailing_zeros}
 use Rattle.kc_model.specs.declared.footprint.Footprint.{Footprint}
+use Rattle.kc_model.specs.declared.footprint.TheConstants.{MOST}
 use Rattle.kc_model.specs.declared.footprint.Loc.{Loc}
 use Rattle.kc_model.specs.declared.footprint.Seen.{Seen}
 use Rattle.kc_model.specs.declared.word.Word.TheVariants.{Plain, Ref}
@@ -37,14 +38,14 @@ use Rattle.kc_steps.specs.declared.commit.OwnStep.TheVariants as own
 use Rattle.kc_machine.specs.declared.hang.HangStep.TheVariants as hang
 use Rattle.kc_machine.specs.declared.hang.LeaveStep.TheVariants as leave
 use Rattle.kc_machine.specs.Words.{bits_after}
-use Rattle.kc_steps.specs.Lines.{one_more, after_line, first_of, second_of, joined, resolved_version, resolved_value, word_of, lines_of}
+use Rattle.kc_steps.specs.Lines.{one_more, after_line, first_of, second_of, joined, resolved_version, resolved_value, word_of, lines_of, is_installed}
 use Rattle.kc_steps.specs.Looks.{reference_of, seen_at, seen_as, again_or_saw}
 use Rattle.kc_steps.specs.Passes.{status, fits, refers_to, from_install, from_check, from_release, decided_as, agrees_or_fails, check_drop_next}
 use Rattle.kc_steps.specs.Aids.{copy_owner, copy_line}
 use Rattle.kc_steps.specs.Commits.{after_scan, fill_next, finished, wake_next, owed_next, told_of}
 use Rattle.kc_steps.specs.Halts.{halted_pass, halted_aid_pass, halted_aid, halted_own}
 use Rattle.kc_machine.specs.Machine.{World}
-use Rattle.kc_effects.specs.Stands.{NoOwn, Owns, Runs, Waits, Turn, At, Meets, Ends, Leaves, NoPass, Over, NoAid, Aids, Passes, NoLook, Looks, Scanning, NoScan, Scans, Takes, Hangs, HangLooks, Leaving, Stand, idle, turn, location_of}
+use Rattle.kc_effects.specs.Stands.{NoOwn, Owns, Runs, Waits, Turn, At, Meets, Ends, Leaves, NoPass, Over, NoAid, Aids, Passes, NoLook, Looks, Scanning, NoScan, Scans, Takes, Hangs, HangLooks, Leaving, Stand, idle, turn, location_of, met_by_look_step}
 use Rattle.kc_effects.specs.Holds.{look_hold as hold_of_look}
 use Rattle.kc_effects.specs.Holds.{NoHold, dropping, step_hold, turn_hold, aid_step_hold, look_step_hold}
 use Rattle.kc_effects.specs.Changes.{with_word, with_awaiters, with_status, with_owner, with_first, with_second, with_signal, taken, held_once_more, held_once_less}
@@ -63,6 +64,10 @@ looked s l step = record s { look = Looks l (looking.Goes step) }
 
 abbrev pub ends : Stand → Told → Stand
 ends s t = record (idle s) { told = Some t }
+
+-- the task was halted, and its own pass runs
+abbrev pub HaltsItself : Stand → Type 0
+HaltsItself s = (s.halted ≡ true) × (s.aid ≡ NoAid)
 
 pub data Effect (k : ℕ) : World → Stand → World → Stand → Type 0 where
   none : {w : World} {s : Stand} → Effect k w s w s
@@ -83,12 +88,12 @@ pub data Effect (k : ℕ) : World → Stand → World → Stand → Type 0 where
   fill_first : {w : World} (s : Stand) {h : Handle} {i : Intent} {j : ℕ} (x : Line) → slice_get i.lines.items j ≡ Some x → Effect k w (record s { own = Owns h i (own.FillFirst j) }) (with_first w h.descriptor j (first_of x)) (record s { own = Owns h i (own.FillSecond j) })
   fill_second : {w : World} (s : Stand) {h : Handle} {i : Intent} {j : ℕ} (x : Line) → slice_get i.lines.items j ≡ Some x → Effect k w (record s { own = Owns h i (own.FillSecond j) }) (with_second w h.descriptor j (second_of x)) (record s { own = Owns h i (fill_next i.lines.items (after_line j)) })
   start : {w : World} (s : Stand) {h : Handle} {i : Intent} (q : PassStep) → q ≡ from_install i.mode i.lines.items 0 → step_hold q ≡ NoHold → Effect k w (record s { own = Owns h i own.Start; pass = NoPass }) (with_status w h.descriptor (status h.generation Active)) (record s { own = Runs h i; pass = Over h i.mode i.lines.items (At q) })
-  abandon : {w : World} (s : Stand) {h : Handle} {i : Intent} {b : Bool} → Effect k w (record (idle s) { halted = b; own = Owns h i own.Abandon }) (held_once_less w h.descriptor) (ends s told.Halted)
+  abandon : {w : World} (s : Stand) {h : Handle} {i : Intent} {b : Bool} → b ≡ true → Effect k w (record (idle s) { halted = b; own = Owns h i own.Abandon }) (held_once_less w h.descriptor) (ends s told.Halted)
   wake : {w : World} (s : Stand) {h : Handle} {i : Intent} {j owed : ℕ} (x : Line) → slice_get i.lines.items j ≡ Some x → Effect k w (record s { own = Owns h i (own.Wake j owed) }) (with_awaiters w x.seen.loc.0 0) (record s { own = Owns h i (wake_next i j owed (found.Callers (w.awaiters x.seen.loc.0))) })
   signal : {w : World} (s : Stand) {h : Handle} {i : Intent} {owed : ℕ} → Effect k w (record s { own = Owns h i (own.Signal owed) }) (with_signal w (count_trailing_zeros 64 owed) true) (record s { own = Owns h i (owed_next (bit_and owed (owed - 1))) })
   drop : {w : World} (s : Stand) {h : Handle} {i : Intent} {b : Bool} (p : Phase) → Effect k w (record (idle s) { halted = b; own = Owns h i (own.Drop p) }) (held_once_less w h.descriptor) (ends s (told_of p s.calls))
   -- a pass installs
-  install : {w : World} (s : Stand) {h : Handle} {m : Mode} {xs : List Line} {j : ℕ} (x : Line) (q : PassStep) → slice_get xs j ≡ Some x → w.word x.seen.loc.0 ≡ Plain x.seen.version x.seen.value → q ≡ from_install m xs (after_line j) → step_hold q ≡ NoHold → Effect k w (passes s h m xs (Install j)) (with_word w x.seen.loc.0 (word_of h j)) (passes s h m xs q)
+  install : {w : World} (s : Stand) {h : Handle} {m : Mode} {xs : List Line} {j : ℕ} (x : Line) (q : PassStep) → slice_get xs j ≡ Some x → w.word x.seen.loc.0 ≡ Plain x.seen.version x.seen.value → q ≡ from_install m xs (after_line j) → step_hold q ≡ NoHold → is_installed m x ≡ true → j < MOST → Effect k w (passes s h m xs (Install j)) (with_word w x.seen.loc.0 (word_of h j)) (passes s h m xs q)
   installed : {w : World} (s : Stand) {h : Handle} {m : Mode} {xs : List Line} {j : ℕ} (x : Line) (q : PassStep) → slice_get xs j ≡ Some x → w.word x.seen.loc.0 ≡ word_of h j → q ≡ from_install m xs (after_line j) → step_hold q ≡ NoHold → Effect k w (passes s h m xs (Install j)) w (passes s h m xs q)
   unfit : {w : World} (s : Stand) {h : Handle} {m : Mode} {xs : List Line} {j v y : ℕ} (x : Line) → slice_get xs j ≡ Some x → w.word x.seen.loc.0 ≡ Plain v y → fits v y x ≡ false → Effect k w (passes s h m xs (Install j)) w (passes s h m xs (Decide (Failed j)))
   meets : {w : World} (s : Stand) {h : Handle} {m : Mode} {xs : List Line} {j g d i : ℕ} (x : Line) → slice_get xs j ≡ Some x → w.word x.seen.loc.0 ≡ Ref g d i → refers_to h j (reference_of g d i) ≡ false → Effect k w (passes s h m xs (Install j)) w (turns s h m xs (Meets j (reference_of g d i)))
@@ -103,16 +108,15 @@ pub data Effect (k : ℕ) : World → Stand → World → Stand → Type 0 where
   check_first : {w : World} (s : Stand) {h : Handle} {m : Mode} {xs : List Line} {j : ℕ} {r : Reference} {p : Phase} (x : Line) → slice_get xs j ≡ Some x → Effect k w (passes s h m xs (CheckFirst j r p)) w (passes s h m xs (CheckDrop j r false (agrees_or_fails j (resolved_version (w.first r.handle.descriptor r.line) p == x.seen.version))))
   check_drop : {w : World} (s : Stand) {h : Handle} {m : Mode} {xs : List Line} {j : ℕ} {r : Reference} {stray : Bool} {c : AfterCheck} (t : Turn) → t ≡ turn (CheckDrop j r stray c) (check_drop_next m xs j c) → turn_hold t ≡ NoHold → Effect k w (passes s h m xs (CheckDrop j r stray c)) (held_once_less w r.handle.descriptor) (turns s h m xs t)
   -- a pass decides
-  decide : {w : World} (s : Stand) {h : Handle} {m : Mode} {xs : List Line} (p : Phase) (t : Turn) → w.status h.descriptor ≡ status h.generation Active → p ≢ Succeeded → t ≡ turn (Decide p) (from_release m xs 0 (decided_as p Active)) → turn_hold t ≡ NoHold → Effect k w (passes s h m xs (Decide p)) (with_status w h.descriptor (status h.generation p)) (turns s h m xs t)
+  decide : {w : World} (s : Stand) {h : Handle} {m : Mode} {xs : List Line} (p : Phase) (t : Turn) → w.status h.descriptor ≡ status h.generation Active → p ≢ Succeeded → t ≡ turn (Decide p) (from_release m xs 0 (decided_as p Active)) → turn_hold t ≡ NoHold → p ≢ Active → (p ≡ Halted → HaltsItself s) → Effect k w (passes s h m xs (Decide p)) (with_status w h.descriptor (status h.generation p)) (turns s h m xs t)
   succeed : {w : World} (s : Stand) {h : Handle} {m : Mode} {xs : List Line} (t : Turn) → w.status h.descriptor ≡ status h.generation Active → t ≡ turn (Decide Succeeded) (from_release m xs 0 Succeeded) → turn_hold t ≡ NoHold → Effect k w (passes s h m xs (Decide Succeeded)) (with_status w h.descriptor (status h.generation Succeeded)) (turns s h m xs t)
-  learn : {w : World} (s : Stand) {h : Handle} {m : Mode} {xs : List Line} (p : Phase) (t : Turn) → w.status h.descriptor ≢ status h.generation Active → t ≡ turn (Decide p) (from_release m xs 0 (decided_as p (w.status h.descriptor).phase)) → turn_hold t ≡ NoHold → Effect k w (passes s h m xs (Decide p)) w (turns s h m xs t)
+  learn : {w : World} (s : Stand) {h : Handle} {m : Mode} {xs : List Line} (p : Phase) (t : Turn) → w.status h.descriptor ≢ status h.generation Active → t ≡ turn (Decide p) (from_release m xs 0 (decided_as p (w.status h.descriptor).phase)) → turn_hold t ≡ NoHold → p ≢ Active → Effect k w (passes s h m xs (Decide p)) w (turns s h m xs t)
   -- a pass releases
   release : {w : World} (s : Stand) {h : Handle} {m : Mode} {xs : List Line} {j : ℕ} {p : Phase} (x : Line) (t : Turn) → slice_get xs j ≡ Some x → w.word x.seen.loc.0 ≡ word_of h j → t ≡ turn (Release j p) (from_release m xs (after_line j) p) → turn_hold t ≡ NoHold → Effect k w (passes s h m xs (Release j p)) (with_word w x.seen.loc.0 (Plain (resolved_version (first_of x) p) (resolved_value (first_of x) (second_of x).after p))) (turns s h m xs t)
   skip : {w : World} (s : Stand) {h : Handle} {m : Mode} {xs : List Line} {j : ℕ} {p : Phase} (x : Line) (t : Turn) → slice_get xs j ≡ Some x → w.word x.seen.loc.0 ≢ word_of h j → t ≡ turn (Release j p) (from_release m xs (after_line j) p) → turn_hold t ≡ NoHold → Effect k w (passes s h m xs (Release j p)) w (turns s h m xs t)
-  -- the own pass ends, or waits
+  -- the own pass ends, or waits; it has no way out but its decision
   own_meets : {w : World} (s : Stand) {h e : Handle} {m : Mode} {xs : List Line} {i : Intent} {j : ℕ} {r : Reference} (c : Aided) → Effect k w (record s { own = Runs h i; pass = Over e m xs (Meets j r); aid = NoAid }) w (record s { own = Waits h i j; pass = NoPass; aid = Aids r c (aiding.Goes aid.Hold) })
   own_ends : {w : World} (s : Stand) {h e : Handle} {m : Mode} {xs : List Line} {i : Intent} {p : Phase} → Effect k w (record s { own = Runs h i; pass = Over e m xs (Ends p) }) w (record s { own = Owns h i (finished i p); pass = NoPass })
-  own_leaves : {w : World} (s : Stand) {h e : Handle} {m : Mode} {xs : List Line} {i : Intent} → Effect k w (record s { own = Runs h i; pass = Over e m xs Leaves }) w (record s { own = Runs h i; pass = Over e m xs (At (Decide Halted)) })
   -- an aid
   aid_hold : {w : World} (s : Stand) {r : Reference} {c : Aided} → (w.control r.handle.descriptor).generation ≡ r.handle.generation → Effect k w (aided s r c aid.Hold) (held_once_more w r.handle.descriptor) (aided s r c aid.Status)
   aid_stray : {w : World} (s : Stand) {r : Reference} {c : Aided} → (w.control r.handle.descriptor).generation ≢ r.handle.generation → Effect k w (aided s r c aid.Hold) (held_once_more w r.handle.descriptor) (aided s r c (aid.Drop true None))
@@ -123,7 +127,7 @@ pub data Effect (k : ℕ) : World → Stand → World → Stand → Type 0 where
   aid_release : {w : World} (s : Stand) {r : Reference} {c : Aided} {p : Phase} {x : Line} → w.word x.seen.loc.0 ≡ word_of r.handle r.line → Effect k w (aided s r c (aid.Release p x)) (with_word w x.seen.loc.0 (Plain (resolved_version (first_of x) p) (resolved_value (first_of x) (second_of x).after p))) (aided s r c (aid.Drop false None))
   aid_skip : {w : World} (s : Stand) {r : Reference} {c : Aided} {p : Phase} {x : Line} → w.word x.seen.loc.0 ≢ word_of r.handle r.line → Effect k w (aided s r c (aid.Release p x)) w (aided s r c (aid.Drop false None))
   aid_owner : {w : World} (s : Stand) {r : Reference} {c : Aided} → Effect k w (aided s r c aid.Owner) w (aided s r (copy_owner c (found.Owner (w.owner r.handle.descriptor))) aid.LoadFirst)
-  aid_load_first : {w : World} (s : Stand) {r : Reference} {c : Aided} → Effect k w (aided s r c aid.LoadFirst) w (aided s r c (aid.LoadSecond (w.first r.handle.descriptor (length c.lines.items))))
+  aid_load_first : {w : World} (s : Stand) {r : Reference} {c : Aided} → length c.lines.items < c.owner.lines → Effect k w (aided s r c aid.LoadFirst) w (aided s r c (aid.LoadSecond (w.first r.handle.descriptor (length c.lines.items))))
   aid_load_second : {w : World} (s : Stand) {r : Reference} {c : Aided} {f : First} → Effect k w (aided s r c (aid.LoadSecond f)) w (aided s r (copy_line c f (found.Second (w.second r.handle.descriptor (length c.lines.items)))) aid.LoadFirst)
   aid_passes : {w : World} (s : Stand) {r : Reference} {c : Aided} (q : PassStep) → nat_lt (length c.lines.items) c.owner.lines ≡ false → q ≡ from_install c.owner.mode c.lines.items 0 → step_hold q ≡ NoHold → Effect k w (record s { pass = NoPass; aid = Aids r c (aiding.Goes aid.LoadFirst) }) w (record s { pass = Over r.handle c.owner.mode c.lines.items (At q); aid = Passes r c })
   aid_meets : {w : World} (s : Stand) {r : Reference} {c : Aided} {e : Handle} {m : Mode} {xs : List Line} {j : ℕ} {v : Reference} → Effect k w (record s { pass = Over e m xs (Meets j v); aid = Passes r c }) w (record s { pass = NoPass; aid = Aids r c (aiding.Goes (aid.Leave (Some v))) })
@@ -158,8 +162,8 @@ pub data Effect (k : ℕ) : World → Stand → World → Stand → Type 0 where
   leave_clears : {w : World} (s : Stand) {reads : List Seen} {j : ℕ} (x : Seen) → slice_get reads j ≡ Some x → Effect k w (record s { wait = Leaving reads (leave.Clear j) }) (with_awaiters w x.loc.0 (bits_after (bits.Clear s.caller) (w.awaiters x.loc.0))) (record s { wait = Leaving reads (leave.Clear (after_line j)); blocked = false })
   leave_ends : {w : World} (s : Stand) {reads : List Seen} {j : ℕ} → slice_get reads j ≡ None → Effect k w (record (idle s) { wait = Leaving reads (leave.Clear j) }) w (record (ends s told.Free) { blocked = false })
   -- halts
-  halt_scan : {w : World} (s : Stand) {b : Bool} {x : Scanning} → Effect k w (record (idle s) { halted = b; scan = x }) w (ends s told.Halted)
-  halt_look : {w : World} (s : Stand) {l : Loc} {step : LookStep} (r : Reference) (stray : Bool) → look_step_hold step ≡ dropping r stray → Effect k w (looked s l step) w (record s { halted = true; look = Looks l (looking.Goes (look.Drop r stray None)) })
+  halt_scan : {w : World} (s : Stand) {b : Bool} {x : Scanning} → x ≢ NoScan → Effect k w (record (idle s) { halted = b; scan = x }) w (ends s told.Halted)
+  halt_look : {w : World} (s : Stand) {l : Loc} {step : LookStep} (r : Reference) (stray : Bool) → look_step_hold step ≡ dropping r stray → met_by_look_step step ≡ Some r → Effect k w (looked s l step) w (record s { halted = true; look = Looks l (looking.Goes (look.Drop r stray None)) })
   halt_commit : {w : World} {s : Stand} → Effect k w s w (record s { halted = true })
   halt_fill : {w : World} (s : Stand) {h : Handle} {i : Intent} {step : OwnStep} → s.halted ≡ true → halted_own step ≡ own.Abandon → Effect k w (record s { own = Owns h i step }) w (record s { own = Owns h i own.Abandon })
   halt_pass : {w : World} (s : Stand) {h e : Handle} {i : Intent} {m : Mode} {xs : List Line} {p : PassStep} (q : PassStep) → s.halted ≡ true → q ≡ halted_pass (checked.Decide Halted) (Decide Halted) p → step_hold q ≡ step_hold p → Effect k w (record s { own = Runs h i; pass = Over e m xs (At p) }) w (record s { own = Runs h i; pass = Over e m xs (At q) })

@@ -2,5 +2,4 @@ pub mod Stands
 pub mod Holds
 pub mod Changes
 pub mod Effects
-pub mod Formed
 pub mod Claims

@@ -9,6 +9,8 @@ use Rattle.kc_words.specs.declared.words.Phase.{Phase}
 use Rattle.kc_steps.specs.declared.task.Told.{Told}
 use Rattle.kc_steps.specs.declared.line.Line.{Line}
 use Rattle.kc_steps.specs.declared.line.Intent.{Intent}
+use Rattle.kc_steps.specs.declared.look.LookStep.{LookStep}
+use Rattle.kc_steps.specs.declared.look.LookStep.TheVariants as look
 use Rattle.kc_steps.specs.declared.look.LookNext.{LookNext}
 use Rattle.kc_steps.specs.declared.look.LookNext.TheVariants as looking
 use Rattle.kc_steps.specs.declared.pass.PassStep.{PassStep}
@@ -54,6 +56,15 @@ pub data Aiding : Type 0 where
   NoAid : Aiding
   Aids : Reference → Aided → AidNext → Aiding
   Passes : Reference → Aided → Aiding
+
+-- what a look remembers from a word, held or not yet held
+abbrev pub met_by_look_step : LookStep → Option Reference
+met_by_look_step look.Load = None
+met_by_look_step (look.Hold r) = Some r
+met_by_look_step (look.Status r) = Some r
+met_by_look_step (look.First r p) = Some r
+met_by_look_step (look.Second r p f) = Some r
+met_by_look_step (look.Drop r stray seen) = Some r
 
 pub data Looking : Type 0 where
   NoLook : Looking

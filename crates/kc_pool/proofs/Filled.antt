@@ -1,5 +1,5 @@
 -- The words of an owned descriptor are those of its owner's intent, as far as they are stored.
-use Rattle.std.proofs.Common.{◌≡◌, ℕ, ◌+◌, ◌<◌, ◌≤◌, ◌⊎◌, ◌∙◌, inl, inr, refl, sym, ap, subst, arith, Bool, true, false, if◌then◌else◌, List, length, get_or, Option, None, Some}
+use Rattle.std.proofs.Common.{◌≡◌, ℕ, zero, suc, [], ◌∷◌, ◌+◌, ◌<◌, ◌≤◌, ◌⊎◌, ◌∙◌, inl, inr, refl, sym, ap, subst, arith, Bool, true, false, if◌then◌else◌, List, length, get_or, Option, None, Some}
 use Rattle.std.specs.Prelude.{slice_get, nat_lt}
 use Rattle.std.proofs.lemmas.Option.{slice_get_cases, slice_get_within}
 use Rattle.std.proofs.lemmas.Bool.{ltb-false}
@@ -16,6 +16,7 @@ use Rattle.kc_machine.proofs.Functions.{put_here, put_cases}
 use Rattle.kc_effects.specs.Stands.{Stand, Own, NoOwn, Owns, Runs, Waits}
 use Rattle.kc_effects.specs.Holds.{Proper, own_hold}
 use Rattle.kc_effects.specs.Effects
+use Rattle.kc_effects.proofs.Tests.{some_line}
 use Rattle.kc_pool.specs.Filled.{task, FirstStored, SecondStored, owner_word, OwnerIsFilled, FirstsAreFilled, SecondsAreFilled}
 
 -- ---- what other seats do
@@ -56,14 +57,20 @@ second_moves k _ d n = inl refl
 
 -- ---- the seat that steps
 
-past_end : (xs : List Line) (k : ℕ) → slice_get xs k ≡ None → length xs ≤ k
+pub past_end : (xs : List Line) (k : ℕ) → slice_get xs k ≡ None → length xs ≤ k
 past_end xs k e = by (slice_get_cases xs k).1
   where
     by : ((x : Line) × (k < length xs) × (slice_get xs k ≡ Some x) × (get_or xs k x ≡ x)) ⊎ ((length xs ≤ k) × (slice_get xs k ≡ None)) → length xs ≤ k
     by (inl (x, lt, is, at)) = absurd (cc (e, is))
     by (inr (le, is)) = le
 
-one_behind : (j : ℕ) → after_line j ≤ j + 1
+-- an index within a list
+pub is_there : {A : Type 0} (xs : List A) (k : ℕ) → k < length xs → (x : A) × (slice_get xs k ≡ Some x)
+is_there [] k l = absurd (omega arith)
+is_there (x ∷ xs) zero l = (x, refl)
+is_there (x ∷ xs) (suc k) l = is_there xs k (omega arith)
+
+pub one_behind : (j : ℕ) → after_line j ≤ j + 1
 one_behind j = go (nat_lt j 64) refl
   where
     go : (b : Bool) → nat_lt j 64 ≡ b → (if b then j + 1 else 64) ≤ j + 1
@@ -85,9 +92,6 @@ seconds_to xs k n x e = go (slice_get xs k) refl
     go None q s = let a = past_end xs k q in let b = slice_get_within xs n x e in omega arith
     go (Some y) q s = s
 
-some_line : (o : Option Line) (x y : Line) → o ≡ Some x → o ≡ Some y → x ≡ y
-some_line o x y a b = cc
-
 pub owner_own : (k : ℕ) {w w' : World} {s s' : Stand} → Effects.Effect k w s w' s' → OwnerIsFilled w s.caller s.calls s.own → OwnerIsFilled w' s'.caller s'.calls s'.own
 owner_own k (Effects.take s d g e z l) f h i q u = absurd u
 owner_own k (Effects.fill_owner {w} s {h = e} {i = y}) f h i q u =
@@ -95,7 +99,7 @@ owner_own k (Effects.fill_owner {w} s {h = e} {i = y}) f h i q u =
     subst (λ (a : Handle). put w.owner e.descriptor (owner_word s.caller s.calls y) a.descriptor ≡ owner_word s.caller s.calls i) t.0
     (put_here w.owner e.descriptor (owner_word s.caller s.calls y) ∙ ap (owner_word s.caller s.calls) t.1)
 owner_own k (Effects.fill_second s x e) f h i q u = f h i q tt
-owner_own k (Effects.abandon s) f h i q u = absurd u
+owner_own k (Effects.abandon s stopped) f h i q u = absurd u
 owner_own k (Effects.wake s x e) f h i q u = f h i q tt
 owner_own k (Effects.signal s) f h i q u = f h i q tt
 owner_own k (Effects.drop s p) f h i q u = absurd u
@@ -122,7 +126,7 @@ firsts_own k (Effects.fill_second s {h = e} {i = y} {j = j} a g) f h i n x q r u
     let b = firsts_to y.lines.items (after_line j) n x (ap (λ (a : Intent). slice_get a.lines.items n) t.1 ∙ r) u in
     let c = one_behind j in
     f h i n x q r (omega arith)
-firsts_own k (Effects.abandon s) f h i n x q r u = absurd u
+firsts_own k (Effects.abandon s stopped) f h i n x q r u = absurd u
 firsts_own k (Effects.wake s a e) f h i n x q r u = f h i n x q r tt
 firsts_own k (Effects.signal s) f h i n x q r u = f h i n x q r tt
 firsts_own k (Effects.drop s p) f h i n x q r u = absurd u
@@ -146,7 +150,7 @@ seconds_own k (Effects.fill_second {w} s {h = e} {i = y} {j = j} a g) f h i n x 
     ∙ put_cases (λ b. b ≡ second_of x) (w.second e.descriptor) j (second_of a) n
     (λ z. ap second_of (some_line (slice_get y.lines.items j) a x g (ap (slice_get y.lines.items) (sym z) ∙ v)))
     (λ ne. f e y n x refl v (omega arith)))
-seconds_own k (Effects.abandon s) f h i n x q r u = absurd u
+seconds_own k (Effects.abandon s stopped) f h i n x q r u = absurd u
 seconds_own k (Effects.wake s a e) f h i n x q r u = f h i n x q r tt
 seconds_own k (Effects.signal s) f h i n x q r u = f h i n x q r tt
 seconds_own k (Effects.drop s p) f h i n x q r u = absurd u

@@ -1,8 +1,8 @@
 pub mod Owners
 pub mod Statuses
 pub mod Shapes
-pub mod Aims
 pub mod Phases
+pub mod Remembered
 pub mod Published
 pub mod Filled
 pub mod Counts

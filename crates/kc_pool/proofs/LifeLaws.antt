@@ -25,8 +25,7 @@ opened_lives o = record {
   differ = λ i j d g h b c q r. absurd (cc);
   behind = λ d. omega arith;
   owned = λ k l d g q. absurd (cc);
-  shape = λ k l. (λ r. absurd (cc), λ x. refl);
-  aims = λ k l p q. absurd (cc);
+  shape = λ k l. (refl, λ x. refl);
   active = λ d g q. let u = ap (λ (x : Status). x.phase) q in absurd (cc);
   knows = λ k l d g p o q. absurd (cc);
   pass_knows = λ k l d g p o r q. absurd (cc);

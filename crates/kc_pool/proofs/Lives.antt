@@ -14,12 +14,12 @@ use Rattle.kc_effects.proofs.Pools.{Pool, pool_effect}
 use Rattle.kc_pool.specs.Owners.{is_filling, Follows}
 use Rattle.kc_pool.specs.References.{met_by_pass, met_by_aid, onward_by_aid, met_by_look}
 use Rattle.kc_pool.specs.Filled.{Filled}
-use Rattle.kc_pool.proofs.Published.{Words, Out, LifeOut, status_grows, out_grows, life_grows, words_own, met_own, aided_own, onward_own, look_own, life_own}
+use Rattle.kc_pool.proofs.Published.{Words, Out, LifeOut, status_grows, out_grows, life_grows, words_own, life_own, Started}
+use Rattle.kc_pool.proofs.Remembered.{met_own, aided_own, onward_own, look_own}
 use Rattle.kc_pool.proofs.Filled.{OwnsIt, task_held, owner_moves, first_moves, second_moves, owner_own, firsts_own, seconds_own}
 use Rattle.kc_pool.proofs.Owners.{Differ, owned_before, owned_held}
 use Rattle.kc_pool.proofs.Statuses.{Owned, status_moves, control_grows, owned_own}
 use Rattle.kc_pool.proofs.Shapes.{Shape, shape_own}
-use Rattle.kc_pool.proofs.Aims.{Aims, aim, aims_own}
 use Rattle.kc_pool.proofs.Phases.{Undecides, Decided, Knows, PassKnows, active_before, active_kept, decided_moves, knows_own, pass_knows_own}
 
 -- what a seat remembers was started
@@ -40,12 +40,12 @@ met_kept k e o t h = record {
 }
 
 met_step : (k : ℕ) {w w' : World} {s s' : Stand} → Effect k w s w' s' → Owned w s.own → Words w → Met w s → Met w' s'
-met_step k e o v h = record {
+met_step k {w} e o v h = record {
   life = life_own k e o h.aided h.life;
-  pass = out_grows k e o _ (met_own k e v h.pass);
-  aided = out_grows k e o _ (aided_own k e h.pass h.onward h.aided);
-  onward = out_grows k e o _ (onward_own k e h.pass h.onward);
-  look = out_grows k e o _ (look_own k e v h.look);
+  pass = out_grows k e o _ (met_own (Started w) k e v h.pass);
+  aided = out_grows k e o _ (aided_own (Started w) k e h.pass h.onward h.aided);
+  onward = out_grows k e o _ (onward_own (Started w) k e h.pass h.onward);
+  look = out_grows k e o _ (look_own (Started w) k e v h.look);
 }
 
 -- n seats stand so, at m descriptors
@@ -55,7 +55,6 @@ pub record Lives (n m : ℕ) (w : World) (at : ℕ → Stand) : Type 0 where
   pub behind : (d : ℕ) → (w.status d).generation ≤ (w.control d).generation
   pub owned : (k : ℕ) → k < n → Owned w (at k).own
   pub shape : (k : ℕ) → k < n → Shape (at k)
-  pub aims : (k : ℕ) → k < n → Aims (aim (at k).pass)
   pub active : (d g : ℕ) → w.status d ≡ status g Active → (k : ℕ) × (k < n) × Undecides (at k) d g
   pub knows : (k : ℕ) → k < n → Knows w (at k).own
   pub pass_knows : (k : ℕ) → k < n → PassKnows w (at k).own (at k).pass
@@ -64,7 +63,7 @@ pub record Lives (n m : ℕ) (w : World) (at : ℕ → Stand) : Type 0 where
   pub filled : (k : ℕ) → k < n → Filled w (at k)
 
 -- the generation of a hold that fits
-fitting : (w : World) (d g : ℕ) → Fits w (Proper d g) → (w.control d).generation ≡ g
+pub fitting : (w : World) (d g : ℕ) → Fits w (Proper d g) → (w.control d).generation ≡ g
 fitting w d g h = search h
 
 module _ (n m k : ℕ) (l : k < n) {w w' : World} (at : ℕ → Stand) {s' : Stand} (e : Effect k w (at k) w' s') (p : Lives n m w at) where
@@ -116,7 +115,7 @@ module _ (n m k : ℕ) (l : k < n) {w w' : World} (at : ℕ → Stand) {s' : Sta
         o.0,
         o.1,
         put_cases (λ t. Undecides t d g) at k s' o.0
-            (λ q. active_kept k e (p.shape k l) (p.aims k l) d g x (subst (λ j. Undecides (at j) d g) q o.2))
+            (λ q. active_kept k e (p.shape k l) d g x (subst (λ j. Undecides (at j) d g) q o.2))
             (λ ne. o.2),
       ))
       (λ u. (k, l, subst (λ t. Undecides t d g) (sym (put_here at k s')) u))
@@ -133,7 +132,7 @@ module _ (n m k : ℕ) (l : k < n) {w w' : World} (at : ℕ → Stand) {s' : Sta
 
   lives_pass_knows : (j : ℕ) → j < n → PassKnows w' (put at k s' j).own (put at k s' j).pass
   lives_pass_knows j b = put_cases (λ x. PassKnows w' x.own x.pass) at k s' j
-      (λ q. pass_knows_own k e (p.shape k l) (p.aims k l) (p.owned k l) (p.pass_knows k l))
+      (λ q. pass_knows_own k e (p.shape k l) (p.owned k l) (p.pass_knows k l))
       (λ ne d g x q r t. stays_decided j d g x b ne q (p.pass_knows j b d g x q r t))
 
   -- a word of what another seat owns stays
@@ -159,7 +158,6 @@ module _ (n m k : ℕ) (l : k < n) {w w' : World} (at : ℕ → Stand) {s' : Sta
     behind = status_behind;
     owned = lives_owned;
     shape = λ j b. put_cases Shape at k s' j (λ q. shape_own k e (p.shape k l)) (λ ne. p.shape j b);
-    aims = λ j b. put_cases (λ x. Aims (aim x.pass)) at k s' j (λ q. aims_own k e (p.aims k l)) (λ ne. p.aims j b);
     active = lives_active;
     knows = lives_knows;
     pass_knows = lives_pass_knows;

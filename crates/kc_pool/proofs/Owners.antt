@@ -9,7 +9,7 @@ use Rattle.kc_effects.proofs.Counted.{cells, one_here}
 -- a seat that owns d now owned it before, or no seat held it
 pub owned_before : (k : ℕ) {w w' : World} {s s' : Stand} → Effects.Effect k w s w' s' → (d g : ℕ) → own_hold s'.own ≡ Proper d g → (own_hold s.own ≡ Proper d g) ⊎ ((w.control d).holds ≡ 0)
 owned_before k (Effects.take s d g e z l) = λ d' g' q. inr (grind cells)
-owned_before k (Effects.abandon s) = λ d g q. absurd (cc)
+owned_before k (Effects.abandon s stopped) = λ d g q. absurd (cc)
 owned_before k (Effects.drop s p) = λ d g q. absurd (cc)
 owned_before k _ = λ d g q. inl q
 

@@ -27,8 +27,11 @@ use Rattle.kc_effects.specs.Holds.{Proper, own_hold}
 use Rattle.kc_effects.specs.Effects
 use Rattle.kc_pool.specs.Owners.{phase_released, phase_of_pass, phase_of_step, phase_read, is_filling, Follows, Undecided}
 use Rattle.kc_pool.proofs.Statuses.{Owned, Fills}
-use Rattle.kc_pool.proofs.Shapes.{Shape, runs, works, runs_started, aids_apart}
-use Rattle.kc_pool.proofs.Aims.{Aims, aim, same_step}
+use Rattle.kc_seats.proofs.FitSteps.{succeeded_decided}
+use Rattle.kc_pool.proofs.Shapes.{Shape, aid_course, runs, works, runs_over, runs_started, aids_apart}
+
+pub same_step : (p q : PassStep) → aid.Pass p ≡ aid.Pass q → q ≡ p
+same_step p q e = cc
 
 -- ---- a search for the next line: the phase behind it
 
@@ -148,39 +151,39 @@ active_before k (Effects.start {w} s {h = h} {i = i} q e z) d g =
     put_cases (λ x. x ≡ status g Active → (w.status d ≡ status g Active) ⊎ Undecides (record s { own = Runs h i; pass = Over h i.mode i.lines.items (At q) }) d g) w.status h.descriptor (status h.generation Active) d
     (λ y x. inr (let u = ap (λ (a : Status). a.generation) x in cc, refl, λ r. ap (λ a. phase_released (At a)) e ∙ install_unread i.mode i.lines.items 0))
     (λ ne x. inl x)
-active_before k (Effects.decide {w} s {h = h} p t a b e z) d g = λ x. inl (was_active w.status h p a d g x)
+active_before k (Effects.decide {w} s {h = h} p t a b e z may halts) d g = λ x. inl (was_active w.status h p a d g x)
 active_before k (Effects.succeed {w} s {h = h} t a e z) d g = λ x. inl (was_active w.status h Succeeded a d g x)
 active_before k _ d g = λ x. inl x
 
 read_step : (q r : PassStep) → q ≡ r → phase_released (At r) ≡ None → phase_released (At q) ≡ None
 read_step q r e a = ap (λ x. phase_released (At x)) e ∙ a
 
-pub active_kept : (k : ℕ) {w w' : World} {s s' : Stand} → Effects.Effect k w s w' s' → Shape s → Aims (aim s.pass) → (d g : ℕ) → w'.status d ≡ status g Active → Undecides s d g → Undecides s' d g
-active_kept k (Effects.take s d' g' e z l) h a d g x u = absurd (cc u.0)
-active_kept k (Effects.start s q e z) h a d g x u = let y = u.1 in absurd (cc)
-active_kept k (Effects.abandon s) h a d g x u = let y = u.1 in absurd (cc)
-active_kept k (Effects.drop s p) h a d g x u = let y = u.1 in absurd (cc)
-active_kept k (Effects.install s y q b c e z) h a d g x u = (u.0, u.1, λ r. read_step q _ e (install_unread _ _ _))
-active_kept k (Effects.installed s y q b c e z) h a d g x u = (u.0, u.1, λ r. read_step q _ e (install_unread _ _ _))
-active_kept k (Effects.check_fits s y q b c e f z) h a d g x u = (u.0, u.1, λ r. read_step q _ f (check_unread _ _ _))
-active_kept k (Effects.check_drop s {j = j} {r = v} {stray = stray} {c = c} t e z) h a d g x u = (u.0, u.1, λ r. ap phase_released e ∙ drop_unread (CheckDrop j v stray c) _ _ _ c)
-active_kept k (Effects.decide {w} s {h = i} p t b c e z) h a d g x u = (u.0, u.1, λ r. absurd (not_decided w.status i p d g (same_life i s.own d g (h.0 r) u.0) (a p refl) x))
-active_kept k (Effects.succeed {w} s {h = i} t b e z) h a d g x u = (u.0, u.1, λ r. absurd (not_decided w.status i Succeeded d g (same_life i s.own d g (h.0 r) u.0) (a Succeeded refl) x))
-active_kept k (Effects.learn {w} s {h = i} p t b e z) h a d g x u = (u.0, u.1, λ r. let l = same_life i s.own d g (h.0 r) u.0 in absurd (b (ap w.status l.0 ∙ x ∙ ap (λ y. status y Active) (sym l.1))))
-active_kept k (Effects.release s y t b c e z) h a d g x u = (u.0, u.1, λ r. let v = u.2 r in absurd (cc))
-active_kept k (Effects.skip s y t b c e z) h a d g x u = (u.0, u.1, λ r. let v = u.2 r in absurd (cc))
-active_kept k (Effects.own_meets s c) h a d g x u = (u.0, refl, λ r. absurd (cc))
-active_kept k (Effects.own_ends s) h a d g x u = let v = u.2 refl in absurd (cc)
-active_kept k (Effects.aid_passes s q b e z) h a d g x u = (u.0, u.1, λ r. read_step q _ e (install_unread _ _ 0))
-active_kept k (Effects.aid_ends s) h a d g x u = (u.0, u.1, λ r. refl)
-active_kept k (Effects.aid_releases s p t b c e z) h a d g x u = (u.0, u.1, λ r. aids_apart s.own h.1 r)
-active_kept k (Effects.aid_back s n) h a d g x u = (u.0, refl, λ r. refl)
-active_kept k (Effects.aid_halted s n) h a d g x u = (u.0, refl, λ r. refl)
-active_kept k (Effects.halt_back s n) h a d g x u = (u.0, refl, λ r. refl)
-active_kept k (Effects.halt_pass s {p = p} q n e z) h a d g x u = (u.0, u.1, λ r. ap (λ y. phase_released (At y)) e ∙ halt_reads p ∙ u.2 r)
-active_kept k (Effects.halt_aided s {p = p} q n e z) h a d g x u = (u.0, u.1, λ r. halt_aided_reads p q e ∙ u.2 r)
-active_kept k (Effects.halt_leaves s n e z) h a d g x u = (u.0, u.1, λ r. refl)
-active_kept k e h a d g x u = u
+pub active_kept : (k : ℕ) {w w' : World} {s s' : Stand} → Effects.Effect k w s w' s' → Shape s → (d g : ℕ) → w'.status d ≡ status g Active → Undecides s d g → Undecides s' d g
+active_kept k (Effects.take s d' g' e z l) h d g x u = absurd (cc u.0)
+active_kept k (Effects.start s q e z) h d g x u = let y = u.1 in absurd (cc)
+active_kept k (Effects.abandon s stopped) h d g x u = let y = u.1 in absurd (cc)
+active_kept k (Effects.drop s p) h d g x u = let y = u.1 in absurd (cc)
+active_kept k (Effects.install s y q b c e z put_in low) h d g x u = (u.0, u.1, λ r. read_step q _ e (install_unread _ _ _))
+active_kept k (Effects.installed s y q b c e z) h d g x u = (u.0, u.1, λ r. read_step q _ e (install_unread _ _ _))
+active_kept k (Effects.check_fits s y q b c e f z) h d g x u = (u.0, u.1, λ r. read_step q _ f (check_unread _ _ _))
+active_kept k (Effects.check_drop s {j = j} {r = v} {stray = stray} {c = c} t e z) h d g x u = (u.0, u.1, λ r. ap phase_released e ∙ drop_unread (CheckDrop j v stray c) _ _ _ c)
+active_kept k (Effects.decide {w} s {h = i} p t b c e z may halts) h d g x u = (u.0, u.1, λ r. absurd (not_decided w.status i p d g (same_life i s.own d g (runs_over i _ _ s.own (aid_course s.aid) h.0 r) u.0) may x))
+active_kept k (Effects.succeed {w} s {h = i} t b e z) h d g x u = (u.0, u.1, λ r. absurd (not_decided w.status i Succeeded d g (same_life i s.own d g (runs_over i _ _ s.own (aid_course s.aid) h.0 r) u.0) succeeded_decided x))
+active_kept k (Effects.learn {w} s {h = i} p t b e z may) h d g x u = (u.0, u.1, λ r. let l = same_life i s.own d g (runs_over i _ _ s.own (aid_course s.aid) h.0 r) u.0 in absurd (b (ap w.status l.0 ∙ x ∙ ap (λ y. status y Active) (sym l.1))))
+active_kept k (Effects.release s y t b c e z) h d g x u = (u.0, u.1, λ r. let v = u.2 r in absurd (cc))
+active_kept k (Effects.skip s y t b c e z) h d g x u = (u.0, u.1, λ r. let v = u.2 r in absurd (cc))
+active_kept k (Effects.own_meets s c) h d g x u = (u.0, refl, λ r. absurd (cc))
+active_kept k (Effects.own_ends s) h d g x u = let v = u.2 refl in absurd (cc)
+active_kept k (Effects.aid_passes s q b e z) h d g x u = (u.0, u.1, λ r. read_step q _ e (install_unread _ _ 0))
+active_kept k (Effects.aid_ends s) h d g x u = (u.0, u.1, λ r. refl)
+active_kept k (Effects.aid_releases s p t b c e z) h d g x u = (u.0, u.1, λ r. aids_apart s.own h.1 r)
+active_kept k (Effects.aid_back s n) h d g x u = (u.0, refl, λ r. refl)
+active_kept k (Effects.aid_halted s n) h d g x u = (u.0, refl, λ r. refl)
+active_kept k (Effects.halt_back s n) h d g x u = (u.0, refl, λ r. refl)
+active_kept k (Effects.halt_pass s {p = p} q n e z) h d g x u = (u.0, u.1, λ r. ap (λ y. phase_released (At y)) e ∙ halt_reads p ∙ u.2 r)
+active_kept k (Effects.halt_aided s {p = p} q n e z) h d g x u = (u.0, u.1, λ r. halt_aided_reads p q e ∙ u.2 r)
+active_kept k (Effects.halt_leaves s n e z) h d g x u = (u.0, u.1, λ r. refl)
+active_kept k e h d g x u = u
 
 pub undecided : (s : Stand) → works s.own ≡ true → (runs s.own ≡ true → phase_of_pass s.pass ≡ None) → Undecided s.own s.pass
 undecided s = go s.own
@@ -218,15 +221,12 @@ decided_moves k (Effects.start {w} s {h = h} {i = i} q e z) d p x =
     put_cases (λ y. ((y.phase ≡ p) × (p ≢ Active)) ⊎ ((g : ℕ) × Fills (record s { own = Owns h i own.Start; pass = NoPass }) d g)) w.status h.descriptor (status h.generation Active) d
     (λ y. inr (h.generation, record { owns = ap (λ a. Proper a h.generation) (sym y); early = refl }))
     (λ ne. inl x)
-decided_moves k (Effects.decide {w} s {h = h} p t a b e z) d q x = inl (decided_stays w.status h p q d a x.0 x.1, x.1)
+decided_moves k (Effects.decide {w} s {h = h} p t a b e z may halts) d q x = inl (decided_stays w.status h p q d a x.0 x.1, x.1)
 decided_moves k (Effects.succeed {w} s {h = h} t a e z) d q x = inl (decided_stays w.status h Succeeded q d a x.0 x.1, x.1)
 decided_moves k _ d p x = inl x
 
 some_phase : (o : Option Phase) (p q : Phase) → o ≡ Some p → o ≡ Some q → p ≡ q
 some_phase o p q a b = cc
-
-succeeded_decided : Succeeded ≢ Active
-succeeded_decided q = cc
 
 pub knows_own : (k : ℕ) {w w' : World} {s s' : Stand} → Effects.Effect k w s w' s' → PassKnows w s.own s.pass → Knows w s.own → Knows w' s'.own
 knows_own k (Effects.take s d' g' e z l) f h d g p o q = absurd (cc)
@@ -234,11 +234,11 @@ knows_own k (Effects.fill_owner s {i = i}) f h d g p o q = let u = fill_unread i
 knows_own k (Effects.fill_first s x e) f h d g p o q = absurd (cc)
 knows_own k (Effects.fill_second s {i = i} {j = j} x e) f h d g p o q = let u = fill_unread i.lines.items (after_line j) in absurd (cc)
 knows_own k (Effects.start s y e z) f h d g p o q = absurd (cc)
-knows_own k (Effects.abandon s) f h d g p o q = absurd (cc)
+knows_own k (Effects.abandon s stopped) f h d g p o q = absurd (cc)
 knows_own k (Effects.wake {w} s {i = i} {j} {owed} x e) f h d g p o q = h d g p o (sym (wake_reads i j owed (w.awaiters x.seen.loc.0)) ∙ q)
 knows_own k (Effects.signal s {owed = owed}) f h d g p o q = h d g p o (sym (owed_reads _) ∙ q)
 knows_own k (Effects.drop s y) f h d g p o q = absurd (cc)
-knows_own k (Effects.decide {w} s {h = i} y t a b e z) f h d g p o q = let u = h d g p o q in (decided_stays w.status i y p d a u.0 u.1, u.1)
+knows_own k (Effects.decide {w} s {h = i} y t a b e z may halts) f h d g p o q = let u = h d g p o q in (decided_stays w.status i y p d a u.0 u.1, u.1)
 knows_own k (Effects.succeed {w} s {h = i} t a e z) f h d g p o q = let u = h d g p o q in (decided_stays w.status i Succeeded p d a u.0 u.1, u.1)
 knows_own k (Effects.own_meets s c) f h d g p o q = absurd (cc)
 knows_own k (Effects.own_ends s {i = i} {p = y}) f h d g p o q = f d g p o refl (sym (finish_reads i y) ∙ q)
@@ -246,55 +246,55 @@ knows_own k (Effects.halt_fill s n e) f h d g p o q = absurd (cc)
 knows_own k e f h d g p o q = h d g p o q
 
 -- a phase that isn't Active stays as it was found
-found_decided : (p q : Phase) → q ≢ Active → decided_as p q ≡ q
+pub found_decided : (p q : Phase) → q ≢ Active → decided_as p q ≡ q
 found_decided p Active n = absurd (n refl)
 found_decided p Succeeded n = refl
 found_decided p (Failed j) n = refl
 found_decided p (Crossed j) n = refl
 found_decided p Halted n = refl
 
-turn_reads : (t u : Turn) (p q : Phase) → t ≡ u → phase_released u ≡ Some p → phase_released t ≡ Some q → p ≡ q
+pub turn_reads : (t u : Turn) (p q : Phase) → t ≡ u → phase_released u ≡ Some p → phase_released t ≡ Some q → p ≡ q
 turn_reads t u p q e a b = some_phase (phase_released u) p q a (ap phase_released (sym e) ∙ b)
 
 at_phase : (w : World) (d : ℕ) (p q : Phase) → p ≡ q → Decided w d p → Decided w d q
 at_phase w d p q e x = subst (Decided w d) e x
 
-pub pass_knows_own : (k : ℕ) {w w' : World} {s s' : Stand} → Effects.Effect k w s w' s' → Shape s → Aims (aim s.pass) → Owned w s.own → PassKnows w s.own s.pass → PassKnows w' s'.own s'.pass
-pass_knows_own k (Effects.take s d' g' e z l) v a b f d g p o r q = absurd (cc)
-pass_knows_own k (Effects.start s y e z) v a b f d g p o r q = let u = read_step y _ e (install_unread _ _ 0) in absurd (cc)
-pass_knows_own k (Effects.install s x y c l e z) v a b f d g p o r q = let u = read_step y _ e (install_unread _ _ _) in absurd (cc)
-pass_knows_own k (Effects.installed s x y c l e z) v a b f d g p o r q = let u = read_step y _ e (install_unread _ _ _) in absurd (cc)
-pass_knows_own k (Effects.check_fits s x y c l i e z) v a b f d g p o r q = let u = read_step y _ e (check_unread _ _ _) in absurd (cc)
-pass_knows_own k (Effects.check_drop s {j = j} {r = x} {stray = stray} {c = c} t e z) v a b f d g p o r q = let u = ap phase_released e ∙ drop_unread (CheckDrop j x stray c) _ _ _ c in absurd (cc)
-pass_knows_own k (Effects.decide {w} s {h = i} y t c l e z) v a b f d g p o r q =
+pub pass_knows_own : (k : ℕ) {w w' : World} {s s' : Stand} → Effects.Effect k w s w' s' → Shape s → Owned w s.own → PassKnows w s.own s.pass → PassKnows w' s'.own s'.pass
+pass_knows_own k (Effects.take s d' g' e z l) v b f d g p o r q = absurd (cc)
+pass_knows_own k (Effects.start s y e z) v b f d g p o r q = let u = read_step y _ e (install_unread _ _ 0) in absurd (cc)
+pass_knows_own k (Effects.install s x y c l e z put_in low) v b f d g p o r q = let u = read_step y _ e (install_unread _ _ _) in absurd (cc)
+pass_knows_own k (Effects.installed s x y c l e z) v b f d g p o r q = let u = read_step y _ e (install_unread _ _ _) in absurd (cc)
+pass_knows_own k (Effects.check_fits s x y c l i e z) v b f d g p o r q = let u = read_step y _ e (check_unread _ _ _) in absurd (cc)
+pass_knows_own k (Effects.check_drop s {j = j} {r = x} {stray = stray} {c = c} t e z) v b f d g p o r q = let u = ap phase_released e ∙ drop_unread (CheckDrop j x stray c) _ _ _ c in absurd (cc)
+pass_knows_own k (Effects.decide {w} s {h = i} y t c l e z may halts) v b f d g p o r q =
     let n = turn_reads t _ y p e (release_reads (Decide y) _ _ 0 y) q in
-    (decided_now w.status i y d (same_life i s.own d g (v.0 r) o).0 ∙ n, λ x. a y refl (n ∙ x))
-pass_knows_own k (Effects.succeed {w} s {h = i} t c e z) v a b f d g p o r q =
+    (decided_now w.status i y d (same_life i s.own d g (runs_over i _ _ s.own (aid_course s.aid) v.0 r) o).0 ∙ n, λ x. may (n ∙ x))
+pass_knows_own k (Effects.succeed {w} s {h = i} t c e z) v b f d g p o r q =
     let n = turn_reads t _ Succeeded p e (release_reads (Decide Succeeded) _ _ 0 Succeeded) q in
-    (decided_now w.status i Succeeded d (same_life i s.own d g (v.0 r) o).0 ∙ n, λ x. succeeded_decided (n ∙ x))
-pass_knows_own k (Effects.learn {w} s {h = i} y t c e z) v a b f d g p o r q =
-    let l = same_life i s.own d g (v.0 r) o in
+    (decided_now w.status i Succeeded d (same_life i s.own d g (runs_over i _ _ s.own (aid_course s.aid) v.0 r) o).0 ∙ n, λ x. succeeded_decided (n ∙ x))
+pass_knows_own k (Effects.learn {w} s {h = i} y t c e z may) v b f d g p o r q =
+    let l = same_life i s.own d g (runs_over i _ _ s.own (aid_course s.aid) v.0 r) o in
     let u = subst (λ x. Follows x (w.status d).generation g) (runs_started s.own r) (b d g o) in
     let n : (w.status i.descriptor).phase ≢ Active = (λ x. c (λ j. record { generation = (ap (λ z. (w.status z).generation) l.0 ∙ u ∙ sym l.1) j; phase = x j })) in
     let m = turn_reads t _ (decided_as y (w.status i.descriptor).phase) p e (release_reads (Decide y) _ _ 0 (decided_as y (w.status i.descriptor).phase)) q in
     let same = sym (found_decided y _ n) ∙ m in
     (ap (λ z. (w.status z).phase) (sym l.0) ∙ same, λ x. n (same ∙ x))
-pass_knows_own k (Effects.release s {j = j} {p = y} x t c l e z) v a b f d g p o r q = f d g p o r (let n = turn_reads t _ y p e (release_reads (Release j y) _ _ (after_line j) y) q in ap Some n)
-pass_knows_own k (Effects.skip s {j = j} {p = y} x t c l e z) v a b f d g p o r q = f d g p o r (let n = turn_reads t _ y p e (release_reads (Release j y) _ _ (after_line j) y) q in ap Some n)
-pass_knows_own k (Effects.abandon s) v a b f d g p o r q = absurd (cc)
-pass_knows_own k (Effects.drop s y) v a b f d g p o r q = absurd (cc)
-pass_knows_own k (Effects.own_meets s c) v a b f d g p o r q = absurd (cc)
-pass_knows_own k (Effects.own_ends s) v a b f d g p o r q = absurd (cc)
-pass_knows_own k (Effects.aid_passes s y c e z) v a b f d g p o r q = let u = read_step y _ e (install_unread _ _ 0) in absurd (cc)
-pass_knows_own k (Effects.aid_ends s) v a b f d g p o r q = absurd (cc)
-pass_knows_own k (Effects.aid_releases s y t c l e z) v a b f d g p o r q = aids_apart s.own v.1 r
-pass_knows_own k (Effects.aid_back s n) v a b f d g p o r q = absurd (cc)
-pass_knows_own k (Effects.aid_halted s n) v a b f d g p o r q = absurd (cc)
-pass_knows_own k (Effects.halt_back s n) v a b f d g p o r q = absurd (cc)
-pass_knows_own k (Effects.halt_pass s {p = y} x n e z) v a b f d g p o r q = f d g p o r (sym (ap (λ y. phase_released (At y)) e ∙ halt_reads y) ∙ q)
-pass_knows_own k (Effects.halt_aided s {p = y} x n e z) v a b f d g p o r q = f d g p o r (sym (halt_aided_reads y x e) ∙ q)
-pass_knows_own k (Effects.halt_leaves s n e z) v a b f d g p o r q = absurd (cc)
-pass_knows_own k e v a b f d g p o r q = f d g p o r q
+pass_knows_own k (Effects.release s {j = j} {p = y} x t c l e z) v b f d g p o r q = f d g p o r (let n = turn_reads t _ y p e (release_reads (Release j y) _ _ (after_line j) y) q in ap Some n)
+pass_knows_own k (Effects.skip s {j = j} {p = y} x t c l e z) v b f d g p o r q = f d g p o r (let n = turn_reads t _ y p e (release_reads (Release j y) _ _ (after_line j) y) q in ap Some n)
+pass_knows_own k (Effects.abandon s stopped) v b f d g p o r q = absurd (cc)
+pass_knows_own k (Effects.drop s y) v b f d g p o r q = absurd (cc)
+pass_knows_own k (Effects.own_meets s c) v b f d g p o r q = absurd (cc)
+pass_knows_own k (Effects.own_ends s) v b f d g p o r q = absurd (cc)
+pass_knows_own k (Effects.aid_passes s y c e z) v b f d g p o r q = let u = read_step y _ e (install_unread _ _ 0) in absurd (cc)
+pass_knows_own k (Effects.aid_ends s) v b f d g p o r q = absurd (cc)
+pass_knows_own k (Effects.aid_releases s y t c l e z) v b f d g p o r q = aids_apart s.own v.1 r
+pass_knows_own k (Effects.aid_back s n) v b f d g p o r q = absurd (cc)
+pass_knows_own k (Effects.aid_halted s n) v b f d g p o r q = absurd (cc)
+pass_knows_own k (Effects.halt_back s n) v b f d g p o r q = absurd (cc)
+pass_knows_own k (Effects.halt_pass s {p = y} x n e z) v b f d g p o r q = f d g p o r (sym (ap (λ y. phase_released (At y)) e ∙ halt_reads y) ∙ q)
+pass_knows_own k (Effects.halt_aided s {p = y} x n e z) v b f d g p o r q = f d g p o r (sym (halt_aided_reads y x e) ∙ q)
+pass_knows_own k (Effects.halt_leaves s n e z) v b f d g p o r q = absurd (cc)
+pass_knows_own k e v b f d g p o r q = f d g p o r q
 
 pub reads : (o : Own) (x : Passing) (p : Phase) → phase_read o x ≡ Some p → (phase_of_own o ≡ Some p) ⊎ ((runs o ≡ true) × (phase_of_pass x ≡ Some p))
 reads NoOwn x p q = absurd (cc)

@@ -63,7 +63,7 @@ use Rattle.kc_pool.proofs.LifeLaws.{lives_after}
 
 -- ---- what the words of an intent say
 
-line_again : (x : Line) → joined (first_of x) (second_of x) ≡ x
+pub line_again : (x : Line) → joined (first_of x) (second_of x) ≡ x
 line_again x = go x.seen x.put
   where
     go : (r : Seen) (p : Option ℕ) → joined (first_of (record { seen = r; put = p })) (second_of (record { seen = r; put = p })) ≡ record { seen = r; put = p }

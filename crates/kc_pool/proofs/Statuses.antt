@@ -91,7 +91,7 @@ status_moves k (Effects.start {w} s {h = h} {i = i} q e z) d =
     put_cases (λ x. (x.generation ≡ (w.status d).generation) ⊎ Fills (record s { own = Owns h i own.Start; pass = NoPass }) d x.generation) w.status h.descriptor (status h.generation Active) d
     (λ q. inr (record { owns = ap (λ x. Proper x h.generation) (sym q); early = refl }))
     (λ ne. inl refl)
-status_moves k (Effects.decide s p t a b e z) d = inl (grind cells)
+status_moves k (Effects.decide s p t a b e z may halts) d = inl (grind cells)
 status_moves k (Effects.succeed s t a b z) d = inl (grind cells)
 status_moves k _ d = inl refl
 
@@ -110,11 +110,11 @@ owned_own k (Effects.fill_owner s {i = i}) b h = λ d g q. rw (fill_fills i.line
 owned_own k (Effects.fill_first s x y) b h = h
 owned_own k (Effects.fill_second s {i = i} x y) b h = λ d g q. rw (fill_fills i.lines.items _) (h d g q)
 owned_own k (Effects.start s q e z) b h = λ d g y. grind cells
-owned_own k (Effects.abandon s) b h = λ d g q. absurd (cc)
+owned_own k (Effects.abandon s stopped) b h = λ d g q. absurd (cc)
 owned_own k (Effects.wake {w} s {i = i} {j} {owed} x y) b h = λ d g q. rw (wake_started i j owed (w.awaiters x.seen.loc.0)) (h d g q)
 owned_own k (Effects.signal s {owed = owed}) b h = λ d g q. rw (owed_started _) (h d g q)
 owned_own k (Effects.drop s p) b h = λ d g q. absurd (cc)
-owned_own k (Effects.decide {w} s {h = x} p t a c e z) b h = λ d g q. subst (λ y. Follows (is_filling s.own) y g) (decision_keeps w.status x p a d) (h d g q)
+owned_own k (Effects.decide {w} s {h = x} p t a c e z may halts) b h = λ d g q. subst (λ y. Follows (is_filling s.own) y g) (decision_keeps w.status x p a d) (h d g q)
 owned_own k (Effects.succeed {w} s {h = x} t a e z) b h = λ d g q. subst (λ y. Follows (is_filling s.own) y g) (decision_keeps w.status x Succeeded a d) (h d g q)
 owned_own k (Effects.own_ends s {i = i} {p = p}) b h = λ d g q. rw (finish_started i p) (h d g q)
 owned_own k (Effects.halt_fill s {step = step} x y) b h = λ d g q. let u = h d g q in rw (halted_fills step y) at u

@@ -2,8 +2,6 @@
 use Rattle.std.specs.Prelude.{◌≡◌, ◌<◌, ◌≤◌, ◌⊎◌, ℕ, false, Option, None, Some}
 use Rattle.kc_model.specs.declared.word.Word.TheVariants.{Ref}
 use Rattle.kc_words.specs.declared.words.Reference.{Reference}
-use Rattle.kc_steps.specs.declared.look.LookStep.{LookStep}
-use Rattle.kc_steps.specs.declared.look.LookStep.TheVariants as look
 use Rattle.kc_steps.specs.declared.look.LookNext.TheVariants as looking
 use Rattle.kc_steps.specs.declared.pass.PassStep.{PassStep}
 use Rattle.kc_steps.specs.declared.pass.PassStep.TheVariants.{CheckHold, CheckStatus, CheckFirst, CheckDrop}
@@ -11,7 +9,7 @@ use Rattle.kc_steps.specs.declared.aid.AidStep.{AidStep}
 use Rattle.kc_steps.specs.declared.aid.AidStep.TheVariants as aid
 use Rattle.kc_steps.specs.declared.aid.AidNext.TheVariants as aiding
 use Rattle.kc_machine.specs.Machine.{World, State}
-use Rattle.kc_effects.specs.Stands.{Stand, Turn, At, Meets, Passing, NoPass, Over, Aiding, NoAid, Aids, Passes, Looking, NoLook, Looks, stand}
+use Rattle.kc_effects.specs.Stands.{Stand, Turn, At, Meets, Passing, NoPass, Over, Aiding, NoAid, Aids, Passes, Looking, NoLook, Looks, met_by_look_step, stand}
 use Rattle.kc_effects.specs.Holds.{Holds}
 use Rattle.kc_pool.specs.Owners.{is_filling}
 
@@ -49,14 +47,6 @@ onward_by_aid NoAid = None
 onward_by_aid (Aids r c (aiding.Goes a)) = onward_by_step a
 onward_by_aid (Aids r c (aiding.Back onward)) = onward
 onward_by_aid (Passes r c) = None
-
-abbrev pub met_by_look_step : LookStep → Option Reference
-met_by_look_step look.Load = None
-met_by_look_step (look.Hold r) = Some r
-met_by_look_step (look.Status r) = Some r
-met_by_look_step (look.First r p) = Some r
-met_by_look_step (look.Second r p f) = Some r
-met_by_look_step (look.Drop r stray seen) = Some r
 
 abbrev pub met_by_look : Looking → Option Reference
 met_by_look NoLook = None

@@ -1,5 +1,5 @@
 -- What a seat touches is there, and what it touches it with is in its range, where what it remembers is.
-use Rattle.std.proofs.Common.{◌≡◌, ◌≢◌, ℕ, zero, suc, ◌+◌, ◌<◌, ◌≤◌, ◌^◌, ◌/◌, ◌%◌, Bool, true, false, List, [], ◌∷◌, length, Some, refl, sym, subst, arith, if◌then◌else◌}
+use Rattle.std.proofs.Common.{◌≡◌, ◌≢◌, ℕ, zero, suc, ◌+◌, ◌<◌, ◌≤◌, ◌^◌, ◌/◌, ◌%◌, Bool, true, false, List, [], length, Some, refl, sym, subst, arith, if◌then◌else◌}
 use Rattle.std.specs.Prelude.{slice_get, nat_lt, All}
 use Rattle.std.specs.Int.Count.{under, count_trailing_zeros}
 use Rattle.std.proofs.lemmas.Option.{slice_get_within, get_or_from_slice_get}
@@ -43,6 +43,7 @@ use Rattle.kc_machine.specs.Hangs.{hang_access_of, hang_access_at, leave_access_
 use Rattle.kc_machine.specs.Seats.{work_access, is_idle}
 use Rattle.kc_machine.specs.Machine.{Opening, pool_size}
 use Rattle.kc_machine.specs.Schedules.{AreBelow}
+use Rattle.kc_pool.proofs.Filled.{is_there}
 use Rattle.kc_seats.specs.Fits.{StepFits, AidFits, OwnFits, WorkFits, StageFits}
 use Rattle.kc_seats.specs.Formed.{OwnIsFormed, IsCopy, WorkIsFormed, LeaveIsFormed, HangStands, StageIsFormed}
 use Rattle.kc_seats.specs.Made.{IsWellMadeIntent, IsWellMadeLine, IntentIsMade, ReadsAreMade}
@@ -54,11 +55,6 @@ use Rattle.kc_ranges.specs.Seats.{LookIn, PassIn, AidIn, CopyIn, OwnIn, HangIn, 
 
 all_at : {A : Type 0} (P : A → Type 0) (xs : List A) (k : ℕ) (x : A) → slice_get xs k ≡ Some x → All P xs → P x
 all_at P xs k x e a = subst P (get_or_from_slice_get xs k x x e) (All-get_or P xs k x (slice_get_within xs k x e) a)
-
-is_there : {A : Type 0} (xs : List A) (k : ℕ) → k < length xs → (x : A) × (slice_get xs k ≡ Some x)
-is_there [] k l = absurd (omega arith)
-is_there (x ∷ xs) zero l = (x, refl)
-is_there (x ∷ xs) (suc k) l = is_there xs k (omega arith)
 
 version_grows : (v : ℕ) → v ≤ 2147483647 → next_version v ≤ 2147483647
 version_grows v l = go (nat_lt v 2147483647) refl
@@ -118,7 +114,7 @@ module _ (o : Opening) where
     aid_touches halted (aid.Release p x) z y = release_in r.handle own.0 [] (omega arith) (λ k x e. absurd (cc)) r.line p x own.1 (y.0 some) y.1
     aid_touches halted aid.Owner z y = (own.0.0, tt)
     aid_touches halted aid.LoadFirst z y = (own.0.0, (let l = copy.1 in omega arith), tt)
-    aid_touches halted (aid.LoadSecond f) z y = (own.0.0, (let l = copy.1 in let m = y.1 in omega arith), tt)
+    aid_touches halted (aid.LoadSecond f) z y = (own.0.0, (let l = copy.1 in omega arith), tt)
     aid_touches halted (aid.Pass p) z y = pass_touches r.handle own.0 a.lines.items few (λ k x e. let l = all_at (LineIn o) a.lines.items k x e copy.0 in (l.0 some, l.1)) halted checked.Leave a.owner.mode p z y
     aid_touches halted (aid.Leave onward) z y = (own.0.0, tt)
     aid_touches halted (aid.Drop stray onward) z y = (own.0.0, tt)

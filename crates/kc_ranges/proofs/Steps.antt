@@ -1,10 +1,9 @@
 -- A seat that finds what is in range remembers what is in range.
-use Rattle.std.proofs.Common.{◌≡◌, ℕ, ◌+◌, ◌-◌, ◌<◌, ◌≤◌, ◌==◌, ◌&&◌, Bool, true, false, List, [], ◌∷◌, ◌++◌, length, Option, None, Some, refl, arith, if◌then◌else◌}
+use Rattle.std.proofs.Common.{◌≡◌, ℕ, ◌+◌, ◌-◌, ◌<◌, ◌≤◌, ◌==◌, ◌&&◌, Bool, true, false, List, [], ◌∷◌, ◌++◌, length, Option, None, Some, arith, if◌then◌else◌}
 use Rattle.std.specs.Prelude.{slice_get, nat_lt, bit_or, bit_and}
 use Rattle.std.proofs.lemmas.Nat.{or_lt, and_le_l, pow_pos}
 use Rattle.std.proofs.lemmas.Option.{slice_get_within}
 use Rattle.std.proofs.lemmas.List.Elements.{All-nil, All-push}
-use borrow.Author.Tests.{ltb-true}
 use Rattle.kc_model.specs.declared.footprint.Loc.{Loc}
 use Rattle.kc_model.specs.declared.footprint.Seen.{Seen}
 use Rattle.kc_model.specs.declared.word.Word.TheVariants.{Plain, Ref}
@@ -69,7 +68,7 @@ use Rattle.kc_seats.specs.Seated.{StageSearches, WorkSearches}
 use Rattle.kc_seats.proofs.Searches.{scanned}
 use Rattle.kc_ranges.specs.Ranges.{HandleIn, ReferenceIn, CallersIn, FirstIn, LineIn}
 use Rattle.kc_ranges.proofs.Words.{FoundIn}
-use Rattle.kc_ranges.specs.Seats.{OnwardIn, LookIn, AfterIn, PassIn, LoadsOn, AidIn, CopyIn, OwnIn, StageIn, HangIn, WorkIn}
+use Rattle.kc_ranges.specs.Seats.{OnwardIn, LookIn, AfterIn, PassIn, AidIn, CopyIn, OwnIn, StageIn, HangIn, WorkIn}
 
 if_in : {A : Type 0} (P : A → Type 0) (b : Bool) (x y : A) → P x → P y → P (if b then x else y)
 if_in P true x y p q = p
@@ -174,11 +173,11 @@ module _ (o : Opening) where
   AidNextIn a (aiding.Back onward) = OnwardIn o onward
 
   loads_in : (a : Aided) → AidIn o a (load_next a)
-  loads_in a = go (nat_lt (length a.lines.items) a.owner.lines) refl
+  loads_in a = go (nat_lt (length a.lines.items) a.owner.lines)
     where
-      go : (b : Bool) → nat_lt (length a.lines.items) a.owner.lines ≡ b → AidIn o a (if b then aid.LoadFirst else aid.Pass (from_install a.owner.mode a.lines.items 0))
-      go true e = ltb-true _ _ e
-      go false e = from_install_in a.owner.mode a.lines.items 0
+      go : (b : Bool) → AidIn o a (if b then aid.LoadFirst else aid.Pass (from_install a.owner.mode a.lines.items 0))
+      go true = tt
+      go false = from_install_in a.owner.mode a.lines.items 0
 
   after_pass_in : (a : Aided) (n : PassNext) → PassNextIn n → AidIn o a (after_pass n)
   after_pass_in a (pass.Goes p) y = y
@@ -213,11 +212,11 @@ module _ (o : Opening) where
   aid_owner_in a (found.Owner x) = loads_in (copy_owner a (found.Owner x))
   aid_owner_in a _ = tt
 
-  load_first_in : (a : Aided) (f : Found) → FoundIn o f → LoadsOn a → AidIn o a (load_first_next f)
-  load_first_in a (found.First x) i y = (i, y)
-  load_first_in a _ i y = y
+  load_first_in : (a : Aided) (f : Found) → FoundIn o f → AidIn o a (load_first_next f)
+  load_first_in a (found.First x) i = i
+  load_first_in a _ i = tt
 
-  load_second_in : (a : Aided) (x : First) (f : Found) → FirstIn x × LoadsOn a → AidIn o (copy_line a x f) (load_second_next (copy_line a x f) x f)
+  load_second_in : (a : Aided) (x : First) (f : Found) → FirstIn x → AidIn o (copy_line a x f) (load_second_next (copy_line a x f) x f)
   load_second_in a x (found.Second s) y = loads_in (copy_line a x (found.Second s))
   load_second_in a x _ y = y
 
@@ -239,7 +238,7 @@ module _ (o : Opening) where
   aid_in halted r a (aid.Second p x) f few z i y = aid_second_in a p x f i y
   aid_in halted r a (aid.Release p x) f few z i y = tt
   aid_in halted r a aid.Owner f few z i y = aid_owner_in a f
-  aid_in halted r a aid.LoadFirst f few z i y = load_first_in a f i y
+  aid_in halted r a aid.LoadFirst f few z i y = load_first_in a f i
   aid_in halted r a (aid.LoadSecond x) f few z i y = load_second_in a x f y
   aid_in halted r a (aid.Pass p) f few z i y = after_pass_in a _ (pass_in halted checked.Leave r.handle a.owner.mode a.lines.items few p f z i y)
   aid_in halted r a (aid.Leave onward) f few z i y = leave_in a a.owner.mode a.lines.items onward f y
@@ -257,7 +256,7 @@ module _ (o : Opening) where
 
   aid_copied : (a : Aided) (step : AidStep) (f : Found) → FoundIn o f → AidIn o a step → CopyIn o a → CopyIn o (aid_copy a step f)
   aid_copied a aid.Owner f i z y = owner_copied a f i y
-  aid_copied a (aid.LoadSecond x) f i z y = line_copied a x f z.0 i y
+  aid_copied a (aid.LoadSecond x) f i z y = line_copied a x f z i y
   aid_copied a _ f i z y = y
 
   own_copied : (a : Aided) (step : OwnStep) (f : Found) → FoundIn o f → OwnIn o a step → CopyIn o a → CopyIn o (copy_by_own a step f)

@@ -1,5 +1,5 @@
 -- What a seat remembers is in its range.
-use Rattle.std.specs.Prelude.{◌<◌, ◌≤◌, ℕ, length, All, Option, None, Some}
+use Rattle.std.specs.Prelude.{◌<◌, ◌≤◌, ℕ, All, Option, None, Some}
 use Rattle.kc_model.specs.declared.footprint.TheConstants.{MOST}
 use Rattle.kc_words.specs.declared.words.Reference.{Reference}
 use Rattle.kc_steps.specs.declared.look.LookStep.{LookStep}
@@ -47,15 +47,10 @@ PassIn o (CheckDrop k r stray c) = ReferenceIn o r × AfterIn c
 PassIn o (Decide p) = PhaseIn p
 PassIn o _ = Unit {0}
 
--- where lines are still to load, fewer are there than the owner has
-abbrev pub LoadsOn : Aided → Type 0
-LoadsOn a = length a.lines.items < a.owner.lines
-
 abbrev pub AidIn : Opening → Aided → AidStep → Type 0
 AidIn o a (aid.Second p f) = FirstIn f
 AidIn o a (aid.Release p x) = LineIn o x
-AidIn o a aid.LoadFirst = LoadsOn a
-AidIn o a (aid.LoadSecond f) = FirstIn f × LoadsOn a
+AidIn o a (aid.LoadSecond f) = FirstIn f
 AidIn o a (aid.Pass p) = PassIn o p
 AidIn o a (aid.Leave onward) = OnwardIn o onward
 AidIn o a (aid.Drop stray onward) = OnwardIn o onward

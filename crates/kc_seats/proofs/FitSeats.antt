@@ -1,6 +1,7 @@
 -- Each event of a seat leaves its passes at steps that fit, whatever it finds.
-use Rattle.std.proofs.Common.{inr, ℕ, Bool, true, false, refl, ◌==◌, if◌then◌else◌, Option, None, Some, List}
+use Rattle.std.proofs.Common.{◌≡◌, inr, ℕ, Bool, true, false, refl, ◌==◌, if◌then◌else◌, Option, None, Some, List}
 use Rattle.std.specs.Prelude.{nat_lt, length, slice_get, bit_or, bit_and, ◌-◌}
+use borrow.Author.Tests.{ltb-true}
 use Rattle.kc_model.specs.declared.footprint.Seen.{Seen}
 use Rattle.kc_words.specs.declared.words.Handle.{Handle}
 use Rattle.kc_words.specs.declared.words.Reference.{Reference}
@@ -52,7 +53,7 @@ use Rattle.kc_steps.specs.Halts.{halted_pass, halted_aid_pass, halted_own, unown
 use Rattle.kc_machine.specs.Hangs.{hangs_on, onward_of, leaves_on, unblocks_or_tells}
 use Rattle.kc_machine.specs.Seats.{answer_of, answer_by, after, begun, begun_idle, is_idle, working, halted, halted_by, ended}
 use Rattle.kc_machine.specs.Seats.{hanging as hanging_of}
-use Rattle.kc_seats.specs.Fits.{IsInstalledAt, StepFits, AidFits, OwnFits, StageFits, WorkFits, PassStepsFit}
+use Rattle.kc_seats.specs.Fits.{IsInstalledAt, LoadsOn, MayDecide, StepFits, AidFits, OwnFits, StageFits, WorkFits, PassStepsFit}
 use Rattle.kc_seats.proofs.Always.{always, any_event, all_any}
 use Rattle.kc_seats.proofs.Searches.{scanned, taken}
 use Rattle.kc_machine.specs.Machine.{Opening, run}
@@ -80,11 +81,11 @@ module _ (b : Bool) (r : Reference) where
   aid_leaves a o _ = tt
 
   aid_loads : (a : Aided) → AidFits b a (load_next a)
-  aid_loads a = go (nat_lt (length a.lines.items) a.owner.lines)
+  aid_loads a = go (nat_lt (length a.lines.items) a.owner.lines) refl
     where
-      go : (t : Bool) → AidFits b a (if t then aid.LoadFirst else aid.Pass (from_install a.owner.mode a.lines.items 0))
-      go true = tt
-      go false = install_starts b checked.Leave a.owner.mode a.lines.items 0
+      go : (t : Bool) → nat_lt (length a.lines.items) a.owner.lines ≡ t → AidFits b a (if t then aid.LoadFirst else aid.Pass (from_install a.owner.mode a.lines.items 0))
+      go true e = ltb-true _ _ e
+      go false e = install_starts b checked.Leave a.owner.mode a.lines.items 0
 
   aid_holds : (a : Aided) (f : Found) → AidFits b a (hold_next r f)
   aid_holds a (found.Control c) = go (c.generation == r.handle.generation)
@@ -117,13 +118,13 @@ module _ (b : Bool) (r : Reference) where
   aid_seconds a p x (found.Second f) = tt
   aid_seconds a p x _ = tt
 
-  aid_load_firsts : (a : Aided) (f : Found) → AidFits b a (Aids.load_first_next f)
-  aid_load_firsts a (found.First f) = tt
-  aid_load_firsts a _ = tt
+  aid_load_firsts : (a : Aided) (f : Found) → LoadsOn a → AidFits b a (Aids.load_first_next f)
+  aid_load_firsts a (found.First f) y = y
+  aid_load_firsts a _ y = y
 
-  aid_load_seconds : (a : Aided) (x : First) (f : Found) → AidFits b a (load_second_next a x f)
-  aid_load_seconds a x (found.Second s) = aid_loads a
-  aid_load_seconds a x _ = tt
+  aid_load_seconds : (a : Aided) (x : First) (f : Found) → LoadsOn a → AidFits b (aid_copy a (aid.LoadSecond x) f) (load_second_next (aid_copy a (aid.LoadSecond x) f) x f)
+  aid_load_seconds a x (found.Second s) y = aid_loads (aid_copy a (aid.LoadSecond x) (found.Second s))
+  aid_load_seconds a x _ y = y
 
   abbrev NextAidFits : Aided → AidNext → Type 0
   NextAidFits a (aiding.Goes step) = AidFits b a step
@@ -136,8 +137,8 @@ module _ (b : Bool) (r : Reference) where
   aid_fits a (aid.Second p x) f y = aid_seconds a p x f
   aid_fits a (aid.Release p x) f y = tt
   aid_fits a aid.Owner f y = aid_owners (aid_copy a aid.Owner f) f
-  aid_fits a aid.LoadFirst f y = aid_load_firsts a f
-  aid_fits a (aid.LoadSecond x) f y = aid_load_seconds (aid_copy a (aid.LoadSecond x) f) x f
+  aid_fits a aid.LoadFirst f y = aid_load_firsts a f y
+  aid_fits a (aid.LoadSecond x) f y = aid_load_seconds a x f y
   aid_fits a (aid.Pass p) f y = aid_passes a p _ (pass_fits b checked.Leave a.owner.mode a.lines.items tt r.handle p f y)
   aid_fits a (aid.Leave o) f y = aid_leaves a o f
   aid_fits a (aid.Drop stray o) f y = tt
@@ -185,16 +186,19 @@ module _ (c : Commit) where
   own_passes a p (pass.Goes q) y = y
   own_passes a p (pass.Met k r) y = (y, tt)
   own_passes a p (pass.Finished q) y = finishes a q
-  own_passes a p pass.Left y = halted_decided
+  own_passes a p pass.Left y = absurd (cc)
 
-  onward_fits : (a : Aided) (k : ℕ) → IsInstalledAt c.intent.mode c.intent.lines.items k → (t : Bool) (o : Option Reference) → Fits a (onward_or_back t k o)
-  onward_fits a k y true o = halted_decided
-  onward_fits a k y false None = y
-  onward_fits a k y false (Some r) = (y, tt)
+  may_halt : (b : Bool) → b ≡ true → MayDecide b (checked.Decide Halted) Halted
+  may_halt b h = (halted_decided, λ q. (h, refl))
+
+  onward_fits : (a : Aided) (k : ℕ) → IsInstalledAt c.intent.mode c.intent.lines.items k → (t : Bool) (o : Option Reference) → c.halted ≡ t → Fits a (onward_or_back t k o)
+  onward_fits a k y true o h = may_halt c.halted h
+  onward_fits a k y false None h = y
+  onward_fits a k y false (Some r) h = (y, tt)
 
   aids_on : (a : Aided) (k : ℕ) (r : Reference) (n : AidNext) → IsInstalledAt c.intent.mode c.intent.lines.items k → NextAidFits c.halted r a n → Fits a (aid_or_back c.halted k r n)
   aids_on a k r (aiding.Goes step) y z = (y, z)
-  aids_on a k r (aiding.Back o) y z = onward_fits a k y c.halted o
+  aids_on a k r (aiding.Back o) y z = onward_fits a k y c.halted o refl
 
   own_fits : (h : Handle) (step : OwnStep) (f : Found) → Fits c.copy step
       → Fits (copy_by_own c.copy step f) (own_next (record c { copy = copy_by_own c.copy step f }) h step f)
@@ -202,7 +206,7 @@ module _ (c : Commit) where
   own_fits h (own.FillFirst k) f y = tt
   own_fits h (own.FillSecond k) f y = fills c.copy (after_line k)
   own_fits h own.Start f y = install_starts c.halted (checked.Decide Halted) c.intent.mode c.intent.lines.items 0
-  own_fits h own.Abandon f y = tt
+  own_fits h own.Abandon f y = y
   own_fits h (own.Pass p) f y = own_passes c.copy p _ (pass_fits c.halted (checked.Decide Halted) c.intent.mode c.intent.lines.items halted_decided h p f y)
   own_fits h (own.Aid k r a) f y = aids_on (aid_copy c.copy a f) k r _ y.0 (aid_fits c.halted r c.copy a f y.1)
   own_fits h (own.Wake k n) f y = wakes c.copy k n f
@@ -260,7 +264,7 @@ module _ (c : Commit) where
 
   aid_halts : (a : Aided) (k : ℕ) (r : Reference) (step : AidStep) → IsInstalledAt c.intent.mode c.intent.lines.items k → AidFits c.halted a step
       → OwnFits true c.intent a (halted_own (own.Aid k r step))
-  aid_halts a k r aid.Hold y z = halted_decided
+  aid_halts a k r aid.Hold y z = may_halt true refl
   aid_halts a k r aid.Status y z = (y, tt)
   aid_halts a k r (aid.First p) y z = (y, tt)
   aid_halts a k r (aid.Second p x) y z = (y, tt)
@@ -273,12 +277,12 @@ module _ (c : Commit) where
   aid_halts a k r (aid.Drop stray o) y z = (y, tt)
 
   own_halts : (step : OwnStep) → Fits c.copy step → OwnFits true c.intent c.copy (halted_own step)
-  own_halts own.FillOwner y = tt
-  own_halts (own.FillFirst k) y = tt
-  own_halts (own.FillSecond k) y = tt
-  own_halts own.Start y = tt
-  own_halts own.Abandon y = tt
-  own_halts (own.Pass p) y = pass_halts (checked.Decide Halted) (Decide Halted) c.intent.mode c.intent.lines.items halted_decided c.halted p y
+  own_halts own.FillOwner y = refl
+  own_halts (own.FillFirst k) y = refl
+  own_halts (own.FillSecond k) y = refl
+  own_halts own.Start y = refl
+  own_halts own.Abandon y = refl
+  own_halts (own.Pass p) y = pass_halts (checked.Decide Halted) (Decide Halted) c.intent.mode c.intent.lines.items (may_halt true refl) c.halted p y
   own_halts (own.Aid k r a) y = aid_halts c.copy k r a y.0 y.1
   own_halts (own.Wake k o) y = tt
   own_halts (own.Signal o) y = tt

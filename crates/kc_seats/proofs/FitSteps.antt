@@ -1,5 +1,5 @@
 -- Each step of a pass leaves it at a step that fits, whatever it finds.
-use Rattle.std.proofs.Common.{◌≡◌, ◌≢◌, inl, inr, sym, subst, ℕ, Bool, true, false, not, refl, ◌==◌, if◌then◌else◌, Option, None, Some, List}
+use Rattle.std.proofs.Common.{◌≡◌, ◌≢◌, ◌∙◌, ap, inl, inr, sym, subst, ℕ, Bool, true, false, not, refl, ◌==◌, if◌then◌else◌, Option, None, Some, List}
 use Rattle.std.specs.Prelude.{slice_get}
 use Rattle.kc_model.specs.declared.word.Word.TheVariants.{Plain, Ref}
 use Rattle.kc_words.specs.declared.words.Handle.{Handle}
@@ -20,7 +20,7 @@ use Rattle.kc_steps.specs.declared.pass.PassNext.TheVariants as pass
 use Rattle.kc_steps.specs.Lines.{next_line, after_line}
 use Rattle.kc_steps.specs.Looks.{reference_of}
 use Rattle.kc_steps.specs.Passes.{pass_next, install_found, check_found, check_hold_next, check_status_next, crossed_or_first, check_first_found, agrees_or_fails, check_drop_next, decide_next, decided_as, fits, refers_to, from_check, check_or_decide, from_install, install_or_check, from_release, release_or_finish}
-use Rattle.kc_seats.specs.Fits.{IsInstalledAt, IsCheckedAt, Follows, FollowsOr, StepFits}
+use Rattle.kc_seats.specs.Fits.{IsInstalledAt, IsCheckedAt, Follows, FollowsOr, MayDecide, StepFits}
 use Rattle.kc_seats.proofs.Searches.{IsPicked, next_fits}
 
 not_true : (b : Bool) → not b ≡ true → b ≡ false
@@ -44,11 +44,20 @@ module _ (halted : Bool) (out : AfterCheck) (m : Mode) (xs : List Line) where
   abbrev Fits : PassStep → Type 0
   Fits p = StepFits halted out m xs p
 
+  pub may_succeed : MayDecide halted out Succeeded
+  may_succeed = (succeeded_decided, λ q. absurd (cc))
+
+  may_fail : (k : ℕ) → MayDecide halted out (Failed k)
+  may_fail k = (failed_decided k, λ q. absurd (cc))
+
+  may_cross : (k : ℕ) → MayDecide halted out (Crossed k)
+  may_cross k = (crossed_decided k, λ q. absurd (cc))
+
   pub check_starts : (k : ℕ) → Fits (from_check m xs k)
   check_starts k = go (next_line Checked m xs k) (next_fits Checked m xs k)
     where
       go : (o : Option ℕ) → IsPicked Checked m xs o → Fits (check_or_decide o)
-      go None y = succeeded_decided
+      go None y = may_succeed
       go (Some j) y = (y.0, y.1, not_true _ y.2)
 
   pub install_starts : (k : ℕ) → Fits (from_install m xs k)
@@ -63,7 +72,7 @@ module _ (halted : Bool) (out : AfterCheck) (m : Mode) (xs : List Line) where
   NextFits p (pass.Goes q) = Fits q
   NextFits p (pass.Met k r) = IsInstalledAt m xs k
   NextFits p (pass.Finished q) = q ≢ Active
-  NextFits p pass.Left = Unit {0}
+  NextFits p pass.Left = out ≡ checked.Leave
 
   pub release_starts : (q : PassStep) (k : ℕ) (p : Phase) → p ≢ Active → NextFits q (from_release m xs k p)
   release_starts q k p d = go (next_line Installed m xs k) (next_fits Installed m xs k)
@@ -77,7 +86,7 @@ module _ (halted : Bool) (out : AfterCheck) (m : Mode) (xs : List Line) where
     where
       go : (b : Bool) → NextFits (Install k) (if b then pass.Goes (from_install m xs (after_line k)) else pass.Goes (Decide (Failed k)))
       go true = install_starts _
-      go false = failed_decided k
+      go false = may_fail k
   installs h k (found.Word (Ref g d j)) y (Some l) = go (refers_to h k (reference_of g d j))
     where
       go : (b : Bool) → NextFits (Install k) (if b then pass.Goes (from_install m xs (after_line k)) else pass.Met k (reference_of g d j))
@@ -90,7 +99,7 @@ module _ (halted : Bool) (out : AfterCheck) (m : Mode) (xs : List Line) where
     where
       go : (b : Bool) → Fits (if b then from_check m xs (after_line k) else Decide (Failed k))
       go true = check_starts _
-      go false = failed_decided k
+      go false = may_fail k
   checks k (found.Word (Ref g d j)) y (Some l) = y
   checks k _ y _ = y
 
@@ -125,21 +134,33 @@ module _ (halted : Bool) (out : AfterCheck) (m : Mode) (xs : List Line) where
   Decided (checked.Decide p) = p ≢ Active
   Decided _ = Unit {0}
 
-  check_drops : (q : PassStep) (k : ℕ) (c : AfterCheck) → IsCheckedAt m xs k → Decided c → NextFits q (check_drop_next m xs k c)
+  -- what may come behind a check's drop
+  abbrev MayFollow : AfterCheck → Type 0
+  MayFollow (checked.Decide p) = MayDecide halted out p
+  MayFollow checked.Leave = out ≡ checked.Leave
+  MayFollow _ = Unit {0}
+
+  check_drops : (q : PassStep) (k : ℕ) (c : AfterCheck) → IsCheckedAt m xs k → MayFollow c → NextFits q (check_drop_next m xs k c)
   check_drops q k checked.Again y d = y
   check_drops q k checked.Agrees y d = check_starts _
   check_drops q k (checked.Decide p) y d = d
-  check_drops q k checked.Leave y d = tt
+  check_drops q k checked.Leave y d = d
 
-  follow_decided : (k : ℕ) (stray : Bool) (c : AfterCheck) → Follows k stray c → Decided c
-  follow_decided k true c e = subst Decided (sym e) tt
-  follow_decided k false c (inl e) = subst Decided (sym e) tt
-  follow_decided k false c (inr (inl e)) = subst Decided (sym e) (failed_decided k)
-  follow_decided k false c (inr (inr e)) = subst Decided (sym e) (crossed_decided k)
+  may_follow : (k : ℕ) (stray : Bool) (c : AfterCheck) → Follows k stray c → MayFollow c
+  may_follow k true c e = subst MayFollow (sym e) tt
+  may_follow k false c (inl e) = subst MayFollow (sym e) tt
+  may_follow k false c (inr (inl e)) = subst MayFollow (sym e) (may_fail k)
+  may_follow k false c (inr (inr e)) = subst MayFollow (sym e) (may_cross k)
 
-  follows_decided : Decided out → (k : ℕ) (stray : Bool) (c : AfterCheck) → FollowsOr halted out k stray c → Decided c
-  follows_decided d k stray c (inl y) = follow_decided k stray c y
-  follows_decided d k stray c (inr y) = subst Decided (sym y.1) d
+  way_out : (c : AfterCheck) → out ≡ c → Decided c → halted ≡ true → MayFollow c
+  way_out checked.Again e d h = tt
+  way_out checked.Agrees e d h = tt
+  way_out (checked.Decide p) e d h = (d, λ q. (h, e ∙ ap checked.Decide q))
+  way_out checked.Leave e d h = e
+
+  follows_may : Decided out → (k : ℕ) (stray : Bool) (c : AfterCheck) → FollowsOr halted out k stray c → MayFollow c
+  follows_may d k stray c (inl y) = may_follow k stray c y
+  follows_may d k stray c (inr y) = subst MayFollow (sym y.1) (way_out out refl d y.0)
 
   decided_stays : (p q : Phase) → p ≢ Active → decided_as p q ≢ Active
   decided_stays p Active d = d
@@ -148,8 +169,8 @@ module _ (halted : Bool) (out : AfterCheck) (m : Mode) (xs : List Line) where
   decided_stays p (Crossed k) d = crossed_decided k
   decided_stays p Halted d = halted_decided
 
-  decides : (p : Phase) (f : Found) → p ≢ Active → NextFits (Decide p) (decide_next m xs p f)
-  decides p (found.Status s) d = release_starts (Decide p) 0 _ (decided_stays p s.phase d)
+  decides : (p : Phase) (f : Found) → MayDecide halted out p → NextFits (Decide p) (decide_next m xs p f)
+  decides p (found.Status s) d = release_starts (Decide p) 0 _ (decided_stays p s.phase d.0)
   decides p _ d = d
 
   pub pass_fits : Decided out → (h : Handle) (p : PassStep) (f : Found) → Fits p → NextFits p (pass_next h m xs p f)
@@ -158,6 +179,6 @@ module _ (halted : Bool) (out : AfterCheck) (m : Mode) (xs : List Line) where
   pass_fits d h (CheckHold k r) f y = check_holds k r f y
   pass_fits d h (CheckStatus k r) f y = check_statuses k r f y
   pass_fits d h (CheckFirst k r p) f y = check_firsts k r p f y (slice_get xs k)
-  pass_fits d h (CheckDrop k r stray c) f y = check_drops (CheckDrop k r stray c) k c y.0 (follows_decided d k stray c y.1)
+  pass_fits d h (CheckDrop k r stray c) f y = check_drops (CheckDrop k r stray c) k c y.0 (follows_may d k stray c y.1)
   pass_fits d h (Decide p) f y = decides p f y
   pass_fits d h (Release k p) f y = release_starts (Release k p) (after_line k) p y.1

@@ -88,7 +88,7 @@ module _ (c : Commit) where
     where
       go : (j : ℕ) (o : Option ℕ) → IsPicked Put c.intent.mode c.intent.lines.items o → Is (wake_or_signal j o)
       go j None y = owed j
-      go j (Some i) y = y
+      go j (Some i) y = (y.0, y.1, y.2)
   wakes k n _ y = y
 
   finishes : (p : Phase) → p ≢ Active → Is (finished c.intent p)
@@ -97,7 +97,7 @@ module _ (c : Commit) where
     where
       go : (o : Option ℕ) → IsPicked Put c.intent.mode c.intent.lines.items o → Is (wake_or_drop o)
       go None y = succeeded_decided
-      go (Some k) y = y
+      go (Some k) y = (y.0, y.1, y.2)
   finishes (Failed k) d = d
   finishes (Crossed k) d = d
   finishes Halted d = d
@@ -106,7 +106,7 @@ module _ (c : Commit) where
   own_passes p (pass.Goes q) y = tt
   own_passes p (pass.Met k r) y = y
   own_passes p (pass.Finished q) y = finishes q y
-  own_passes p pass.Left y = tt
+  own_passes p pass.Left y = absurd (cc)
 
   aids_on : (k : ℕ) (r : Reference) (n : AidNext) → IsInstalledAt c.intent.mode c.intent.lines.items k → Is (aid_or_back c.halted k r n)
   aids_on k r (aiding.Goes step) y = y
@@ -343,8 +343,17 @@ module _ (s : Seat) where
       go (work.Hang h) a = z
       go (work.Leave l) a = z
 
-abbrev FitsAndFormed : Seat → Type 0
+abbrev pub FitsAndFormed : Seat → Type 0
 FitsAndFormed s = SeatFits s × IsWellFormed s
 
+pub answer_keeps : (s : Seat) (f : Found) → FitsAndFormed s → FitsAndFormed (answer_of s f)
+answer_keeps s f y = (answer_fits s f y.0, answer_formed s f y.0 y.1)
+
+pub begun_keeps : (s : Seat) (t : Task) → FitsAndFormed s → FitsAndFormed (begun s t)
+begun_keeps s t y = (begun_fits s t y.0, begun_formed s t y.1)
+
+pub halted_keeps : (s : Seat) → FitsAndFormed s → FitsAndFormed (halted s)
+halted_keeps s y = (halted_fits s y.0, halted_formed s y.1)
+
 pub formed_always : (o : Opening) (schedule : List Event) → SeatsAreWellFormed (run o schedule)
-formed_always o schedule = λ k. (always o (λ j. FitsAndFormed) any_event (λ j. (tt, tt)) (λ j s f y. (answer_fits s f y.0, answer_formed s f y.0 y.1)) (λ j s t e y. (begun_fits s t y.0, begun_formed s t y.1)) (λ j s y. (halted_fits s y.0, halted_formed s y.1)) schedule (all_any schedule) k).1
+formed_always o schedule = λ k. (always o (λ j. FitsAndFormed) any_event (λ j. (tt, tt)) (λ j. answer_keeps) (λ j s t e. begun_keeps s t) (λ j. halted_keeps) schedule (all_any schedule) k).1

@@ -1,5 +1,5 @@
 -- What a search for the next line finds, and what a search for a descriptor comes to.
-use Rattle.std.proofs.Common.{◌≡◌, ℕ, ◌+◌, ◌-◌, Bool, true, false, refl, zero, suc, ◌==◌, ◌&&◌, if◌then◌else◌, Option, None, Some, List}
+use Rattle.std.proofs.Common.{◌≡◌, ℕ, ◌+◌, ◌-◌, ◌<◌, ◌≤◌, arith, Bool, true, false, refl, zero, suc, ◌==◌, ◌&&◌, if◌then◌else◌, Option, None, Some, List}
 use Rattle.std.specs.Prelude.{slice_get, nat_lt}
 use Rattle.kc_words.specs.declared.words.Handle.{Handle}
 use Rattle.kc_words.specs.declared.words.Mode.{Mode}
@@ -17,23 +17,23 @@ use Rattle.kc_steps.specs.Commits.{after_scan, scan_next, take_next}
 
 abbrev pub IsPicked : Pick → Mode → List Line → Option ℕ → Type 0
 IsPicked p m xs None = Unit {0}
-IsPicked p m xs (Some k) = (x : Line) × (slice_get xs k ≡ Some x) × (picks p m x ≡ true)
+IsPicked p m xs (Some k) = (x : Line) × (slice_get xs k ≡ Some x) × (picks p m x ≡ true) × (k < 64)
 
-picked_fits : (p : Pick) (m : Mode) (xs : List Line) (k : ℕ) (x : Option Line) → slice_get xs k ≡ x → (behind : Option ℕ) → IsPicked p m xs behind → IsPicked p m xs (picked p m k x behind)
-picked_fits p m xs k None e behind y = tt
-picked_fits p m xs k (Some x) e behind y = go (picks p m x) refl
+picked_fits : (p : Pick) (m : Mode) (xs : List Line) (k : ℕ) (x : Option Line) → slice_get xs k ≡ x → k < 64 → (behind : Option ℕ) → IsPicked p m xs behind → IsPicked p m xs (picked p m k x behind)
+picked_fits p m xs k None e l behind y = tt
+picked_fits p m xs k (Some x) e l behind y = go (picks p m x) refl
   where
     go : (b : Bool) → picks p m x ≡ b → IsPicked p m xs (if b then Some k else behind)
-    go true q = (x, e, q)
+    go true q = (x, e, q, l)
     go false q = y
 
-among_fits : (p : Pick) (m : Mode) (xs : List Line) (n k : ℕ) → IsPicked p m xs (next_among p m xs n k)
+among_fits : (p : Pick) (m : Mode) (xs : List Line) (n k : ℕ) → n ≤ 64 - k → IsPicked p m xs (next_among p m xs n k)
 unfolding next_among
-among_fits p m xs zero k = tt
-among_fits p m xs (suc n) k = picked_fits p m xs k (slice_get xs k) refl (next_among p m xs n (k + 1)) (among_fits p m xs n (k + 1))
+among_fits p m xs zero k l = tt
+among_fits p m xs (suc n) k l = picked_fits p m xs k (slice_get xs k) refl (omega arith) (next_among p m xs n (k + 1)) (among_fits p m xs n (k + 1) (omega arith))
 
 pub next_fits : (p : Pick) (m : Mode) (xs : List Line) (k : ℕ) → IsPicked p m xs (next_line p m xs k)
-next_fits p m xs k = among_fits p m xs (64 - k) k
+next_fits p m xs k = among_fits p m xs (64 - k) k (omega arith)
 
 -- what holds of a search, and where a descriptor is taken, holds of what a search comes to
 module _ (Q : Next → Type 0) (scan : (d worn : ℕ) → Q (Goes (Scan d worn))) (take : (d g : ℕ) → Q (Goes (Take d g))) where

@@ -1,6 +1,8 @@
 -- How the step of a pass fits the lines that the pass goes over.
-use Rattle.std.specs.Prelude.{◌≡◌, ◌≢◌, ◌⊎◌, ℕ, List, Bool, true, false, Some, slice_get}
+use Rattle.std.specs.Prelude.{◌≡◌, ◌≢◌, ◌⊎◌, ◌<◌, ℕ, List, Bool, true, false, Some, slice_get, length}
+use Rattle.kc_model.specs.declared.footprint.TheConstants.{MOST}
 use Rattle.kc_words.specs.declared.words.Mode.{Mode}
+use Rattle.kc_words.specs.declared.words.Phase.{Phase}
 use Rattle.kc_words.specs.declared.words.Phase.TheVariants.{Active, Failed, Crossed, Halted}
 use Rattle.kc_steps.specs.declared.line.Line.{Line}
 use Rattle.kc_steps.specs.declared.line.Intent.{Intent}
@@ -20,9 +22,9 @@ use Rattle.kc_machine.specs.Works as work
 use Rattle.kc_steps.specs.Lines.{is_installed}
 use Rattle.kc_machine.specs.Machine.{State}
 
--- line k is there, and it is installed; likewise checked
+-- line k is there, among the most that a descriptor has, and it is installed; likewise checked
 abbrev pub IsInstalledAt : Mode → List Line → ℕ → Type 0
-IsInstalledAt m xs k = (x : Line) × (slice_get xs k ≡ Some x) × (is_installed m x ≡ true)
+IsInstalledAt m xs k = (x : Line) × (slice_get xs k ≡ Some x) × (is_installed m x ≡ true) × (k < MOST)
 
 abbrev pub IsCheckedAt : Mode → List Line → ℕ → Type 0
 IsCheckedAt m xs k = (x : Line) × (slice_get xs k ≡ Some x) × (is_installed m x ≡ false)
@@ -36,6 +38,10 @@ Follows k false c = (c ≡ checked.Agrees) ⊎ (c ≡ checked.Decide (Failed k))
 abbrev pub FollowsOr : Bool → AfterCheck → ℕ → Bool → AfterCheck → Type 0
 FollowsOr halted out k stray c = Follows k stray c ⊎ ((halted ≡ true) × (c ≡ out))
 
+-- a phase to decide isn't Active, and Halted only in the own pass of a halted task, whose way out that is
+abbrev pub MayDecide : Bool → AfterCheck → Phase → Type 0
+MayDecide halted out p = (p ≢ Active) × (p ≡ Halted → (halted ≡ true) × (out ≡ checked.Decide Halted))
+
 abbrev pub StepFits : Bool → AfterCheck → Mode → List Line → PassStep → Type 0
 StepFits halted out m xs (Install k) = IsInstalledAt m xs k
 StepFits halted out m xs (Check k) = IsCheckedAt m xs k
@@ -43,16 +49,23 @@ StepFits halted out m xs (CheckHold k r) = IsCheckedAt m xs k
 StepFits halted out m xs (CheckStatus k r) = IsCheckedAt m xs k
 StepFits halted out m xs (CheckFirst k r p) = IsCheckedAt m xs k
 StepFits halted out m xs (CheckDrop k r stray c) = IsCheckedAt m xs k × FollowsOr halted out k stray c
-StepFits halted out m xs (Decide p) = p ≢ Active
+StepFits halted out m xs (Decide p) = MayDecide halted out p
 StepFits halted out m xs (Release k p) = IsInstalledAt m xs k × (p ≢ Active)
 
--- a pass of an aid goes over the lines that it copied
+-- fewer lines are copied than the descriptor has
+abbrev pub LoadsOn : Aided → Type 0
+LoadsOn a = length a.lines.items < a.owner.lines
+
+-- an aid loads a line that is there, and its pass goes over the lines that it copied
 abbrev pub AidFits : Bool → Aided → AidStep → Type 0
+AidFits halted a aid.LoadFirst = LoadsOn a
+AidFits halted a (aid.LoadSecond f) = LoadsOn a
 AidFits halted a (aid.Pass p) = StepFits halted checked.Leave a.owner.mode a.lines.items p
 AidFits halted a _ = Unit {0}
 
--- an own pass that waits for an aid stands at a line that is installed
+-- who abandons was halted; an own pass that waits for an aid stands at a line that is installed
 abbrev pub OwnFits : Bool → Intent → Aided → OwnStep → Type 0
+OwnFits halted i a own.Abandon = halted ≡ true
 OwnFits halted i a (own.Pass p) = StepFits halted (checked.Decide Halted) i.mode i.lines.items p
 OwnFits halted i a (own.Aid k r step) = IsInstalledAt i.mode i.lines.items k × AidFits halted a step
 OwnFits halted i a _ = Unit {0}

@@ -3,6 +3,8 @@ use Rattle.std.specs.Prelude.{◌≡◌, ◌≢◌, ◌<◌, ◌≤◌, ℕ, Lis
 use Rattle.kc_model.specs.declared.footprint.TheConstants.{MOST}
 use Rattle.kc_model.specs.declared.footprint.Seen.{Seen}
 use Rattle.kc_words.specs.declared.words.Phase.TheVariants.{Active}
+use Rattle.kc_steps.specs.declared.look.LookStep.{LookStep}
+use Rattle.kc_steps.specs.declared.look.LookStep.TheVariants as look
 use Rattle.kc_steps.specs.declared.line.Line.{Line}
 use Rattle.kc_steps.specs.declared.line.Intent.{Intent}
 use Rattle.kc_steps.specs.declared.aid.Aided.{Aided}
@@ -20,7 +22,6 @@ use Rattle.kc_machine.specs.declared.seat.Seat.{Seat}
 use Rattle.kc_steps.specs.Lines.{has_put}
 use Rattle.kc_machine.specs.Hangs.{read_of}
 use Rattle.kc_machine.specs.Machine.{State}
-use Rattle.kc_effects.specs.Formed.{FormedWork}
 use Rattle.kc_seats.specs.Fits.{IsInstalledAt}
 
 -- line k is there, and it puts
@@ -60,8 +61,12 @@ abbrev pub IsCopy : Aided → Type 0
 IsCopy a = length a.lines.items ≤ MOST
 
 -- a look that was halted is at its drop
+abbrev pub Drops : LookStep → Type 0
+Drops (look.Drop r stray seen) = Unit {0}
+Drops _ = ⊥
+
 abbrev pub WorkIsFormed : ℕ → Bool → Work → Type 0
-WorkIsFormed calls blocked (work.Look l) = FormedWork (work.Look l)
+WorkIsFormed calls blocked (work.Look l) = l.halted ≡ true → Drops l.step
 WorkIsFormed calls blocked (work.Commit c) = StageIsFormed calls c.intent c.stage × IsCopy c.copy
 WorkIsFormed calls blocked (work.Hang h) = HangIsFormed blocked h
 WorkIsFormed calls blocked (work.Leave l) = LeaveIsFormed blocked l.reads.items l.step

@@ -14,7 +14,7 @@ use Rattle.kc_steps.specs.declared.task.Event.{Event}
 use Rattle.kc_steps.specs.Aids.{copy_line}
 use Rattle.kc_steps.specs.Lines.{joined}
 use Rattle.kc_steps.specs.Halts.{halted_aid, halted_aid_pass}
-use Rattle.kc_machine.specs.Machine.{World, Opening, put, run}
+use Rattle.kc_machine.specs.Machine.{World, Opening, put, run, opened}
 use Rattle.kc_machine.proofs.Functions.{put_cases}
 use Rattle.kc_effects.specs.Stands.{Stand, Owns, Aiding, NoAid, Aids, Passes, stand}
 use Rattle.kc_effects.specs.Holds.{Proper, aid_hold}
@@ -22,7 +22,8 @@ use Rattle.std.proofs.lemmas.List.{length-append}
 use Rattle.kc_steps.specs.declared.line.Line.{Line}
 use Rattle.kc_steps.specs.Lines.{first_of, second_of}
 use Rattle.kc_pool.specs.Started.{listed, line_of_words}
-use Rattle.kc_traces.specs.Copies.{LoadedOf, LoadedAt, CopyIsTrue, CopiesAreTrue}
+use Rattle.kc_traces.specs.Copies.{LoadedOf, LoadedAt, CopyIsTrue, CopiesAreTrue, PassesAreWhole}
+use Rattle.kc_traces.proofs.Whole.{Bound, bound_own, bound_whole}
 use Rattle.kc_effects.specs.Changes.{with_owner, with_first, with_second}
 use Rattle.kc_effects.specs.Effects
 use Rattle.kc_effects.specs.Effects.{Effect}
@@ -33,14 +34,14 @@ use Rattle.kc_pool.specs.Filled.{owner_word}
 use Rattle.kc_pool.specs.References.{met_by_aid}
 use Rattle.kc_pool.proofs.Statuses.{Fills}
 use Rattle.kc_pool.proofs.Shapes.{Shape, is_aiding}
-use Rattle.kc_pool.proofs.Lives.{Lives, lives_effect}
+use Rattle.kc_pool.proofs.Lives.{Lives, fitting, lives_effect}
 use Rattle.kc_pool.proofs.LifeLaws.{opened_lives}
 
 abbrev IsLoaded : World → Reference → Aided → Type 0
 IsLoaded w r c = LoadedOf w.owner w.first w.second r c
 
 -- the words of d stay
-record SameWords (w v : World) (d : ℕ) : Type 0 where
+pub record SameWords (w v : World) (d : ℕ) : Type 0 where
   pub owner : w.owner d ≡ v.owner d
   pub first : w.first d ≡ v.first d
   pub second : w.second d ≡ v.second d
@@ -68,24 +69,24 @@ stays_copied w v (Aids r c (aiding.Goes (aid.Drop stray o))) s h = tt
 stays_copied w v (Passes r c) s h = loaded_stays w v r c (s r.handle.descriptor r.handle.generation refl) h
 
 -- a word of a descriptor changes only as its owner fills it
-abbrev Filling : Stand → ℕ → Type 0
+abbrev pub Filling : Stand → ℕ → Type 0
 Filling s d = (g : ℕ) × Fills s d g
 
-owner_fills : (k : ℕ) {w w' : World} {s s' : Stand} → Effect k w s w' s' → (d : ℕ) → (w.owner d ≡ w'.owner d) ⊎ Filling s d
+pub owner_fills : (k : ℕ) {w w' : World} {s s' : Stand} → Effect k w s w' s' → (d : ℕ) → (w.owner d ≡ w'.owner d) ⊎ Filling s d
 owner_fills k (Effects.fill_owner {w} s {h = h} {i = i}) d =
     put_cases (λ x. (w.owner d ≡ x) ⊎ Filling (record s { own = Owns h i own.FillOwner }) d) w.owner h.descriptor (owner_word s.caller s.calls i) d
     (λ q. inr (h.generation, record { owns = ap (λ x. Proper x h.generation) (sym q); early = refl }))
     (λ ne. inl refl)
 owner_fills k _ d = inl refl
 
-first_fills : (k : ℕ) {w w' : World} {s s' : Stand} → Effect k w s w' s' → (d : ℕ) → (w.first d ≡ w'.first d) ⊎ Filling s d
+pub first_fills : (k : ℕ) {w w' : World} {s s' : Stand} → Effect k w s w' s' → (d : ℕ) → (w.first d ≡ w'.first d) ⊎ Filling s d
 first_fills k (Effects.fill_first {w} s {h = h} {i = i} {j = j} x e) d =
     put_cases (λ y. (w.first d ≡ y) ⊎ Filling (record s { own = Owns h i (own.FillFirst j) }) d) w.first h.descriptor (put (w.first h.descriptor) j (first_of x)) d
     (λ q. inr (h.generation, record { owns = ap (λ y. Proper y h.generation) (sym q); early = refl }))
     (λ ne. inl refl)
 first_fills k _ d = inl refl
 
-second_fills : (k : ℕ) {w w' : World} {s s' : Stand} → Effect k w s w' s' → (d : ℕ) → (w.second d ≡ w'.second d) ⊎ Filling s d
+pub second_fills : (k : ℕ) {w w' : World} {s s' : Stand} → Effect k w s w' s' → (d : ℕ) → (w.second d ≡ w'.second d) ⊎ Filling s d
 second_fills k (Effects.fill_second {w} s {h = h} {i = i} {j = j} x e) d =
     put_cases (λ y. (w.second d ≡ y) ⊎ Filling (record s { own = Owns h i (own.FillSecond j) }) d) w.second h.descriptor (put (w.second h.descriptor) j (second_of x)) d
     (λ q. inr (h.generation, record { owns = ap (λ y. Proper y h.generation) (sym q); early = refl }))
@@ -154,7 +155,7 @@ copied_own k (Effects.fill_owner {w} s {h = e} {i = i}) x h = unaided (with_owne
 copied_own k (Effects.fill_first {w} s {h = e} {j = j} y q) x h = unaided (with_first w e.descriptor j (first_of y)) s.aid (x.1 refl)
 copied_own k (Effects.fill_second {w} s {h = e} {j = j} y q) x h = unaided (with_second w e.descriptor j (second_of y)) s.aid (x.1 refl)
 copied_own k (Effects.aid_owner s) x h = record { owner = refl; lines = refl }
-copied_own k (Effects.aid_load_first s) x h = (h, refl)
+copied_own k (Effects.aid_load_first s fewer) x h = (h, refl)
 copied_own k (Effects.aid_load_second {w} s {r = r} {c = c} {f = f}) x h = line_loaded w r c f h.0 h.1
 copied_own k (Effects.aid_ends s) x h = tt
 copied_own k (Effects.aid_left s a) x h = tt
@@ -167,15 +168,13 @@ copied_own k e x h = h
 pub record Copies (n m : ℕ) (w : World) (at : ℕ → Stand) : Type 0 where
   pub lives : Lives n m w at
   pub copied : (k : ℕ) → k < n → CopyIsTrue w (at k).aid
-
-fitting : (w : World) (d g : ℕ) → Fits w (Proper d g) → (w.control d).generation ≡ g
-fitting w d g h = search h
+  pub bound : (k : ℕ) → Bound (at k).aid
 
 -- what an aid holds was started
 held_out : (w : World) (x : Aiding) (d g : ℕ) → ((r : Reference) → met_by_aid x ≡ Some r → r.handle.generation ≤ (w.status r.handle.descriptor).generation) → aid_hold x ≡ Proper d g → g ≤ (w.status d).generation
 held_out w x d g f q = Rattle.kc_pool.proofs.Published.aid_out w x d g q f
 
-copies_effect : (n m k : ℕ) → k < n → (w w' : World) (at : ℕ → Stand) (s' : Stand) → Effect k w (at k) w' s' → Copies n m w at → Copies n m w' (put at k s')
+pub copies_effect : (n m k : ℕ) → k < n → (w w' : World) (at : ℕ → Stand) (s' : Stand) → Effect k w (at k) w' s' → Copies n m w at → Copies n m w' (put at k s')
 copies_effect n m k l w w' at s' e p = record {
   lives = lives_effect n m k l at e p.lives;
   copied = λ j b. put_cases (λ t. CopyIsTrue w' t.aid) at k s' j
@@ -185,6 +184,7 @@ copies_effect n m k l w w' at s' e p = record {
         first = ⊎_elim (λ y. y) (λ f. absurd (early j b d g f.0 q f.1)) (first_fills k e d);
         second = ⊎_elim (λ y. y) (λ f. absurd (early j b d g f.0 q f.1)) (second_fills k e d);
       }) (p.copied j b));
+  bound = λ j. put_cases (λ t. Bound t.aid) at k s' j (λ q. bound_own k e (p.bound k)) (λ ne. p.bound j);
 }
   where
     early : (j : ℕ) → j < n → (d g i : ℕ) → aid_hold (at j).aid ≡ Proper d g → Fills (at k) d i → ⊥
@@ -195,8 +195,14 @@ copies_effect n m k l w w' at s' e p = record {
         let low = subst (λ y. Follows y (w.status d).generation i) f.early (p.lives.owned k l d i f.owns) in
         let z : ⊥ = omega arith in z
 
+pub opened_copies : (o : Opening) → Copies o.callers (opened o).descriptors (opened o).world (λ k. stand ((opened o).seats k))
+opened_copies o = record { lives = opened_lives o; copied = λ k l. tt; bound = λ k. tt }
+
 pub copies_after : (o : Opening) (es : List Event) → Copies (run o es).callers (run o es).descriptors (run o es).world (λ k. stand ((run o es).seats k))
-copies_after o es = holds_after Copies copies_effect o es (record { lives = opened_lives o; copied = λ k l. tt })
+copies_after o es = holds_after Copies copies_effect o es (opened_copies o)
 
 pub copies_true : (o : Opening) (es : List Event) → CopiesAreTrue (run o es)
 copies_true o es = (copies_after o es).copied
+
+pub passes_whole : (o : Opening) (es : List Event) → PassesAreWhole (run o es)
+passes_whole o es = λ k. bound_whole (stand ((run o es).seats k)).aid ((copies_after o es).bound k)

@@ -42,9 +42,8 @@ use Rattle.kc_traces.specs.Parts.{NoneOf}
 use Rattle.kc_traces.specs.Entries.{by, AreOfCallers, own_intent}
 use Rattle.kc_traces.proofs.Joins.{trace-append, every}
 use Rattle.kc_traces.proofs.Others.{run_shape, event_out, undecided, others_leave}
-use Rattle.kc_traces.proofs.Copies.{copies_after}
+use Rattle.kc_traces.proofs.Copies.{copies_after, passes_whole}
 use Rattle.kc_traces.specs.Copies.{CopyIsTrue, IsWhole}
-use Rattle.kc_traces.proofs.Whole.{passes_whole}
 use Rattle.kc_steps.specs.Lines.{joined, first_of, second_of}
 use Rattle.kc_words.specs.declared.words.Mode.{Mode}
 use Rattle.kc_pool.specs.Started.{listed, line_of_words}

@@ -3,6 +3,7 @@ pub mod Others
 pub mod Moments
 pub mod Answers
 pub mod Known
+pub mod Whole
 pub mod Copies
 pub mod Stood
 pub mod Entries
@@ -10,4 +11,3 @@ pub mod Numbers
 pub mod Statuses
 pub mod Onward
 pub mod Outcomes
-pub mod Whole

@@ -1,5 +1,4 @@
-use Rattle.kc_traces.proofs.Copies.{copies_true}
-use Rattle.kc_traces.proofs.Whole.{passes_whole}
+use Rattle.kc_traces.proofs.Copies.{copies_true, passes_whole}
 use Rattle.kc_traces.proofs.laws.copies_are_true.Goals as goal
 
 pub returns-clause-words : goal.returns-clause-words

@@ -1,0 +1,11 @@
+pub mod Targets
+pub mod Lives
+pub mod Gone
+pub mod Owing
+pub mod Moves
+pub mod Knowing
+pub mod Installing
+pub mod Halting
+pub mod Holders
+pub mod Facts
+pub mod Always
