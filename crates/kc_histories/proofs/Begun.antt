@@ -35,7 +35,7 @@ same_life a b c d q = (cc, cc)
 same_handle : {h g : Handle} {m n : Mode} {xs ys : List Line} {t u : Turn} → Over h m xs t ≡ Over g n ys u → h ≡ g
 same_handle q = cc
 
-placed_over : (p : Passing) → is_placed p ≡ true → (h : Handle) × (m : Mode) × (xs : List Line) × (t : Turn) × (p ≡ Over h m xs t)
+pub placed_over : (p : Passing) → is_placed p ≡ true → (h : Handle) × (m : Mode) × (xs : List Line) × (t : Turn) × (p ≡ Over h m xs t)
 placed_over NoPass e = absurd (cc)
 placed_over (Over h m xs t) e = (h, m, xs, t, refl)
 

@@ -39,13 +39,13 @@ use Rattle.kc_histories.proofs.Places.{rises, new_place}
 -- ---- the lines of a footprint
 
 -- a put is that of a line
-record LineThatPuts (xs : List Line) (l : ℕ) : Type 0 where
-  line : Line
-  among : Contains xs line
-  puts : has_put line.put ≡ true
-  at : line.seen.loc.0 ≡ l
+pub record LineThatPuts (xs : List Line) (l : ℕ) : Type 0 where
+  pub line : Line
+  pub among : Contains xs line
+  pub puts : has_put line.put ≡ true
+  pub at : line.seen.loc.0 ≡ l
 
-line_that_puts : (xs : List Line) (l : ℕ) → is_some (put_at (filter_map put_of_line xs) l) ≡ true → LineThatPuts xs l
+pub line_that_puts : (xs : List Line) (l : ℕ) → is_some (put_at (filter_map put_of_line xs) l) ≡ true → LineThatPuts xs l
 line_that_puts [] l e = absurd (cc)
 line_that_puts (x ∷ xs) l e = go (line_that_puts xs l) x.put refl e
   where
@@ -61,7 +61,7 @@ line_that_puts (x ∷ xs) l e = go (line_that_puts xs l) x.put refl e
         at false z e = later (r e)
 
 -- a read is that of a line
-line_that_reads : (xs : List Line) (r : Seen) → Contains (map (λ x. x.seen) xs) r → (x : Line) × Contains xs x × (x.seen ≡ r)
+pub line_that_reads : (xs : List Line) (r : Seen) → Contains (map (λ x. x.seen) xs) r → (x : Line) × Contains xs x × (x.seen ≡ r)
 line_that_reads [] r c = absurd (omega (arith, c.1))
 line_that_reads (x ∷ xs) r (zero, l, e) = (x, Contains-first x xs, e)
 line_that_reads (x ∷ xs) r (suc i, l, e) = let y = line_that_reads xs r (i, omega arith, e) in (y.0, Contains-later x xs y.0 y.1, y.2)
@@ -94,7 +94,7 @@ module _ (o : Opening) (es : List Event) (e : Event) (f : NothingLaterTouches o 
   s = first_store o
 
   module _ (x : Placed) (d : Decision o es e x) where
-    soon : DecidesSoon o es (seat_of e) x.place x.mode d.lines
+    pub soon : DecidesSoon o es (seat_of e) x.place x.mode d.lines
     soon = record { within = d.seat; handle = d.handle; turn = At (Decide Succeeded); pass = d.pass; place = d.place; active = d.was }
 
     none_above : (l : ℕ) → LineInstalled x.mode d.lines l → NoneTouchesAbove x.place old l

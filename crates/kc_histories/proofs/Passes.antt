@@ -48,16 +48,16 @@ use Rattle.kc_traces.proofs.Answers.{moved, seat_cases}
 
 -- ---- the pass of a work
 
-abbrev aid_pass : Reference → Aided → AidStep → Passing
+abbrev pub aid_pass : Reference → Aided → AidStep → Passing
 aid_pass r c (aid.Pass p) = Over r.handle c.owner.mode c.lines.items (At p)
 aid_pass r c _ = NoPass
 
-abbrev own_pass : Intent → Aided → Handle → OwnStep → Passing
+abbrev pub own_pass : Intent → Aided → Handle → OwnStep → Passing
 own_pass i c h (own.Pass p) = Over h i.mode i.lines.items (At p)
 own_pass i c h (own.Aid j r a) = aid_pass r c a
 own_pass i c h _ = NoPass
 
-abbrev stage_pass : Intent → Aided → Stage → Passing
+abbrev pub stage_pass : Intent → Aided → Stage → Passing
 stage_pass i c (stage.Own h step) = own_pass i c h step
 stage_pass i c _ = NoPass
 
@@ -228,7 +228,7 @@ keeps_itself : (x : Passing) → Keeps x x
 keeps_itself NoPass = tt
 keeps_itself (Over h m xs t) = λ a b. (t, refl)
 
-finish_unplaced : (i : Intent) (c : Aided) (h : Handle) (p : Phase) → is_placed (own_pass i c h (finished i p)) ≡ false
+pub finish_unplaced : (i : Intent) (c : Aided) (h : Handle) (p : Phase) → is_placed (own_pass i c h (finished i p)) ≡ false
 finish_unplaced i c h Active = refl
 finish_unplaced i c h Succeeded = go (next_line Put i.mode i.lines.items 0)
   where
@@ -260,7 +260,7 @@ aid_releases r c p None = refl
 aid_releases r c p (Some j) = refl
 
 -- the pass of what a commit does next
-abbrev next_pass : Commit → Next → Passing
+abbrev pub next_pass : Commit → Next → Passing
 next_pass c (next.Goes y) = stage_pass c.intent c.copy y
 next_pass c (next.Takes y) = stage_pass c.intent c.copy y
 next_pass c (next.Tells t) = NoPass
@@ -269,13 +269,13 @@ abbrev pub IsFresh : Stand → Type 0
 IsFresh t = (t.pass ≡ NoPass) × (t.own ≡ NoOwn)
 
 module _ (s : Seat) where
-  next_is : (c : Commit) (n : Next) → work_pass (after (record s { work = work.Commit (gone_on c n) }) (onward_by n)).work ≡ next_pass c n
+  pub next_is : (c : Commit) (n : Next) → work_pass (after (record s { work = work.Commit (gone_on c n) }) (onward_by n)).work ≡ next_pass c n
   next_is c (next.Goes y) = refl
   next_is c (next.Takes y) = refl
   next_is c (next.Tells t) = refl
 
   -- a commit that has loaded what it found
-  abbrev Nexts : Commit → Stage → Found → Passing
+  abbrev pub Nexts : Commit → Stage → Found → Passing
   Nexts c x f = next_pass (record c { copy = copy_by c.copy x f }) (stage_next s.descriptors s.calls (record c { copy = copy_by c.copy x f }) x f)
 
   stage_keeps : (c : Commit) (x : Stage) (f : Found) → Keeps (stage_pass c.intent c.copy x) (Nexts c x f)
