@@ -8,18 +8,18 @@ use Rattle.kc_model.specs.Store.{Store, Finds, after}
 use Rattle.kc_model.proofs.Stores.{Contains-first, Contains-later}
 use Rattle.kc_claims.specs.Histories.{History, Placed, ending, at_place, IsLegalHistory, EachFindsItsReads, RisesByPlace}
 
-abbrev places : History → List ℕ
+abbrev pub places : History → List ℕ
 places h = map (λ x. x.place) h
 
-abbrev low : ℕ → Placed → Bool
+abbrev pub low : ℕ → Placed → Bool
 low p x = nat_lt x.place p
 
 -- the first of a list, or one of the rest
-one_of : (h : History) {x y : Placed} → (P : Placed → Type 0) → P x → (Contains h y → P y) → Contains (x ∷ h) y → P y
+pub one_of : (h : History) {x y : Placed} → (P : Placed → Type 0) → P x → (Contains h y → P y) → Contains (x ∷ h) y → P y
 one_of h P p f (zero, l, e) = subst P e p
 one_of h P p f (suc k, l, e) = f (k, omega arith, e)
 
-above_all : (p : ℕ) (h : History) → IsRisingAbove p (places h) → (y : Placed) → Contains h y → p < y.place
+pub above_all : (p : ℕ) (h : History) → IsRisingAbove p (places h) → (y : Placed) → Contains h y → p < y.place
 above_all p [] r y c = absurd (omega (arith, c.1))
 above_all p (x ∷ h) r y c = one_of h (λ z. p < z.place) r.0 (λ d. let e = above_all x.place h r.1 y d in let a = r.0 in omega arith) c
 
@@ -44,17 +44,45 @@ at_first s x h r =
 at_later : (s : Store) (x : Placed) (h : History) (p : ℕ) → x.place < p → at_place s (x ∷ h) p ≡ at_place (after x.entry.footprint s) h p
 at_later s x h p l = ap (λ b. ending s (cond b (x ∷ filter (low p) h) (filter (low p) h))) (lt-ltb x.place p l)
 
+-- what F asks of an entry, in order and at places
+module _ (F : Placed → Store → Type 0) where
+  abbrev pub InOrder : Store → History → Type 0
+  InOrder s [] = Unit {0}
+  InOrder s (x ∷ h) = F x s × InOrder (after x.entry.footprint s) h
+
+  abbrev pub AtPlaces : Store → History → Type 0
+  AtPlaces s h = (x : Placed) → Contains h x → F x (at_place s h x.place)
+
+  pub in_order : (s : Store) (h : History) → RisesByPlace h → AtPlaces s h → InOrder s h
+  in_order s [] r f = tt
+  in_order s (x ∷ h) r f =
+      let here = subst (F x) (at_first s x h r) (f x (Contains-first x h)) in
+      let rest : AtPlaces (after x.entry.footprint s) h = λ y c. subst (F y) (at_later s x h y.place (above_all x.place h r y c)) (f y (Contains-later x h y c)) in
+      (here, in_order (after x.entry.footprint s) h (rising x.place h r) rest)
+
+  pub at_places : (s : Store) (h : History) → RisesByPlace h → InOrder s h → AtPlaces s h
+  at_places s [] r g y c = absurd (omega (arith, c.1))
+  at_places s (x ∷ h) r g y c =
+      one_of h (λ z. F z (at_place s (x ∷ h) z.place))
+      (subst (F x) (sym (at_first s x h r)) g.0)
+      (λ d. subst (F y) (sym (at_later s x h y.place (above_all x.place h r y d))) (at_places (after x.entry.footprint s) h (rising x.place h r) g.1 y d))
+      c
+
+-- ---- legal histories
+
+abbrev FindsReads : Placed → Store → Type 0
+FindsReads x s = Finds x.entry.footprint s
+
+legal_of : (s : Store) (h : History) → InOrder FindsReads s h → IsLegalHistory s h
+legal_of s [] f = refl
+legal_of s (x ∷ h) f = (f.0, legal_of (after x.entry.footprint s) h f.1)
+
+order_of : (s : Store) (h : History) → IsLegalHistory s h → InOrder FindsReads s h
+order_of s [] f = tt
+order_of s (x ∷ h) f = (f.0, order_of (after x.entry.footprint s) h f.1)
+
 pub legal_in_order : (s : Store) (h : History) → RisesByPlace h → EachFindsItsReads s h → IsLegalHistory s h
-legal_in_order s [] r f = refl
-legal_in_order s (x ∷ h) r f =
-    let here = subst (Finds x.entry.footprint) (at_first s x h r) (f x (Contains-first x h)) in
-    let rest : EachFindsItsReads (after x.entry.footprint s) h = λ y c. subst (Finds y.entry.footprint) (at_later s x h y.place (above_all x.place h r y c)) (f y (Contains-later x h y c)) in
-    (here, legal_in_order (after x.entry.footprint s) h (rising x.place h r) rest)
+legal_in_order s h r f = legal_of s h (in_order FindsReads s h r f)
 
 pub legal_at_places : (s : Store) (h : History) → RisesByPlace h → IsLegalHistory s h → EachFindsItsReads s h
-legal_at_places s [] r g y c = absurd (omega (arith, c.1))
-legal_at_places s (x ∷ h) r g y c =
-    one_of h (λ z. Finds z.entry.footprint (at_place s (x ∷ h) z.place))
-    (subst (Finds x.entry.footprint) (sym (at_first s x h r)) g.0)
-    (λ d. subst (Finds y.entry.footprint) (sym (at_later s x h y.place (above_all x.place h r y d))) (legal_at_places (after x.entry.footprint s) h (rising x.place h r) g.1 y d))
-    c
+legal_at_places s h r g = at_places FindsReads s h r (order_of s h g)

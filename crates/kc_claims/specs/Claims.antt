@@ -1,7 +1,6 @@
 -- What is claimed of a machine after a schedule. Holds are in kc_effects: `HoldsAreCounted`, `HoldsKeepGenerations`.
-use Rattle.std.specs.Prelude.{◌≡◌, ◌≢◌, ℕ, zero, suc, ◌+◌, ◌*◌, ◌^◌, ◌<◌, ◌≤◌, ◌==◌, ◌++◌, ◌⊎◌, List, [], ◌∷◌, All, Contains, Bool, true, false, not, Some, nat_lt, length, take, drop, slice_get, bit_and, cond}
+use Rattle.std.specs.Prelude.{◌≡◌, ℕ, zero, suc, ◌+◌, ◌*◌, ◌<◌, ◌≤◌, ◌==◌, ◌++◌, ◌⊎◌, List, [], ◌∷◌, All, Contains, Bool, true, false, not, Some, nat_lt, length, take, drop, slice_get, bit_and, cond}
 use Rattle.std.specs.Option.{is_some}
-use Rattle.kc_model.specs.declared.footprint.TheConstants.{LAST_VERSION, MOST}
 use Rattle.kc_model.specs.declared.footprint.Loc.{Loc}
 use Rattle.kc_model.specs.declared.footprint.Seen.{Seen}
 use Rattle.kc_model.specs.declared.footprint.Put.{Put}
@@ -9,7 +8,7 @@ use Rattle.kc_model.specs.declared.footprint.Footprint.{Footprint}
 use Rattle.kc_model.specs.declared.word.Word.{Word}
 use Rattle.kc_model.specs.declared.word.Word.TheVariants.{Plain, Ref}
 use Rattle.kc_model.specs.declared.plain_store.Cell.{Cell}
-use Rattle.kc_model.specs.Footprint.{Puts, IsWellMade, IsBelow}
+use Rattle.kc_model.specs.Footprint.{Puts}
 use Rattle.kc_words.specs.declared.words.TheConstants.{LAST_GENERATION}
 use Rattle.kc_words.specs.declared.words.Handle.{Handle}
 use Rattle.kc_words.specs.declared.words.Mode.{Mode}
@@ -19,11 +18,10 @@ use Rattle.kc_words.specs.declared.access.Access.{Access}
 use Rattle.kc_words.specs.declared.access.Access.TheVariants as access
 use Rattle.kc_steps.specs.declared.line.Line.{Line}
 use Rattle.kc_steps.specs.declared.line.Intent.{Intent}
-use Rattle.kc_steps.specs.declared.task.Task.{Task}
 use Rattle.kc_steps.specs.declared.task.Task.TheVariants as task
 use Rattle.kc_steps.specs.declared.task.Told.TheVariants as told
 use Rattle.kc_steps.specs.declared.task.Event.{Event}
-use Rattle.kc_steps.specs.declared.task.Event.TheVariants.{Begin, Step, Halt}
+use Rattle.kc_steps.specs.declared.task.Event.TheVariants.{Step}
 use Rattle.kc_steps.specs.declared.pass.PassStep.{PassStep}
 use Rattle.kc_steps.specs.declared.pass.PassStep.TheVariants.{Install, Check, CheckHold, CheckStatus, CheckFirst, CheckDrop, Decide, Release}
 use Rattle.kc_steps.specs.declared.aid.AidStep.TheVariants as aid
@@ -37,7 +35,6 @@ use Rattle.kc_machine.specs.Seats.{access_of, is_idle}
 use Rattle.kc_machine.specs.Machine.{World, State, Opening, event_of, run}
 use Rattle.kc_effects.specs.Stands.{Own, NoOwn, Owns, Runs, Waits, Turn, At, Meets, Ends, Leaves, Passing, NoPass, Over, Aiding, NoAid, Aids, Passes, Stand, stand}
 use Rattle.kc_effects.specs.Holds.{Proper, own_hold}
-use Rattle.kc_machine.specs.Schedules.{IsInRange, AreBelow, IsWellMadeTask, BeginsWellMade, IsSchedule}
 use Rattle.kc_claims.specs.Histories.{History, Placed, ending, cell_of, IsLegalHistory, IsLegalWhereInstalled, EntriesDiffer, Grows}
 use Rattle.kc_claims.specs.Traces.{trace, first_store, IsHonest}
 

@@ -77,7 +77,7 @@ works_calls t (work.Hang h) = hangs_calls t h.reads.items h.step
 works_calls t (work.Leave l) = refl
 
 module _ (o : Opening) where
-  called : (es : List Event) → IsSchedule o es → (k : ℕ) → k < o.callers → ((run o es).seats k).calls < 281474976710656
+  pub called : (es : List Event) → IsSchedule o es → (k : ℕ) → k < o.callers → ((run o es).seats k).calls < 281474976710656
   called es w k l =
       let m = run o es in
       let s = run_shape o es in

@@ -39,7 +39,7 @@ use Rattle.kc_claims.specs.Histories.{History, Placed, inserted}
 use Rattle.kc_claims.specs.Traces.{Trace, is_success, decides, caller_for, number_for, entry_for, history_after, place_or, trace, now}
 use Rattle.kc_claims.proofs.Follows.{trace_runs}
 use Rattle.kc_traces.specs.Parts.{NoneOf}
-use Rattle.kc_traces.specs.Entries.{by, AreOfCallers}
+use Rattle.kc_traces.specs.Entries.{by, AreOfCallers, own_intent}
 use Rattle.kc_traces.proofs.Joins.{trace-append, every}
 use Rattle.kc_traces.proofs.Others.{run_shape, event_out, undecided, others_leave}
 use Rattle.kc_traces.proofs.Copies.{copies_after, passes_whole}
@@ -90,13 +90,6 @@ line_again x = go x.seen x.put
 lists_again : (f : ℕ → Line) (xs : List Line) → ((i : ℕ) (x : Line) → slice_get xs i ≡ Some x → f i ≡ x) → listed f (length xs) ≡ xs
 lists_again f [] h = refl
 lists_again f (x ∷ xs) h = ap (λ y. y ∷ listed (λ i. f (suc i)) (length xs)) (h 0 x refl) ∙ ap (λ ys. x ∷ ys) (lists_again (λ i. f (suc i)) xs (λ i. h (suc i)))
-
--- the intent of an owner
-abbrev pub own_intent : Own → Option Intent
-own_intent NoOwn = None
-own_intent (Owns h i step) = Some i
-own_intent (Runs h i) = Some i
-own_intent (Waits h i j) = Some i
 
 -- an owner that has started it has stored its words
 record StoredWords (w : World) (caller calls d : ℕ) (x : Own) : Type 0 where

@@ -21,13 +21,13 @@ unfoldable pub cell_from : ℕ → Cell → History → Cell
 cell_from l c [] = c
 cell_from l c (x ∷ h) = cell_from l (cell_after (puts_in l x) c) h
 
-ending_is : (s : Store) (h : History) (l : ℕ) → ending s h l ≡ cell_from l (s l) h
+pub ending_is : (s : Store) (h : History) (l : ℕ) → ending s h l ≡ cell_from l (s l) h
 unfolding cell_from
 ending_is s [] l = refl
 ending_is s (x ∷ h) l = ending_is (after x.entry.footprint s) h l
 
 -- only the entries that put it count
-cell_putting : (l : ℕ) (c : Cell) (h : History) → cell_from l c h ≡ cell_from l c (putting l h)
+pub cell_putting : (l : ℕ) (c : Cell) (h : History) → cell_from l c h ≡ cell_from l c (putting l h)
 unfolding cell_from
 cell_putting l c [] = refl
 cell_putting l c (x ∷ h) = go (λ d. cell_putting l d h) (puts_in l x) refl
@@ -37,7 +37,7 @@ cell_putting l c (x ∷ h) = go (λ d. cell_putting l d h) (puts_in l x) refl
     go rest (Some p) e = rw e (rest (cell_after (Some p) c) ∙ ap (λ o. cell_from l (cell_after o c) (putting l h)) (sym e))
 
 -- a front of the puts is the puts of a front
-front_taken : (l : ℕ) (b xs rest : History) → putting l b ≡ xs ++ rest → (n : ℕ) × (putting l (take n b) ≡ xs)
+pub front_taken : (l : ℕ) (b xs rest : History) → putting l b ≡ xs ++ rest → (n : ℕ) × (putting l (take n b) ≡ xs)
 front_taken l b [] rest e = (0, refl)
 front_taken l [] (x ∷ xs) rest e = absurd (cc)
 front_taken l (y ∷ b) (x ∷ xs) rest e = go (λ zs. front_taken l b zs rest) (puts_in l y) refl e
@@ -53,7 +53,7 @@ front_taken l (y ∷ b) (x ∷ xs) rest e = go (λ zs. front_taken l b zs rest) 
         let r = further xs t in
         (suc r.0, ap (λ o. cond (is_some o) (y ∷ putting l (take r.0 b)) (putting l (take r.0 b))) q ∙ (λ i. h i ∷ r.1 i))
 
-front_putting : (l n : ℕ) (a : History) → IsFront (putting l (take n a)) (putting l a)
+pub front_putting : (l n : ℕ) (a : History) → IsFront (putting l (take n a)) (putting l a)
 front_putting l zero a = (putting l a, refl)
 front_putting l (suc n) [] = ([], refl)
 front_putting l (suc n) (x ∷ a) = go (front_putting l n a) (puts_in l x) refl
@@ -62,7 +62,7 @@ front_putting l (suc n) (x ∷ a) = go (front_putting l n a) (puts_in l x) refl
     go r None e = rw e r
     go r (Some p) e = rw e (r.0, ap (λ z. x ∷ z) r.1)
 
-front_trans : (a b c : History) → IsFront a b → IsFront b c → IsFront a c
+pub front_trans : (a b c : History) → IsFront a b → IsFront b c → IsFront a c
 front_trans a b c f g = (f.0 ++ g.0, g.1 ∙ ap (λ z. z ++ g.0) f.1 ∙ append_assoc a f.0 g.0)
 
 pub known_stays : (s : Store) (a b : History) (r : Seen) → Grows a b → IsKnown s a r → IsKnown s b r
@@ -74,7 +74,7 @@ known_stays s a b r g k =
 
 -- ---- versions
 
-cell_append : (l : ℕ) (c : Cell) (a b : History) → cell_from l c (a ++ b) ≡ cell_from l (cell_from l c a) b
+pub cell_append : (l : ℕ) (c : Cell) (a b : History) → cell_from l c (a ++ b) ≡ cell_from l (cell_from l c a) b
 unfolding cell_from
 cell_append l c [] b = refl
 cell_append l c (x ∷ a) b = cell_append l (cell_after (puts_in l x) c) a b

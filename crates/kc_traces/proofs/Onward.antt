@@ -97,23 +97,23 @@ Knows v _ = Unit {0}
 
 -- ---- which steps have started
 
-pass_started : (i : Intent) (n : PassNext) → fills (after_own_pass i n) ≡ false
+pub pass_started : (i : Intent) (n : PassNext) → fills (after_own_pass i n) ≡ false
 pass_started i (pass.Goes q) = refl
 pass_started i (pass.Met k r) = refl
 pass_started i (pass.Finished q) = finish_started i q
 pass_started i pass.Left = refl
 
-aid_started : (b : Bool) (j : ℕ) (r : Reference) (n : AidNext) → fills (aid_or_back b j r n) ≡ false
+pub aid_started : (b : Bool) (j : ℕ) (r : Reference) (n : AidNext) → fills (aid_or_back b j r n) ≡ false
 aid_started b j r (aiding.Goes a) = refl
 aid_started true j r (aiding.Back o) = refl
 aid_started false j r (aiding.Back None) = refl
 aid_started false j r (aiding.Back (Some v)) = refl
 
-woken_started : (i : Intent) (j owed : ℕ) (f : Found) → fills (wake_next i j owed f) ≡ false
+pub woken_started : (i : Intent) (j owed : ℕ) (f : Found) → fills (wake_next i j owed f) ≡ false
 woken_started i j owed (found.Callers c) = wake_started i j owed c
 woken_started i j owed f = refl
 
-halted_same : (step : OwnStep) → fills (halted_own step) ≡ fills step
+pub halted_same : (step : OwnStep) → fills (halted_own step) ≡ fills step
 halted_same own.FillOwner = refl
 halted_same (own.FillFirst j) = refl
 halted_same (own.FillSecond j) = refl

@@ -43,13 +43,13 @@ use Rattle.kc_claims.specs.Histories.{History, Placed, inserted, footprint_of}
 use Rattle.kc_claims.specs.Traces.{is_success, decides, entry_for, history_after, place_or, trace, now}
 use Rattle.kc_traces.specs.Moments.{BeginsNothing}
 use Rattle.kc_traces.specs.Parts.{IsNoStep}
-use Rattle.kc_traces.specs.Entries.{by}
+use Rattle.kc_traces.specs.Entries.{by, own_intent}
 use Rattle.kc_traces.specs.Outcomes.{IsEntryOf, GainsTheCall, GainsAsTold}
 use Rattle.kc_traces.proofs.Joins.{run-append}
 use Rattle.kc_traces.proofs.Answers.{head_of}
 use Rattle.kc_traces.proofs.Others.{run_shape, event_in, event_else, history_kept}
 use Rattle.kc_traces.proofs.Statuses.{Moves, Starts, Decides, IsOver, step_moves}
-use Rattle.kc_traces.proofs.Entries.{own_intent, Entered, Enters, enters, history_by, history_grows, by_inserted, idle_keeps}
+use Rattle.kc_traces.proofs.Entries.{Entered, Enters, enters, history_by, history_grows, by_inserted, idle_keeps}
 use Rattle.kc_traces.proofs.Onward.{IsIntentOf, IfDone, succeeded, StageLeft, StageKnows, Left, SeatLeft, Knows, answer_left, halted_left, begun_left, ended_left}
 
 -- ---- one entry more
@@ -97,10 +97,10 @@ aid_owned t h i j r c (aid.Pass p) = refl
 aid_owned t h i j r c (aid.Leave o) = refl
 aid_owned t h i j r c (aid.Drop stray o) = refl
 
-abbrev Owns_it : Own → Handle → Intent → OwnStep → Type 0
-Owns_it x h i step = (own_hold x ≡ Proper h.descriptor h.generation) × (is_filling x ≡ fills step) × (own_intent x ≡ Some i)
+abbrev pub OwnsIt : Own → Handle → Intent → OwnStep → Type 0
+OwnsIt x h i step = (own_hold x ≡ Proper h.descriptor h.generation) × (is_filling x ≡ fills step) × (own_intent x ≡ Some i)
 
-owned : (t : Stand) (i : Intent) (c : Aided) (h : Handle) (step : OwnStep) → Owns_it (owns t i c h step).own h i step
+pub owned : (t : Stand) (i : Intent) (c : Aided) (h : Handle) (step : OwnStep) → OwnsIt (owns t i c h step).own h i step
 owned t i c h own.FillOwner = (refl, refl, refl)
 owned t i c h (own.FillFirst j) = (refl, refl, refl)
 owned t i c h (own.FillSecond j) = (refl, refl, refl)
@@ -119,7 +119,7 @@ hang_unowned s reads (hang.Clear j n) = refl
 
 -- ---- how an event moves a status
 
-event_moves : (m : State) (e : Event) → Moves m.world (event_of m e).world (stand (m.seats (seat_of e)))
+pub event_moves : (m : State) (e : Event) → Moves m.world (event_of m e).world (stand (m.seats (seat_of e)))
 event_moves m e = go (nat_lt (seat_of e) m.callers)
   where
     step : (k : ℕ) (b : Bool) → Moves m.world (if b then record m { world = touched m.world (access_of (m.seats k)); seats = put m.seats k (answer_of (m.seats k) (found_at m.world (access_of (m.seats k)))) } else m).world (stand (m.seats k))
@@ -253,7 +253,7 @@ module _ (o : Opening) (es : List Event) (e : Event) (k : ℕ) (l : k < o.caller
     stage_goes c (stage.Take d g) y q r = unstarted (λ d g i. absurd (no_hold d g (ap own_hold q ∙ i))) ∙ r
     stage_goes c (stage.Own h step) y q r = go (fills step) refl r
       where
-        f : Owns_it (owns (record (resting s) { halted = c.halted }) c.intent c.copy h step).own h c.intent step
+        f : OwnsIt (owns (record (resting s) { halted = c.halted }) c.intent c.copy h step).own h c.intent step
         f = owned (record (resting s) { halted = c.halted }) c.intent c.copy h step
 
         fill : is_filling (stand s).own ≡ fills step
@@ -346,10 +346,10 @@ module _ (o : Opening) (k : ℕ) (l : k < o.callers) where
 
   -- ---- a whole task
 
-  abbrev LeftAfter : Task → History → List Event → Type 0
+  abbrev pub LeftAfter : Task → History → List Event → Type 0
   LeftAfter u a es = SeatLeft (run o es).world k u ((run o es).seats k) a (by k (trace o es).history)
 
-  one_more : (u : Task) (a : History) (es : List Event) (e : Event) → BeginsNothing k (e ∷ []) → LeftAfter u a es → LeftAfter u a (es ++ e ∷ [])
+  pub one_more : (u : Task) (a : History) (es : List Event) (e : Event) → BeginsNothing k (e ∷ []) → LeftAfter u a es → LeftAfter u a (es ++ e ∷ [])
   one_more u a es e n r = subst (λ (m : State). SeatLeft m.world k u (m.seats k) a (by k (trace o (es ++ e ∷ [])).history)) (sym (run-append o es (e ∷ [])))
       (seat_goes es u a (by k (trace o (es ++ e ∷ [])).history) e n (words_go o es e k l u a r))
 
@@ -359,7 +359,7 @@ module _ (o : Opening) (k : ℕ) (l : k < o.callers) where
       let h = head_of k e more n in
       subst (LeftAfter u a) (append_assoc es (e ∷ []) more) (goes_on u a (es ++ e ∷ []) more h.1 (one_more u a es e h.0 r))
 
-  begins_left : (es : List Event) (t : Task) → is_idle ((run o es).seats k).work ≡ true → is_idle (begun ((run o es).seats k) t).work ≡ false → LeftAfter t (by k (trace o es).history) (es ++ Begin k t ∷ [])
+  pub begins_left : (es : List Event) (t : Task) → is_idle ((run o es).seats k).work ≡ true → is_idle (begun ((run o es).seats k) t).work ≡ false → LeftAfter t (by k (trace o es).history) (es ++ Begin k t ∷ [])
   begins_left es t i b =
       let s = (run o es).seats k in
       let n = (run_shape o es).2 in

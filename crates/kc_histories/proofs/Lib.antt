@@ -1,0 +1,14 @@
+pub mod Filters
+pub mod Insertions
+pub mod Growth
+pub mod Legality
+pub mod Passes
+pub mod Deciding
+pub mod Places
+pub mod Decisions
+pub mod Calls
+pub mod Differ
+pub mod Growing
+pub mod Begun
+pub mod Footprints
+pub mod Successes

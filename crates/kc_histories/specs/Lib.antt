@@ -1,0 +1,4 @@
+pub mod Insertions
+pub mod Places
+pub mod Decisions
+pub mod Later

@@ -1,0 +1,5 @@
+pub mod Changes
+pub mod Ways
+pub mod Before
+pub mod Checking
+pub mod Growing
