@@ -1,16 +1,14 @@
 -- The lines that a pass goes over, and what its descriptor's words say of them.
-use Rattle.std.proofs.Common.{arith, ◌≡◌, ◌≢◌, ◌<◌, ◌≤◌, ◌+◌, ◌∙◌, ℕ, zero, suc, ◌==◌, Bool, true, false, List, [], ◌∷◌, All, map, length, Option, None, Some, refl, sym, ap, subst, Contains, cond, if◌then◌else◌, get_or}
-use Rattle.std.specs.Prelude.{nat_lt, slice_get}
+use Rattle.std.proofs.Common.{arith, ◌≡◌, ◌≢◌, ◌<◌, ◌+◌, ◌∙◌, ℕ, zero, suc, Bool, true, false, List, [], ◌∷◌, map, Option, None, Some, refl, sym, ap, subst, Contains, cond, if◌then◌else◌}
+use Rattle.std.specs.Prelude.{slice_get}
 use Rattle.std.specs.Option.{is_some}
 use Rattle.std.specs.List.{filter_map}
 use Rattle.std.proofs.lemmas.Bool.{lt-ltb}
-use Rattle.std.proofs.lemmas.List.Elements.{All-contains}
 use borrow.Author.Tests.{eq-eqb, ne_eqb}
 use Rattle.kc_model.specs.declared.footprint.Put.{Put}
-use Rattle.kc_model.specs.declared.footprint.Seen.{Seen}
 use Rattle.kc_model.specs.declared.plain_store.Cell.{Cell}
 use Rattle.kc_model.specs.Footprint.{put_at}
-use Rattle.kc_model.specs.Rising.{IsRising, IsRisingAbove}
+use Rattle.kc_model.specs.Rising.{IsRising}
 use Rattle.kc_model.specs.Store.{cell_after}
 use Rattle.kc_model.proofs.Stores.{Contains-first, Contains-later}
 use Rattle.kc_words.specs.declared.words.Handle.{Handle}
@@ -18,20 +16,18 @@ use Rattle.kc_words.specs.declared.words.Mode.{Mode}
 use Rattle.kc_words.specs.declared.words.First.{First}
 use Rattle.kc_words.specs.declared.words.Second.{Second}
 use Rattle.kc_words.specs.declared.words.Phase.{Phase}
-use Rattle.kc_words.specs.declared.words.Phase.TheVariants.{Active, Succeeded, Failed, Crossed, Halted}
+use Rattle.kc_words.specs.declared.words.Phase.TheVariants.{Succeeded}
 use Rattle.kc_steps.specs.declared.line.Line.{Line}
-use Rattle.kc_steps.specs.declared.line.Intent.{Intent}
 use Rattle.kc_steps.specs.declared.task.Event.{Event}
 use Rattle.kc_steps.specs.Lines.{has_put, value_after, joined, first_of, second_of, succeeds, next_version, resolved_version, resolved_value}
-use Rattle.kc_machine.specs.Machine.{World, Opening, run}
+use Rattle.kc_machine.specs.Machine.{Opening, run}
 use Rattle.kc_machine.specs.Schedules.{IsSchedule}
 use Rattle.kc_effects.specs.Stands.{Over, Turn}
-use Rattle.kc_seats.specs.Made.{IsWellMadeIntent, IsWellMadeLine, line_location}
+use Rattle.kc_seats.specs.Made.{IsWellMadeIntent, line_location}
 use Rattle.kc_pool.specs.Started.{listed, line_of_words}
 use Rattle.kc_pool.proofs.Started.{started_made}
 use Rattle.kc_claims.specs.Histories.{put_of_line}
 use Rattle.kc_traces.proofs.Entries.{lists_again}
-use Rattle.kc_passes.proofs.Targets.{Target}
 use Rattle.kc_histories.specs.Places.{pass_of}
 use Rattle.kc_histories.proofs.Footprints.{later_above, rest_rises}
 use Rattle.kc_histories.proofs.Growing.{line_that_puts}

@@ -1,5 +1,5 @@
 -- Words stand for what the history makes.
-use Rattle.std.proofs.Common.{arith, ◌≡◌, ◌≢◌, ◌<◌, ◌≤◌, ◌+◌, ◌⊎◌, inl, inr, ℕ, zero, suc, ◌++◌, ◌==◌, ◌&&◌, Bool, true, false, List, [], ◌∷◌, length, Option, None, Some, refl, sym, ap, subst, ◌∙◌, Contains, if◌then◌else◌}
+use Rattle.std.proofs.Common.{arith, ◌≡◌, ◌≢◌, ◌<◌, ◌≤◌, ◌+◌, inl, ℕ, zero, suc, ◌++◌, ◌==◌, ◌&&◌, Bool, true, false, List, [], ◌∷◌, length, Option, None, Some, refl, sym, ap, subst, ◌∙◌, Contains, if◌then◌else◌}
 use Rattle.std.specs.Prelude.{nat_lt, slice_get}
 use Rattle.std.specs.Option.{is_some}
 use Rattle.std.proofs.lemmas.Bool.{ltb-true}
@@ -26,37 +26,37 @@ use Rattle.kc_words.specs.declared.words.Phase.TheVariants.{Active, Succeeded, F
 use Rattle.kc_steps.specs.declared.line.Line.{Line}
 use Rattle.kc_steps.specs.declared.pass.PassStep.TheVariants.{Install, Decide, Release}
 use Rattle.kc_steps.specs.declared.task.Event.{Event}
-use Rattle.kc_steps.specs.Lines.{has_put, joined, first_of, second_of, succeeds, is_installed, resolved_version, resolved_value, word_of}
+use Rattle.kc_steps.specs.Lines.{has_put, joined, first_of, second_of, succeeds, is_installed, word_of}
 use Rattle.kc_steps.specs.Passes.{status}
 use Rattle.kc_machine.specs.Words.{phase_is}
 use Rattle.kc_machine.specs.Machine.{World, State, Opening, put, event_of, seat_of, run}
 use Rattle.kc_machine.specs.Schedules.{IsSchedule}
 use Rattle.kc_machine.proofs.Functions.{put_cases, put_else, put_here}
-use Rattle.kc_effects.specs.Stands.{Passing, Over, Turn, At, stand}
+use Rattle.kc_effects.specs.Stands.{Over, Turn, At, stand}
 use Rattle.kc_effects.specs.Holds.{Proper, own_hold}
 use Rattle.kc_effects.proofs.PoolLaws.{holds_kept}
 use Rattle.kc_pool.specs.Owners.{Follows, is_filling}
 use Rattle.kc_pool.specs.Started.{line_of_words}
 use Rattle.kc_pool.proofs.LifeLaws.{statuses_follow, statuses_behind}
 use Rattle.kc_claims.specs.Claims.{stands_for, WordsResolve}
-use Rattle.kc_claims.specs.Histories.{History, Placed, inserted, ending, put_of_line, footprint_of, installs, cell_of, FindsInstalled, IsLegalWhereInstalled}
+use Rattle.kc_claims.specs.Histories.{History, Placed, inserted, ending, put_of_line, installs, cell_of, FindsInstalled, IsLegalWhereInstalled}
 use Rattle.kc_claims.specs.Traces.{is_success, decides, first_store, trace}
 use Rattle.kc_traces.proofs.Joins.{run-append, every, made_parts}
 use Rattle.kc_traces.proofs.Others.{run_shape, event_out}
 use Rattle.kc_traces.proofs.Copies.{SameWords}
 use Rattle.kc_traces.proofs.Known.{versions_rise}
 use Rattle.kc_words.specs.declared.words.Owner.{Owner}
-use Rattle.kc_passes.specs.Phases.{IsDecided, AidKnows}
+use Rattle.kc_passes.specs.Phases.{AidKnows}
 use Rattle.kc_passes.proofs.Always.{references_fit, phase_known, line_known}
 use Rattle.kc_passes.proofs.Targets.{Target}
 use Rattle.kc_histories.specs.Decisions.{Decision}
 use Rattle.kc_histories.specs.Insertions.{put_by}
-use Rattle.kc_histories.specs.Later.{DecidesSoon, NothingLaterTouches}
+use Rattle.kc_histories.specs.Later.{NothingLaterTouches}
 use Rattle.kc_histories.specs.Places.{pass_of}
 use Rattle.kc_histories.proofs.Decisions.{Undecides, history_moves_by}
 use Rattle.kc_histories.proofs.Growing.{line_that_puts, line_that_reads, puts_installed, ends_by, grows_by, legal_once}
 use Rattle.kc_resolving.specs.Past.{PutsArePast}
-use Rattle.kc_resolving.proofs.Before.{got, level, target, stands_installed, same_word}
+use Rattle.kc_resolving.proofs.Before.{got, target, stands_installed}
 use Rattle.kc_resolving.proofs.Changes.{Changes, other, filled, started, installed, released, decided, Releasing, in_pass, in_aid, left_by, event_changes}
 use Rattle.kc_resolving.proofs.Checking.{controls_rise}
 use Rattle.kc_resolving.proofs.Growing.{known}
@@ -450,9 +450,9 @@ module _ (o : Opening) (es : List Event) (e : Event) (w : IsSchedule o es) (old 
   past_undecided b v (released g j p x q t) up f d i = old.past d i
   past_undecided b v (decided g mode xs p q was) up f d i = put_cases (λ (y : Status). y.phase ≡ Succeeded → y.generation ≡ (m.world.control d).generation → i < (m.world.owner d).lines → (m.world.first d i).put ≡ true → (m.world.first d i).version < (ending s h (m.world.second d i).loc).version) m.world.status g.descriptor (status g.generation p) d
       (λ z y.
-          let no : is_success p ≡ false = sym (ap (λ (z : Status). phase_is z.phase Active && is_success ((put m.world.status g.descriptor (status g.generation p)) g.descriptor).phase) was ∙ ap (λ (z : Status). is_success z.phase) (put_here m.world.status g.descriptor (status g.generation p))) ∙ f g mode xs (At (Decide p)) q in
-          let yes = ap is_success y in
-          absurd (cc))
+      let no : is_success p ≡ false = sym (ap (λ (z : Status). phase_is z.phase Active && is_success ((put m.world.status g.descriptor (status g.generation p)) g.descriptor).phase) was ∙ ap (λ (z : Status). is_success z.phase) (put_here m.world.status g.descriptor (status g.generation p))) ∙ f g mode xs (At (Decide p)) q in
+      let yes = ap is_success y in
+      absurd (cc))
       (λ ne. old.past d i)
 
   -- ---- one event
