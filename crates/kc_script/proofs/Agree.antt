@@ -20,6 +20,7 @@ use Rattle.kc_verbs.specs.Words.{structure_word, word_of}
 use Rattle.kc_verbs.specs.Declaring.{declare, declared_by, declared}
 use Rattle.kc_verbs.specs.Saying.{say, said_by, said}
 use Rattle.kc_script.specs.Spells.{Line, header, thread_line, atomic_line, or_line, end_line, Declare, Block, Say, Threads, Spells}
+use Rattle.kc_script.specs.FirstFault.{Fault}
 use Rattle.kc_script.specs.Refused.{SpellNone}
 use Rattle.kc_script.specs.Blocks.{OpenBlock, Place, sequence, nest, op_line, counted_up, or_at, end_at}
 use Rattle.kc_script.specs.Blocks.{atomic_line as atomic_at}
@@ -27,8 +28,8 @@ use Rattle.kc_script.specs.Reading.{State, opening, declared_line, said_line, be
 use Rattle.kc_script.specs.Reading.{thread_line as opened_thread}
 use Rattle.kc_script.proofs.Trees.{nested, nested_push, nest_ok, IsSmall}
 use Rattle.kc_script.proofs.Took.{outside, at, inside, all_contents, skipping}
+use Rattle.kc_script.proofs.Numbered.{plain_spelled}
 use Rattle.kc_script.proofs.Spelled.{block_small}
-use Rattle.kc_script.proofs.ReadLines.{spelled_spells}
 
 -- a line was read, and then the others
 read_on : (s next : State) (line : Line) (ls : List Line) → content_line s line ≡ Ok next → all_contents s (line ∷ ls) ≡ all_contents next ls
@@ -221,22 +222,25 @@ header_outside = refl
 
 -- what is spelled is read
 pub spells_spelled : (bytes : List ℕ) (s : Script) → Spells bytes s → spelled bytes ≡ Ok s
-unfolding spelled
 spells_spelled bytes s p =
+    plain_spelled bytes s (
     ap (λ (r : Result State Why). r >>= ended) (
     skipping (lines bytes) opening
     ∙ ap (all_contents opening) p.lines
     ∙ read_on opening (outside []) header (p.declaring ++ p.threading) header_outside
     ∙ declares_read [] s.objects p.declaring p.threading p.declares
     )
-    ∙ all_threads_read s.objects p.threading s.threads p.threads
+    ∙ all_threads_read s.objects p.threading s.threads p.threads)
 
 -- bytes spell at most one script
 pub spells_one : (bytes : List ℕ) (s t : Script) → Spells bytes s → Spells bytes t → s ≡ t
-spells_one bytes s t p q = ok_is s t (sym (spells_spelled bytes s p) ∙ spells_spelled bytes t q)
+spells_one bytes s t p q =
+    let first = spells_spelled bytes s p in
+    let second = spells_spelled bytes t q in
+    cc
 
 -- bytes that are read as none spell none
-pub read_refuses : (bytes : List ℕ) (why : Why) → spelled bytes ≡ Err why → SpellNone bytes
-read_refuses bytes why e s p =
+pub read_refuses : (bytes : List ℕ) (fault : Fault) → spelled bytes ≡ Err fault → SpellNone bytes
+read_refuses bytes fault e s p =
     let read = spells_spelled bytes s p in
     cc

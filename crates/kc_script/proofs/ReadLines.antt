@@ -24,6 +24,7 @@ use Rattle.kc_script.specs.Spells.{Line, contents, header, thread_line, atomic_l
 use Rattle.kc_script.specs.Blocks.{OpenBlock, in_block, with_block, or_at, end_at}
 use Rattle.kc_script.specs.Reading.{State, opening, nowhere, closed, no_block, declared_line, said_line, begun_block, worded_line, header_line, content_line, all_lines, ended, spelled}
 use Rattle.kc_script.specs.Reading.{thread_line as opened_thread}
+use Rattle.kc_script.proofs.Numbered.{spelled_plain}
 use Rattle.kc_script.proofs.Trees.{nested, nested_push}
 use Rattle.kc_script.proofs.LineWords.{lone, thread_word}
 use Rattle.kc_script.proofs.Took.{outside, at, inside, all_contents, skipping, thread_took, one_took, block_took, part_took, inner_took, other_took, ends_took, out_took, in_took}
@@ -353,8 +354,7 @@ opening_read ((head ∷ args) ∷ cs) t s e f =
 
 -- what is read is spelled
 pub spelled_spells : (bytes : List ℕ) (s : Script) → spelled bytes ≡ Ok s → Spells bytes s
-unfolding spelled
 spelled_spells bytes s e =
-    let a = bind_ok (all_lines opening (lines bytes)) ended s e in
+    let a = bind_ok (all_lines opening (lines bytes)) ended s (spelled_plain bytes s e) in
     let r = opening_read (contents bytes) a.0 s (sym (skipping (lines bytes) opening) ∙ a.1) a.2 in
     record { declaring = r.declaring; threading = r.threading; lines = r.parts; declares = r.declares; threads = r.follow }

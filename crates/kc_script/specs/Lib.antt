@@ -1,4 +1,5 @@
 pub mod Spells
+pub mod FirstFault
 pub mod Refused
 pub mod Threads
 pub mod Blocks

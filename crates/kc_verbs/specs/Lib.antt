@@ -2,3 +2,4 @@ pub mod Words
 pub mod Objects
 pub mod Saying
 pub mod Declaring
+pub mod Fields
