@@ -1,6 +1,6 @@
 -- The reader stops at the first fault.
-use Rattle.std.proofs.Common.{◌≡◌, ℕ, suc, ◌+◌, ◌≤◌, Bool, true, false, ◌&&◌, not, cond, leb, ltb, eqb, List, [], ◌∷◌, ◌++◌, length, drop, Option, Some, None, Result, Ok, Err, refl, sym, ap, subst, ◌∙◌, arith, length-append}
-use Rattle.std.specs.Prelude.{is_some, codes, map, IfOk, IfErr}
+use Rattle.std.proofs.Common.{◌≡◌, ℕ, ◌+◌, Bool, true, false, ◌&&◌, not, cond, leb, ltb, eqb, List, [], ◌∷◌, ◌++◌, length, drop, Option, Some, None, Result, Ok, Err, refl, sym, ap, subst, ◌∙◌, arith, length-append}
+use Rattle.std.specs.Prelude.{codes, IfOk, IfErr}
 use Rattle.std.specs.Option.{option_or, option_map}
 use Rattle.std.specs.Str.{bytes_eq}
 use Rattle.std.proofs.lemmas.Bool.{eqb-true}
@@ -10,10 +10,10 @@ use Rattle.kc_lines.specs.declared.fault.Why.{Why}
 use Rattle.kc_lines.specs.declared.fault.Why.TheVariants.{Header, UnknownWord, UnknownName, RepeatedName, BadName, BadNumber, WrongKind, MissingWord, ExtraWord, UnclosedBlock, StrayWord, TooMany}
 use Rattle.kc_lines.specs.declared.fault.Limit.TheVariants.{Locations, Threads as ThreadsLimit, Commands as CommandsLimit, Block as BlockLimit, Depth}
 use Rattle.kc_lines.specs.Words.{lines, words, is_skipped}
-use Rattle.kc_lines.specs.Tests.{◌>>=◌, wants, found, counted, word_at, first_failing, fault_of, count_tests}
-use Rattle.kc_lines.proofs.Given.{given, bind_ok, wants_ok, ok_is, none_counted}
+use Rattle.kc_lines.specs.Tests.{◌>>=◌, wants, counted, word_at, first_failing, fault_of, count_tests}
+use Rattle.kc_lines.proofs.Given.{given, bind_ok, ok_is}
 use Rattle.kc_lines.proofs.Faults.{Tested, then_fault, made_fault, wants_fault, counted_fault}
-use Rattle.kc_term.specs.Tree.{Tree, op, seq, trees}
+use Rattle.kc_term.specs.Tree.{Tree}
 use Rattle.kc_bundle.specs.declared.object.Object.{Object}
 use Rattle.kc_bundle.specs.declared.operation.Op.{Op}
 use Rattle.kc_bundle.specs.declared.operation.Command.{Command}
@@ -29,12 +29,12 @@ use Rattle.kc_verbs.specs.declared.word.Word.TheVariants as word
 use Rattle.kc_verbs.specs.Words.{word_of}
 use Rattle.kc_verbs.specs.Declaring.{declare}
 use Rattle.kc_verbs.specs.Saying.{say}
-use Rattle.kc_verbs.specs.Fields.{Kinds, object_kind, kinds_of, kind_fields, verb_fields, size_of, args_tests}
+use Rattle.kc_verbs.specs.Fields.{Kinds, object_kind, kinds_of, kind_fields, size_of, args_tests}
 use Rattle.kc_verbs.proofs.Tested.{say_fault, declare_fault, declare_is}
 use Rattle.kc_script.specs.Spells.{Line}
 use Rattle.kc_script.specs.Blocks.{OpenBlock, Place, block_of, in_block, counted_up, with_op, with_block, op_line, level_here, atomic_line, or_at, end_at}
-use Rattle.kc_script.specs.Reading.{State, opening, nowhere, closed, next_thread, no_block, with_object, placed, declared_line, said_line, begun_block, thread_line, worded_line, header_line, content_line, any_line, all_lines, ended, atomics_behind, atomics_after, atomics_next, nearest, place_of_fault, at_line, then_read, read_from, spelled, Spelled}
-use Rattle.kc_script.specs.FirstFault.{Fault, OpenAt, Context, start, is_open, level_in, level_below, innermost, thread_after, is_header, place_tests, fields_of, room_tests, limit_tests, word_tests, tests, end_tests, one_more, deeper, ended_block, behind_word, next, line_of, fault_in, first_fault_from, first_fault}
+use Rattle.kc_script.specs.Reading.{State, opening, closed, next_thread, no_block, with_object, placed, declared_line, said_line, begun_block, thread_line, worded_line, header_line, content_line, any_line, all_lines, ended, atomics_behind, atomics_after, nearest, place_of_fault, at_line, then_read, read_from, spelled, Spelled}
+use Rattle.kc_script.specs.FirstFault.{Fault, OpenAt, Context, is_open, level_below, innermost, thread_after, is_header, room_tests, limit_tests, word_tests, tests, end_tests, one_more, deeper, ended_block, behind_word, next, line_of, fault_in, first_fault_from, first_fault}
 use Rattle.kc_script.proofs.Objects.{next_from_more}
 use Rattle.kc_script.specs.Spells.{Spells}
 use Rattle.kc_script.specs.Refused.{SpellNone, Refused}
@@ -120,8 +120,8 @@ module _ (begun : Bool) (objects : Names) (threads : List (List Command)) (here 
       let depth = λ (level : ℕ). (leb level 8, TooMany Depth) ∷ [] in
       subst (λ level. Tested (atomic_line (now thread blocks).place args) (count_tests 0 args ++ (room_tests (context thread blocks) ++ depth level))) (level_same blocks)
       (then_fault (counted 0 args) (λ all. counted_up (now thread blocks).place blocks >>= last) (count_tests 0 args) (room_tests (context thread blocks) ++ depth (level_here blocks)) (counted_fault 0 args)
-        (λ all e. then_fault (counted_up (now thread blocks).place blocks) last (room_tests (context thread blocks)) (depth (level_here blocks)) (room_fault thread blocks)
-          (λ count f. made_fault (wants (leb (level_here blocks) 8) (TooMany Depth)) (λ shallow. begun_at blocks count) _ (wants_fault _ _))))
+      (λ all e. then_fault (counted_up (now thread blocks).place blocks) last (room_tests (context thread blocks)) (depth (level_here blocks)) (room_fault thread blocks)
+      (λ count f. made_fault (wants (leb (level_here blocks) 8) (TooMany Depth)) (λ shallow. begun_at blocks count) _ (wants_fault _ _))))
 
   atomic_fault : (thread : Option ℕ) (blocks : List OpenBlock) (args : List (List ℕ)) → Tested (begun_block (now thread blocks) args) (word_tests (context thread blocks) (Some word.Atomic) args)
   unfolding begun_block

@@ -14,7 +14,9 @@ use crate::parser::MOST_BYTES;
 use crate::reader::Reader;
 use indexmap::IndexMap;
 use kc_bundle::{Bundle, Object, cells};
-use kc_lines::{Complaint, Limit, ScriptError, Why, counted, is_skipped, lines_of, wants, word_at, words_of};
+use kc_lines::{
+    Complaint, Limit, ScriptError, Why, counted, is_skipped, lines_of, wants, word_at, words_of,
+};
 use kc_verbs::{Kind, Verb, Word, add, declare, say, word_of};
 use std::alloc::{AllocError, Global};
 use std::mem;
@@ -159,7 +161,12 @@ fn keep_atomics(atomics: &mut Vec<u32>, line: u32, word: Option<Word>) -> Result
 }
 
 #[tactic(auto, unfolding(crate::specs::Reading::content_line))]
-fn content_line(reader: &mut Reader, atomics: &mut Vec<u32>, line: u32, words: &[&[u8]]) -> Result<(), Complaint>
+fn content_line(
+    reader: &mut Reader,
+    atomics: &mut Vec<u32>,
+    line: u32,
+    words: &[&[u8]],
+) -> Result<(), Complaint>
     ensures state { Reaches (state_of reader.new) result (content_line (state_of reader.old) (map (λ word. word.now) words.now)) }
     ensures atomics { OnOk result (reverse atomics.new.items ≡ atomics_after reader.old.begun (reverse atomics.old.items) line (map (λ word. word.now) words.now)) }
 {
@@ -179,7 +186,12 @@ fn content_line(reader: &mut Reader, atomics: &mut Vec<u32>, line: u32, words: &
 }
 
 #[tactic(auto, unfolding(crate::specs::Reading::any_line))]
-fn any_line(reader: &mut Reader, atomics: &mut Vec<u32>, line: u32, words: &[&[u8]]) -> Result<(), Complaint>
+fn any_line(
+    reader: &mut Reader,
+    atomics: &mut Vec<u32>,
+    line: u32,
+    words: &[&[u8]],
+) -> Result<(), Complaint>
     ensures state { Reaches (state_of reader.new) result (any_line (state_of reader.old) (map (λ word. word.now) words.now)) }
     ensures atomics { OnOk result (reverse atomics.new.items ≡ atomics_next reader.old.begun (reverse atomics.old.items) line (map (λ word. word.now) words.now)) }
 {
@@ -210,7 +222,12 @@ fn complained(nearest: u32, line: u32, complaint: Complaint) -> ScriptError
     }
 }
 
-fn text_line(reader: &mut Reader, atomics: &mut Vec<u32>, line: u32, text: &[u8]) -> Result<(), ScriptError>
+fn text_line(
+    reader: &mut Reader,
+    atomics: &mut Vec<u32>,
+    line: u32,
+    text: &[u8],
+) -> Result<(), ScriptError>
     ensures state { Comes (state_of reader.new) result (at_line (nearest (reverse atomics.old.items)) line (any_line (state_of reader.old) (words text.now))) }
     ensures atomics { OnOk result (reverse atomics.new.items ≡ atomics_next reader.old.begun (reverse atomics.old.items) line (words text.now)) }
 {
@@ -223,7 +240,11 @@ fn text_line(reader: &mut Reader, atomics: &mut Vec<u32>, line: u32, text: &[u8]
 }
 
 // Reads the lines in turn. They are numbered from 1.
-fn all_lines(reader: &mut Reader, atomics: &mut Vec<u32>, texts: &[&[u8]]) -> Result<(), ScriptError>
+fn all_lines(
+    reader: &mut Reader,
+    atomics: &mut Vec<u32>,
+    texts: &[&[u8]],
+) -> Result<(), ScriptError>
     requires { length texts.now ≤ 4294967295 }
     ensures { Ends (state_of reader.new) (reverse atomics.new.items) result (read_from (state_of reader.old) (reverse atomics.old.items) 1 (map (λ text. text.now) texts.now)) }
 {

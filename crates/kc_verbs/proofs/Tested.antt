@@ -1,6 +1,6 @@
 -- What is wrong with a declaration or a command is the first of its tests that fails.
-use Rattle.std.proofs.Common.{◌≡◌, ℕ, suc, ◌+◌, ◌≤◌, Bool, true, false, ◌&&◌, not, cond, leb, List, [], ◌∷◌, ◌++◌, length, get_or, drop, Option, Some, None, Result, Ok, Err, refl, sym, ap, subst, ◌∙◌, append_assoc, arith}
-use Rattle.std.specs.Prelude.{is_some, codes, map}
+use Rattle.std.proofs.Common.{◌≡◌, ℕ, suc, ◌+◌, ◌≤◌, Bool, true, false, ◌&&◌, not, cond, leb, List, [], ◌∷◌, ◌++◌, length, drop, Option, Some, None, Result, Ok, Err, refl, sym, ap, subst, ◌∙◌, append_assoc, arith}
+use Rattle.std.specs.Prelude.{is_some, codes}
 use Rattle.std.specs.Str.{bytes_eq}
 use Rattle.std.proofs.lemmas.Bool.{le-leb, leb-true}
 use Rattle.kc_lines.specs.Words.{is_name, is_numeral, value_on, number}
@@ -12,9 +12,7 @@ use Rattle.kc_lines.proofs.Given.{given, bind_ok, wants_ok, ok_is}
 use Rattle.kc_lines.proofs.Faults.{then_fault, Tested, made_fault, counted_fault, counted_length, number_fault, number_value}
 use Rattle.kc_bundle.specs.declared.object.Object.{Object}
 use Rattle.kc_bundle.specs.declared.object.Object.TheVariants as object
-use Rattle.kc_bundle.specs.declared.operation.Op.{Op}
 use Rattle.kc_bundle.specs.Script.{Names, cells}
-use Rattle.kc_loc.specs.declared.operation.LocOp.{LocOp}
 use Rattle.kc_model.specs.declared.footprint.Loc.{Loc}
 use Rattle.kc_verbs.specs.declared.verb.LocWord.{LocWord}
 use Rattle.kc_verbs.specs.declared.verb.LocWord.TheVariants as loc_verb
@@ -355,8 +353,8 @@ pub say_fault : (thread : ℕ) (names : Names) (v : Verb) (args : List (List ℕ
 unfolding say
 say_fault thread names v args =
     then_fault (counted (arity v) args) (λ all. used names (word_at args 0) >>= λ o. op_on thread names v o args) (count_tests (length (verb_fields v)) args) (word_tests (kinds_of names) (verb_fields v) args)
-      (subst (λ n. Tested (counted (arity v) args) (count_tests n args)) (sym (arity_is v)) (counted_fault (arity v) args))
-      (λ all e. subst (Tested (used names (word_at args 0) >>= λ o. op_on thread names v o args)) (placed_tests (kinds_of names) (verb_fields v) args (counted_length (arity v) args all e ∙ sym (arity_is v))) (on_fault names args thread v))
+    (subst (λ n. Tested (counted (arity v) args) (count_tests n args)) (sym (arity_is v)) (counted_fault (arity v) args))
+    (λ all e. subst (Tested (used names (word_at args 0) >>= λ o. op_on thread names v o args)) (placed_tests (kinds_of names) (verb_fields v) args (counted_length (arity v) args all e ∙ sym (arity_is v))) (on_fault names args thread v))
 
 -- ---- a declaration
 
@@ -423,8 +421,8 @@ declare_fault names k args =
     let words = λ (e : length args ≡ length (kind_fields k)). sym (placed_tests (kinds_of names) (kind_fields k) args e) ∙ first_new (kinds_of names) args k in
     subst (Tested (declare names k args)) (sym (append_assoc (count_tests (length (kind_fields k)) args) (word_tests (kinds_of names) (kind_fields k) args) limit))
     (then_fault (counted (fields k) args) (λ all. new_name names (word_at args 0) >>= behind) (count_tests (length (kind_fields k)) args) (word_tests (kinds_of names) (kind_fields k) args ++ limit) count
-      (λ all e. subst (λ tests. Tested (new_name names (word_at args 0) >>= behind) (tests ++ limit)) (sym (words (counted_length (fields k) args all e ∙ sym (fields_is k))))
-        (then_fault (new_name names (word_at args 0)) behind named (later ++ limit) (new_fault names (word_at args 0)) (λ name new. made_fault (object_at (next names) k args) (λ o. (name, o)) (later ++ limit) (object_fault (next names) args (kinds_of names) k)))))
+    (λ all e. subst (λ tests. Tested (new_name names (word_at args 0) >>= behind) (tests ++ limit)) (sym (words (counted_length (fields k) args all e ∙ sym (fields_is k))))
+    (then_fault (new_name names (word_at args 0)) behind named (later ++ limit) (new_fault names (word_at args 0)) (λ name new. made_fault (object_at (next names) k args) (λ o. (name, o)) (later ++ limit) (object_fault (next names) args (kinds_of names) k)))))
 
 -- ---- what was declared
 

@@ -1,4 +1,5 @@
--- Lines that declare an object. On each line the tests stand in their order; what is wrong is the first that fails.
+-- How a line that declares an object is read: its tests in their order. Private to the parser and its proofs, but for
+-- `IsPlaced`; what a line declares is `Declares` of Canonical, what is wrong with it the first failing test of Fields.
 use Rattle.std.specs.Prelude.{◌≡◌, ℕ, ◌+◌, ◌*◌, ◌≤◌, Bool, true, false, List, [], ◌∷◌, Option, Some, Result, Ok, Err, nat_le, refl}
 use Rattle.std.proofs.lemmas.Bool.{leb-true}
 use Rattle.kc_lines.specs.Tests.{◌>>=◌, wants, counted, word_at, number_to}

@@ -3,3 +3,4 @@ pub mod Objects
 pub mod Saying
 pub mod Declaring
 pub mod Fields
+pub mod Canonical

@@ -1,4 +1,5 @@
--- Lines that say an operation. On each line the tests stand in their order; what is wrong is the first that fails.
+-- How a line that says an operation is read: its tests in their order. Private to the parser and its proofs; what a line says
+-- is `Says` of Canonical, what is wrong with it the first failing test of Fields.
 use Rattle.std.specs.Prelude.{ℕ, List, [], ◌∷◌, codes, Option, Some, Result, Ok, Err, if◌then◌else◌}
 use Rattle.std.specs.Str.{bytes_eq}
 use Rattle.kc_lines.specs.Tests.{◌>>=◌, counted, word_at, number_to}

@@ -13,7 +13,7 @@ mod word;
 
 pub use declaring::declare;
 pub use laws::{
-    commands_are_tested, declarations_are_tested, declares_behind, says_on_objects,
+    commands_are_tested, declarations_are_tested, lines_declare_one, lines_say_one, says_on_objects,
 };
 pub use objects::add;
 pub use saying::say;
