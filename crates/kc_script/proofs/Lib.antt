@@ -9,3 +9,5 @@ pub mod Agree
 pub mod Spelled
 pub mod Kept
 pub mod FirstFaults
+pub mod TextLines
+pub mod Again

@@ -4,3 +4,4 @@ pub mod Refused
 pub mod Threads
 pub mod Blocks
 pub mod Reading
+pub mod Canonical

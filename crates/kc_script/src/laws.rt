@@ -3,6 +3,7 @@
 ghost use Rattle.std.specs.Prelude.{◌≡◌, ◌≤◌, ℕ, List, ◌∷◌, length, Some, None, Ok};
 ghost use Rattle.kc_bundle.specs.Script.{Script, LiesInOrder, AreSized};
 ghost use Rattle.kc_script.specs.Spells.{Spells};
+ghost use Rattle.kc_script.specs.Canonical.{canonical_text};
 ghost use Rattle.kc_script.specs.FirstFault.{Fault, first_fault};
 ghost use Rattle.kc_script.specs.Refused.{SpellNone};
 ghost use Rattle.kc_script.specs.Threads.{AreThreads};
@@ -35,4 +36,9 @@ pub fn spelled_is_in_order()
 /// line where it was too much.
 pub fn blocks_are_made()
     ensures { (texts : List (List ℕ)) (s : State) (b : OpenBlock) (outer : List OpenBlock) → all_lines opening texts ≡ Ok s → s.place.open_blocks ≡ b ∷ outer → (t : Tree Op) × (block_of b ≡ Ok t) }
+{}
+
+/// The canonical text of a bundle that bytes spell spells it too.
+pub fn canonical_text_spells()
+    ensures { (bytes : List ℕ) (s : Script) → Spells bytes s → Spells (canonical_text s) s }
 {}
