@@ -1,24 +1,22 @@
 -- The canonical text of a script that bytes spell spells it too: each canonical word is the word that stands there, but for
 -- numbers, and what the lines are is carried over from line to line.
-use Rattle.std.proofs.Common.{◌≡◌, ℕ, ◌+◌, ◌≤◌, ◌<◌, Bool, true, false, cond, eqb, List, [], ◌∷◌, ◌++◌, length, Option, Some, None, refl, sym, ap, subst, ◌∙◌, append_assoc, arith}
-use Rattle.std.specs.Prelude.{map, decimal, slice_index}
+use Rattle.std.proofs.Common.{◌≡◌, ℕ, ◌+◌, ◌≤◌, ◌<◌, Bool, true, false, cond, eqb, List, [], ◌∷◌, ◌++◌, Some, refl, sym, ap, subst, ◌∙◌, append_assoc, arith}
+use Rattle.std.specs.Prelude.{slice_index}
 use Rattle.std.specs.List.{AllByRecursion}
 use Rattle.std.specs.Str.{bytes_eq}
 use Rattle.std.proofs.lemmas.List.{append-nil}
 use Rattle.std.proofs.lemmas.Bool.Decides.{nat_tests}
 use Rattle.std.proofs.lemmas.Slice.Eq.{bytes_eq-Decides}
-use Rattle.kc_lines.specs.Words.{is_name, is_skipped}
-use Rattle.kc_term.specs.Tree.{Tree, op, seq, first, Trees, none, more, trees}
-use Rattle.kc_loc.specs.declared.operation.LocOp.TheVariants as loc
+use Rattle.kc_lines.specs.Words.{is_skipped}
+use Rattle.kc_term.specs.Tree.{Tree, op, seq, first, trees}
 use Rattle.kc_bundle.specs.declared.object.Object.{Object}
 use Rattle.kc_bundle.specs.declared.object.Object.TheVariants as object
 use Rattle.kc_bundle.specs.declared.operation.Op.{Op}
 use Rattle.kc_bundle.specs.declared.operation.Command.{Command}
-use Rattle.kc_bundle.specs.declared.operation.Command.TheVariants as command
 use Rattle.kc_bundle.specs.Script.{Names, Script, base, cells, IsSized, AreSized, LieFrom}
 use Rattle.kc_verbs.specs.Objects.{object_of}
-use Rattle.kc_verbs.specs.Canonical.{Part, words_of, declaring, IsNamed, IsNumeral, Stands, Respells, Says, Declares}
-use Rattle.kc_script.specs.Spells.{Line, header, thread_line, atomic_line, or_line, end_line, contents, Declare, Block, Say, Threads, Spells}
+use Rattle.kc_verbs.specs.Canonical.{Part, words_of, declaring, Stands, Respells, Says}
+use Rattle.kc_script.specs.Spells.{Line, header, atomic_line, or_line, end_line, Declare, Block, Say, Threads, Spells}
 use Rattle.kc_script.specs.Canonical.{name_at, part_word, line_of, op_line, block_lines, parts_lines, part_lines, command_lines, thread_lines, declaration_lines, script_lines, canonical_text}
 use Rattle.kc_script.proofs.TextLines.{IsWord, Counts, AllCount, all_both, all_join, contents_count, contents_back, decimal_word, decimal_counts, decimal_numeral}
 use Rattle.kc_script.proofs.Spelled.{spelled_lies, spelled_sized}
@@ -230,9 +228,9 @@ module _ (names : Names) (lie : LieFrom 1 names) (sized : AreSized names) where
         rest = atomic_line ∷ (i.rest ++ end_line ∷ r.rest);
         block = Block.inner shallow lt i.block r.block;
         whole = r.whole
-          ∙ ap (λ (x : List Line). x ++ r.rest) (parts_more parts block ∙ ap (λ (x : List Line). parts_lines names (trees parts) ++ x) part)
-          ∙ append_assoc (parts_lines names (trees parts)) (atomic_line ∷ (i.rest ++ end_line ∷ [])) r.rest
-          ∙ ap (λ (x : List Line). parts_lines names (trees parts) ++ atomic_line ∷ x) (append_assoc i.rest (end_line ∷ []) r.rest);
+            ∙ ap (λ (x : List Line). x ++ r.rest) (parts_more parts block ∙ ap (λ (x : List Line). parts_lines names (trees parts) ++ x) part)
+            ∙ append_assoc (parts_lines names (trees parts)) (atomic_line ∷ (i.rest ++ end_line ∷ [])) r.rest
+            ∙ ap (λ (x : List Line). parts_lines names (trees parts) ++ atomic_line ∷ x) (append_assoc i.rest (end_line ∷ []) r.rest);
         counted = (k.1.0, all_join i.rest (end_line ∷ r.rest) i.counted (k.1.1.0, r.counted));
       }
 

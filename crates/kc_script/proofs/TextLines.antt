@@ -1,14 +1,14 @@
 -- The words of a line that was put together from words, and the lines of a text that was put together from lines.
-use Rattle.std.proofs.Common.{◌≡◌, ℕ, suc, zero, ◌+◌, ◌-◌, ◌*◌, ◌^◌, ◌≤◌, ◌<◌, Bool, true, false, ◌&&◌, not, cond, eqb, leb, List, [], ◌∷◌, ◌++◌, length, Some, refl, sym, ap, subst, ◌∙◌, append_assoc, arith, rules, tests, All}
+use Rattle.std.proofs.Common.{◌≡◌, ℕ, ◌^◌, ◌≤◌, ◌<◌, Bool, true, false, ◌&&◌, not, cond, eqb, List, [], ◌∷◌, ◌++◌, length, refl, ap, ◌∙◌, append_assoc, arith, rules, tests}
 use Rattle.std.specs.Prelude.{filter, map, decimal, slice_index}
-use Rattle.std.specs.List.{slice_split, onto_first, flat_map, list_all, AllByRecursion}
-use Rattle.std.proofs.lemmas.Bool.{le-leb, leb-true}
+use Rattle.std.specs.List.{slice_split, onto_first, list_all, AllByRecursion}
+use Rattle.std.proofs.lemmas.Bool.{le-leb}
 use Rattle.std.proofs.lemmas.Bool.Decides.{nat_tests}
 use Rattle.std.proofs.lemmas.List.Splits.{slice_split_at, slice_split_none, slice_split-cons_yes, slice_split-cons_no}
 use Rattle.std.proofs.lemmas.List.Elements.{All-from_recursion}
 use Rattle.std.proofs.lemmas.Str.Parse.{IsNumeralModel, numerals_by_fold}
 use Rattle.std.proofs.lemmas.Fmt.{digits_decimal, digits_value-decimal, length-decimal-le, decimal_nonempty}
-use Rattle.kc_lines.specs.Words.{is_blank, words, lines, is_skipped, is_digit, is_within, is_numeral, value_on}
+use Rattle.kc_lines.specs.Words.{is_blank, words, lines, is_skipped, is_digit, value_on}
 use Rattle.kc_verbs.specs.Canonical.{IsNumeral}
 use Rattle.kc_script.specs.Spells.{Line, contents}
 use Rattle.kc_script.specs.Canonical.{line_text, text_of_lines}
