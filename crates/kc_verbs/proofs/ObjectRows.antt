@@ -121,7 +121,7 @@ declared_declares names (first ∷ args) entry e = by (word_of first) refl e whe
       let new = new_is names (word_at args 0) b.0 b.1 in
       let row = object_row names (next names) args b.0 d.0 k d.1 in
       let line = row_respells names args b.0 k first (declaring b.0 d.0) row (word_has first (word.Declare k) h) new.0 (counted_length (fields k) args a.0 a.1) in
-      subst (Declares names (first ∷ args)) (ok_is _ _ d.2) (line, new.1, new.2, subst (λ (x : List ℕ × Object). IsPlaced names x.1) (sym (ok_is _ _ d.2)) (declared_placed names (first ∷ args) entry e))
+      subst (Declares names (first ∷ args)) (ok_is (b.0, d.0) entry d.2) (line, new.1, new.2, subst (λ (x : List ℕ × Object). IsPlaced names x.1) (sym (ok_is (b.0, d.0) entry d.2)) (declared_placed names (first ∷ args) entry e))
 
 -- ---- what is declared is read
 

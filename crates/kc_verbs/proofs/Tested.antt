@@ -311,50 +311,12 @@ module _ (names : Names) (args : List (List ℕ)) where
 
 -- ---- a command
 
--- its table has as many fields as it wants words
-arity_is : (v : Verb) → length (verb_fields v) ≡ arity v
-arity_is (verb.OnLoc loc_verb.Get) = refl
-arity_is (verb.OnLoc loc_verb.Set) = refl
-arity_is (verb.OnLoc loc_verb.Exchange) = refl
-arity_is (verb.OnLoc loc_verb.Swap) = refl
-arity_is (verb.OnLoc loc_verb.Cas) = refl
-arity_is (verb.OnLoc loc_verb.FetchAdd) = refl
-arity_is (verb.OnLoc loc_verb.Incr) = refl
-arity_is (verb.OnLoc loc_verb.Decr) = refl
-arity_is (verb.OnLoc loc_verb.Update) = refl
-arity_is (verb.OnLoc loc_verb.Modify) = refl
-arity_is (verb.OnLoc loc_verb.Check) = refl
-arity_is (verb.OnStack stack_verb.Push) = refl
-arity_is (verb.OnStack stack_verb.Pop) = refl
-arity_is (verb.OnStack stack_verb.PopWait) = refl
-arity_is (verb.OnStack stack_verb.Top) = refl
-arity_is (verb.OnQueue queue_verb.Enq) = refl
-arity_is (verb.OnQueue queue_verb.Deq) = refl
-arity_is (verb.OnQueue queue_verb.DeqWait) = refl
-arity_is (verb.OnQueue queue_verb.Front) = refl
-arity_is (verb.OnTable table_verb.Put) = refl
-arity_is (verb.OnTable table_verb.Find) = refl
-arity_is (verb.OnTable table_verb.Del) = refl
-arity_is (verb.OnCache cache_verb.CPut) = refl
-arity_is (verb.OnCache cache_verb.CPutWait) = refl
-arity_is (verb.OnCache cache_verb.CGet) = refl
-arity_is (verb.OnCache cache_verb.CDel) = refl
-arity_is (verb.OnMvar mvar_verb.Put) = refl
-arity_is (verb.OnMvar mvar_verb.Take) = refl
-arity_is (verb.OnMvar mvar_verb.Peek) = refl
-arity_is (verb.OnPromise promise_verb.Resolve) = refl
-arity_is (verb.OnPromise promise_verb.Await) = refl
-arity_is (verb.OnPromise promise_verb.IsResolved) = refl
-arity_is (verb.OnAcc acc_verb.Bump) = refl
-arity_is (verb.OnAcc acc_verb.Total) = refl
-arity_is verb.Len = refl
-
 pub say_fault : (thread : ℕ) (names : Names) (v : Verb) (args : List (List ℕ)) → Tested (say thread names v args) (args_tests (kinds_of names) (verb_fields v) args)
 unfolding say
 say_fault thread names v args =
-    then_fault (counted (arity v) args) (λ all. used names (word_at args 0) >>= λ o. op_on thread names v o args) (count_tests (length (verb_fields v)) args) (word_tests (kinds_of names) (verb_fields v) args)
-    (subst (λ n. Tested (counted (arity v) args) (count_tests n args)) (sym (arity_is v)) (counted_fault (arity v) args))
-    (λ all e. subst (Tested (used names (word_at args 0) >>= λ o. op_on thread names v o args)) (placed_tests (kinds_of names) (verb_fields v) args (counted_length (arity v) args all e ∙ sym (arity_is v))) (on_fault names args thread v))
+    then_fault (counted (arity v) args) (λ all. used names (word_at args 0) >>= λ o. op_on thread names v o args) (count_tests (arity v) args) (word_tests (kinds_of names) (verb_fields v) args)
+    (counted_fault (arity v) args)
+    (λ all e. subst (Tested (used names (word_at args 0) >>= λ o. op_on thread names v o args)) (placed_tests (kinds_of names) (verb_fields v) args (counted_length (arity v) args all e)) (on_fault names args thread v))
 
 -- ---- a declaration
 
@@ -388,17 +350,6 @@ module _ (at : ℕ) (args : List (List ℕ)) where
   object_fault names kind.Promise = laid_fault _ _ _ refl
   object_fault names kind.Acc = then_sized 32 (word_at args 1) (acc_at at) _ (λ n v some. some_fault n _ _ some (λ le. laid_fault _ _ _ (omega (arith, v))))
 
--- its table has as many fields as it wants words
-fields_is : (k : Kind) → length (kind_fields k) ≡ fields k
-fields_is kind.Loc = refl
-fields_is kind.Stack = refl
-fields_is kind.Queue = refl
-fields_is kind.Table = refl
-fields_is kind.Cache = refl
-fields_is kind.Mvar = refl
-fields_is kind.Promise = refl
-fields_is kind.Acc = refl
-
 -- its name, and the words behind it
 first_new : (names : Kinds) (args : List (List ℕ)) (k : Kind) → tests_from names args 0 (kind_fields k) ≡ field_tests names Field.new (word_at args 0) ++ tests_from names args 1 (drop 1 (kind_fields k))
 first_new names args kind.Loc = refl
@@ -417,11 +368,10 @@ declare_fault names k args =
     let named = field_tests (kinds_of names) Field.new (word_at args 0) in
     let later = tests_from (kinds_of names) args 1 (drop 1 (kind_fields k)) in
     let behind = λ (name : List ℕ). object_at (next names) k args >>= λ o. given (name, o) in
-    let count = subst (λ n. Tested (counted (fields k) args) (count_tests n args)) (sym (fields_is k)) (counted_fault (fields k) args) in
     let words = λ (e : length args ≡ length (kind_fields k)). sym (placed_tests (kinds_of names) (kind_fields k) args e) ∙ first_new (kinds_of names) args k in
     subst (Tested (declare names k args)) (sym (append_assoc (count_tests (length (kind_fields k)) args) (word_tests (kinds_of names) (kind_fields k) args) limit))
-    (then_fault (counted (fields k) args) (λ all. new_name names (word_at args 0) >>= behind) (count_tests (length (kind_fields k)) args) (word_tests (kinds_of names) (kind_fields k) args ++ limit) count
-    (λ all e. subst (λ tests. Tested (new_name names (word_at args 0) >>= behind) (tests ++ limit)) (sym (words (counted_length (fields k) args all e ∙ sym (fields_is k))))
+    (then_fault (counted (fields k) args) (λ all. new_name names (word_at args 0) >>= behind) (count_tests (length (kind_fields k)) args) (word_tests (kinds_of names) (kind_fields k) args ++ limit) (counted_fault (fields k) args)
+    (λ all e. subst (λ tests. Tested (new_name names (word_at args 0) >>= behind) (tests ++ limit)) (sym (words (counted_length (fields k) args all e)))
     (then_fault (new_name names (word_at args 0)) behind named (later ++ limit) (new_fault names (word_at args 0)) (λ name new. made_fault (object_at (next names) k args) (λ o. (name, o)) (later ++ limit) (object_fault (next names) args (kinds_of names) k)))))
 
 -- ---- what was declared
