@@ -25,4 +25,3 @@ why_words why.ExtraWord = codes "extra word"
 why_words why.UnclosedBlock = codes "unclosed block"
 why_words why.StrayWord = codes "word out of place"
 why_words (why.TooMany l) = limit_words l
-why_words why.NotBuilt = codes "not built"

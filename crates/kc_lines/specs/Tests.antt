@@ -1,6 +1,6 @@
 -- The tests of a line that look at its words alone. What is wrong with a line is the first test that fails.
-use Rattle.std.specs.Prelude.{ℕ, Bool, List, length, Option, Some, None, Result, Ok, Err, get_or, [], nat_lt, if◌then◌else◌}
-use Rattle.kc_lines.specs.Words.{number}
+use Rattle.std.specs.Prelude.{ℕ, Bool, List, length, Option, Some, None, Result, Ok, Err, get_or, [], ◌∷◌, ◌&&◌, nat_lt, nat_le, if◌then◌else◌}
+use Rattle.kc_lines.specs.Words.{is_numeral, value_on, number}
 use Rattle.kc_lines.specs.declared.fault.Why.{Why}
 use Rattle.kc_lines.specs.declared.fault.Why.TheVariants.{BadNumber, MissingWord, ExtraWord}
 
@@ -28,3 +28,23 @@ word_at args i = get_or args i []
 -- a number up to this one
 unfoldable pub number_to : ℕ → List ℕ → Result ℕ Why
 number_to most word = found (number most word) BadNumber
+
+-- ---- tests as a list
+
+-- what is wrong: the reason of the first test that fails
+abbrev pub first_failing : List (Bool × Why) → Option Why
+first_failing [] = None
+first_failing (t ∷ tests) = if t.0 then first_failing tests else Some t.1
+
+-- what was wrong, where something was
+abbrev pub fault_of : {A : Type 0} → Result A Why → Option Why
+fault_of (Ok x) = None
+fault_of (Err why) = Some why
+
+-- neither too few words stand behind the first, nor too many
+abbrev pub count_tests : ℕ → List (List ℕ) → List (Bool × Why)
+count_tests count args = (nat_le count (length args), MissingWord) ∷ (nat_le (length args) count, ExtraWord) ∷ []
+
+-- the word is a number in this range
+abbrev pub is_number : ℕ → ℕ → List ℕ → Bool
+is_number least most word = is_numeral word && nat_le least (value_on 0 word) && nat_le (value_on 0 word) most

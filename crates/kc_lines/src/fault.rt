@@ -1,5 +1,8 @@
 ghost use Rattle.std.specs.Prelude.{◌≡◌, ◌≤◌, length};
 ghost use Rattle.kc_lines.specs.Fault.{limit_words, why_words};
+ghost use Rattle.kc_lines.specs.declared.fault.ScriptError.TheVariants.{NoMemory};
+
+use std::alloc::AllocError;
 
 /// The most bytes that the words for a fault have. Whoever shows them keeps room for so many.
 pub const LONGEST_WORDS: usize = 28;
@@ -59,8 +62,6 @@ pub enum Why {
     /// The word can't stand here.
     StrayWord,
     TooMany(Limit),
-    /// It is no bundle of the form that is built today, or no bundle at all.
-    NotBuilt,
 }
 
 impl Why {
@@ -82,7 +83,6 @@ impl Why {
             Why::UnclosedBlock => "unclosed block",
             Why::StrayWord => "word out of place",
             Why::TooMany(limit) => limit.words(),
-            Why::NotBuilt => "not built",
         }
     }
 }
@@ -92,4 +92,12 @@ impl Why {
 pub enum ScriptError {
     Fault { line: u32, why: Why },
     NoMemory,
+}
+
+impl From<AllocError> for ScriptError {
+    ghost from_gives = { λ _ e. e ≡ NoMemory };
+
+    fn from(_e: AllocError) -> Self {
+        ScriptError::NoMemory
+    }
 }

@@ -1,11 +1,10 @@
 -- The reader, line by line, reads a script exactly where the grammar has the bytes spell it.
 use Rattle.std.proofs.Common.{◌≡◌, ℕ, ◌+◌, ◌≤◌, ◌<◌, true, ltb, leb, List, [], ◌∷◌, ◌++◌, length, Option, Some, None, Result, Ok, Err, refl, sym, ap, subst, ◌∙◌, append_assoc, arith, length-append}
 use Rattle.std.proofs.lemmas.List.{append-nil}
-use Rattle.std.proofs.lemmas.Bool.{lt-ltb, leb-true, le-leb}
+use Rattle.std.proofs.lemmas.Bool.{lt-ltb, le-leb}
 use Rattle.kc_lines.specs.declared.fault.Why.{Why}
 use Rattle.kc_lines.specs.Words.{lines}
-use Rattle.kc_lines.specs.Tests.{◌>>=◌, wants}
-use Rattle.kc_lines.proofs.Given.{given, bind_ok, wants_ok, ok_is}
+use Rattle.kc_lines.specs.Tests.{◌>>=◌}
 use Rattle.kc_term.specs.Tree.{Tree, op, seq, trees}
 use Rattle.kc_bundle.specs.declared.object.Object.{Object}
 use Rattle.kc_bundle.specs.declared.operation.Op.{Op}
@@ -19,7 +18,10 @@ use Rattle.kc_verbs.specs.declared.word.Word.TheVariants as word
 use Rattle.kc_verbs.specs.Words.{structure_word, word_of}
 use Rattle.kc_verbs.specs.Declaring.{declare, declared_by, declared}
 use Rattle.kc_verbs.specs.Saying.{say, said_by, said}
+use Rattle.kc_verbs.proofs.Rows.{says_said}
+use Rattle.kc_verbs.proofs.ObjectRows.{declares_declared}
 use Rattle.kc_script.specs.Spells.{Line, header, thread_line, atomic_line, or_line, end_line, Declare, Block, Say, Threads, Spells}
+use Rattle.kc_script.specs.FirstFault.{Fault}
 use Rattle.kc_script.specs.Refused.{SpellNone}
 use Rattle.kc_script.specs.Blocks.{OpenBlock, Place, sequence, nest, op_line, counted_up, or_at, end_at}
 use Rattle.kc_script.specs.Blocks.{atomic_line as atomic_at}
@@ -27,8 +29,8 @@ use Rattle.kc_script.specs.Reading.{State, opening, declared_line, said_line, be
 use Rattle.kc_script.specs.Reading.{thread_line as opened_thread}
 use Rattle.kc_script.proofs.Trees.{nested, nested_push, nest_ok, IsSmall}
 use Rattle.kc_script.proofs.Took.{outside, at, inside, all_contents, skipping}
+use Rattle.kc_script.proofs.Numbered.{plain_spelled}
 use Rattle.kc_script.proofs.Spelled.{block_small}
-use Rattle.kc_script.proofs.ReadLines.{spelled_spells}
 
 -- a line was read, and then the others
 read_on : (s next : State) (line : Line) (ls : List Line) → content_line s line ≡ Ok next → all_contents s (line ∷ ls) ≡ all_contents next ls
@@ -113,7 +115,7 @@ module _ (names : Names) (threads : List (List Command)) (thread : ℕ) (here : 
       read_on (inside names threads thread (at here (b ∷ outer) count)) (inside names threads thread (behind here outer count (nested done (seq (trees parts))))) end_line more (end_inside b outer count (nested done (seq (trees parts))) (nest_ok done parts small))
   block_lines level parts count _ tree total (Block.one {lines = ls} line o e lt rest) done outer more small =
       let b : OpenBlock = record { level = level; done = done; parts = parts } in
-      read_on (inside names threads thread (at here (b ∷ outer) count)) (inside names threads thread (at here (record b { parts = parts ++ op o ∷ [] } ∷ outer) (count + 1))) line (ls ++ end_line ∷ more) (part_inside b outer count line o e lt)
+      read_on (inside names threads thread (at here (b ∷ outer) count)) (inside names threads thread (at here (record b { parts = parts ++ op o ∷ [] } ∷ outer) (count + 1))) line (ls ++ end_line ∷ more) (part_inside b outer count line o (says_said thread names line o e) lt)
       ∙ block_lines level (parts ++ op o ∷ []) (count + 1) ls tree total rest done outer more small
   block_lines level parts count _ _ total (Block.other {lines = ls} {tree = tree} shallow rest) done outer more small =
       let b : OpenBlock = record { level = level; done = done; parts = parts } in
@@ -138,7 +140,7 @@ say_read names threads thread here _ _ more (Say.one {lines = ls} {commands = cs
     let c = command.One o in
     let whole : (here ++ c ∷ []) ++ cs ≡ here ++ c ∷ cs = append_assoc here (c ∷ []) cs in
     let lt : length here < 4096 = omega (arith, few, length-append here (c ∷ cs)) in
-    read_on (inside names threads thread (at here [] 0)) (inside names threads thread (at (here ++ c ∷ []) [] 0)) line (ls ++ more) (one_inside names threads thread here 0 line o e lt)
+    read_on (inside names threads thread (at here [] 0)) (inside names threads thread (at (here ++ c ∷ []) [] 0)) line (ls ++ more) (one_inside names threads thread here 0 line o (says_said thread names line o e) lt)
     ∙ say_read names threads thread (here ++ c ∷ []) ls cs more rest (subst (λ (x : List Command). length x ≤ 4096) (sym whole) few)
     ∙ ap (λ (x : List Command). all_contents (inside names threads thread (at x [] 0)) more) whole
 say_read names threads thread here _ _ more (Say.block {inside = mid} {lines = ls} {commands = cs} {tree = tree} {total = total} b rest) few =
@@ -211,7 +213,7 @@ declared_outside names (first ∷ args) entry e =
 declares_read : (names all : Names) (ls : List Line) (more : List Line) → Declare names ls all → all_contents (outside names) (ls ++ more) ≡ all_contents (outside all) more
 declares_read names all ls more Declare.none = refl
 declares_read names all _ more (Declare.one {lines = ls} line entry e rest) =
-    read_on (outside names) (outside (names ++ entry ∷ [])) line (ls ++ more) (declared_outside names line entry e)
+    read_on (outside names) (outside (names ++ entry ∷ [])) line (ls ++ more) (declared_outside names line entry (declares_declared names line entry e))
     ∙ declares_read (names ++ entry ∷ []) all ls more rest
 
 -- the header is read
@@ -221,22 +223,25 @@ header_outside = refl
 
 -- what is spelled is read
 pub spells_spelled : (bytes : List ℕ) (s : Script) → Spells bytes s → spelled bytes ≡ Ok s
-unfolding spelled
 spells_spelled bytes s p =
+    plain_spelled bytes s (
     ap (λ (r : Result State Why). r >>= ended) (
     skipping (lines bytes) opening
     ∙ ap (all_contents opening) p.lines
     ∙ read_on opening (outside []) header (p.declaring ++ p.threading) header_outside
     ∙ declares_read [] s.objects p.declaring p.threading p.declares
     )
-    ∙ all_threads_read s.objects p.threading s.threads p.threads
+    ∙ all_threads_read s.objects p.threading s.threads p.threads)
 
 -- bytes spell at most one script
 pub spells_one : (bytes : List ℕ) (s t : Script) → Spells bytes s → Spells bytes t → s ≡ t
-spells_one bytes s t p q = ok_is s t (sym (spells_spelled bytes s p) ∙ spells_spelled bytes t q)
+spells_one bytes s t p q =
+    let first = spells_spelled bytes s p in
+    let second = spells_spelled bytes t q in
+    cc
 
 -- bytes that are read as none spell none
-pub read_refuses : (bytes : List ℕ) (why : Why) → spelled bytes ≡ Err why → SpellNone bytes
-read_refuses bytes why e s p =
+pub read_refuses : (bytes : List ℕ) (fault : Fault) → spelled bytes ≡ Err fault → SpellNone bytes
+read_refuses bytes fault e s p =
     let read = spells_spelled bytes s p in
     cc

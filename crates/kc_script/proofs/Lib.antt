@@ -1,5 +1,6 @@
 pub mod Objects
 pub mod Lines
+pub mod Numbered
 pub mod LineWords
 pub mod Trees
 pub mod Took
@@ -7,3 +8,6 @@ pub mod ReadLines
 pub mod Agree
 pub mod Spelled
 pub mod Kept
+pub mod FirstFaults
+pub mod TextLines
+pub mod Again

@@ -20,10 +20,13 @@ use Rattle.kc_verbs.specs.declared.word.Word.TheVariants as word
 use Rattle.kc_verbs.specs.Words.{word_of}
 use Rattle.kc_verbs.specs.Declaring.{declare, declared_by, declared}
 use Rattle.kc_verbs.specs.Saying.{said}
+use Rattle.kc_verbs.proofs.Rows.{said_says}
+use Rattle.kc_verbs.proofs.ObjectRows.{declared_declares}
 use Rattle.kc_script.specs.Spells.{Line, contents, header, thread_line, atomic_line, or_line, end_line, Declare, Block, Say, Threads, Spells}
 use Rattle.kc_script.specs.Blocks.{OpenBlock, in_block, with_block, or_at, end_at}
 use Rattle.kc_script.specs.Reading.{State, opening, nowhere, closed, no_block, declared_line, said_line, begun_block, worded_line, header_line, content_line, all_lines, ended, spelled}
 use Rattle.kc_script.specs.Reading.{thread_line as opened_thread}
+use Rattle.kc_script.proofs.Numbered.{spelled_plain}
 use Rattle.kc_script.proofs.Trees.{nested, nested_push}
 use Rattle.kc_script.proofs.LineWords.{lone, thread_word}
 use Rattle.kc_script.proofs.Took.{outside, at, inside, all_contents, skipping, thread_took, one_took, block_took, part_took, inner_took, other_took, ends_took, out_took, in_took}
@@ -77,7 +80,7 @@ module _ (names : Names) (threads : List (List Command)) (thread : ℕ) (here : 
         commands = command.One o ∷ r.commands;
         later = r.later;
         parts = ap (λ (rest : List Line). line ∷ rest) r.parts;
-        said = Say.one line o e r.said;
+        said = Say.one line o (said_says thread names line o e) r.said;
         few = subst (λ (cs : List Command). length cs ≤ 4096) whole r.few;
         follow = r.follow;
         ends = subst (λ (cs : List Command). ended t ≡ Ok (record { objects = names; threads = threads ++ cs ∷ r.later })) whole r.ends;
@@ -140,7 +143,7 @@ module _ (names : Names) (threads : List (List Command)) (thread : ℕ) (here : 
     tree = r.tree;
     total = r.total;
     split = ap (λ (rest : List Line). line ∷ rest) r.split;
-    block = Block.one line o e lt r.block;
+    block = Block.one line o (said_says thread names line o e) lt r.block;
     follow = r.follow;
   }
 
@@ -268,7 +271,7 @@ outside_declared names line entry ls t e r = record {
   all = r.all;
   later = r.later;
   parts = ap (λ (rest : List Line). line ∷ rest) r.parts;
-  declares = Declare.one line entry e r.declares;
+  declares = Declare.one line entry (declared_declares names line entry e) r.declares;
   follow = r.follow;
   ends = r.ends;
 }
@@ -353,8 +356,7 @@ opening_read ((head ∷ args) ∷ cs) t s e f =
 
 -- what is read is spelled
 pub spelled_spells : (bytes : List ℕ) (s : Script) → spelled bytes ≡ Ok s → Spells bytes s
-unfolding spelled
 spelled_spells bytes s e =
-    let a = bind_ok (all_lines opening (lines bytes)) ended s e in
+    let a = bind_ok (all_lines opening (lines bytes)) ended s (spelled_plain bytes s e) in
     let r = opening_read (contents bytes) a.0 s (sym (skipping (lines bytes) opening) ∙ a.1) a.2 in
     record { declaring = r.declaring; threading = r.threading; lines = r.parts; declares = r.declares; threads = r.follow }

@@ -5,9 +5,7 @@ use Rattle.kc_bundle.specs.declared.operation.Op.{Op}
 use Rattle.kc_bundle.specs.declared.operation.Command.{Command}
 use Rattle.kc_bundle.specs.Script.{Names, Script, next_from, LieFrom, LiesInOrder, AreSized}
 use Rattle.kc_bundle.specs.On.{AllOn, CommandIsOn, CommandsAreOn}
-use Rattle.kc_verbs.specs.Saying.{said}
-use Rattle.kc_verbs.proofs.Declared.{declared_placed}
-use Rattle.kc_verbs.proofs.Said.{said_on}
+use Rattle.kc_verbs.proofs.Rows.{says_on}
 use Rattle.kc_script.specs.Spells.{Line, Declare, Block, Say, Threads, Spells}
 use Rattle.kc_script.specs.Threads.{AreThreads}
 use Rattle.kc_script.proofs.Trees.{IsSmall}
@@ -19,7 +17,7 @@ use Rattle.kc_script.proofs.Objects.{next_from_more, lies_more, sized_more}
 declares_lie : (names all : Names) (lines : List Line) → Declare names lines all → LieFrom 1 names → next_from 1 names ≤ 65536 → AreSized names → LieFrom 1 all × (next_from 1 all ≤ 65536) × AreSized all
 declares_lie names all lines Declare.none h le sized = (h, le, sized)
 declares_lie names all _ (Declare.one {lines = lines} line entry e rest) h le sized =
-    let p = declared_placed names line entry e in
+    let p = e.3 in
     declares_lie (names ++ entry ∷ []) all lines rest (lies_more 1 names entry h p.0) (omega (arith, next_from_more 1 names entry, p.1)) (sized_more names entry sized p.2)
 
 -- no objects lie in order
@@ -61,7 +59,7 @@ module _ (thread : ℕ) (names : Names) where
   block_on : (level : ℕ) (parts : List (Tree Op)) (count : ℕ) (lines : List Line) (tree : Tree Op) (total : ℕ) → Block thread names level parts count lines tree total → AllOn names (all_operations (trees parts)) → AllOn names (operations tree)
   block_on level parts count _ _ _ Block.ends h = h
   block_on level parts count _ tree total (Block.one {lines = lines} line o e lt rest) h =
-      block_on level (parts ++ op o ∷ []) (count + 1) lines tree total rest (subst (AllOn names) (sym (operations_more parts (op o))) (all_on_both names (all_operations (trees parts)) (o ∷ []) h (said_on thread names line o e, tt)))
+      block_on level (parts ++ op o ∷ []) (count + 1) lines tree total rest (subst (AllOn names) (sym (operations_more parts (op o))) (all_on_both names (all_operations (trees parts)) (o ∷ []) h (says_on thread names line o e, tt)))
   block_on level parts count _ _ total (Block.other {lines = lines} {tree = tree} shallow rest) h =
       all_on_both names (all_operations (trees parts)) (operations tree) h (block_on (level + 1) [] count lines tree total rest tt)
   block_on level parts count _ tree total (Block.inner {within = within} {inside = inside} {lines = lines} {block = block} shallow lt begun rest) h =
@@ -107,7 +105,7 @@ module _ (thread : ℕ) (names : Names) where
   -- commands that lines say are on objects
   commands_on : (lines : List Line) (cs : List Command) → Say thread names lines cs → CommandsAreOn names cs
   commands_on lines cs Say.none = tt
-  commands_on _ _ (Say.one {lines = lines} {commands = cs} line o e rest) = (said_on thread names line o e, commands_on lines cs rest)
+  commands_on _ _ (Say.one {lines = lines} {commands = cs} line o e rest) = (says_on thread names line o e, commands_on lines cs rest)
   commands_on _ _ (Say.block {inside = inside} {lines = lines} {commands = cs} {tree = tree} {total = total} b rest) =
       (((block_small 0 0 inside tree total (omega arith) (omega arith) b).0, block_on 0 [] 0 inside tree total b tt), commands_on lines cs rest)
 

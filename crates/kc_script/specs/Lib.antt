@@ -1,5 +1,7 @@
 pub mod Spells
+pub mod FirstFault
 pub mod Refused
 pub mod Threads
 pub mod Blocks
 pub mod Reading
+pub mod Canonical

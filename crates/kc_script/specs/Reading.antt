@@ -1,10 +1,14 @@
 -- Reading line by line, as the parser does it; private to this crate.
-use Rattle.std.specs.Prelude.{ℕ, ◌+◌, Bool, true, false, not, List, [], ◌∷◌, ◌++◌, length, map, reverse, codes, Option, Some, None, is_some, Result, Ok, Err, nat_lt, ◌==◌, if◌then◌else◌}
+use Rattle.std.specs.Prelude.{◌≡◌, ℕ, ◌+◌, Bool, true, false, not, List, [], ◌∷◌, ◌++◌, length, drop, map, reverse, codes, Option, Some, None, is_some, Result, Ok, Err, nat_lt, ◌==◌, if◌then◌else◌}
 use Rattle.std.specs.Str.{bytes_eq}
 use Rattle.std.specs.Global.{Vec}
 use Rattle.kc_lines.specs.declared.fault.Why.{Why}
 use Rattle.kc_lines.specs.declared.fault.Why.TheVariants.{Header, UnknownWord, StrayWord, UnclosedBlock, TooMany}
 use Rattle.kc_lines.specs.declared.fault.Limit.TheVariants.{Threads}
+use Rattle.kc_lines.specs.declared.complaint.Complaint.{Complaint}
+use Rattle.kc_lines.specs.declared.complaint.Complaint.TheVariants as complaint
+use Rattle.kc_lines.specs.declared.fault.ScriptError.{ScriptError}
+use Rattle.kc_lines.specs.declared.fault.ScriptError.TheVariants as error
 use Rattle.kc_lines.specs.Words.{lines, words, is_skipped}
 use Rattle.kc_lines.specs.Tests.{◌>>=◌, wants, found, counted, word_at}
 use Rattle.kc_term.specs.Tree.{Tree}
@@ -19,6 +23,7 @@ use Rattle.kc_verbs.specs.declared.word.Word.TheVariants as word
 use Rattle.kc_verbs.specs.Words.{word_of}
 use Rattle.kc_verbs.specs.Declaring.{declare}
 use Rattle.kc_verbs.specs.Saying.{say}
+use Rattle.kc_script.specs.FirstFault.{Fault}
 use Rattle.kc_script.specs.declared.reader.Open.{Open}
 use Rattle.kc_script.specs.declared.reader.Thread.{Thread}
 use Rattle.kc_script.specs.declared.reader.Reader.{Reader}
@@ -87,7 +92,7 @@ begun_block s args = do
 
 -- the open thread, where there is one, put behind the threads
 abbrev pub closed : State → State
-closed s = if is_some s.thread then record s { threads = s.threads ++ s.place.here ∷ []; place = nowhere } else s
+closed s = record s { threads = if is_some s.thread then s.threads ++ s.place.here ∷ [] else s.threads; place = nowhere }
 
 -- the number of the thread that begins next
 abbrev pub next_thread : Option ℕ → ℕ
@@ -141,5 +146,71 @@ ended s = do
   ended ← no_block s
   Ok (record { objects = s.objects; threads = (closed s).threads })
 
-unfoldable pub spelled : List ℕ → Result Script Why
-spelled bytes = all_lines opening (lines bytes) >>= ended
+-- ---- with the numbers of lines
+
+-- the lines of the blocks that are open, behind a line with this number and this first word
+abbrev pub atomics_behind : List ℕ → ℕ → Option Word → List ℕ
+atomics_behind atomics n (Some word.Atomic) = n ∷ atomics
+atomics_behind atomics n (Some word.End) = drop 1 atomics
+atomics_behind atomics n _ = atomics
+
+-- behind a line with these words, where the header was read before it or not
+abbrev pub atomics_after : Bool → List ℕ → ℕ → List (List ℕ) → List ℕ
+atomics_after begun atomics n [] = atomics
+atomics_after begun atomics n (first ∷ args) = if begun then atomics_behind atomics n (word_of first) else atomics
+
+abbrev pub atomics_next : Bool → List ℕ → ℕ → List (List ℕ) → List ℕ
+atomics_next begun atomics n words = if is_skipped words then atomics else atomics_after begun atomics n words
+
+-- the first of the lines
+abbrev pub nearest : List ℕ → ℕ
+nearest [] = 0
+nearest (line ∷ atomics) = line
+
+-- the line of what is wrong, with the line of the innermost block and the line that is read
+abbrev pub place_of_fault : ℕ → ℕ → Why → ℕ
+place_of_fault near n UnclosedBlock = near
+place_of_fault near n why = n
+
+abbrev pub at_line : {A : Type 0} → ℕ → ℕ → Result A Why → Result A Fault
+at_line near n (Ok x) = Ok x
+at_line near n (Err why) = Err (place_of_fault near n why, why)
+
+abbrev pub then_read : Result State Fault → (State → Result Script Fault) → Result Script Fault
+then_read (Ok s) f = f s
+then_read (Err fault) f = Err fault
+
+-- the script that the lines are from this one on, with this number, where blocks of these lines are open
+unfoldable pub read_from : State → List ℕ → ℕ → List (List ℕ) → Result Script Fault
+read_from s atomics n [] = at_line (nearest atomics) 1 (ended s)
+read_from s atomics n (text ∷ texts) = then_read (at_line (nearest atomics) n (any_line s (words text))) (λ next. read_from next (atomics_next s.begun atomics n (words text)) (n + 1) texts)
+
+unfoldable pub spelled : List ℕ → Result Script Fault
+spelled bytes = read_from opening [] 1 (lines bytes)
+
+-- ---- what was returned
+
+-- a complaint at these lines
+abbrev pub complained : ℕ → ℕ → Complaint → ScriptError
+complained near n (complaint.Here why) = error.Fault (place_of_fault near n why) why
+complained near n complaint.NoMemory = error.NoMemory
+
+-- it stopped at this fault, or for want of memory
+abbrev pub Stops : {A : Type 0} → ScriptError → Result A Fault → Type 0
+Stops (error.Fault line why) read = read ≡ Err (line, why)
+Stops error.NoMemory read = Unit {0}
+
+-- it came to this, or stopped
+abbrev pub Comes : {X A : Type 0} → A → Result X ScriptError → Result A Fault → Type 0
+Comes new (Ok x) read = read ≡ Ok new
+Comes new (Err e) read = Stops e read
+
+-- what it gave, seen by view
+abbrev pub Spelled : {X A : Type 0} → (X → A) → Result X ScriptError → Result A Fault → Type 0
+Spelled view (Ok x) read = read ≡ Ok (view x)
+Spelled view (Err e) read = Stops e read
+
+-- the lines were read up to their end, which is still to be read, or it stopped
+abbrev pub Ends : {X : Type 0} → State → List ℕ → Result X ScriptError → Result Script Fault → Type 0
+Ends new atomics (Ok x) read = read ≡ at_line (nearest atomics) 1 (ended new)
+Ends new atomics (Err e) read = Stops e read

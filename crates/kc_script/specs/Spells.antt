@@ -1,13 +1,13 @@
 -- The grammar of bundles: which script bytes spell.
-use Rattle.std.specs.Prelude.{◌≡◌, ℕ, ◌+◌, ◌≤◌, ◌<◌, not, List, [], ◌∷◌, ◌++◌, length, filter, map, codes, Ok}
+use Rattle.std.specs.Prelude.{◌≡◌, ℕ, ◌+◌, ◌≤◌, ◌<◌, not, List, [], ◌∷◌, ◌++◌, length, filter, map, codes}
 use Rattle.kc_lines.specs.Words.{lines, words, is_skipped}
 use Rattle.kc_term.specs.Tree.{Tree, op, seq, first, trees}
+use Rattle.kc_bundle.specs.declared.object.Object.{Object}
 use Rattle.kc_bundle.specs.declared.operation.Op.{Op}
 use Rattle.kc_bundle.specs.declared.operation.Command.{Command}
 use Rattle.kc_bundle.specs.declared.operation.Command.TheVariants as command
 use Rattle.kc_bundle.specs.Script.{Names, Script}
-use Rattle.kc_verbs.specs.Declaring.{declared}
-use Rattle.kc_verbs.specs.Saying.{said}
+use Rattle.kc_verbs.specs.Canonical.{Says, Declares}
 
 -- the words of a line
 abbrev pub Line : Type 0
@@ -35,7 +35,7 @@ end_line = codes "end" ∷ []
 -- behind these names, the lines declare the rest of all names, one on each
 pub data Declare : Names → List Line → Names → Type 0 where
   none : {names : Names} → Declare names [] names
-  one : {names all : Names} {lines : List Line} (line : Line) (entry : _) → declared names line ≡ Ok entry → Declare (names ++ entry ∷ []) lines all → Declare names (line ∷ lines) all
+  one : {names all : Names} {lines : List Line} (line : Line) (entry : List ℕ × Object) → Declares names line entry → Declare (names ++ entry ∷ []) lines all → Declare names (line ∷ lines) all
 
 -- The lines of a block, from a place in it to its end. They say the rest of an alternative behind these parts of it, and the
 -- alternatives that follow; the tree is these alternatives from this one on. An outermost block has level 0, and each `or`
@@ -44,7 +44,7 @@ pub data Declare : Names → List Line → Names → Type 0 where
 pub data Block (thread : ℕ) (names : Names) : ℕ → List (Tree Op) → ℕ → List Line → Tree Op → ℕ → Type 0 where
   ends : {level count : ℕ} {parts : List (Tree Op)} → Block thread names level parts count [] (seq (trees parts)) count
   one : {level count total : ℕ} {parts : List (Tree Op)} {lines : List Line} {tree : Tree Op} (line : Line) (o : Op) →
-      said thread names line ≡ Ok o → count < 16 →
+      Says thread names line o → count < 16 →
       Block thread names level (parts ++ op o ∷ []) (count + 1) lines tree total →
       Block thread names level parts count (line ∷ lines) tree total
   other : {level count total : ℕ} {parts : List (Tree Op)} {lines : List Line} {tree : Tree Op} →
@@ -61,7 +61,7 @@ pub data Block (thread : ℕ) (names : Names) : ℕ → List (Tree Op) → ℕ �
 pub data Say (thread : ℕ) (names : Names) : List Line → List Command → Type 0 where
   none : Say thread names [] []
   one : {lines : List Line} {commands : List Command} (line : Line) (o : Op) →
-      said thread names line ≡ Ok o →
+      Says thread names line o →
       Say thread names lines commands → Say thread names (line ∷ lines) (command.One o ∷ commands)
   block : {inside lines : List Line} {commands : List Command} {tree : Tree Op} {total : ℕ} →
       Block thread names 0 [] 0 inside tree total →

@@ -1,8 +1,11 @@
 //! What holds of the grammar.
 
-ghost use Rattle.std.specs.Prelude.{◌≡◌, ◌≤◌, ℕ, List, ◌∷◌, length, Ok};
+ghost use Rattle.std.specs.Prelude.{◌≡◌, ◌≤◌, ℕ, List, ◌∷◌, length, Some, None, Ok};
 ghost use Rattle.kc_bundle.specs.Script.{Script, LiesInOrder, AreSized};
 ghost use Rattle.kc_script.specs.Spells.{Spells};
+ghost use Rattle.kc_script.specs.Canonical.{canonical_text};
+ghost use Rattle.kc_script.specs.FirstFault.{Fault, first_fault};
+ghost use Rattle.kc_script.specs.Refused.{SpellNone};
 ghost use Rattle.kc_script.specs.Threads.{AreThreads};
 ghost use Rattle.kc_script.specs.Blocks.{OpenBlock, block_of};
 ghost use Rattle.kc_script.specs.Reading.{State, opening, all_lines};
@@ -12,6 +15,12 @@ ghost use Rattle.kc_bundle.specs.declared.operation.Op.{Op};
 /// Bytes spell at most one bundle.
 pub fn bytes_spell_one()
     ensures { (bytes : List ℕ) (s t : Script) → Spells bytes s → Spells bytes t → s ≡ t }
+{}
+
+/// Bytes have a first fault exactly where they spell no bundle.
+pub fn faults_are_exact()
+    ensures spells { (bytes : List ℕ) → first_fault bytes ≡ None → (s : Script) × Spells bytes s }
+    ensures none { (bytes : List ℕ) (fault : Fault) → first_fault bytes ≡ Some fault → SpellNone bytes }
 {}
 
 /// The objects of a bundle that bytes spell lie one behind another and have their sizes. It has at most 16 threads, and
@@ -27,4 +36,9 @@ pub fn spelled_is_in_order()
 /// line where it was too much.
 pub fn blocks_are_made()
     ensures { (texts : List (List ℕ)) (s : State) (b : OpenBlock) (outer : List OpenBlock) → all_lines opening texts ≡ Ok s → s.place.open_blocks ≡ b ∷ outer → (t : Tree Op) × (block_of b ≡ Ok t) }
+{}
+
+/// The canonical text of a bundle that bytes spell spells it too.
+pub fn canonical_text_spells()
+    ensures { (bytes : List ℕ) (s : Script) → Spells bytes s → Spells (canonical_text s) s }
 {}

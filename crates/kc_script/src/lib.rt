@@ -7,7 +7,9 @@ mod parser;
 mod reader;
 mod reading;
 
-pub use laws::{blocks_are_made, bytes_spell_one, spelled_is_in_order};
+pub use laws::{
+    blocks_are_made, bytes_spell_one, canonical_text_spells, faults_are_exact, spelled_is_in_order,
+};
 pub use parser::{MOST_BYTES, parse};
 
 #[cfg(test)]

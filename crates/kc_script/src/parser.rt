@@ -7,24 +7,17 @@ ghost use Rattle.kc_script.specs.Refused.{Refused};
 
 use crate::reading::read;
 use kc_bundle::Bundle;
-use kc_lines::{Complaint, ScriptError, Why};
+use kc_lines::ScriptError;
 use std::alloc::Global;
 
 /// How many bytes a bundle may have.
 pub const MOST_BYTES: usize = 1_048_576;
 
-/// The bundle that the bytes spell. Bytes that spell none are refused as line 0, not built.
+/// The bundle that the bytes spell. Bytes that spell none are refused with their first fault.
 pub fn parse(alloc: Global, bytes: &[u8]) -> Result<Bundle, ScriptError>
     requires { length bytes.now ≤ MOST_BYTES }
     ensures spells { IfOk result (λ bundle. Spells bytes.now (script_of bundle)) }
     ensures refused { IfErr result (Refused bytes.now) }
 {
-    match read(alloc, bytes) {
-        Ok(bundle) => Ok(bundle),
-        Err(Complaint::Here(_)) => Err(ScriptError::Fault {
-            line: 0,
-            why: Why::NotBuilt,
-        }),
-        Err(Complaint::NoMemory) => Err(ScriptError::NoMemory),
-    }
+    read(alloc, bytes)
 }

@@ -1,19 +1,22 @@
 //! Reading line by line.
 
-ghost use Rattle.std.specs.Prelude.{◌≡◌, ◌≤◌, ◌+◌, map, None, OnOk};
+ghost use Rattle.std.specs.Prelude.{◌≡◌, ◌≤◌, ◌+◌, length, map, reverse, None, OnOk};
 ghost use Rattle.kc_bundle.specs.Script.{script_of, names_of};
 ghost use Rattle.kc_lines.specs.Words.{words};
 ghost use Rattle.kc_lines.specs.Gives.{Gives, Arrives, Reaches};
 ghost use Rattle.kc_verbs.specs.Objects.{object_of};
 ghost use Rattle.kc_verbs.specs.Declaring.{IsAt};
 ghost use Rattle.kc_script.specs.Blocks.{in_block};
-ghost use Rattle.kc_script.specs.Reading.{state_of, opening, with_object, closed, next_thread, no_block, placed, declared_line, said_line, begun_block, thread_line, worded_line, header_line, content_line, any_line, all_lines, ended, spelled};
+ghost use Rattle.kc_script.specs.Reading.{state_of, opening, with_object, closed, next_thread, no_block, placed, declared_line, said_line, begun_block, thread_line, worded_line, header_line, content_line, any_line, ended, atomics_behind, atomics_after, atomics_next, nearest, at_line, read_from, spelled, complained, Comes, Ends, Spelled};
 
 use crate::blocks::{atomic_line, begin_thread, end_line, in_block, op_line, or_line};
+use crate::parser::MOST_BYTES;
 use crate::reader::Reader;
 use indexmap::IndexMap;
 use kc_bundle::{Bundle, Object, cells};
-use kc_lines::{Complaint, Limit, Why, counted, is_skipped, lines_of, wants, word_at, words_of};
+use kc_lines::{
+    Complaint, Limit, ScriptError, Why, counted, is_skipped, lines_of, wants, word_at, words_of,
+};
 use kc_verbs::{Kind, Verb, Word, add, declare, say, word_of};
 use std::alloc::{AllocError, Global};
 use std::mem;
@@ -81,8 +84,8 @@ fn begun_block(reader: &mut Reader, args: &[&[u8]]) -> Result<(), Complaint>
 fn close_thread(reader: &mut Reader) -> Result<(), AllocError>
     ensures { OnOk result (state_of reader.new ≡ closed (state_of reader.old)) }
 {
+    let place = mem::replace(&mut reader.place, begin_thread(reader.alloc));
     if reader.thread.is_some() {
-        let place = mem::replace(&mut reader.place, begin_thread(reader.alloc));
         reader.threads.push(place.here)?;
     }
     Ok(())
@@ -143,46 +146,112 @@ fn header_line(reader: &mut Reader, words: &[&[u8]]) -> Result<(), Why>
     Ok(())
 }
 
+// Keeps the lines of the blocks that are open, behind a line that begins with this word.
+fn keep_atomics(atomics: &mut Vec<u32>, line: u32, word: Option<Word>) -> Result<(), AllocError>
+    ensures { OnOk result (reverse atomics.new.items ≡ atomics_behind (reverse atomics.old.items) line word) }
+{
+    match word {
+        Some(Word::Atomic) => atomics.push(line)?,
+        Some(Word::End) => {
+            atomics.pop();
+        }
+        _ => {}
+    }
+    Ok(())
+}
+
 #[tactic(auto, unfolding(crate::specs::Reading::content_line))]
-fn content_line(reader: &mut Reader, words: &[&[u8]]) -> Result<(), Complaint>
-    ensures { Reaches (state_of reader.new) result (content_line (state_of reader.old) (map (λ word. word.now) words.now)) }
+fn content_line(
+    reader: &mut Reader,
+    atomics: &mut Vec<u32>,
+    line: u32,
+    words: &[&[u8]],
+) -> Result<(), Complaint>
+    ensures state { Reaches (state_of reader.new) result (content_line (state_of reader.old) (map (λ word. word.now) words.now)) }
+    ensures atomics { OnOk result (reverse atomics.new.items ≡ atomics_after reader.old.begun (reverse atomics.old.items) line (map (λ word. word.now) words.now)) }
 {
     match words {
         [] => Err(Complaint::Here(Why::UnknownWord)),
         [first, args @ ..] => {
             if reader.begun {
-                worded_line(reader, word_of(first), args)
+                let word = word_of(first);
+                worded_line(reader, word, args)?;
+                keep_atomics(atomics, line, word)?;
             } else {
                 header_line(reader, words)?;
-                Ok(())
             }
+            Ok(())
         }
     }
 }
 
 #[tactic(auto, unfolding(crate::specs::Reading::any_line))]
-fn any_line(reader: &mut Reader, words: &[&[u8]]) -> Result<(), Complaint>
-    ensures { Reaches (state_of reader.new) result (any_line (state_of reader.old) (map (λ word. word.now) words.now)) }
+fn any_line(
+    reader: &mut Reader,
+    atomics: &mut Vec<u32>,
+    line: u32,
+    words: &[&[u8]],
+) -> Result<(), Complaint>
+    ensures state { Reaches (state_of reader.new) result (any_line (state_of reader.old) (map (λ word. word.now) words.now)) }
+    ensures atomics { OnOk result (reverse atomics.new.items ≡ atomics_next reader.old.begun (reverse atomics.old.items) line (map (λ word. word.now) words.now)) }
 {
     if is_skipped(words) {
         return Ok(());
     }
-    content_line(reader, words)
+    content_line(reader, atomics, line, words)
 }
 
-fn text_line(reader: &mut Reader, text: &[u8]) -> Result<(), Complaint>
-    ensures { Reaches (state_of reader.new) result (any_line (state_of reader.old) (words text.now)) }
+// The line of the innermost block that is open.
+fn nearest(atomics: &[u32]) -> u32
+    ensures { result ≡ nearest (reverse atomics.now) }
 {
+    atomics.last().copied().unwrap_or(0)
+}
+
+// An unclosed block has the line of its `atomic`, any other fault the line that is read.
+fn complained(nearest: u32, line: u32, complaint: Complaint) -> ScriptError
+    ensures { result ≡ complained nearest line complaint }
+{
+    match complaint {
+        Complaint::Here(Why::UnclosedBlock) => ScriptError::Fault {
+            line: nearest,
+            why: Why::UnclosedBlock,
+        },
+        Complaint::Here(why) => ScriptError::Fault { line, why },
+        Complaint::NoMemory => ScriptError::NoMemory,
+    }
+}
+
+fn text_line(
+    reader: &mut Reader,
+    atomics: &mut Vec<u32>,
+    line: u32,
+    text: &[u8],
+) -> Result<(), ScriptError>
+    ensures state { Comes (state_of reader.new) result (at_line (nearest (reverse atomics.old.items)) line (any_line (state_of reader.old) (words text.now))) }
+    ensures atomics { OnOk result (reverse atomics.new.items ≡ atomics_next reader.old.begun (reverse atomics.old.items) line (words text.now)) }
+{
+    let nearest = nearest(atomics);
     let words = words_of(reader.alloc, text)?;
-    any_line(reader, &words)
+    match any_line(reader, atomics, line, &words) {
+        Ok(()) => Ok(()),
+        Err(complaint) => Err(complained(nearest, line, complaint)),
+    }
 }
 
-// Reads the lines in turn.
-fn all_lines(reader: &mut Reader, texts: &[&[u8]]) -> Result<(), Complaint>
-    ensures { Reaches (state_of reader.new) result (all_lines (state_of reader.old) (map (λ text. text.now) texts.now)) }
+// Reads the lines in turn. They are numbered from 1.
+fn all_lines(
+    reader: &mut Reader,
+    atomics: &mut Vec<u32>,
+    texts: &[&[u8]],
+) -> Result<(), ScriptError>
+    requires { length texts.now ≤ 4294967295 }
+    ensures { Ends (state_of reader.new) (reverse atomics.new.items) result (read_from (state_of reader.old) (reverse atomics.old.items) 1 (map (λ text. text.now) texts.now)) }
 {
+    let mut line = 0;
     for text in texts {
-        text_line(reader, text)?;
+        line += 1;
+        text_line(reader, atomics, line, text)?;
     }
     Ok(())
 }
@@ -200,13 +269,19 @@ fn ended(mut reader: Reader) -> Result<Bundle, Complaint>
     })
 }
 
-/// The bundle that the bytes spell, with any number of threads.
+/// The bundle that the bytes spell, or what is wrong with them.
 #[tactic(auto, unfolding(crate::specs::Reading::spelled))]
-pub fn read(alloc: Global, bytes: &[u8]) -> Result<Bundle, Complaint>
-    ensures { Gives script_of result (spelled bytes.now) }
+pub fn read(alloc: Global, bytes: &[u8]) -> Result<Bundle, ScriptError>
+    requires { length bytes.now ≤ MOST_BYTES }
+    ensures { Spelled script_of result (spelled bytes.now) }
 {
     let mut reader = open(alloc);
+    let mut atomics = Vec::new(alloc);
     let texts = lines_of(alloc, bytes)?;
-    all_lines(&mut reader, &texts)?;
-    ended(reader)
+    all_lines(&mut reader, &mut atomics, &texts)?;
+    let nearest = nearest(&atomics);
+    match ended(reader) {
+        Ok(bundle) => Ok(bundle),
+        Err(complaint) => Err(complained(nearest, 1, complaint)),
+    }
 }

@@ -6,7 +6,7 @@ use crate::*;
 use kc_bundle::{Bundle, Command, Object, Op};
 use kc_cells::{AccAct, AccOp, Accumulator, Mvar, MvarAct, MvarOp, Promise, PromiseAct, PromiseOp};
 use kc_hash::{Hash, HashAct, HashOp};
-use kc_lines::{Complaint, Limit, ScriptError, Why};
+use kc_lines::{Limit, ScriptError, Why};
 use kc_loc::{Fun, LocOp, Rel};
 use kc_model::Loc;
 use kc_queue::{Queue, QueueAct, QueueOp};
@@ -146,95 +146,147 @@ fn blanks_and_comments_make_no_difference(rt: HostRuntime) {
     assert!(rt; op_at(&bundle, 1) == Some(Op::Loc(LocOp::Set(X, 7))));
 }
 
-// The reason for which the reader refuses the text.
-fn reason(rt: &HostRuntime, text: &str) -> Option<Why> {
-    match crate::reading::read(rt.alloc(), text.as_bytes()) {
-        Ok(_) | Err(Complaint::NoMemory) => None,
-        Err(Complaint::Here(why)) => Some(why),
+// The line and the reason for which the text is refused.
+fn fault(rt: &HostRuntime, text: &str) -> Option<(u32, Why)> {
+    match read(rt, text) {
+        Ok(_) | Err(ScriptError::NoMemory) => None,
+        Err(ScriptError::Fault { line, why }) => Some((line, why)),
     }
 }
 
 #[test]
-fn lines_are_refused_for_their_first_fault(rt: HostRuntime) {
+fn a_fault_has_its_line_and_its_reason(rt: HostRuntime) {
     let rows = [
-        ("", Why::Header),
-        ("kcas 1 2", Why::Header),
-        ("kcas 2", Why::Header),
-        ("kcas 1\nfoo", Why::UnknownWord),
-        ("kcas 1\nget x", Why::StrayWord),
-        ("kcas 1\natomic", Why::StrayWord),
-        ("kcas 1\nor", Why::StrayWord),
-        ("kcas 1\nthread\nend", Why::StrayWord),
-        ("kcas 1\nthread\nloc x 1", Why::StrayWord),
-        ("kcas 1\nthread\natomic\nloc x 1", Why::StrayWord),
-        ("kcas 1\nthread\natomic\nthread 1", Why::UnclosedBlock),
-        ("kcas 1\nthread\natomic", Why::UnclosedBlock),
-        ("kcas 1\nloc 1x", Why::MissingWord),
-        ("kcas 1\nmvar m 1", Why::ExtraWord),
-        ("kcas 1\nthread 1", Why::ExtraWord),
-        ("kcas 1\nthread\natomic 1", Why::ExtraWord),
-        ("kcas 1\nloc 1x y", Why::BadName),
-        ("kcas 1\nloc x 1\nstack x 0", Why::RepeatedName),
-        ("kcas 1\nloc x 4294967296", Why::BadNumber),
-        ("kcas 1\nloc x 00000000001", Why::BadNumber),
-        ("kcas 1\nstack s 0", Why::BadNumber),
-        ("kcas 1\nqueue q 4097", Why::BadNumber),
-        ("kcas 1\ntable t 1025 1", Why::BadNumber),
-        ("kcas 1\ntable t 1 0", Why::BadNumber),
-        ("kcas 1\nacc a 33", Why::BadNumber),
-        ("kcas 1\nthread\nget x", Why::UnknownName),
-        ("kcas 1\nloc x 1\nthread\npush x y", Why::WrongKind),
-        ("kcas 1\nloc x 1\nthread\nlen x", Why::WrongKind),
+        ("", 1, Why::Header),
+        ("\n# only this\n", 1, Why::Header),
+        ("\n\nkcas 2\nfoo", 3, Why::Header),
+        ("kcas 1 2", 1, Why::Header),
+        ("kcas 1\nfoo", 2, Why::UnknownWord),
+        ("kcas 1\n\n# x\nfoo", 4, Why::UnknownWord),
+        ("kcas 1\nloc x 1\n\u{ff}", 3, Why::UnknownWord),
+        ("kcas 1\nlimit 64", 2, Why::UnknownWord),
+        ("kcas 1\nget x", 2, Why::StrayWord),
+        ("kcas 1\nloc x 1\nget x", 3, Why::StrayWord),
+        ("kcas 1\natomic", 2, Why::StrayWord),
+        ("kcas 1\nor", 2, Why::StrayWord),
+        ("kcas 1\nthread\nend 1", 3, Why::StrayWord),
+        ("kcas 1\nthread\nloc x 1", 3, Why::StrayWord),
+        ("kcas 1\nthread\natomic\nloc x 1", 4, Why::StrayWord),
+        ("kcas 1\nthread\natomic\n\nthread 1", 3, Why::UnclosedBlock),
+        (
+            "kcas 1\nthread\natomic\natomic\nend\natomic\nor\nthread",
+            6,
+            Why::UnclosedBlock,
+        ),
+        (
+            "kcas 1\nthread\natomic\natomic\nend\nor",
+            3,
+            Why::UnclosedBlock,
+        ),
+        (
+            "kcas 1\nloc x 1\nthread\natomic\nget x",
+            4,
+            Why::UnclosedBlock,
+        ),
+        ("kcas 1\nloc 1x", 2, Why::MissingWord),
+        ("kcas 1\nmvar 1m 1", 2, Why::ExtraWord),
+        ("kcas 1\nthread 1", 2, Why::ExtraWord),
+        ("kcas 1\nthread\natomic 1", 3, Why::ExtraWord),
+        ("kcas 1\nloc 1x y", 2, Why::BadName),
+        ("kcas 1\nloc é 1", 2, Why::BadName),
+        ("kcas 1\nloc x 1\nstack x 0", 3, Why::RepeatedName),
+        ("kcas 1\nloc x 4294967296", 2, Why::BadNumber),
+        ("kcas 1\nloc x 00000000001", 2, Why::BadNumber),
+        ("kcas 1\nloc x \0", 2, Why::BadNumber),
+        ("kcas 1\nstack s 0", 2, Why::BadNumber),
+        ("kcas 1\nqueue q 4097", 2, Why::BadNumber),
+        ("kcas 1\ntable t 1025 0", 2, Why::BadNumber),
+        ("kcas 1\ntable t 1 0", 2, Why::BadNumber),
+        ("kcas 1\nacc a 33", 2, Why::BadNumber),
+        ("kcas 1\nloc x 5\nthread\nget y", 4, Why::UnknownName),
+        ("kcas 1\nthread\nset 1x y", 3, Why::UnknownName),
+        ("kcas 1\nloc x 1\nthread\npush x y\nfoo", 4, Why::WrongKind),
+        ("kcas 1\nloc x 1\nthread\nlen x", 4, Why::WrongKind),
         (
             "kcas 1\nloc x 1\nstack s 1\nthread\nswap x s",
+            5,
             Why::WrongKind,
         ),
-        ("kcas 1\nloc x 1\nthread\nupdate x nand 1", Why::UnknownWord),
-        ("kcas 1\nloc x 1\nthread\ncheck x is y", Why::UnknownWord),
+        (
+            "kcas 1\nloc x 1\nthread\nupdate x nand y",
+            4,
+            Why::UnknownWord,
+        ),
+        ("kcas 1\nloc x 1\nthread\ncheck x is y", 4, Why::UnknownWord),
     ];
-    for (text, why) in rows {
-        assert_eq!(rt; reason(&rt, text), Some(why));
+    for (text, line, why) in rows {
+        assert_eq!(rt; fault(&rt, text), Some((line, why)), "{text}");
     }
+}
+
+// The fault of a text that ends with a line so many times.
+fn fault_of_many(rt: &HostRuntime, front: &str, line: &str, times: usize) -> Option<(u32, Why)> {
+    let mut text = String::from_str(rt.alloc(), front).ok()?;
+    for _ in 0..times {
+        text.push_str(line).ok()?;
+    }
+    fault(rt, &text)
 }
 
 #[test]
 fn limits_are_kept(rt: HostRuntime) {
+    let full = "kcas 1\ncache a 1024 4096\ncache b 1024 4096\nstack s 4096\n";
     let rows = [
+        (full, "stack t 2033\n", 1, None),
+        (full, "stack t 2034\n", 1, Some((5, Limit::Locations))),
+        ("kcas 1\n", "thread\n", 16, None),
+        ("kcas 1\n", "thread\n", 17, Some((18, Limit::Threads))),
         (
-            "kcas 1\ntable a 1024 4096\ntable b 1024 4096\ntable c 1024 4096\ntable d 1024 4096\ntable e 1024 4096",
-            Limit::Locations,
+            "kcas 1\nloc x 0\nthread\n",
+            "get x\n",
+            4097,
+            Some((4100, Limit::Commands)),
         ),
         (
-            "kcas 1\nthread\nthread\nthread\nthread\nthread\nthread\nthread\nthread\nthread\nthread\nthread\nthread\nthread\nthread\nthread\nthread\nthread",
-            Limit::Threads,
+            "kcas 1\nthread\n",
+            "atomic\nend\n",
+            4097,
+            Some((8195, Limit::Commands)),
         ),
         (
-            "kcas 1\nloc x 1\nthread\natomic\natomic\nget x\nget x\nget x\nend\nget x\nget x\nget x\nget x\nget x\nget x\nget x\nget x\nget x\nget x\nget x\nget x\natomic",
-            Limit::Block,
+            "kcas 1\nthread\natomic\n",
+            "or\n",
+            9,
+            Some((12, Limit::Depth)),
+        ),
+        ("kcas 1\nthread\n", "atomic\n", 10, Some((12, Limit::Depth))),
+        (
+            "kcas 1\nloc x 0\nthread\natomic\n",
+            "get x\n",
+            17,
+            Some((21, Limit::Block)),
         ),
         (
-            "kcas 1\nthread\natomic\natomic\nor\nor\nor\nor\nor\nor\nor\nor",
-            Limit::Depth,
+            "kcas 1\nloc x 0\nthread\natomic\natomic\nget x\nget x\nend\n",
+            "get x\n",
+            14,
+            Some((22, Limit::Block)),
         ),
         (
-            "kcas 1\nthread\natomic\nor\nor\nor\nor\nor\nor\nor\nor\natomic",
-            Limit::Depth,
+            "kcas 1\nthread\natomic\nor\nor\nor\nor\nor\nor\nor\nor\n",
+            "atomic\nend\n",
+            1,
+            Some((12, Limit::Depth)),
         ),
     ];
-    for (text, limit) in rows {
-        assert_eq!(rt; reason(&rt, text), Some(Why::TooMany(limit)));
+    for (front, line, times, limit) in rows {
+        let expected = limit.map(|(line, limit)| (line, Why::TooMany(limit)));
+        assert_eq!(rt; fault_of_many(&rt, front, line, times), expected, "{front}");
     }
-}
-
-#[test]
-fn a_refusal_says_not_built(rt: HostRuntime) {
-    let why = Why::NotBuilt;
-    for text in ["", "kcas 1\nthread\nthread", "kcas 1\nthread\nget y"] {
-        assert_eq!(rt;
-            read(&rt, text).err(),
-            Some(ScriptError::Fault { line: 0, why })
-        );
-    }
+    assert_eq!(rt;
+        fault_of_many(&rt, "", "#", MOST_BYTES),
+        Some((1, Why::Header))
+    );
 }
 
 // How many alternatives stand in a term, one in the other, each of so many operations.

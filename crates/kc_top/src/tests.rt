@@ -19,12 +19,6 @@ const FIRST: &str = "kcas 1\nloc x 5\nthread\nget x\nset x 7\nadd x 1\n";
 
 const FIRST_TEXT: &str = "1.1 5\n1.2 ok\n1.3 7\norder\n1.1\n1.2\n1.3\n1.end\nstate\nx 8\n";
 
-const NOT_BUILT: Status = Status::Script {
-    part: 0,
-    line: 0,
-    why: Why::NotBuilt,
-};
-
 // The definitions, computed on the first script and its records by hand.
 fn first_script_by_hand()
     ensures text { run_text first_script first_records first_order first_contents ≡ codes "1.1 5\n1.2 ok\n1.3 7\norder\n1.1\n1.2\n1.3\n1.end\nstate\nx 8\n" }
@@ -231,16 +225,21 @@ fn each_function_and_relation_is_the_one_it_is_called(rt: HostRuntime) -> Result
 }
 
 #[test]
-fn what_is_no_script_is_not_built_and_writes_nothing(rt: HostRuntime) -> Result<(), Fail> {
-    for script in [
-        "",
-        "# nothing\n",
-        "kcas 2\n",
-        "kcas 1\nloc x\n",
-        "kcas 1\nthread\nget x\n",
-    ] {
+fn what_is_no_script_has_its_fault_and_writes_nothing(rt: HostRuntime) -> Result<(), Fail> {
+    let rows = [
+        ("", 1, Why::Header),
+        ("# nothing\n", 1, Why::Header),
+        ("kcas 2\n", 1, Why::Header),
+        ("kcas 1\nloc x\n", 2, Why::MissingWord),
+        ("kcas 1\nthread\nget x\n", 3, Why::UnknownName),
+        ("kcas 1\nloc x 5\nthread\nget y\n", 4, Why::UnknownName),
+        ("kcas 1\nloc x 4294967296\n", 2, Why::BadNumber),
+        ("kcas 1\nloc x 1\nget x\n", 3, Why::StrayWord),
+        ("kcas 1\nloc x 1\nthread\natomic\nget x\n", 4, Why::UnclosedBlock),
+    ];
+    for (script, line, why) in rows {
         let (status, written) = run(&rt, script.as_bytes())?;
-        assert_eq!(rt; status, NOT_BUILT, "{script}");
+        assert_eq!(rt; status, Status::Script { part: 0, line, why }, "{script}");
         assert!(rt; written.is_empty());
     }
     Ok(())
@@ -409,7 +408,6 @@ fn each_status_has_its_line(rt: HostRuntime) {
             Status::Usage,
             "kcas: usage: kcas run, kcas files SETUP FILE.., or kcas storm N",
         ),
-        (NOT_BUILT, "kcas: part 0 line 0: not built"),
         (name_is_bad, "kcas: part 3 line 12: bad name"),
         (Status::ReadFault, "kcas: reading failed"),
         (Status::WriteFault, "kcas: writing failed"),
@@ -441,7 +439,6 @@ fn each_fault_has_its_words(rt: HostRuntime) {
         (Why::TooMany(Limit::Commands), "too many commands"),
         (Why::TooMany(Limit::Block), "too many commands in a block"),
         (Why::TooMany(Limit::Depth), "too deep"),
-        (Why::NotBuilt, "not built"),
     ];
     for (why, words) in rows {
         assert_eq!(rt; why.words(), words);

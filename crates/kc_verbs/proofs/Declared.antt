@@ -1,5 +1,5 @@
 -- Where a declared object lies, and its sizes.
-use Rattle.std.proofs.Common.{◌≡◌, ℕ, ◌+◌, ◌≤◌, Bool, true, false, ◌&&◌, cond, List, [], ◌∷◌, Option, Some, None, Result, Ok, leb, refl, subst, arith}
+use Rattle.std.proofs.Common.{◌≡◌, ℕ, ◌≤◌, Bool, true, false, ◌&&◌, cond, List, [], ◌∷◌, Option, Some, None, Result, Ok, leb, refl, subst, arith}
 use Rattle.std.proofs.lemmas.Bool.{leb-true}
 use Rattle.kc_lines.specs.Words.{is_numeral, value_on, number}
 use Rattle.kc_lines.specs.Tests.{◌>>=◌, wants, counted, word_at, number_to}
@@ -8,8 +8,7 @@ use Rattle.kc_lines.specs.declared.fault.Why.TheVariants.{BadNumber}
 use Rattle.kc_lines.proofs.NameText.{both}
 use Rattle.kc_lines.proofs.Given.{given, bind_ok, wants_ok, ok_is, found_ok, when_some}
 use Rattle.kc_bundle.specs.declared.object.Object.{Object}
-use Rattle.kc_bundle.specs.declared.object.Object.TheVariants as object
-use Rattle.kc_bundle.specs.Script.{Names, base, cells, next_from, IsSized}
+use Rattle.kc_bundle.specs.Script.{Names, cells, next_from}
 use Rattle.kc_verbs.specs.declared.word.Kind.{Kind}
 use Rattle.kc_verbs.specs.declared.word.Kind.TheVariants as kind
 use Rattle.kc_verbs.specs.declared.word.Word.{Word}

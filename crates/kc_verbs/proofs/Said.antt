@@ -57,7 +57,7 @@ used_has names w o e = has_object names w o (when_some (is_name w) (object_of na
 
 -- ---- objects by their kind
 
-stack_is : (o : Object) (x : Stack) → as_stack o ≡ Ok x → object.Stack x ≡ o
+pub stack_is : (o : Object) (x : Stack) → as_stack o ≡ Ok x → object.Stack x ≡ o
 stack_is (object.Loc at value) x e = absurd cc
 stack_is (object.Stack a) x e = ap (λ y. object.Stack y) (sym (ok_is _ _ e))
 stack_is (object.Queue a) x e = absurd cc
@@ -67,7 +67,7 @@ stack_is (object.Acc a) x e = absurd cc
 stack_is (object.Hash a) x e = absurd cc
 stack_is (object.Cache a) x e = absurd cc
 
-queue_is : (o : Object) (x : Queue) → as_queue o ≡ Ok x → object.Queue x ≡ o
+pub queue_is : (o : Object) (x : Queue) → as_queue o ≡ Ok x → object.Queue x ≡ o
 queue_is (object.Loc at value) x e = absurd cc
 queue_is (object.Stack a) x e = absurd cc
 queue_is (object.Queue a) x e = ap (λ y. object.Queue y) (sym (ok_is _ _ e))
@@ -77,7 +77,7 @@ queue_is (object.Acc a) x e = absurd cc
 queue_is (object.Hash a) x e = absurd cc
 queue_is (object.Cache a) x e = absurd cc
 
-table_is : (o : Object) (x : Hash) → as_table o ≡ Ok x → object.Hash x ≡ o
+pub table_is : (o : Object) (x : Hash) → as_table o ≡ Ok x → object.Hash x ≡ o
 table_is (object.Loc at value) x e = absurd cc
 table_is (object.Stack a) x e = absurd cc
 table_is (object.Queue a) x e = absurd cc
@@ -87,7 +87,7 @@ table_is (object.Acc a) x e = absurd cc
 table_is (object.Hash a) x e = ap (λ y. object.Hash y) (sym (ok_is _ _ e))
 table_is (object.Cache a) x e = absurd cc
 
-cache_is : (o : Object) (x : Cache) → as_cache o ≡ Ok x → object.Cache x ≡ o
+pub cache_is : (o : Object) (x : Cache) → as_cache o ≡ Ok x → object.Cache x ≡ o
 cache_is (object.Loc at value) x e = absurd cc
 cache_is (object.Stack a) x e = absurd cc
 cache_is (object.Queue a) x e = absurd cc
@@ -97,7 +97,7 @@ cache_is (object.Acc a) x e = absurd cc
 cache_is (object.Hash a) x e = absurd cc
 cache_is (object.Cache a) x e = ap (λ y. object.Cache y) (sym (ok_is _ _ e))
 
-mvar_is : (o : Object) (x : Mvar) → as_mvar o ≡ Ok x → object.Mvar x ≡ o
+pub mvar_is : (o : Object) (x : Mvar) → as_mvar o ≡ Ok x → object.Mvar x ≡ o
 mvar_is (object.Loc at value) x e = absurd cc
 mvar_is (object.Stack a) x e = absurd cc
 mvar_is (object.Queue a) x e = absurd cc
@@ -107,7 +107,7 @@ mvar_is (object.Acc a) x e = absurd cc
 mvar_is (object.Hash a) x e = absurd cc
 mvar_is (object.Cache a) x e = absurd cc
 
-promise_is : (o : Object) (x : Promise) → as_promise o ≡ Ok x → object.Promise x ≡ o
+pub promise_is : (o : Object) (x : Promise) → as_promise o ≡ Ok x → object.Promise x ≡ o
 promise_is (object.Loc at value) x e = absurd cc
 promise_is (object.Stack a) x e = absurd cc
 promise_is (object.Queue a) x e = absurd cc
@@ -117,7 +117,7 @@ promise_is (object.Acc a) x e = absurd cc
 promise_is (object.Hash a) x e = absurd cc
 promise_is (object.Cache a) x e = absurd cc
 
-acc_is : (o : Object) (x : Accumulator) → as_acc o ≡ Ok x → object.Acc x ≡ o
+pub acc_is : (o : Object) (x : Accumulator) → as_acc o ≡ Ok x → object.Acc x ≡ o
 acc_is (object.Loc at value) x e = absurd cc
 acc_is (object.Stack a) x e = absurd cc
 acc_is (object.Queue a) x e = absurd cc

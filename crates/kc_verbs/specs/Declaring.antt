@@ -1,5 +1,6 @@
--- Lines that declare an object. On each line the tests stand in their order; what is wrong is the first that fails.
-use Rattle.std.specs.Prelude.{◌≡◌, ℕ, ◌+◌, ◌*◌, ◌≤◌, Bool, true, false, List, [], ◌∷◌, Option, Some, Result, Ok, Err, nat_le, refl}
+-- How a line that declares an object is read: its tests in their order. Private to the parser and its proofs, but for
+-- `IsPlaced`; what a line declares is `Declares` of Canonical, what is wrong with it the first failing test of Fields.
+use Rattle.std.specs.Prelude.{◌≡◌, ℕ, ◌+◌, ◌*◌, ◌≤◌, Bool, true, false, List, [], ◌∷◌, length, Option, Some, Result, Ok, Err, nat_le, refl}
 use Rattle.std.proofs.lemmas.Bool.{leb-true}
 use Rattle.kc_lines.specs.Tests.{◌>>=◌, wants, counted, word_at, number_to}
 use Rattle.kc_lines.specs.declared.fault.Why.{Why}
@@ -13,18 +14,12 @@ use Rattle.kc_verbs.specs.declared.word.Kind.TheVariants as kind
 use Rattle.kc_verbs.specs.declared.word.Word.{Word}
 use Rattle.kc_verbs.specs.declared.word.Word.TheVariants as word
 use Rattle.kc_verbs.specs.Words.{word_of}
+use Rattle.kc_verbs.specs.Fields.{kind_fields}
 use Rattle.kc_verbs.specs.Objects.{new_name}
 
 -- how many words stand behind the first
 abbrev pub fields : Kind → ℕ
-fields kind.Loc = 2
-fields kind.Stack = 2
-fields kind.Queue = 2
-fields kind.Table = 3
-fields kind.Cache = 3
-fields kind.Mvar = 1
-fields kind.Promise = 1
-fields kind.Acc = 2
+fields k = length (kind_fields k)
 
 -- a size from 1 to this one
 unfoldable pub size_to : ℕ → List ℕ → Result ℕ Why

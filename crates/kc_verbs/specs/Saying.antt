@@ -1,5 +1,6 @@
--- Lines that say an operation. On each line the tests stand in their order; what is wrong is the first that fails.
-use Rattle.std.specs.Prelude.{ℕ, List, [], ◌∷◌, codes, Option, Some, Result, Ok, Err, if◌then◌else◌}
+-- How a line that says an operation is read: its tests in their order. Private to the parser and its proofs; what a line says
+-- is `Says` of Canonical, what is wrong with it the first failing test of Fields.
+use Rattle.std.specs.Prelude.{ℕ, suc, length, List, [], ◌∷◌, codes, Option, Some, Result, Ok, Err, if◌then◌else◌}
 use Rattle.std.specs.Str.{bytes_eq}
 use Rattle.kc_lines.specs.Tests.{◌>>=◌, counted, word_at, number_to}
 use Rattle.kc_lines.specs.declared.fault.Why.{Why}
@@ -53,70 +54,37 @@ use Rattle.kc_verbs.specs.declared.verb.Verb.TheVariants as verb
 use Rattle.kc_verbs.specs.declared.word.Word.{Word}
 use Rattle.kc_verbs.specs.declared.word.Word.TheVariants as word
 use Rattle.kc_verbs.specs.Words.{word_of}
+use Rattle.kc_verbs.specs.Fields.{loc_fields, stack_fields, queue_fields, table_fields, cache_fields, mvar_fields, promise_fields, acc_fields, verb_fields}
 use Rattle.kc_verbs.specs.Objects.{used, as_loc, as_stack, as_queue, as_table, as_cache, as_mvar, as_promise, as_acc}
 
 -- ---- how many words stand behind the first
 
 abbrev pub loc_arity : LocWord → ℕ
-loc_arity loc_verb.Get = 1
-loc_arity loc_verb.Set = 2
-loc_arity loc_verb.Exchange = 2
-loc_arity loc_verb.Swap = 2
-loc_arity loc_verb.Cas = 3
-loc_arity loc_verb.FetchAdd = 2
-loc_arity loc_verb.Incr = 1
-loc_arity loc_verb.Decr = 1
-loc_arity loc_verb.Update = 3
-loc_arity loc_verb.Modify = 3
-loc_arity loc_verb.Check = 3
+loc_arity w = suc (length (loc_fields w))
 
 abbrev pub stack_arity : StackWord → ℕ
-stack_arity stack_verb.Push = 2
-stack_arity stack_verb.Pop = 1
-stack_arity stack_verb.PopWait = 1
-stack_arity stack_verb.Top = 1
+stack_arity w = suc (length (stack_fields w))
 
 abbrev pub queue_arity : QueueWord → ℕ
-queue_arity queue_verb.Enq = 2
-queue_arity queue_verb.Deq = 1
-queue_arity queue_verb.DeqWait = 1
-queue_arity queue_verb.Front = 1
+queue_arity w = suc (length (queue_fields w))
 
 abbrev pub table_arity : TableWord → ℕ
-table_arity table_verb.Put = 3
-table_arity table_verb.Find = 2
-table_arity table_verb.Del = 2
+table_arity w = suc (length (table_fields w))
 
 abbrev pub cache_arity : CacheWord → ℕ
-cache_arity cache_verb.CPut = 3
-cache_arity cache_verb.CPutWait = 3
-cache_arity cache_verb.CGet = 2
-cache_arity cache_verb.CDel = 2
+cache_arity w = suc (length (cache_fields w))
 
 abbrev pub mvar_arity : MvarWord → ℕ
-mvar_arity mvar_verb.Put = 2
-mvar_arity mvar_verb.Take = 1
-mvar_arity mvar_verb.Peek = 1
+mvar_arity w = suc (length (mvar_fields w))
 
 abbrev pub promise_arity : PromiseWord → ℕ
-promise_arity promise_verb.Resolve = 2
-promise_arity promise_verb.Await = 1
-promise_arity promise_verb.IsResolved = 1
+promise_arity w = suc (length (promise_fields w))
 
 abbrev pub acc_arity : AccWord → ℕ
-acc_arity acc_verb.Bump = 2
-acc_arity acc_verb.Total = 1
+acc_arity w = suc (length (acc_fields w))
 
 abbrev pub arity : Verb → ℕ
-arity (verb.OnLoc w) = loc_arity w
-arity (verb.OnStack w) = stack_arity w
-arity (verb.OnQueue w) = queue_arity w
-arity (verb.OnTable w) = table_arity w
-arity (verb.OnCache w) = cache_arity w
-arity (verb.OnMvar w) = mvar_arity w
-arity (verb.OnPromise w) = promise_arity w
-arity (verb.OnAcc w) = acc_arity w
-arity verb.Len = 1
+arity v = length (verb_fields v)
 
 -- ---- numbers, functions and relations
 

@@ -12,7 +12,9 @@ mod verb;
 mod word;
 
 pub use declaring::declare;
-pub use laws::{declares_behind, says_on_objects};
+pub use laws::{
+    commands_are_tested, declarations_are_tested, lines_declare_one, lines_say_one, says_on_objects,
+};
 pub use objects::add;
 pub use saying::say;
 pub use verb::{

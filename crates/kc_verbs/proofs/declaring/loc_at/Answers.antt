@@ -1,6 +1,4 @@
-use Rattle.std.proofs.Common.{Ok, sym, ap, ◌∙◌, arith}
-use Rattle.kc_model.specs.declared.footprint.Loc.{Loc}
-use Rattle.kc_bundle.specs.declared.object.Object.TheVariants as object
+use Rattle.std.proofs.Common.{sym, arith}
 use Rattle.kc_verbs.specs.Declaring.{loc_at}
 use Rattle.kc_verbs.proofs.Placing.{few_is, many_is}
 use Rattle.kc_verbs.proofs.declaring.loc_at.Goals as goal
