@@ -8,8 +8,7 @@ use Rattle.kc_history.specs.declared.record.Record.{Record}
 use Rattle.kc_history.specs.declared.record.Place.{Place}
 use Rattle.kc_history.specs.Records.{footprint_at}
 use Rattle.kc_history.specs.Order.{NoneLeft, Legal, Chooses, more, raised}
-use Rattle.kc_top.specs.Run.{Replays, IsRun, opening_store}
-use Rattle.kc_top.proofs.Runs.{commit_finds}
+use Rattle.kc_runs.specs.Run.{Replays, IsRun, opening_store}
 
 -- what is chosen one by one and replayed is legal
 legal_from : (threads : List (List Command)) (records : List (List Record)) (n v m w : ℕ → ℕ) (s e : Store) (ps : List Place)
@@ -18,7 +17,7 @@ legal_from threads records n v m w s e [] c none r = (subst (NoneLeft (footprint
 legal_from threads records n v m w s e (p ∷ ps) (f, chosen, rest) none (meaning, record_of, means, stands, commit, more_of) = (
   record_of.footprint,
   (chosen.ready.next.0, ap (option_map (λ (q : Record). q.footprint)) stands),
-  commit_finds meaning s record_of commit,
+  commit.finds,
   legal_from threads records (more p.thread n) (raised f v) m w (after record_of.footprint s) e ps rest none more_of,
 )
 

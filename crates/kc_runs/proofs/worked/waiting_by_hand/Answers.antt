@@ -1,6 +1,6 @@
 use Rattle.std.proofs.Common.{refl}
 use Rattle.kc_loc.specs.Meaning.{loc_program}
-use Rattle.kc_top.proofs.tests.waiting_by_hand.Goals as goal
+use Rattle.kc_runs.proofs.worked.waiting_by_hand.Goals as goal
 
 pub returns-clause-stranded : goal.returns-clause-stranded
 unfolding loc_program
