@@ -1,17 +1,17 @@
 //! The value under the lock.
 
 ghost use Rattle.std.specs.Prelude.{◌≡◌, ◌↔◌, ◌<◌, ◌≤◌, [], length, Err, IfOk, IsErr, OnErr};
+ghost use Rattle.kc_model.specs.Footprint.{IsBelow};
 ghost use Rattle.kc_model.specs.Store.{store_of, opened, Finds};
 ghost use Rattle.kc_xt.specs.Meaning.{retried};
 ghost use Rattle.kc_xt.specs.Commit.{run_on, Waits as WaitsFor};
-ghost use Rattle.kc_locked.specs.Ended.{answer_of_ended, print_of};
+ghost use Rattle.kc_xt.specs.Ended.{answer_of_ended, print_of};
 ghost use Rattle.kc_locked.specs.Held.{held, Commits, IsSound};
 ghost use Rattle.kc_locked.specs.History.{entry_of};
 
-use crate::ended::Ended;
 use crate::history::History;
 use kc_model::{Answer, Footprint, ModelError, PlainStore};
-use kc_xt::{Transact, Tried, commit};
+use kc_xt::{Ended, Transact, Tried, commit};
 use std::alloc::Global;
 use std::marker::Model;
 
@@ -71,6 +71,7 @@ impl Held {
         requires fit { T.is_fit transaction.now }
         requires within { T.end transaction.now ≤ length self.old.cells }
         ensures ended { IfOk result (λ e. Commits (T.meaning transaction.now) (answer_of_ended e) (entry_of caller number (print_of e)) self.old self.new) }
+        ensures bound { IfOk result (λ e. IsBelow (T.end transaction.now) (print_of e)) }
         ensures waits { IsErr result ↔ ((run_on (T.meaning transaction.now) (store_of self.old.cells)).outcome ≡ retried) }
         ensures unchanged { OnErr result (self.new ≡ self.old) }
     {
@@ -91,6 +92,7 @@ impl Held {
         requires fit { T.is_fit transaction.now }
         requires within { T.end transaction.now ≤ length self.old.cells }
         ensures answer { IfOk result (λ a. Commits (T.meaning transaction.now) a (entry_of caller number footprint.new) self.old self.new) }
+        ensures bound { IsBelow (T.end transaction.now) footprint.new }
         ensures waits { IsErr result ↔ ((run_on (T.meaning transaction.now) (store_of self.old.cells)).outcome ≡ retried) }
         ensures unchanged { OnErr result (self.new ≡ self.old) }
         ensures waiting { OnErr result (WaitsFor (T.meaning transaction.now) footprint.new × Finds footprint.new (store_of self.old.cells) × (footprint.new.puts.items ≡ [])) }

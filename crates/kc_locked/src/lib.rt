@@ -1,7 +1,6 @@
 //! The store behind one lock.
 #![tactic(auto)]
 
-mod ended;
 mod held;
 mod history;
 mod rule;
@@ -9,6 +8,5 @@ mod store;
 #[cfg(test)]
 mod tests;
 
-pub use ended::Ended;
 pub use held::{Held, MOST_COMMITS, Waits};
 pub use store::{LockPass, LockPast, LockedStore, MOST_CALLERS};

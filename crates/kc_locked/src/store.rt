@@ -1,7 +1,8 @@
 //! The store, and the passes of its threads.
 ghost use Rattle.std.specs.Prelude.{◌≡◌, ◌↔◌, ◌+◌, ◌<◌, ◌≤◌, ◌⊎◌, [], ◌∷◌, Some, length, sum, All, Err, IfOk, OnErr};
+ghost use Rattle.kc_model.specs.Footprint.{IsBelow};
 ghost use Rattle.kc_xt.specs.Commit.{Answers, Waits as WaitsFor};
-ghost use Rattle.kc_locked.specs.Ended.{answer_of_ended, print_of};
+ghost use Rattle.kc_xt.specs.Ended.{answer_of_ended, print_of};
 ghost use Rattle.kc_locked.specs.History.{entry_of};
 ghost use Rattle.kc_locked.specs.Held.{HeldView, IsSound};
 ghost use Rattle.kc_locked.specs.Locked.{free_view, shared_out, committed, Ended as Shown, Grown, Holds};
@@ -9,12 +10,11 @@ ghost use Rattle.kc_locked.specs.Origin.{origin};
 ghost use Rattle.kc_locked.specs.Passes.{IsPast, Made, Opened, passes_of};
 ghost use Rattle.kc_locked.specs.Locked.{Matches, Taken, made_by};
 
-use crate::ended::Ended;
 use crate::held::{Held, MOST_COMMITS, Waits};
 use crate::rule::{Commits, Deals, Empty, Ends, Gathers, Gives, Knows, Origin, Rule, Takes, View};
 use atomic_table::{Seat, Shared, Table};
 use kc_model::{Answer, Footprint, MOST_LOCATIONS, OpenError};
-use kc_xt::Transact;
+use kc_xt::{Ended, Transact};
 use std::alloc::{AllocError, Global};
 use std::marker::{Brand, Model};
 use std::sync::{Condvar, Mutex, Wait};
@@ -140,7 +140,8 @@ impl LockedStore {
         requires pass { (pass.old.table ≡ self.now.table) × (0 < pass.old.left) }
         requires fit { T.is_fit transaction.now }
         requires within { T.end transaction.now ≤ length self.now.opening }
-        ensures { Made (T.meaning transaction.now) (answer_of_ended result) (print_of result) pass.old pass.new }
+        ensures made { Made (T.meaning transaction.now) (answer_of_ended result) (print_of result) pass.old pass.new }
+        ensures bound { IsBelow (T.end transaction.now) (print_of result) }
     {
         let mut footprint = Footprint::new();
         let answer = self.commit_waiting_into(rt, pass, transaction, &mut footprint);
@@ -158,7 +159,8 @@ impl LockedStore {
         requires pass { (pass.old.table ≡ self.now.table) × (0 < pass.old.left) }
         requires fit { T.is_fit transaction.now }
         requires within { T.end transaction.now ≤ length self.now.opening }
-        ensures { Made (T.meaning transaction.now) result footprint.new pass.old pass.new }
+        ensures made { Made (T.meaning transaction.now) result footprint.new pass.old pass.new }
+        ensures bound { IsBelow (T.end transaction.now) footprint.new }
     {
         let mut gate = self.gate.lock(rt);
         for _ in rt.forever() {
@@ -201,6 +203,7 @@ impl LockedStore {
         requires within { T.end transaction.now ≤ length self.now.opening }
         ensures made { IfOk result (λ a. Made (T.meaning transaction.now) a footprint.new pass.old pass.new) }
         ensures waits { OnErr result ((pass.new ≡ pass.old) × WaitsFor (T.meaning transaction.now) footprint.new) }
+        ensures bound { IsBelow (T.end transaction.now) footprint.new }
     {
         let memory = &self.table.shared;
         let caller = pass.caller;
@@ -257,6 +260,7 @@ fn enter<T: Transact>(
     ensures entered { (h : HeldView) × (token.new.me ≡ (token.old.me.0, (0, Some h) ∷ [])) × Grown caller (made_by result (entry_of caller number footprint.new)) token.old.me.0.found h }
     ensures answers { IfOk result (λ a. Answers (T.meaning transaction.now) a footprint.new) }
     ensures waits { OnErr result (WaitsFor (T.meaning transaction.now) footprint.new) }
+    ensures bound { IsBelow (T.end transaction.now) footprint.new }
 {
     match memory.exchange(token, 0, None) {
         Some(mut held) => {

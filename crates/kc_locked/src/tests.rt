@@ -2,9 +2,10 @@ ghost use Rattle.std.specs.Prelude.{◌≡◌, ◌+◌, ◌<◌, ◌≤◌, leng
 ghost use Rattle.kc_loc.specs.Meaning.{loc_last, loc_end};
 
 use crate::held::Held;
-use crate::{Ended, LockPass, LockedStore, Waits};
+use crate::{LockPass, LockedStore, Waits};
 use kc_loc::{LocOp, Rel};
 use kc_model::{Answer, Footprint, Loc, OpenError, Reply};
+use kc_xt::Ended;
 use std::alloc::Global;
 use std::sync::Wait;
 use std::test::Fail;

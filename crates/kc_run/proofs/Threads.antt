@@ -12,17 +12,16 @@ use Rattle.kc_history.specs.declared.record.Record.{Record}
 use Rattle.kc_history.specs.declared.record.Mark.TheVariants as mark
 use Rattle.kc_locked.specs.History.{entry_of}
 use Rattle.kc_xt.specs.Meaning.{Meaning}
-use Rattle.kc_xt.specs.Commit.{Answers}
 use Rattle.kc_run.specs.Labels.{Label, label, labels}
-use Rattle.kc_run.specs.Run.{AreAnswered, entries_of, meanings}
+use Rattle.kc_run.specs.Run.{AreAnswered, IsAnswered, entries_of, meanings}
 
 -- ---- commits
 
-answered_more : (ms : List Meaning) (rs : List Record) (m : Meaning) (r : Record) → AreAnswered ms rs → Answers m r.answer r.footprint → AreAnswered (ms ++ m ∷ []) (rs ++ r ∷ [])
+answered_more : {n : ℕ} (ms : List Meaning) (rs : List Record) (m : Meaning) (r : Record) → AreAnswered n ms rs → IsAnswered n m r → AreAnswered n (ms ++ m ∷ []) (rs ++ r ∷ [])
 answered_more [] [] m r done next = (next, tt)
 answered_more [] (q ∷ rs) m r done next = absurd done
-answered_more (n ∷ ms) [] m r done next = absurd done
-answered_more (n ∷ ms) (q ∷ rs) m r done next = (done.0, answered_more ms rs m r done.1 next)
+answered_more (p ∷ ms) [] m r done next = absurd done
+answered_more (p ∷ ms) (q ∷ rs) m r done next = (done.0, answered_more ms rs m r done.1 next)
 
 length-entries : (k n : ℕ) (rs : List Record) → length (entries_of k n rs) ≡ length rs
 length-entries k n [] = refl
@@ -42,28 +41,28 @@ own_more k j own own' rs r was same now =
     ∙ ap (λ (n : ℕ). entries_of k 1 rs ++ entry_of k (n + 1) r.footprint ∷ []) long ∙ entries_more k 1 rs r
 
 -- the end of a thread is committed last
-pub thread_ends : (commands : List Command) (k j : ℕ) (before after : List Entry) (records : List Record) (r : Record) → before ≡ entries_of k 1 (take (length commands) records) → AreAnswered (map (thread_meaning 0) commands) (take (length commands) records) → j ≡ k
-    → after ≡ before ++ entry_of j (length before + 1) r.footprint ∷ [] → Answers (end_meaning 0) r.answer r.footprint → length records ≡ length commands + 1
-    → (after ≡ entries_of k 1 (set records (length commands) r)) × AreAnswered (meanings commands) (set records (length commands) r)
-thread_ends commands k j before after records r was done same now next room =
+pub thread_ends : {locations : ℕ} (commands : List Command) (k j : ℕ) (before after : List Entry) (records : List Record) (r : Record) → before ≡ entries_of k 1 (take (length commands) records) → AreAnswered locations (map (thread_meaning 0) commands) (take (length commands) records) → j ≡ k
+    → after ≡ before ++ entry_of j (length before + 1) r.footprint ∷ [] → IsAnswered locations (end_meaning 0) r → length records ≡ length commands + 1
+    → (after ≡ entries_of k 1 (set records (length commands) r)) × AreAnswered locations (meanings commands) (set records (length commands) r)
+thread_ends {locations} commands k j before after records r was done same now next room =
     let n = length commands in
     let all : take (n + 1) (set records n r) ≡ set records n r = take_all (n + 1) (set records n r) (omega (arith, length-set records n r)) in
     let is : take n records ++ r ∷ [] ≡ set records n r = sym (take_more_set records n r (omega arith)) ∙ all in (
       own_more k j before after (take n records) r was same now ∙ ap (entries_of k 1) is,
-      subst (λ (rs : List Record). AreAnswered (meanings commands) rs) is (answered_more _ _ _ _ done next),
+      subst (λ (rs : List Record). AreAnswered locations (meanings commands) rs) is (answered_more _ _ _ _ done next),
     )
 
-module _ {S P : Type 0} (belongs : S → P → Type 0) (number left : P → ℕ) (own : P → List Entry) where
+module _ {S P : Type 0} (belongs : S → P → Type 0) (number left : P → ℕ) (own : P → List Entry) (opening : S → List ℕ) where
   -- the first i commands are committed
   pub record RanTo (store : S) (commands : List Command) (first now : P) (old new : List Record) (i : ℕ) : Type 0 where
     pub pass : belongs store now × (number now ≡ number first)
     pub share : length commands + 1 ≤ left now + i
     pub own_is : own now ≡ entries_of (number first) 1 (take i new)
-    pub answered : AreAnswered (map (thread_meaning 0) (take i commands)) (take i new)
+    pub answered : AreAnswered (length (opening store)) (map (thread_meaning 0) (take i commands)) (take i new)
     pub labels : map label new ≡ map label old
 
   pub ran_more : (store : S) (commands : List Command) (first now next : P) (old new : List Record) (i : ℕ) (d : Command) (q r : Record) → RanTo store commands first now old new i → i < length commands → i < length new
-      → belongs store next × (number next ≡ number now) → left next + 1 ≡ left now → own next ≡ own now ++ entry_of (number now) (length (own now) + 1) r.footprint ∷ [] → Answers (thread_meaning 0 (get_or commands i d)) r.answer r.footprint
+      → belongs store next × (number next ≡ number now) → left next + 1 ≡ left now → own next ≡ own now ++ entry_of (number now) (length (own now) + 1) r.footprint ∷ [] → IsAnswered (length (opening store)) (thread_meaning 0 (get_or commands i d)) r
       → label r ≡ label (get_or new i q) → RanTo store commands first next old (set new i r) (i + 1)
   ran_more store commands first now next old new i d q r so_far lt room pass left_is own_next answers same = record {
     pass = (pass.0, pass.1 ∙ so_far.pass.1);

@@ -61,12 +61,13 @@ module _ {S P : Type 0} (belongs : S → P → Type 0) (number left : P → ℕ)
     pub may : MayRun store k commands j.pass
     pub labelled : map label (padded_value j.records).items ≡ labels (k + 1) 1 commands
 
+module _ {S P : Type 0} (belongs : S → P → Type 0) (number : P → ℕ) (own : P → List Entry) (opening : S → List ℕ) where
   -- the pass has made just the commits of these records, which are those of the commands and the end
   pub record Ran (store : S) (k : ℕ) (commands : List Command) (p : P) (records : List Record) : Type 0 where
     pub belongs_to : belongs store p
     pub number_is : number p ≡ k
     pub labelled : map label records ≡ labels (k + 1) 1 commands
-    pub answered : AreAnswered (meanings commands) records
+    pub answered : AreAnswered (length (opening store)) (meanings commands) records
     pub own_is : own p ≡ entries_of k 1 records
 
   abbrev pub JobRan : S → ℕ → List Command → Job P → Type 0

@@ -2,6 +2,7 @@
 use Rattle.std.specs.Prelude.{◌≡◌, ℕ, suc, ◌+◌, ◌≤◌, List, [], ◌∷◌, ◌++◌, All, length, map}
 use Rattle.std.specs.Global.{Vec}
 use Rattle.kc_model.specs.declared.footprint.Entry.{Entry}
+use Rattle.kc_model.specs.Footprint.{IsBelow}
 use Rattle.kc_bundle.specs.declared.operation.Command.{Command}
 use Rattle.kc_bundle.specs.Meaning.{CommandIsFit, thread_meaning, end_meaning}
 use Rattle.kc_history.specs.declared.record.Record.{Record}
@@ -26,27 +27,31 @@ pub record CanRunAll (locations : ℕ) (commands : List Command) : Type 0 where
   pub few : length commands ≤ 4096
   pub each : All (CanRun locations) commands
 
--- wherever a record's reads stand, its answer is its meaning's, and its footprint is the one that is made there
-abbrev pub AreAnswered : List Meaning → List Record → Type 0
-AreAnswered [] [] = Unit {0}
-AreAnswered (m ∷ ms) (r ∷ rs) = Answers m r.answer r.footprint × AreAnswered ms rs
-AreAnswered [] (r ∷ rs) = ⊥
-AreAnswered (m ∷ ms) [] = ⊥
+-- Wherever the record's reads stand, its answer is the meaning's, and its footprint is the one that is made there. It lies in a store of so many locations.
+pub record IsAnswered (locations : ℕ) (m : Meaning) (r : Record) : Type 0 where
+  pub answers : Answers m r.answer r.footprint
+  pub within : IsBelow locations r.footprint
+
+abbrev pub AreAnswered : ℕ → List Meaning → List Record → Type 0
+AreAnswered locations [] [] = Unit {0}
+AreAnswered locations (m ∷ ms) (r ∷ rs) = IsAnswered locations m r × AreAnswered locations ms rs
+AreAnswered locations [] (r ∷ rs) = ⊥
+AreAnswered locations (m ∷ ms) [] = ⊥
 
 -- the caller's entries of these records, numbered from here on
 abbrev pub entries_of : ℕ → ℕ → List Record → List Entry
 entries_of caller number [] = []
 entries_of caller number (r ∷ rs) = entry_of caller number r.footprint ∷ entries_of caller (number + 1) rs
 
--- The records of a caller's thread: one for each command and then its end, each answered what it means, and their footprints are the caller's part of the history, in order.
-pub record IsThread (caller : ℕ) (history : List Entry) (commands : List Command) (records : List Record) : Type 0 where
+-- The records of a caller's thread on a store of so many locations: one for each command and then its end, each answered what it means, and their footprints are the caller's part of the history, in order.
+pub record IsThread (locations caller : ℕ) (history : List Entry) (commands : List Command) (records : List Record) : Type 0 where
   pub labelled : map label records ≡ labels (caller + 1) 1 commands
-  pub answered : AreAnswered (meanings commands) records
+  pub answered : AreAnswered locations (meanings commands) records
   pub committed : of_caller caller history ≡ entries_of caller 1 records
 
 -- each thread's records, of the callers from this one on
-abbrev pub AreRun : ℕ → List Entry → List (Vec Command) → List (Vec Record) → Type 0
-AreRun caller history [] [] = Unit {0}
-AreRun caller history (cs ∷ threads) (rs ∷ records) = IsThread caller history cs.items rs.items × AreRun (suc caller) history threads records
-AreRun caller history [] (rs ∷ records) = ⊥
-AreRun caller history (cs ∷ threads) [] = ⊥
+abbrev pub AreRun : ℕ → ℕ → List Entry → List (Vec Command) → List (Vec Record) → Type 0
+AreRun locations caller history [] [] = Unit {0}
+AreRun locations caller history (cs ∷ threads) (rs ∷ records) = IsThread locations caller history cs.items rs.items × AreRun locations (suc caller) history threads records
+AreRun locations caller history [] (rs ∷ records) = ⊥
+AreRun locations caller history (cs ∷ threads) [] = ⊥

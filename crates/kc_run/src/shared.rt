@@ -2,6 +2,7 @@
 
 ghost use Rattle.std.specs.Prelude.{◌≡◌, ◌+◌, ◌<◌, ◌≤◌, ◌++◌, ◌∷◌, [], ℕ, List, All, length, map};
 ghost use Rattle.kc_model.specs.declared.footprint.Entry.{Entry};
+ghost use Rattle.kc_model.specs.Footprint.{IsBelow};
 ghost use Rattle.kc_xt.specs.Commit.{Answers};
 ghost use Rattle.kc_locked.specs.History.{entry_of};
 ghost use Rattle.kc_locked.specs.Passes.{of_caller, IsBelowCallers};
@@ -55,7 +56,8 @@ pub trait Shared: Sync {
         ensures pass { belongs self.now pass.new × (number pass.new ≡ number pass.old) }
         ensures left { left pass.new + 1 ≡ left pass.old }
         ensures own { own pass.new ≡ own pass.old ++ entry_of (number pass.old) (length (own pass.old) + 1) footprint.new ∷ [] }
-        ensures answers { Answers (T.meaning transaction.now) result footprint.new };
+        ensures answers { Answers (T.meaning transaction.now) result footprint.new }
+        ensures bound { IsBelow (T.end transaction.now) footprint.new };
 
     /// All passes come back, and the one history shows: it is legal from the opening values at versions 0, each pass's
     /// own list is its part of it, and nobody else has an entry in it.

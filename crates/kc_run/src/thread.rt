@@ -3,9 +3,8 @@
 ghost use Rattle.std.specs.Prelude.{◌≡◌, ◌+◌, ◌<◌, ◌≤◌, ◌++◌, ◌∷◌, [], length, map, take, All};
 ghost use Rattle.kc_bundle.specs.Meaning.{thread_meaning};
 ghost use Rattle.kc_locked.specs.History.{entry_of};
-ghost use Rattle.kc_xt.specs.Commit.{Answers};
 ghost use Rattle.kc_run.specs.Labels.{label, labels};
-ghost use Rattle.kc_run.specs.Run.{AreAnswered, CanRunAll, entries_of, meanings};
+ghost use Rattle.kc_run.specs.Run.{AreAnswered, CanRunAll, IsAnswered, entries_of, meanings};
 
 use crate::ask::Ask;
 use crate::gate::Gate;
@@ -37,7 +36,7 @@ pub fn run_thread<S: Shared, R: Wait, G: Gate>(
     requires room { length records.old ≡ length commands.now + 1 }
     ensures pass { S.belongs shared.now pass.new × (S.number pass.new ≡ S.number pass.old) }
     ensures own { S.own pass.new ≡ entries_of (S.number pass.old) 1 records.new }
-    ensures answered { AreAnswered (meanings commands.now) records.new }
+    ensures answered { AreAnswered (length (S.opening shared.now)) (meanings commands.now) records.new }
     ensures labels { map label records.new ≡ map label records.old }
 {
     run_commands(rt, shared, gate, thread, commands, pass, records);
@@ -61,7 +60,7 @@ fn run_commands<S: Shared, R: Wait, G: Gate>(
     ensures pass { S.belongs shared.now pass.new × (S.number pass.new ≡ S.number pass.old) }
     ensures share { 0 < S.left pass.new }
     ensures own { S.own pass.new ≡ entries_of (S.number pass.old) 1 (take (length commands.now) records.new) }
-    ensures answered { AreAnswered (map (thread_meaning 0) commands.now) (take (length commands.now) records.new) }
+    ensures answered { AreAnswered (length (S.opening shared.now)) (map (thread_meaning 0) commands.now) (take (length commands.now) records.new) }
     ensures labels { map label records.new ≡ map label records.old }
 {
     for i in 0..commands.len() {
@@ -90,7 +89,7 @@ fn commit_to<S: Shared, R: Wait, T: Transact>(
     ensures pass { S.belongs shared.now pass.new × (S.number pass.new ≡ S.number pass.old) }
     ensures left { S.left pass.new + 1 ≡ S.left pass.old }
     ensures own { S.own pass.new ≡ S.own pass.old ++ entry_of (S.number pass.old) (length (S.own pass.old) + 1) slot.new.footprint ∷ [] }
-    ensures answers { Answers (T.meaning transaction.now) slot.new.answer slot.new.footprint }
+    ensures answered { IsAnswered (length (S.opening shared.now)) (T.meaning transaction.now) slot.new }
     ensures label { label slot.new ≡ label slot.old }
 {
     slot.answer = shared.commit_command(rt, pass, transaction, &mut slot.footprint);

@@ -7,6 +7,7 @@ pub mod Calls
 pub mod Steps
 pub mod Law
 pub mod Commit
+pub mod Ended
 pub mod Single
 pub mod Stays
 pub mod Structure

@@ -1,6 +1,7 @@
 //! Commits on a plain store.
 
 ghost use Rattle.std.specs.Prelude.{◌≡◌, ◌≢◌, ◌≤◌, length};
+ghost use Rattle.kc_model.specs.Footprint.{IsBelow};
 ghost use Rattle.kc_model.specs.Store.{store_of, after, Finds};
 ghost use Rattle.kc_xt.specs.Commit.{Came, PutsWhereDone};
 ghost use Rattle.kc_xt.specs.declared.attempts.Tried.TheVariants as tried;
@@ -21,6 +22,7 @@ pub fn commit<T: Transact>(
     requires within { T.end transaction.now ≤ length store.old }
     ensures came { Came (T.meaning transaction.now) result footprint.old footprint.new }
     ensures puts { PutsWhereDone result footprint.new }
+    ensures bound { IsBelow (T.end transaction.now) footprint.new }
     ensures calm { result ≢ tried.Busy }
     ensures finds { Finds footprint.new (store_of store.old) }
     ensures store { store_of store.new ≡ after footprint.new (store_of store.old) }

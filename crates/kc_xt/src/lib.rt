@@ -3,6 +3,7 @@
 
 mod attempts;
 mod committing;
+mod ended;
 mod line;
 mod peek;
 mod place;
@@ -16,6 +17,7 @@ mod xt;
 
 pub use attempts::{Tried, attempt, is_found_somewhere, plain_attempts};
 pub use committing::commit;
+pub use ended::Ended;
 pub use peek::{Peek, PeekBusy};
 pub use plain_peek::PlainPeek;
 pub use stop::Stop;

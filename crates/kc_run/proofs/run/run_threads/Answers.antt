@@ -1,4 +1,4 @@
-use Rattle.std.proofs.Common.{◌≡◌, map, refl, sym, ap, subst, ◌∙◌, arith}
+use Rattle.std.proofs.Common.{◌≡◌, length, map, refl, sym, ap, subst, ◌∙◌, arith}
 use Rattle.std.specs.Prelude.{All}
 use Rattle.kc_locked.specs.Passes.{of_caller}
 use Rattle.kc_run.specs.Run.{AreRun}
@@ -35,21 +35,21 @@ part-passes-requires-clause-room g c =
 pub finish-requires-clause-passes : goal.finish-requires-clause-passes
 finish-requires-clause-passes g c =
     let q = jobs_ready g.S.Shared.belongs g.S.Shared.number g.S.Shared.left g.S.Shared.own c.args.shared c.args.threads.now c.args.passes.items c.in-Ok-Ok-Ok-Ok.space.items c.pair.result.items c.requires.passes c.in-Ok-Ok-Ok-Ok.ensures c.pair.ensures in
-    let done = ran_done g.S.Shared.belongs g.S.Shared.number g.S.Shared.left g.S.Shared.own c.args.shared c.args.threads.now c.args.passes.items c.in-Ok-Ok-Ok-Ok.space.items c.pair.result.items c.run_jobs-jobs.result.items (g.S.Shared.callers c.args.shared) q c.run_jobs-jobs.ensures.len c.run_jobs-jobs.ensures.ran c.requires.callers in
+    let done = ran_done g.S.Shared.belongs g.S.Shared.number g.S.Shared.left g.S.Shared.own g.S.Shared.opening c.args.shared c.args.threads.now c.args.passes.items c.in-Ok-Ok-Ok-Ok.space.items c.pair.result.items c.run_jobs-jobs.result.items (g.S.Shared.callers c.args.shared) q c.run_jobs-jobs.ensures.len c.run_jobs-jobs.ensures.ran c.requires.callers in
     subst (All (g.S.Shared.belongs c.args.shared)) (sym c.part-passes.ensures.passes) done.belong
 
 pub finish-requires-clause-all : goal.finish-requires-clause-all
 finish-requires-clause-all g c =
     let q = jobs_ready g.S.Shared.belongs g.S.Shared.number g.S.Shared.left g.S.Shared.own c.args.shared c.args.threads.now c.args.passes.items c.in-Ok-Ok-Ok-Ok.space.items c.pair.result.items c.requires.passes c.in-Ok-Ok-Ok-Ok.ensures c.pair.ensures in
-    let done = ran_done g.S.Shared.belongs g.S.Shared.number g.S.Shared.left g.S.Shared.own c.args.shared c.args.threads.now c.args.passes.items c.in-Ok-Ok-Ok-Ok.space.items c.pair.result.items c.run_jobs-jobs.result.items (g.S.Shared.callers c.args.shared) q c.run_jobs-jobs.ensures.len c.run_jobs-jobs.ensures.ran c.requires.callers in
+    let done = ran_done g.S.Shared.belongs g.S.Shared.number g.S.Shared.left g.S.Shared.own g.S.Shared.opening c.args.shared c.args.threads.now c.args.passes.items c.in-Ok-Ok-Ok-Ok.space.items c.pair.result.items c.run_jobs-jobs.result.items (g.S.Shared.callers c.args.shared) q c.run_jobs-jobs.ensures.len c.run_jobs-jobs.ensures.ran c.requires.callers in
     ap (map g.S.Shared.number) c.part-passes.ensures.passes ∙ done.numbered
 
 pub returns-clause-run : goal.returns-clause-run
 returns-clause-run g c =
     let q = jobs_ready g.S.Shared.belongs g.S.Shared.number g.S.Shared.left g.S.Shared.own c.args.shared c.args.threads.now c.args.passes.items c.in-Ok-Ok-Ok-Ok.space.items c.pair.result.items c.requires.passes c.in-Ok-Ok-Ok-Ok.ensures c.pair.ensures in
-    let done = ran_done g.S.Shared.belongs g.S.Shared.number g.S.Shared.left g.S.Shared.own c.args.shared c.args.threads.now c.args.passes.items c.in-Ok-Ok-Ok-Ok.space.items c.pair.result.items c.run_jobs-jobs.result.items (g.S.Shared.callers c.args.shared) q c.run_jobs-jobs.ensures.len c.run_jobs-jobs.ensures.ran c.requires.callers in
+    let done = ran_done g.S.Shared.belongs g.S.Shared.number g.S.Shared.left g.S.Shared.own g.S.Shared.opening c.args.shared c.args.threads.now c.args.passes.items c.in-Ok-Ok-Ok-Ok.space.items c.pair.result.items c.run_jobs-jobs.result.items (g.S.Shared.callers c.args.shared) q c.run_jobs-jobs.ensures.len c.run_jobs-jobs.ensures.ran c.requires.callers in
     let history = g.S.Shared.history c.finish.result in
-    subst (AreRun 0 history c.args.threads.now) (sym c.part-passes.ensures.records) (done.run history (subst (All (λ p. of_caller (g.S.Shared.number p) history ≡ g.S.Shared.own p)) c.part-passes.ensures.passes c.finish.ensures.own))
+    subst (AreRun (length (g.S.Shared.opening c.args.shared)) 0 history c.args.threads.now) (sym c.part-passes.ensures.records) (done.run history (subst (All (λ p. of_caller (g.S.Shared.number p) history ≡ g.S.Shared.own p)) c.part-passes.ensures.passes c.finish.ensures.own))
 
 pub returns-clause-threads : goal.returns-clause-threads
-returns-clause-threads g c = threads_of_run 0 1 refl (g.S.Shared.history c.finish.result) c.args.threads.now c.part-passes.result.1.items (returns-clause-run g c)
+returns-clause-threads g c = threads_of_run _ 0 1 refl (g.S.Shared.history c.finish.result) c.args.threads.now c.part-passes.result.1.items (returns-clause-run g c)

@@ -2,8 +2,7 @@ use Rattle.std.proofs.Common.{◌≡◌, ◌<◌, length, refl, sym, ap, subst, 
 use Rattle.std.proofs.lemmas.List.{length-map}
 use Rattle.kc_bundle.specs.declared.operation.Command.{Command}
 use Rattle.kc_bundle.specs.Meaning.{thread_meaning}
-use Rattle.kc_xt.specs.Commit.{Answers}
-use Rattle.kc_run.specs.Run.{CanRun}
+use Rattle.kc_run.specs.Run.{CanRun, IsAnswered}
 use Rattle.kc_run.specs.Labels.{label}
 use Rattle.kc_run.proofs.Threads.{ran_more}
 use Rattle.kc_run.proofs.thread.run_commands.Goals as goal
@@ -29,6 +28,6 @@ loop-i-preserved g c =
     let room : c.loop-i.i < length c.loop-i.records = omega (arith, c.requires.room, long) in
     let d = c.index-commands-i.result in
     let e = c.commit_to.ensures in
-    let answers = subst (λ (x : Command). Answers (thread_meaning 0 x) c.commit_to.new.slot.answer c.commit_to.new.slot.footprint) c.index-commands-i.is e.answers in
-    ran_more g.S.Shared.belongs g.S.Shared.number g.S.Shared.left g.S.Shared.own c.args.shared.now c.args.commands.now c.args.pass.now c.loop-i.pass c.commit_to.new.pass c.args.records.now c.loop-i.records c.loop-i.i d c.index-records-i.result c.commit_to.new.slot
+    let answers = subst (λ (x : Command). IsAnswered (length (g.S.Shared.opening c.args.shared.now)) (thread_meaning 0 x) c.commit_to.new.slot) c.index-commands-i.is e.answered in
+    ran_more g.S.Shared.belongs g.S.Shared.number g.S.Shared.left g.S.Shared.own g.S.Shared.opening c.args.shared.now c.args.commands.now c.args.pass.now c.loop-i.pass c.commit_to.new.pass c.args.records.now c.loop-i.records c.loop-i.i d c.index-records-i.result c.commit_to.new.slot
     inv c.loop-i-test.true room e.pass e.left e.own answers e.label

@@ -15,3 +15,8 @@ unreachable-requires g c =
     let finds = c.plain_attempts.ensures.finds _ _ _ _ _ c.attempt-tried.ensures.looked in
     let ok = c.apply.ensures.stands (rw c.new.ensures at finds) in
     true≢false (sym (subst (λ r. IsOk r) c.in-Err.is ok))
+
+pub returns-clause-bound : goal.returns-clause-bound
+returns-clause-bound g c =
+    let a = c.attempt-tried.ensures in
+    a.within (c.plain_attempts.ensures.never_busy _ _ _ _ _ a.looked)

@@ -1,7 +1,7 @@
 //! How a commit ended.
 
 ghost use Rattle.std.specs.Prelude.{◌≡◌};
-ghost use Rattle.kc_locked.specs.Ended.{answer_of_ended, print_of};
+ghost use Rattle.kc_xt.specs.Ended.{answer_of_ended, print_of};
 
 use kc_model::{Answer, Footprint, Reply};
 
@@ -14,7 +14,8 @@ pub enum Ended {
 }
 
 impl Ended {
-    pub(crate) fn of(answer: Answer, footprint: Footprint) -> Ended
+    /// The end with this answer and this footprint.
+    pub fn of(answer: Answer, footprint: Footprint) -> Ended
         ensures answer { answer_of_ended result ≡ answer }
         ensures footprint { print_of result ≡ footprint }
     {
