@@ -1,8 +1,8 @@
 //! Threads share the store behind one lock.
 
 ghost use Rattle.std.specs.Prelude.{◌≡◌, ◌<◌, ◌≤◌, All, length, map, IfOk};
-ghost use Rattle.kc_locked.specs.Passes.{of_caller, IsBelowCallers};
-ghost use Rattle.kc_run.specs.Shared.{IsLegalFrom, count_from};
+ghost use Rattle.kc_history.specs.Callers.{of_caller, IsBelowCallers, IsLegalFrom};
+ghost use Rattle.kc_run.specs.Shared.{count_from};
 ghost use Rattle.kc_run.specs.Locked.{AllDealt, shares_of};
 
 use crate::shared::Shared;

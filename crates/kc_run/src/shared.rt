@@ -4,9 +4,8 @@ ghost use Rattle.std.specs.Prelude.{◌≡◌, ◌+◌, ◌<◌, ◌≤◌, ◌+
 ghost use Rattle.kc_model.specs.declared.footprint.Entry.{Entry};
 ghost use Rattle.kc_model.specs.Footprint.{IsBelow};
 ghost use Rattle.kc_xt.specs.Commit.{Answers};
-ghost use Rattle.kc_locked.specs.History.{entry_of};
-ghost use Rattle.kc_locked.specs.Passes.{of_caller, IsBelowCallers};
-ghost use Rattle.kc_run.specs.Shared.{IsLegalFrom, count_from};
+ghost use Rattle.kc_history.specs.Callers.{entry_of, of_caller, IsBelowCallers, IsLegalFrom};
+ghost use Rattle.kc_run.specs.Shared.{count_from};
 
 use kc_model::{Answer, Footprint};
 use kc_xt::Transact;
