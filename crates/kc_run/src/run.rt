@@ -46,6 +46,7 @@ pub fn run_threads<S: Shared, G: Gate, R: Threads + Wait + Sync>(
     requires passes { AllMayRun S.belongs S.number S.left S.own shared 0 threads.now passes.items }
     requires locations { 0 < length (S.opening shared) }
     requires commands { All (λ v. CanRunAll (length (S.opening shared)) v.items) threads.now }
+    ensures began { IfOk result (λ r. S.began r.1 ≡ S.opening shared) }
     ensures legal { IfOk result (λ r. IsLegalFrom (S.opening shared) (S.history r.1)) }
     ensures run { IfOk result (λ r. AreRun (length (S.opening shared)) 0 (S.history r.1) (map (λ v. v.items) threads.now) (lists_of r.0.items)) }
     ensures threads { IfOk result (λ r. AreThreads 1 (map (λ v. v.items) threads.now) (lists_of r.0.items)) }

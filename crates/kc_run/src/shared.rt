@@ -37,6 +37,9 @@ pub trait Shared: Sync {
     /// The commits that it made.
     ghost own: { Self.Pass → List Entry };
 
+    /// The values with which the store of the history was opened.
+    ghost began: { Self.Whole → List ℕ };
+
     /// The one history.
     ghost history: { Self.Whole → List Entry };
 
@@ -63,6 +66,7 @@ pub trait Shared: Sync {
     fn finish(self, passes: Vec<Self::Pass>) -> Self::Whole
         requires passes { All (belongs self) passes.items }
         requires all { map number passes.items ≡ count_from 0 (callers self) }
+        ensures began { began result ≡ opening self }
         ensures legal { IsLegalFrom (opening self) (history result) }
         ensures own { All (λ p. of_caller (number p) (history result) ≡ own p) passes.items }
         ensures nobody_else { IsBelowCallers (callers self) (history result) };

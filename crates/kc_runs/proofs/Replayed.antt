@@ -15,7 +15,7 @@ use Rattle.kc_xt.specs.Meaning.{Meaning}
 use Rattle.kc_history.specs.declared.record.Record.{Record}
 use Rattle.kc_history.specs.declared.record.Place.{Place}
 use Rattle.kc_history.specs.Callers.{of_caller, entries_of, HasJust, IsBelowCallers}
-use Rattle.kc_history.specs.Ends.{CanStand, AreWellMade, HasLegalList}
+use Rattle.kc_history.specs.Ends.{CanStandIn, AllCanStandIn, HasLegalList}
 use Rattle.kc_history.specs.Moves.{placed_from}
 use Rattle.kc_history.specs.Order.{IsCanonical, Legal, more}
 use Rattle.kc_history.specs.Records.{record_at, footprint_at}
@@ -95,13 +95,13 @@ run_just n history threads records h below u =
 -- ---- they can be arranged
 
 module _ (n : ℕ) (history : List Entry) (threads : List (List Command)) (records : List (List Record)) (run : AreRun n 0 history threads records) where
-  pub run_made : n ≤ MOST_LOCATIONS → AreWellMade (footprint_at records)
-  run_made le u k f at =
+  pub run_made : AllCanStandIn n (footprint_at records)
+  run_made u k f at =
       let r = record_of records u k f at in
       let a = (answered_at n 0 history threads records run u k r.commit r.stands).answered in
-      subst CanStand r.has (a.answers.well_made, λ s d. (let b = a.within s d in omega arith))
+      subst (CanStandIn n) r.has (a.answers.well_made, a.within)
 
-  puts_read : (u k : ℕ) (f : Footprint) → footprint_at records u k ≡ Some f → PutsWhatItReads f
+  pub puts_read : (u k : ℕ) (f : Footprint) → footprint_at records u k ≡ Some f → PutsWhatItReads f
   puts_read u k f at =
       let r = record_of records u k f at in
       subst PutsWhatItReads r.has (answered_at n 0 history threads records run u k r.commit r.stands).answered.answers.well_made.puts_read
@@ -134,22 +134,22 @@ run_threads_are n k j e history [] (rs ∷ records) h = absurd h
 run_threads_are n k j e history (cs ∷ threads) [] h = absurd h
 run_threads_are n k j e history (cs ∷ threads) (rs ∷ records) h = (rw e h.0.labelled, run_threads_are n (suc k) (j + 1) (omega arith) history threads records h.1)
 
-module _ (script : Script) (n : ℕ) (history : List Entry) (records : List (List Record)) (last : Store) (run : AreRun n 0 history script.threads records) (below : IsBelowCallers (length script.threads) history) (legal : IsLegal (opening_store script) history last) where
-  pub run_has_list : HasLegalList (footprint_at records)
-  run_has_list = record {
-    opening = opening_store script;
-    opens = opened_zero (opening_values script);
-    places = placed_from (λ _. 0) history;
-    ending = last;
-    legal = just_legal records (opening_store script) last history legal (run_just n history script.threads records run below);
+module _ (script : Script) (n : ℕ) (history : List Entry) (records : List (List Record)) (run : AreRun n 0 history script.threads records) where
+  -- in an order that is canonical and legal they are a run
+  pub run_of_order : (order : List Place) (last : Store) → IsCanonical (footprint_at records) order → Legal (footprint_at records) (λ _. 0) (opening_store script) order last → IsRun script records order last
+  run_of_order order last canonical legal = record {
+    threads = run_threads_are n 0 1 refl history script.threads records run;
+    canonical = canonical;
+    replays = legal_replays n history script.threads records run (λ _. 0) (opening_store script) last order legal;
   }
 
-  pub run_is : (order : List Place) → IsCanonical (footprint_at records) order → IsRun script records order last
-  run_is order canonical =
-      let list = just_legal records (opening_store script) last history legal (run_just n history script.threads records run below) in
-      let is = canonical_legal (footprint_at records) (puts_read n history script.threads records run) (opening_store script) last (placed_from (λ _. 0) history) order (opened_zero (opening_values script)) list canonical in
-      record {
-        threads = run_threads_are n 0 1 refl history script.threads records run;
-        canonical = canonical;
-        replays = legal_replays n history script.threads records run (λ _. 0) (opening_store script) last order is.0;
-      }
+  module _ (last : Store) (below : IsBelowCallers (length script.threads) history) (legal : IsLegal (opening_store script) history last) where
+    pub run_list : Legal (footprint_at records) (λ _. 0) (opening_store script) (placed_from (λ _. 0) history) last
+    run_list = just_legal records (opening_store script) last history legal (run_just n history script.threads records run below)
+
+    pub run_has_list : HasLegalList (footprint_at records)
+    run_has_list = record { opening = opening_store script; opens = opened_zero (opening_values script); places = placed_from (λ _. 0) history; ending = last; legal = run_list }
+
+    pub run_is : (order : List Place) → IsCanonical (footprint_at records) order → IsRun script records order last
+    run_is order canonical =
+        run_of_order order last canonical (canonical_legal (footprint_at records) (puts_read n history script.threads records run) (opening_store script) last (placed_from (λ _. 0) history) order (opened_zero (opening_values script)) run_list canonical).0

@@ -4,4 +4,4 @@
 mod laws;
 pub mod worked;
 
-pub use laws::{histories_are_runs, runs_are_legal};
+pub use laws::{histories_are_runs, runs_are_legal, runs_stay_well_formed};

@@ -2,15 +2,12 @@
 #![tactic(auto)]
 
 mod command_line;
-mod commit;
-mod laws;
 mod run;
+mod served;
+mod settling;
 mod status;
-#[cfg(test)]
-mod tests;
-mod thread;
 mod top;
 
-pub use laws::runs_are_legal;
+pub use served::Served;
 pub use status::{LONGEST_LINE, Status};
 pub use top::kcas_main;

@@ -1,6 +1,7 @@
 -- What a thread commits leaves cells that stand for contents.
-use Rattle.std.proofs.Common.{arith, ◌≡◌, ◌≢◌, ℕ, ◌≤◌, ◌==◌, List, [], ◌∷◌, ◌++◌, Option, Some, None, refl, sym, ap, subst, ◌∙◌}
+use Rattle.std.proofs.Common.{arith, ◌≡◌, ◌≢◌, ℕ, ◌≤◌, ◌==◌, ◌⊎◌, inl, inr, zero, suc, List, [], ◌∷◌, ◌++◌, Option, Some, None, slice_index_or, refl, sym, ap, subst, ◌∙◌}
 use Rattle.std.proofs.Math.Path.{fun_ext}
+use Rattle.std.specs.Prelude.{slice_get}
 use Rattle.std.specs.Option.{option_map, unwrap_or}
 use Rattle.kc_model.specs.declared.footprint.TheConstants.{MOST}
 use Rattle.kc_model.specs.declared.footprint.Put.{Put}
@@ -26,11 +27,10 @@ use Rattle.kc_bundle.proofs.Commands.{command_keeps}
 use Rattle.kc_bundle.proofs.Keeping.{all_same}
 use Rattle.kc_history.specs.declared.record.Record.{Record}
 use Rattle.kc_xt.specs.Commit.{answer_of, kept, run_on}
-use Rattle.kc_top.specs.Commit.{IsCommit}
 use Rattle.kc_history.specs.declared.record.Place.{Place}
-use Rattle.kc_top.specs.Run.{opening_store}
-use Rattle.kc_run.specs.Run.{meanings}
-use Rattle.kc_top.specs.Thread.{Commits, CanRun, RunsOne}
+use Rattle.kc_history.proofs.Choice.{some_is}
+use Rattle.kc_runs.specs.Run.{IsCommit, IsRun, Replays, opening_store}
+use Rattle.kc_runs.specs.Threads.{meanings}
 
 -- ---- what a commit leaves
 
@@ -108,16 +108,24 @@ module _ (names : Names) (lie : LieFrom 1 names) (sized : AreSized names) where
       sym (ap (λ (f : ℕ → ℕ). f l) (left_by (end_meaning 0) s r commit) ∙ map_after-at (values s) ts l ∙ ap (λ (o : Option ℕ). unwrap_or o (values s l)) (end_unwritten s r.answer l le)) in
       all_same 1 names (values s) (values (after r.footprint s)) lie same formed
 
-  -- one after another, to the end
-  pub commits_formed : (cs : List Command) (s e : Store) (rs : List Record) → CommandsAreOn names cs → Commits (meanings cs) s rs e → AreWellFormed names (values s) → AreWellFormed names (values e)
-  commits_formed [] s e [] on c formed = absurd c
-  commits_formed [] s e (r ∷ []) on c formed = subst (λ (t : Store). AreWellFormed names (values t)) (sym c.1) (end_formed s r c.0 formed)
-  commits_formed [] s e (r ∷ q ∷ rs) on c formed = absurd c.1
-  commits_formed (c ∷ cs) s e [] on commits formed = absurd commits
-  commits_formed (c ∷ cs) s e (r ∷ rs) on commits formed = commits_formed cs (after r.footprint s) e rs on.1 commits.1 (command_formed c s r on.0 commits.0 formed)
+  -- what a thread commits is one of its commands, or its end
+  meant : (cs : List Command) → CommandsAreOn names cs → (i : ℕ) (m : Meaning) → slice_get (meanings cs) i ≡ Some m → ((c : Command) × CommandIsOn names c × (thread_meaning 0 c ≡ m)) ⊎ (end_meaning 0 ≡ m)
+  meant [] on zero m at = inr (some_is _ m at)
+  meant [] on (suc i) m at = absurd (cc)
+  meant (c ∷ cs) on zero m at = inl (c, on.0, some_is _ m at)
+  meant (c ∷ cs) on (suc i) m at = meant cs on.1 i m at
 
--- what one thread ran leaves the cells of all objects well formed
-pub ran_formed : (script : Script) (commands : List Command) (records : List (List Record)) (order : List Place) (e : Store) → CanRun script → script.threads ≡ commands ∷ [] → RunsOne commands (opening_store script) records order e → AreWellFormed script.objects (values e)
-ran_formed script commands records order e can threads ran =
-    let opens : AreWellFormed script.objects (values (opening_store script)) = (opening_contents script.objects, script_opens _ script.objects can.lies.lie can.sized) in
-    commits_formed script.objects can.lies.lie can.sized commands (opening_store script) e ran.list (rw threads at can.on) ran.commits opens
+  meant_formed : (m : Meaning) (s : Store) (r : Record) → ((c : Command) × CommandIsOn names c × (thread_meaning 0 c ≡ m)) ⊎ (end_meaning 0 ≡ m) → IsCommit m s r → AreWellFormed names (values s) → AreWellFormed names (values (after r.footprint s))
+  meant_formed m s r (inl (c, on, is)) commit formed = command_formed c s r on (subst (λ (q : Meaning). IsCommit q s r) (sym is) commit) formed
+  meant_formed m s r (inr is) commit formed = end_formed s r (subst (λ (q : Meaning). IsCommit q s r) (sym is) commit) formed
+
+  -- one after another, to the end
+  replays_formed : (threads : List (List Command)) (records : List (List Record)) (s e : Store) (ps : List Place) → ((t : ℕ) → CommandsAreOn names (slice_index_or threads t [])) → Replays threads records s ps e → AreWellFormed names (values s) → AreWellFormed names (values e)
+  replays_formed threads records s e [] on replays formed = subst (λ (t : Store). AreWellFormed names (values t)) (sym replays) formed
+  replays_formed threads records s e (p ∷ ps) on (m, r, means, stands, commit, rest) formed =
+      replays_formed threads records (after r.footprint s) e ps on rest (meant_formed m s r (meant (slice_index_or threads p.thread []) (on p.thread) p.index m means) commit formed)
+
+-- the cells of all objects stand for contents at the end of a run
+pub run_formed : (script : Script) (records : List (List Record)) (order : List Place) (last : Store) → LieFrom 1 script.objects → AreSized script.objects → ((t : ℕ) → CommandsAreOn script.objects (slice_index_or script.threads t [])) → IsRun script records order last → AreWellFormed script.objects (values last)
+run_formed script records order last lie sized on run =
+    replays_formed script.objects lie sized script.threads records (opening_store script) last order on run.replays (opening_contents script.objects, script_opens _ script.objects lie sized)
