@@ -1,5 +1,5 @@
 -- Each place of a run has a record.
-use Rattle.std.proofs.Common.{◌≡◌, ℕ, zero, suc, List, [], ◌∷◌, Some, subst, refl, arith}
+use Rattle.std.proofs.Common.{zero, suc, List, [], ◌∷◌, subst, refl, arith}
 use Rattle.std.specs.Prelude.{IsSome}
 use Rattle.kc_model.specs.Store.{Store, after}
 use Rattle.kc_bundle.specs.declared.operation.Command.{Command}

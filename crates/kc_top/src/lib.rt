@@ -6,6 +6,7 @@ mod run;
 mod served;
 mod settling;
 mod status;
+mod threads;
 mod top;
 
 pub use served::Served;

@@ -15,10 +15,11 @@ ghost use Rattle.kc_top.specs.Statuses.{Shows};
 
 use crate::served::Served;
 use crate::settling::{room_for, settle};
+use crate::threads::run_locked;
 use kc_bundle::{Bundle, opening, put_state};
 use kc_history::{Record, Room, put_text};
 use kc_model::{Failed, ModelError, NoMemory, Pen, PlainStore, Sink};
-use kc_run::{Gate, open_locked, run_threads};
+use kc_run::Gate;
 use std::alloc::Global;
 use std::sync::Wait;
 use std::thread::Threads;
@@ -69,10 +70,7 @@ fn run_bundle<G: Gate, R: Threads + Wait + Sync>(
             served: Served::Nothing,
         });
     }
-    let (shared, passes) = open_locked(alloc, &values, &bundle.threads)?;
-    let Ok((records, past)) = run_threads(rt, alloc, &bundle.threads, shared, passes, gate) else {
-        return Err(NoMemory);
-    };
+    let (records, past) = run_locked(rt, alloc, &values, &bundle.threads, gate)?;
     settle(&records, &mut room, &mut store);
     Ok(Ran {
         records,

@@ -1,6 +1,6 @@
 //! From the records of a run to their order and the last store.
 
-ghost use Rattle.std.specs.Prelude.{◌≡◌, ◌+◌, ◌≤◌, ℕ, List, All, IfOk, length, sum_by};
+ghost use Rattle.std.specs.Prelude.{◌≡◌, ◌+◌, ◌≤◌, ℕ, List, [], All, IfOk, length, sum_by};
 ghost use Rattle.kc_model.specs.Store.{Store, store_of};
 ghost use Rattle.kc_history.specs.Counts.{records_in};
 ghost use Rattle.kc_history.specs.declared.record.Place.{Place};
@@ -19,6 +19,7 @@ pub fn room_for(alloc: Global, threads: &[Vec<Command>]) -> Result<Room, NoMemor
     requires commands { All (λ v. length v.items ≤ 4096) threads.now }
     ensures threads { IfOk result (λ room. room.threads ≡ length threads.now) }
     ensures records { IfOk result (λ room. room.records ≡ sum_by (λ v. length v.items + 1) threads.now) }
+    ensures order { IfOk result (λ room. room.order ≡ []) }
 {
     let mut records = 0;
     for i in 0..threads.len() {
