@@ -6,6 +6,8 @@ mod run;
 mod served;
 mod settling;
 mod status;
+#[cfg(test)]
+mod tests;
 mod threads;
 mod top;
 
