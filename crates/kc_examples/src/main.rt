@@ -2,11 +2,15 @@
 #![tactic(auto)]
 
 use kc_model::{FrailSink, FrailSource};
+use kc_run::OpenGate;
 use kc_top::kcas_main;
+use std::alloc::Global;
+use std::sync::Wait;
+use std::thread::Threads;
 use std::{fs, io};
 
 // The name of each script, and its exit number.
-const EXAMPLES: [(&str, u8); 16] = [
+const EXAMPLES: [(&str, u8); 18] = [
     ("first", 0),
     ("locations", 0),
     ("several", 0),
@@ -22,6 +26,8 @@ const EXAMPLES: [(&str, u8); 16] = [
     ("alternatives", 0),
     ("nested", 0),
     ("tour", 0),
+    ("handover", 0),
+    ("apart", 0),
     ("refused", 3),
 ];
 
@@ -29,8 +35,11 @@ const EXAMPLES: [(&str, u8); 16] = [
 const ROOM: usize = 4096;
 
 fn main(rt: HostRuntime) -> io::Result<()> {
+    let alloc = rt.alloc();
     for (name, number) in EXAMPLES {
-        let verdict = if is_as_expected(&rt, name, number)? {
+        let script = fs::read(&rt, &format!(in alloc; "{name}.kcas")?)?;
+        let text = fs::read(&rt, &format!(in alloc; "{name}.txt")?)?;
+        let verdict = if is_as_expected(&rt, alloc, script, &text, number)? {
             "ok"
         } else {
             "differs"
@@ -40,10 +49,13 @@ fn main(rt: HostRuntime) -> io::Result<()> {
     Ok(())
 }
 
-fn is_as_expected(rt: &HostRuntime, name: &str, number: u8) -> io::Result<bool> {
-    let alloc = rt.alloc();
-    let script = fs::read(rt, &format!(in alloc; "{name}.kcas")?)?;
-    let text = fs::read(rt, &format!(in alloc; "{name}.txt")?)?;
+fn is_as_expected<R: Threads + Wait + Sync>(
+    rt: &R,
+    alloc: Global,
+    script: Vec<u8>,
+    text: &[u8],
+    number: u8,
+) -> io::Result<bool> {
     let mut words = Vec::new(alloc);
     words.push(String::from_str(alloc, "kcas")?)?;
     words.push(String::from_str(alloc, "run")?)?;
@@ -51,6 +63,6 @@ fn is_as_expected(rt: &HostRuntime, name: &str, number: u8) -> io::Result<bool> 
     let Ok(mut sink) = FrailSink::new(alloc, ROOM, Vec::new(alloc)) else {
         return Err(io::ErrorKind::OutOfMemory.into());
     };
-    let status = kcas_main(rt, alloc, &words, &mut source, &mut sink);
-    Ok(status.number() == number && sink.bytes() == text.as_slice())
+    let (status, _) = kcas_main(rt, alloc, &words, &mut source, &mut sink, &OpenGate);
+    Ok(status.number() == number && sink.bytes() == text)
 }

@@ -1,5 +1,5 @@
 -- From legal entries to legal records.
-use Rattle.std.proofs.Common.{◌≡◌, ◌≢◌, ℕ, zero, suc, ◌+◌, ◌-◌, List, [], ◌∷◌, cond, slice_get, refl, sym, ap, ◌∙◌, subst, arith, eq-eqb, ne_eqb, add-zero, inl, inr}
+use Rattle.std.proofs.Common.{◌≡◌, ◌≢◌, ℕ, zero, suc, ◌+◌, ◌-◌, List, [], ◌∷◌, map, if◌then◌else◌, slice_get, refl, sym, ap, ◌∙◌, subst, arith, slice_index_or, eq-eqb, ne_eqb, add-zero, zero-add, inl, inr}
 use Rattle.kc_model.specs.declared.footprint.Footprint.{Footprint}
 use Rattle.kc_history.specs.Order.{Footprints, more, Legal}
 use Rattle.kc_model.specs.Store.{Store, after, cell_after}
@@ -7,16 +7,20 @@ use Rattle.kc_model.specs.Footprint.{put_at}
 use Rattle.std.proofs.Math.Path.{fun_ext}
 use Rattle.kc_model.specs.declared.footprint.Entry.{Entry}
 use Rattle.kc_model.specs.Legal.{IsLegal}
+use Rattle.kc_history.specs.Callers.{of_caller, entries_of, HasJust}
+use Rattle.kc_history.specs.Records.{footprint_at}
+use Rattle.kc_history.specs.declared.record.Record.{Record}
+use Rattle.std.specs.Option.{option_map}
 use Rattle.kc_history.specs.Moves.{by, placed_from, LeavesLooks}
 use Rattle.kc_history.specs.Moves.LeavesLooks.{end, keep, leave}
 use Rattle.kc_history.proofs.Ready.{no_some, same_or, more_same, more_other}
 use Rattle.kc_history.proofs.Passing.{not_below}
 
 by_same : (u : ℕ) (x : Entry) (xs : List Entry) → u ≡ x.caller → by u (x ∷ xs) ≡ x.footprint ∷ by u xs
-by_same u x xs e = ap (λ b. cond b (x.footprint ∷ by u xs) (by u xs)) (eq-eqb u x.caller e)
+by_same u x xs e = ap (λ b. map (λ (y : Entry). y.footprint) (if b then x ∷ of_caller u xs else of_caller u xs)) (eq-eqb x.caller u (sym e))
 
 by_other : (u : ℕ) (x : Entry) (xs : List Entry) → u ≢ x.caller → by u (x ∷ xs) ≡ by u xs
-by_other u x xs e = ap (λ b. cond b (x.footprint ∷ by u xs) (by u xs)) (ne_eqb u x.caller e)
+by_other u x xs e = ap (λ b. map (λ (y : Entry). y.footprint) (if b then x ∷ of_caller u xs else of_caller u xs)) (ne_eqb x.caller u (λ h. e (sym h)))
 
 pub entries : (a : Footprints) (e : Store) (h : List Entry) (n : ℕ → ℕ) (s : Store) → IsLegal s h e → ((u k : ℕ) → a u (n u + k) ≡ slice_get (by u h) k) → Legal a n s (placed_from n h) e
 entries a e [] n s legal same = ((λ u k f is. not_below (suc k) (n u) (λ l. no_some f (sym (same u (k - n u)) ∙ ap (a u) (let m : n u + (k - n u) ≡ k = omega arith in m) ∙ is))), legal)
@@ -37,3 +41,23 @@ pub without_looks : (e : Store) {xs ys : List Entry} → LeavesLooks xs ys → (
 without_looks e end s h = h
 without_looks e (keep x t) s h = (h.0, without_looks e t (after x.footprint s) h.1)
 without_looks e (leave x {xs = xs} none t) s h = without_looks e t s (subst (λ s. IsLegal s xs e) (reads_only x.footprint s none) h.1)
+
+-- ---- entries of records
+
+entries_footprints : (k n : ℕ) (rs : List Record) → map (λ (x : Entry). x.footprint) (entries_of k n rs) ≡ map (λ (r : Record). r.footprint) rs
+entries_footprints k n [] = refl
+entries_footprints k n (r ∷ rs) = ap (λ fs. r.footprint ∷ fs) (entries_footprints k (n + 1) rs)
+
+-- the footprint at a place is the entry's there
+pub just_at : (records : List (List Record)) (h : List Entry) → HasJust records h → (u k : ℕ) → footprint_at records u k ≡ slice_get (by u h) k
+just_at records h just u k =
+    sym (get_mapped (λ (r : Record). r.footprint) (slice_index_or records u []) k) ∙ ap (λ fs. slice_get fs k) (sym (ap (map (λ (x : Entry). x.footprint)) (just u) ∙ entries_footprints u 1 (slice_index_or records u [])))
+  where
+    get_mapped : {A B : Type 0} (f : A → B) (xs : List A) (j : ℕ) → slice_get (map f xs) j ≡ option_map f (slice_get xs j)
+    get_mapped f [] j = refl
+    get_mapped f (x ∷ xs) zero = refl
+    get_mapped f (x ∷ xs) (suc j) = get_mapped f xs j
+
+-- records that a legal history just has are a legal list
+pub just_legal : (records : List (List Record)) (s e : Store) (h : List Entry) → IsLegal s h e → HasJust records h → Legal (footprint_at records) (λ _. 0) s (placed_from (λ _. 0) h) e
+just_legal records s e h legal just = entries (footprint_at records) e h (λ _. 0) s legal (λ u k. ap (footprint_at records u) (zero-add k) ∙ just_at records h just u k)

@@ -9,3 +9,4 @@ pub mod Passing
 pub mod Placed
 pub mod Places
 pub mod Lines
+pub mod Applied

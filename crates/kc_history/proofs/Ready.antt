@@ -8,7 +8,7 @@ use Rattle.kc_model.specs.declared.plain_store.Cell.{Cell}
 use Rattle.kc_model.specs.Footprint.{Reads, Puts, PutsWhatItReads, put_at}
 use Rattle.kc_model.specs.Store.{Store, cell_after, after, Finds}
 use Rattle.kc_history.specs.declared.record.Place.{Place}
-use Rattle.kc_history.specs.Order.{Footprints, more, IsNext, NoneLeft, Legal, version_after, raised, Ready, Chooses, IsCanonical}
+use Rattle.kc_history.specs.Order.{Footprints, more, IsNext, Legal, version_after, raised, Ready}
 use Rattle.kc_history.proofs.Choice.{some_is}
 
 -- the versions of a store
@@ -155,37 +155,3 @@ module _ (a : Footprints) (well : (u k : ℕ) (f : Footprint) → a u k ≡ Some
           omega arith
     ];
   }
-
--- ---- a thread alone
-
--- the places are chosen one by one, and then none is left
-pub record ChoosesAll (a : Footprints) (n v : ℕ → ℕ) (ps : List Place) : Type 0 where
-  pub stand : ℕ → ℕ
-  pub versions_then : ℕ → ℕ
-  pub chooses : Chooses a n v ps stand versions_then
-  pub all : NoneLeft a stand
-
--- where one thread alone has records, a legal list of them is chosen one by one
-pub alone_chooses : (a : Footprints) (t : ℕ) (e : Store) → ((u k : ℕ) (f : Footprint) → a u k ≡ Some f → (u ≡ t) × PutsWhatItReads f) → (ps : List Place) (n : ℕ → ℕ) (s : Store) → Legal a n s ps e → ChoosesAll a n (versions s) ps
-alone_chooses a t e well [] n s h = record { stand = n; versions_then = versions s; chooses = (refl, refl); all = h.0 }
-alone_chooses a t e well (p ∷ ps) n s h =
-    let on = alone_chooses a t e well ps (more p.thread n) (after h.0 s) h.3 in
-    let first = first_ready a (λ u k f at. (well u k f at).1) e p ps n s h in
-    let on' : Chooses a (more p.thread n) (raised h.0 (versions s)) ps on.stand on.versions_then = (let P : (ℕ → ℕ) → Type 0 = λ v. Chooses a (more p.thread n) v ps on.stand on.versions_then in subst P (sym (raised_versions h.0 s)) on.chooses) in
-    record {
-      stand = on.stand;
-      versions_then = on.versions_then;
-      chooses = (h.0, record { ready = first; lowest = λ q g ready. (let i = (well p.thread p.index h.0 first.next.1).0 in let j = (well q.thread q.index g ready.next.1).0 in omega arith) }, on');
-      all = on.all;
-    }
-
--- where one thread alone has records, its legal order from versions 0 is the canonical one
-pub alone_canonical : (a : Footprints) (t : ℕ) (s e : Store) (ps : List Place) → ((u k : ℕ) (f : Footprint) → a u k ≡ Some f → (u ≡ t) × PutsWhatItReads f) → ((l : ℕ) → (s l).version ≡ 0) → Legal a (λ _. 0) s ps e → IsCanonical a ps
-alone_canonical a t s e ps well zeros h =
-    let c = alone_chooses a t e well ps (λ _. 0) s h in
-    record {
-      stand = c.stand;
-      versions = c.versions_then;
-      chooses = (let P : (ℕ → ℕ) → Type 0 = λ v. Chooses a (λ _. 0) v ps c.stand c.versions_then in subst P (fun_ext (λ l. zeros l)) c.chooses);
-      all = c.all;
-    }

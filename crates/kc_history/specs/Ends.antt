@@ -8,12 +8,19 @@ use Rattle.kc_history.specs.declared.record.Place.{Place}
 use Rattle.kc_history.specs.declared.arranging.Cycle.{Cycle}
 use Rattle.kc_history.specs.Order.{Footprints, Legal, Chooses, NoneReady}
 
--- the footprint is well made, and of locations that a store may have
+-- the footprint is well made, and of a store of so many locations
+abbrev pub CanStandIn : ℕ → Footprint → Type 0
+CanStandIn n f = IsWellMade f × IsBelow n f
+
+abbrev pub AllCanStandIn : ℕ → Footprints → Type 0
+AllCanStandIn n a = (u k : ℕ) (f : Footprint) → a u k ≡ Some f → CanStandIn n f
+
+-- of locations that a store may have
 abbrev pub CanStand : Footprint → Type 0
-CanStand f = IsWellMade f × IsBelow MOST_LOCATIONS f
+CanStand f = CanStandIn MOST_LOCATIONS f
 
 abbrev pub AreWellMade : Footprints → Type 0
-AreWellMade a = (u k : ℕ) (f : Footprint) → a u k ≡ Some f → CanStand f
+AreWellMade a = AllCanStandIn MOST_LOCATIONS a
 
 -- the lowest thread with a record left, where so many of each thread stand
 pub record IsFirstLeft (a : Footprints) (n : ℕ → ℕ) (t : ℕ) : Type 0 where

@@ -1,5 +1,6 @@
 pub mod Records
 pub mod Order
+pub mod Callers
 pub mod Moves
 pub mod Counts
 pub mod Tested

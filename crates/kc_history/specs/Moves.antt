@@ -1,11 +1,12 @@
 -- Lists of records that differ by exchanges alone; lists of records that come from entries.
-use Rattle.std.specs.Prelude.{◌≡◌, ◌≢◌, ℕ, List, [], ◌∷◌, cond, ◌==◌, Some}
+use Rattle.std.specs.Prelude.{◌≡◌, ◌≢◌, ℕ, List, [], ◌∷◌, map, Some}
 use Rattle.kc_model.specs.declared.footprint.Seen.{Seen}
 use Rattle.kc_model.specs.declared.footprint.Put.{Put}
 use Rattle.kc_model.specs.declared.footprint.Footprint.{Footprint}
 use Rattle.kc_model.specs.declared.footprint.Entry.{Entry}
 use Rattle.kc_model.specs.Footprint.{Reads, Puts}
 use Rattle.kc_history.specs.declared.record.Place.{Place}
+use Rattle.kc_history.specs.Callers.{of_caller}
 use Rattle.kc_history.specs.Order.{Footprints, more}
 
 -- the first puts nothing that the second reads
@@ -35,8 +36,7 @@ pub data Exchanges (a : Footprints) : List Place → List Place → Type 0 where
 
 -- a caller's footprints, in order
 abbrev pub by : ℕ → List Entry → List Footprint
-by u [] = []
-by u (x ∷ xs) = cond (u == x.caller) (x.footprint ∷ by u xs) (by u xs)
+by u h = map (λ (x : Entry). x.footprint) (of_caller u h)
 
 -- where the entries stand in lists by thread, when so many of each stand before
 abbrev pub placed_from : (ℕ → ℕ) → List Entry → List Place

@@ -8,21 +8,16 @@ ghost use Rattle.kc_model.specs.Store.{Store};
 ghost use Rattle.kc_model.specs.Legal.{IsLegal};
 ghost use Rattle.kc_history.specs.declared.arranging.Cycle.{Cycle as Stuck};
 ghost use Rattle.kc_history.specs.declared.record.Place.{Place};
+ghost use Rattle.kc_history.specs.declared.record.Record.{Record};
+ghost use Rattle.kc_history.specs.Callers.{HasJust};
 ghost use Rattle.kc_history.specs.Ends.{IsStuck};
 ghost use Rattle.kc_history.specs.Moves.{Exchanges, LeavesLooks, by, placed_from};
 ghost use Rattle.kc_history.specs.Order.{Footprints, Legal, IsCanonical};
+ghost use Rattle.kc_history.specs.Records.{footprint_at};
 
 /// There is one canonical order, so that the records determine the text.
 pub fn one_order_is_canonical()
     ensures { (a : Footprints) (ps qs : List Place) → IsCanonical a ps → IsCanonical a qs → ps ≡ qs }
-{}
-
-/// Where one thread alone has records, and they are legal in its own order from versions 0, this order is the canonical one.
-pub fn own_order_is_canonical()
-    ensures { (a : Footprints) (t : ℕ) (s e : Store) (ps : List Place) →
-        ((u k : ℕ) (f : Footprint) → a u k ≡ Some f → (u ≡ t) × PutsWhatItReads f) →
-        ((l : ℕ) → (s l).version ≡ 0) →
-        Legal a (λ _. 0) s ps e → IsCanonical a ps }
 {}
 
 /// The choice of ready records takes all records in, or is stuck at one place.
@@ -42,8 +37,10 @@ pub fn canonical_is_legal()
 
 /// A legal history, whose entries of each caller are a thread's records, is a legal list of the records.
 pub fn entries_are_records()
-    ensures { (a : Footprints) (s e : Store) (h : List Entry) →
+    ensures any { (a : Footprints) (s e : Store) (h : List Entry) →
         IsLegal s h e → ((u k : ℕ) → a u k ≡ slice_get (by u h) k) → Legal a (λ _. 0) s (placed_from (λ _. 0) h) e }
+    ensures lists { (records : List (List Record)) (s e : Store) (h : List Entry) →
+        IsLegal s h e → HasJust records h → Legal (footprint_at records) (λ _. 0) s (placed_from (λ _. 0) h) e }
 {}
 
 /// A legal history stays legal without entries that only read.

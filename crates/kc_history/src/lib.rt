@@ -6,6 +6,7 @@ mod counting;
 mod laws;
 mod placing;
 mod record;
+mod replaying;
 #[cfg(test)]
 mod tests;
 mod text;
@@ -13,7 +14,8 @@ mod text;
 pub use arranging::{Cycle, Room, are_well_made, arrange};
 pub use laws::{
     arranging_ends_in_one_way, canonical_is_legal, entries_are_records, looks_can_be_left,
-    one_order_is_canonical, own_order_is_canonical,
+    one_order_is_canonical,
 };
 pub use record::{Mark, Place, Record};
+pub use replaying::replay;
 pub use text::{put_text, write_text};

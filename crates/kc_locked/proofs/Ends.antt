@@ -18,7 +18,7 @@ use Rattle.kc_locked.specs.declared.rule.View.{View}
 use Rattle.kc_locked.specs.Held.{HeldView, held}
 use Rattle.kc_locked.specs.Origin.{Origin, origin}
 use Rattle.kc_locked.specs.Locked.{part, free_view, shared_out, first_view, times, left_of, AllFit, FitsView, Kept, spent, gathered, dealt, undealt, first_part, other_parts, Ended}
-use Rattle.kc_locked.specs.Passes.{of_caller}
+use Rattle.kc_history.specs.Callers.{of_caller}
 use Rattle.atomic_table.specs.Seated.{TableId}
 use Rattle.kc_locked.specs.Passes.{PassView, pass_of, passes_of}
 use Rattle.kc_locked.specs.Locked.{Matches}

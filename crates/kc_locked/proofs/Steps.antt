@@ -15,7 +15,7 @@ use Rattle.kc_locked.specs.declared.rule.View.{View}
 use Rattle.kc_locked.specs.Held.{HeldView}
 use Rattle.kc_locked.specs.Origin.{Origin}
 use Rattle.kc_locked.specs.Locked.{AllFit, part, free_view, lock_view, times, left_of, total, FitsView, Kept, Took, Gave, Grown, Holds, committed}
-use Rattle.kc_locked.specs.Passes.{of_caller, IsBelowCallers}
+use Rattle.kc_history.specs.Callers.{of_caller, IsBelowCallers}
 use Rattle.kc_locked.proofs.Views.{total_set, total_one, total_two, own_more, times-hit, all_other, all_below}
 
 abbrev Mine : Type 0

@@ -9,7 +9,8 @@ use Rattle.kc_locked.specs.Origin.{Origin}
 use Rattle.kc_locked.specs.declared.rule.Part.{Part}
 use Rattle.kc_locked.specs.declared.rule.View.{View}
 use Rattle.kc_locked.specs.Held.{HeldView, held, IsSound}
-use Rattle.kc_locked.specs.Passes.{PassView, of_caller, IsBelowCallers}
+use Rattle.kc_history.specs.Callers.{of_caller, IsBelowCallers}
+use Rattle.kc_locked.specs.Passes.{PassView}
 use Rattle.kc_locked.specs.declared.held.Waits.{Waits}
 use Rattle.kc_model.specs.declared.reply.Answer.{Answer}
 

@@ -1,14 +1,12 @@
 -- What is seen of a store, of a pass and of the past.
-use Rattle.std.specs.Prelude.{◌≡◌, ℕ, ◌+◌, ◌<◌, List, [], ◌∷◌, ◌++◌, All, length, if◌then◌else◌, ◌==◌}
+use Rattle.std.specs.Prelude.{◌≡◌, ℕ, ◌+◌, List, [], ◌∷◌, ◌++◌, All, length}
 use Rattle.atomic_table.specs.Seated.{TableId}
 use Rattle.kc_model.specs.declared.footprint.Entry.{Entry}
 use Rattle.kc_model.specs.declared.footprint.Footprint.{Footprint}
 use Rattle.kc_model.specs.declared.reply.Answer.{Answer}
-use Rattle.kc_model.specs.Legal.{IsLegal}
-use Rattle.kc_model.specs.Store.{Store, store_of, opened}
 use Rattle.kc_xt.specs.Meaning.{Meaning}
 use Rattle.kc_xt.specs.Commit.{Answers}
-use Rattle.kc_locked.specs.History.{entry_of}
+use Rattle.kc_history.specs.Callers.{IsLegalFrom, IsBelowCallers, entry_of, of_caller}
 
 -- which store it is, its opening values, and how many passes it has
 pub record StoreView : Type 0 where
@@ -31,15 +29,6 @@ pub record PastView : Type 0 where
 abbrev pub pass_of : TableId → ℕ → ℕ → List Entry → PassView
 pass_of table caller left own = record { table = table; caller = caller; left = left; own = own }
 
--- a caller's entries, in their order
-abbrev pub of_caller : ℕ → List Entry → List Entry
-of_caller k [] = []
-of_caller k (e ∷ es) = if e.caller == k then e ∷ of_caller k es else of_caller k es
-
--- each is of one of so many callers
-abbrev pub IsBelowCallers : ℕ → List Entry → Type 0
-IsBelowCallers callers history = All (λ (e : Entry). e.caller < callers) history
-
 -- the passes with these shares, from this caller on
 abbrev pub passes_of : TableId → ℕ → List ℕ → List PassView
 passes_of table k [] = []
@@ -61,7 +50,7 @@ pub record Made (m : Meaning) (a : Answer) (f : Footprint) (before now : PassVie
 
 -- the history is legal from the opening values at versions 0
 abbrev pub IsLegalPast : PastView → Type 0
-IsLegalPast p = (end : Store) × IsLegal (store_of (opened p.opening)) p.history end
+IsLegalPast p = IsLegalFrom p.opening p.history
 
 -- The one history: it is legal from the opening values at versions 0, each pass's own list is its caller's part of it, and nobody else has an entry in it.
 pub record IsPast (store : StoreView) (passes : List PassView) (past : PastView) : Type 0 where

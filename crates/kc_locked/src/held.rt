@@ -7,7 +7,7 @@ ghost use Rattle.kc_xt.specs.Meaning.{retried};
 ghost use Rattle.kc_xt.specs.Commit.{run_on, Waits as WaitsFor};
 ghost use Rattle.kc_xt.specs.Ended.{answer_of_ended, print_of};
 ghost use Rattle.kc_locked.specs.Held.{held, Commits, IsSound};
-ghost use Rattle.kc_locked.specs.History.{entry_of};
+ghost use Rattle.kc_history.specs.Callers.{entry_of};
 
 use crate::history::History;
 use kc_model::{Answer, Footprint, ModelError, PlainStore};

@@ -2,7 +2,8 @@
 
 ghost use Rattle.std.specs.Prelude.{◌≡◌, ◌++◌, ◌∷◌, [], IfOk};
 ghost use Rattle.kc_locked.specs.declared.history.Told.{Told as Record};
-ghost use Rattle.kc_locked.specs.History.{entry_of, told};
+ghost use Rattle.kc_history.specs.Callers.{entry_of};
+ghost use Rattle.kc_locked.specs.History.{told};
 
 use atomic_table::{Play, Seat, Shared, Table, TableRule};
 use kc_model::{Entry, Footprint};

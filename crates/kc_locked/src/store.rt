@@ -3,7 +3,7 @@ ghost use Rattle.std.specs.Prelude.{◌≡◌, ◌↔◌, ◌+◌, ◌<◌, ◌�
 ghost use Rattle.kc_model.specs.Footprint.{IsBelow};
 ghost use Rattle.kc_xt.specs.Commit.{Answers, Waits as WaitsFor};
 ghost use Rattle.kc_xt.specs.Ended.{answer_of_ended, print_of};
-ghost use Rattle.kc_locked.specs.History.{entry_of};
+ghost use Rattle.kc_history.specs.Callers.{entry_of};
 ghost use Rattle.kc_locked.specs.Held.{HeldView, IsSound};
 ghost use Rattle.kc_locked.specs.Locked.{free_view, shared_out, committed, Ended as Shown, Grown, Holds};
 ghost use Rattle.kc_locked.specs.Origin.{origin};

@@ -6,13 +6,12 @@ use Rattle.std.specs.Global.{Vec}
 use Rattle.crossbeam_utils.specs.Padded.{padded_value}
 use Rattle.kc_model.specs.declared.footprint.Entry.{Entry}
 use Rattle.kc_bundle.specs.declared.operation.Command.{Command}
-use Rattle.kc_history.specs.declared.record.Record.{Record}
 use Rattle.kc_history.specs.Records.{lists_of}
-use Rattle.kc_locked.specs.Passes.{of_caller}
+use Rattle.kc_history.specs.Callers.{of_caller}
 use Rattle.kc_run.specs.declared.job.Job.{Job}
-use Rattle.kc_run.specs.Labels.{AreThreads, label, labels}
+use Rattle.kc_runs.specs.Labels.{label, labels}
 use Rattle.kc_run.specs.Shared.{count_from}
-use Rattle.kc_run.specs.Run.{AreRun}
+use Rattle.kc_runs.specs.Threads.{AreRun}
 use Rattle.kc_run.specs.Jobs.{Room, Rooms, paired, pass_of, list_of, row_at, Ready, Ran, JobRan, AllMayRun}
 
 -- ---- rooms
@@ -124,7 +123,7 @@ module _ {S P : Type 0} (belongs : S → P → Type 0) (number left : P → ℕ)
     map_map (x ∷ xs) = ap (λ l. number x.pass ∷ l) (map_map xs)
 
   run_from : (history : List Entry) (k : ℕ) (threads : List (Vec Command)) (js : List (Job P)) → length threads ≡ length js → ((i : ℕ) (d : Job P) → i < length js → JobRan belongs number own opening store (k + i) (row_at threads i) (get_or js i d))
-      → ((i : ℕ) (d : Job P) → i < length js → of_caller (number (get_or js i d).pass) history ≡ own (get_or js i d).pass) → AreRun (length (opening store)) k history threads (map list_of js)
+      → ((i : ℕ) (d : Job P) → i < length js → of_caller (number (get_or js i d).pass) history ≡ own (get_or js i d).pass) → AreRun (length (opening store)) k history (map (λ (v : Vec Command). v.items) threads) (lists_of (map list_of js))
   run_from history k [] [] len ran owns = tt
   run_from history k [] (j ∷ js) len ran owns = absurd (omega arith)
   run_from history k (v ∷ vs) [] len ran owns = absurd (omega arith)
@@ -136,7 +135,7 @@ module _ {S P : Type 0} (belongs : S → P → Type 0) (number left : P → ℕ)
         run_from history (suc k) vs js (omega arith) (λ i d lt. let e : k + suc i ≡ suc k + i = omega arith in subst (λ n. Ran belongs number own opening store n (row_at vs i) (get_or js i d).pass (padded_value (get_or js i d).records).items) e (ran (suc i) d (omega arith))) (λ i d lt. owns (suc i) d (omega arith)),
       )
 
-  run_all : (history : List Entry) (threads : List (Vec Command)) (js : List (Job P)) → length threads ≡ length js → AllRan threads js → All (λ p. of_caller (number p) history ≡ own p) (map pass_of js) → AreRun (length (opening store)) 0 history threads (map list_of js)
+  run_all : (history : List Entry) (threads : List (Vec Command)) (js : List (Job P)) → length threads ≡ length js → AllRan threads js → All (λ p. of_caller (number p) history ≡ own p) (map pass_of js) → AreRun (length (opening store)) 0 history (map (λ (v : Vec Command). v.items) threads) (lists_of (map list_of js))
   run_all history threads js len ran owns =
       run_from history 0 threads js len (λ i d lt. let z : i ≡ 0 + i = omega arith in subst (λ n. Ran belongs number own opening store n (row_at threads i) (get_or js i d).pass (padded_value (get_or js i d).records).items) z (ran i d lt))
       (λ i d lt. let p = pick js i lt in
@@ -146,7 +145,7 @@ module _ {S P : Type 0} (belongs : S → P → Type 0) (number left : P → ℕ)
   pub record AreDone (threads : List (Vec Command)) (js : List (Job P)) (callers : ℕ) : Type 0 where
     pub belong : All (belongs store) (map pass_of js)
     pub numbered : map number (map pass_of js) ≡ count_from 0 callers
-    pub run : (history : List Entry) → All (λ p. of_caller (number p) history ≡ own p) (map pass_of js) → AreRun (length (opening store)) 0 history threads (map list_of js)
+    pub run : (history : List Entry) → All (λ p. of_caller (number p) history ≡ own p) (map pass_of js) → AreRun (length (opening store)) 0 history (map (λ (v : Vec Command). v.items) threads) (lists_of (map list_of js))
 
   pub ran_done : (threads : List (Vec Command)) (ps : List P) (rs : List Room) (before js : List (Job P)) (callers : ℕ) → AreReady belongs number left own store threads ps rs before → length js ≡ length before
       → ((i : ℕ) (d : Job P) → i < length before → JobRan belongs number own opening store i (row_at threads i) (get_or js i d)) → length threads ≡ callers → AreDone threads js callers
@@ -156,10 +155,3 @@ module _ {S P : Type 0} (belongs : S → P → Type 0) (number left : P → ℕ)
         numbered = passes_counted threads js here ∙ ap (count_from 0) (len ∙ sym ready.jobs ∙ all);
         run = λ history. run_all history threads js (ready.jobs ∙ sym len) here;
       }
-
--- a run's records are those of its threads
-pub threads_of_run : (n k j : ℕ) → j ≡ k + 1 → (history : List Entry) (threads : List (Vec Command)) (records : List (Vec Record)) → AreRun n k history threads records → AreThreads j (map (λ v. v.items) threads) (lists_of records)
-threads_of_run n k j e history [] [] h = tt
-threads_of_run n k j e history [] (r ∷ rs) h = absurd h
-threads_of_run n k j e history (v ∷ vs) [] h = absurd h
-threads_of_run n k j e history (v ∷ vs) (r ∷ rs) h = (h.0.labelled ∙ ap (λ (n : ℕ). labels n 1 v.items) (sym e), threads_of_run n (suc k) (j + 1) (omega arith) history vs rs h.1)

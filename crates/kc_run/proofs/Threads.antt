@@ -10,10 +10,10 @@ use Rattle.kc_bundle.specs.Meaning.{thread_meaning, end_meaning}
 use Rattle.kc_loc.specs.declared.operation.LocOp.TheVariants as loc
 use Rattle.kc_history.specs.declared.record.Record.{Record}
 use Rattle.kc_history.specs.declared.record.Mark.TheVariants as mark
-use Rattle.kc_locked.specs.History.{entry_of}
+use Rattle.kc_history.specs.Callers.{entry_of, entries_of}
 use Rattle.kc_xt.specs.Meaning.{Meaning}
-use Rattle.kc_run.specs.Labels.{Label, label, labels}
-use Rattle.kc_run.specs.Run.{AreAnswered, IsAnswered, entries_of, meanings}
+use Rattle.kc_runs.specs.Labels.{Label, label, labels}
+use Rattle.kc_runs.specs.Threads.{AreAnswered, IsAnswered, meanings}
 
 -- ---- commits
 

@@ -7,8 +7,9 @@ use Rattle.kc_model.specs.declared.footprint.Entry.{Entry}
 use Rattle.kc_bundle.specs.declared.operation.Command.{Command}
 use Rattle.kc_history.specs.declared.record.Record.{Record}
 use Rattle.kc_run.specs.declared.job.Job.{Job}
-use Rattle.kc_run.specs.Labels.{label, labels}
-use Rattle.kc_run.specs.Run.{AreAnswered, entries_of, meanings}
+use Rattle.kc_runs.specs.Labels.{label, labels}
+use Rattle.kc_history.specs.Callers.{entries_of}
+use Rattle.kc_runs.specs.Threads.{AreAnswered, meanings}
 
 -- the commands of the thread at this place
 abbrev pub row_at : List (Vec Command) → ℕ → List Command

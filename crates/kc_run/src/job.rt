@@ -1,7 +1,7 @@
 //! Passes with their threads' records, and apart again.
 
 ghost use Rattle.std.specs.Prelude.{◌≡◌, ◌+◌, ◌≤◌, ◌<◌, [], length, map, vec_len, vec_capacity, All, IfOk};
-ghost use Rattle.kc_run.specs.Labels.{label, labels};
+ghost use Rattle.kc_runs.specs.Labels.{label, labels};
 ghost use Rattle.kc_run.specs.Jobs.{Rooms, paired, pass_of, list_of};
 
 use crossbeam_utils::CachePadded;

@@ -1,8 +1,8 @@
 //! Threads share the store behind one lock.
 
 ghost use Rattle.std.specs.Prelude.{◌≡◌, ◌<◌, ◌≤◌, All, length, map, IfOk};
-ghost use Rattle.kc_locked.specs.Passes.{of_caller, IsBelowCallers};
-ghost use Rattle.kc_run.specs.Shared.{IsLegalFrom, count_from};
+ghost use Rattle.kc_history.specs.Callers.{of_caller, IsBelowCallers, IsLegalFrom};
+ghost use Rattle.kc_run.specs.Shared.{count_from};
 ghost use Rattle.kc_run.specs.Locked.{AllDealt, shares_of};
 
 use crate::shared::Shared;
@@ -32,6 +32,8 @@ impl Shared for LockedStore {
 
     ghost own = { λ pass. pass.own };
 
+    ghost began = { λ past. past.opening };
+
     ghost history = { λ past. past.history };
 
     fn commit_command<R: Wait, T: Transact>(
@@ -47,6 +49,7 @@ impl Shared for LockedStore {
     fn finish(self, passes: Vec<LockPass>) -> LockPast
         requires passes { All (λ p. p.table ≡ self.table) passes.items }
         requires all { map (λ p. p.caller) passes.items ≡ count_from 0 self.callers }
+        ensures began { result.opening ≡ self.opening }
         ensures legal { IsLegalFrom self.opening result.history }
         ensures own { All (λ p. of_caller p.caller result.history ≡ p.own) passes.items }
         ensures nobody_else { IsBelowCallers self.callers result.history }

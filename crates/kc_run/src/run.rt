@@ -1,11 +1,11 @@
 //! Threads over a shared store.
 
 ghost use Rattle.std.specs.Prelude.{◌≡◌, ◌+◌, ◌≤◌, ◌<◌, ℕ, All, length, map, slice_index_or, vec_capacity, IfOk, IfErr};
-ghost use Rattle.kc_locked.specs.Passes.{IsBelowCallers};
+ghost use Rattle.kc_history.specs.Callers.{IsBelowCallers, IsLegalFrom};
 ghost use Rattle.kc_history.specs.Records.{lists_of};
-ghost use Rattle.kc_run.specs.Labels.{AreThreads};
-ghost use Rattle.kc_run.specs.Shared.{IsLegalFrom};
-ghost use Rattle.kc_run.specs.Run.{AreRun, CanRunAll};
+ghost use Rattle.kc_runs.specs.Labels.{AreThreads};
+ghost use Rattle.kc_runs.specs.Threads.{AreRun};
+ghost use Rattle.kc_run.specs.Run.{CanRunAll};
 ghost use Rattle.kc_run.specs.Jobs.{AllMayRun, JobRan, Ready, row_at};
 
 use crate::gate::Gate;
@@ -46,8 +46,9 @@ pub fn run_threads<S: Shared, G: Gate, R: Threads + Wait + Sync>(
     requires passes { AllMayRun S.belongs S.number S.left S.own shared 0 threads.now passes.items }
     requires locations { 0 < length (S.opening shared) }
     requires commands { All (λ v. CanRunAll (length (S.opening shared)) v.items) threads.now }
+    ensures began { IfOk result (λ r. S.began r.1 ≡ S.opening shared) }
     ensures legal { IfOk result (λ r. IsLegalFrom (S.opening shared) (S.history r.1)) }
-    ensures run { IfOk result (λ r. AreRun (length (S.opening shared)) 0 (S.history r.1) threads.now r.0.items) }
+    ensures run { IfOk result (λ r. AreRun (length (S.opening shared)) 0 (S.history r.1) (map (λ v. v.items) threads.now) (lists_of r.0.items)) }
     ensures threads { IfOk result (λ r. AreThreads 1 (map (λ v. v.items) threads.now) (lists_of r.0.items)) }
     ensures nobody_else { IfOk result (λ r. IsBelowCallers (length threads.now) (S.history r.1)) }
     ensures refused { IfErr result (λ e. (e.shared ≡ shared) × (e.passes.items ≡ passes.items)) }

@@ -4,9 +4,8 @@ ghost use Rattle.std.specs.Prelude.{◌≡◌, ◌+◌, ◌<◌, ◌≤◌, ◌+
 ghost use Rattle.kc_model.specs.declared.footprint.Entry.{Entry};
 ghost use Rattle.kc_model.specs.Footprint.{IsBelow};
 ghost use Rattle.kc_xt.specs.Commit.{Answers};
-ghost use Rattle.kc_locked.specs.History.{entry_of};
-ghost use Rattle.kc_locked.specs.Passes.{of_caller, IsBelowCallers};
-ghost use Rattle.kc_run.specs.Shared.{IsLegalFrom, count_from};
+ghost use Rattle.kc_history.specs.Callers.{entry_of, of_caller, IsBelowCallers, IsLegalFrom};
+ghost use Rattle.kc_run.specs.Shared.{count_from};
 
 use kc_model::{Answer, Footprint};
 use kc_xt::Transact;
@@ -38,6 +37,9 @@ pub trait Shared: Sync {
     /// The commits that it made.
     ghost own: { Self.Pass → List Entry };
 
+    /// The values with which the store of the history was opened.
+    ghost began: { Self.Whole → List ℕ };
+
     /// The one history.
     ghost history: { Self.Whole → List Entry };
 
@@ -64,6 +66,7 @@ pub trait Shared: Sync {
     fn finish(self, passes: Vec<Self::Pass>) -> Self::Whole
         requires passes { All (belongs self) passes.items }
         requires all { map number passes.items ≡ count_from 0 (callers self) }
+        ensures began { began result ≡ opening self }
         ensures legal { IsLegalFrom (opening self) (history result) }
         ensures own { All (λ p. of_caller (number p) (history result) ≡ own p) passes.items }
         ensures nobody_else { IsBelowCallers (callers self) (history result) };

@@ -2,9 +2,10 @@
 
 ghost use Rattle.std.specs.Prelude.{◌≡◌, ◌+◌, ◌<◌, ◌≤◌, ◌++◌, ◌∷◌, [], length, map, take, All};
 ghost use Rattle.kc_bundle.specs.Meaning.{thread_meaning};
-ghost use Rattle.kc_locked.specs.History.{entry_of};
-ghost use Rattle.kc_run.specs.Labels.{label, labels};
-ghost use Rattle.kc_run.specs.Run.{AreAnswered, CanRunAll, IsAnswered, entries_of, meanings};
+ghost use Rattle.kc_history.specs.Callers.{entry_of, entries_of};
+ghost use Rattle.kc_runs.specs.Labels.{label, labels};
+ghost use Rattle.kc_runs.specs.Threads.{AreAnswered, IsAnswered, meanings};
+ghost use Rattle.kc_run.specs.Run.{CanRunAll};
 
 use crate::ask::Ask;
 use crate::gate::Gate;

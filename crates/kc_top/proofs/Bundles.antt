@@ -1,24 +1,37 @@
--- A bundle's one thread and its opening store.
-use Rattle.std.proofs.Common.{◌≡◌, ℕ, ◌≤◌, List, [], ◌∷◌, length, map, Some, None, Result, Ok, Err, refl, sym, ap, ◌∙◌, arith}
-use Rattle.std.specs.Prelude.{slice_get, IfOk}
+-- A bundle's threads, its opening store, and room for its records.
+use Rattle.std.proofs.Common.{◌≡◌, ℕ, zero, suc, ◌+◌, ◌<◌, ◌≤◌, List, [], ◌∷◌, length, map, get_or, vec_len, refl, sym, ap, ◌∙◌, subst, arith}
+use Rattle.std.specs.Prelude.{All, sum_by}
+use Rattle.std.proofs.lemmas.List.Sums.{sum_by-cons}
 use Rattle.std.specs.Global.{Vec}
 use Rattle.kc_model.specs.declared.plain_store.Cell.{Cell}
-use Rattle.kc_model.specs.Store.{opened}
+use Rattle.kc_model.specs.Store.{Store, store_of, opened}
+use Rattle.kc_model.specs.declared.footprint.Entry.{Entry}
+use Rattle.std.proofs.lemmas.List.{length-map}
 use Rattle.kc_model.proofs.Stores.{opened_length}
 use Rattle.kc_bundle.specs.declared.operation.Command.{Command}
-use Rattle.kc_bundle.specs.Script.{Script, next_from}
+use Rattle.kc_bundle.specs.declared.bundle.Bundle.{Bundle}
+use Rattle.kc_bundle.specs.Script.{Script, script_of, next_from}
 use Rattle.kc_bundle.specs.State.{opening_values}
-use Rattle.kc_script.specs.Spells.{Spells, IsBuilt}
 use Rattle.kc_bundle.proofs.Places.{next_from-above, length-cells}
-use Rattle.kc_script.proofs.Spelled.{spelled_lies, spelled_sized, spelled_threads, thread_at}
-use Rattle.kc_history.proofs.Choice.{some_is}
-use Rattle.kc_top.specs.Thread.{CanRun, CanRunOn}
-use Rattle.kc_top.proofs.Runs.{opened_zero}
-
--- what holds of a good result holds of it in other words
-pub if_ok : {T E : Type 0} {P Q : T → Type 0} (r : Result T E) → ((x : T) → P x → Q x) → IfOk r P → IfOk r Q
-if_ok (Ok x) h p = h x p
-if_ok (Err e) h p = tt
+use Rattle.kc_history.specs.declared.record.Record.{Record}
+use Rattle.kc_history.specs.Counts.{records_in}
+use Rattle.kc_history.specs.Records.{footprint_at, lists_of}
+use Rattle.kc_history.specs.declared.record.Place.{Place}
+use Rattle.kc_history.specs.Callers.{HasJust, IsBelowCallers, IsLegalFrom}
+use Rattle.kc_history.specs.Ends.{AllCanStandIn}
+use Rattle.kc_history.specs.Moves.{placed_from}
+use Rattle.kc_history.specs.Order.{IsCanonical, Legal}
+use Rattle.kc_runs.specs.Run.{IsRun, opening_store}
+use Rattle.kc_runs.specs.Threads.{AreRun}
+use Rattle.kc_runs.proofs.Replayed.{opened_zero, run_just, run_list, run_made, run_of_order, run_threads_are}
+use Rattle.kc_run.specs.Run.{CanRunAll}
+use Rattle.kc_run.proofs.Threads.{room_length}
+use Rattle.kc_runs.specs.Labels.{AreThreads}
+use Rattle.kc_script.specs.Spells.{Spells}
+use Rattle.kc_script.specs.Threads.{AreThreads as AreOn}
+use Rattle.kc_script.proofs.Spelled.{spelled_lies, spelled_sized, spelled_threads, spelled_threads_few, on_at}
+use Rattle.kc_top.specs.Runnable.{IsRunnable}
+use Rattle.kc_top.proofs.Asks.{ask_fit, ask_within}
 
 -- a script has as many opening values as cells, and one for the live threads
 pub length-opening_values : (script : Script) → length (opening_values script) ≡ next_from 1 script.objects
@@ -28,32 +41,97 @@ length-opening_values script = let e = length-cells 1 script.objects in omega (a
 pub store_length : (script : Script) (cells : List Cell) → cells ≡ opened (opening_values script) → length cells ≡ next_from 1 script.objects
 store_length script cells e = ap length e ∙ opened_length (opening_values script) ∙ length-opening_values script
 
-pub no_thread : (threads : List (Vec Command)) → None ≡ slice_get threads 0 → map (λ commands. commands.items) threads ≡ []
-no_thread [] e = refl
-no_thread (v ∷ threads) e = absurd (cc)
+-- a script that bytes spell can be run
+pub runnable : {bytes : List ℕ} {s : Script} → Spells bytes s → IsRunnable s
+runnable spells = record { lies = spelled_lies spells; sized = spelled_sized spells; few = spelled_threads_few spells; threads = spelled_threads spells }
 
-pub one_thread : (threads : List (Vec Command)) (v : Vec Command) → Some v ≡ slice_get threads 0 → length (map (λ commands. commands.items) threads) ≤ 1 → map (λ commands. commands.items) threads ≡ v.items ∷ []
-one_thread [] v e le = absurd (cc)
-one_thread (w ∷ []) v e le = ap (λ (u : Vec Command). u.items ∷ []) (sym (some_is v w e))
-one_thread (w ∷ u ∷ threads) v e le = absurd (omega (arith, le))
+-- ---- its threads
 
--- a script of the built form can be run by one thread
-pub can_run : {bytes : List ℕ} {s : Script} → Spells bytes s → IsBuilt s → CanRun s
-can_run spells built = record { built = built; lies = spelled_lies spells; sized = spelled_sized spells; on = (thread_at _ _ 0 (spelled_threads spells)).1; few = (thread_at _ _ 0 (spelled_threads spells)).0 }
+abbrev commands_of : List (Vec Command) → List (List Command)
+commands_of threads = map (λ (v : Vec Command). v.items) threads
 
--- and so it can on the store with which the script opens
-pub can_run_on : (s : Script) (cells : List Cell) (commands : List Command) → CanRun s → cells ≡ opened (opening_values s) → s.threads ≡ commands ∷ [] → CanRunOn cells commands
-can_run_on s cells commands can stored threads =
-    let length = store_length s cells stored in
+pub all_few : (s : Script) (threads : List (Vec Command)) → AreOn s.objects (commands_of threads) → All (λ (v : Vec Command). length v.items ≤ 4096) threads
+all_few s [] h k d lt = absurd (omega (arith, lt))
+all_few s (v ∷ vs) h zero d lt = h.0
+all_few s (v ∷ vs) h (suc k) d lt = all_few s vs h.2 k d (omega (arith, lt))
+
+-- a store with as many locations can run them
+pub all_can_run : (s : Script) (n : ℕ) → IsRunnable s → n ≡ next_from 1 s.objects → (threads : List (Vec Command)) → AreOn s.objects (commands_of threads) → All (λ (v : Vec Command). CanRunAll n v.items) threads
+all_can_run s n can size [] h k d lt = absurd (omega (arith, lt))
+all_can_run s n can size (v ∷ vs) h zero d lt =
+    let le : n ≤ 65536 = omega (arith, size, can.lies.within) in
+    let some : 0 < n = omega (arith, size, next_from-above 1 s.objects) in
+    let room : next_from 1 s.objects ≤ n = omega (arith, size) in
     record {
-      few = rw threads at can.few;
-      names = s.objects;
-      lie = can.lies.lie;
-      sized = can.sized;
-      room = omega (arith, length);
-      on = rw threads at can.on;
-      some = omega (arith, length, next_from-above 1 s.objects);
-      size = omega (arith, length, can.lies.within);
-      live = rw (stored, threads) refl;
-      versions = λ l. rw stored (omega (arith, opened_zero (opening_values s) l));
+      few = h.0;
+      each = λ i e it.
+          let on = on_at s.objects v.items i e h.1 it in
+          record { fit = ask_fit n s.objects can.lies.lie can.sized room (get_or v.items i e) on le; within = ask_within n s.objects can.lies.lie can.sized room (get_or v.items i e) on some };
     }
+all_can_run s n can size (v ∷ vs) h (suc k) d lt = all_can_run s n can size vs h.2 k d (omega (arith, lt))
+
+-- ---- room
+
+pub lists_length : (j : ℕ) (threads : List (Vec Command)) (records : List (Vec Record)) → AreThreads j (commands_of threads) (lists_of records) → length records ≡ length threads
+lists_length j [] [] h = refl
+lists_length j [] (r ∷ rs) h = absurd h
+lists_length j (v ∷ vs) [] h = absurd h
+lists_length j (v ∷ vs) (r ∷ rs) h = ap suc (lists_length (j + 1) vs rs h.1)
+
+-- there are as many records as commands and ends
+pub records_counted : (j : ℕ) (threads : List (Vec Command)) (records : List (Vec Record)) → AreThreads j (commands_of threads) (lists_of records) → records_in records ≡ sum_by (λ (v : Vec Command). length v.items + 1) threads
+records_counted j [] [] h = refl
+records_counted j [] (r ∷ rs) h = absurd h
+records_counted j (v ∷ vs) [] h = absurd h
+records_counted j (v ∷ vs) (r ∷ rs) h =
+    let a = sum_by-cons (λ (w : Vec Record). vec_len w) r rs in
+    let b = sum_by-cons (λ (w : Vec Command). length w.items + 1) v vs in
+    let c = records_counted (j + 1) vs rs h.1 in
+    let d = room_length j v.items r.items h.0 in
+    let e = r.ok.0 in
+    omega (arith, a, b, c, d, e)
+
+-- ---- from what ran to what is shown
+
+-- where a run opened and what its threads left: it can be settled, and is then a run of the script
+pub record Settles (script : Script) (threads : List (Vec Command)) (cells : List Cell) (vs : List (Vec Record)) (history : List Entry) : Type 0 where
+  pub made : AllCanStandIn (length cells) (footprint_at (lists_of vs))
+  pub opens : (l : ℕ) → (store_of cells l).version ≡ 0
+  pub legal : (places : List Place) × (last : Store) × Legal (footprint_at (lists_of vs)) (λ _. 0) (store_of cells) places last
+  pub lists : length vs ≡ length threads
+  pub counted : records_in vs ≡ sum_by (λ (v : Vec Command). length v.items + 1) threads
+  pub just : HasJust (lists_of vs) history
+  pub run : (order : List Place) (last : Store) → IsCanonical (footprint_at (lists_of vs)) order → Legal (footprint_at (lists_of vs)) (λ _. 0) (store_of cells) order last → IsRun script (lists_of vs) order last
+
+pub settles : (b : Bundle) (values : List ℕ) (ts : List (Vec Command)) (cells : List Cell) (vs : List (Vec Record)) (history : List Entry) → values ≡ opening_values (script_of b) → ts ≡ b.threads.items → cells ≡ opened (opening_values (script_of b))
+    → AreRun (length values) 0 history (commands_of ts) (lists_of vs) → IsLegalFrom values history → IsBelowCallers (length ts) history → Settles (script_of b) b.threads.items cells vs history
+settles b values ts cells vs history valued threaded stored ran legal below =
+    let script = script_of b in
+    let same : length values ≡ length cells = ap length valued ∙ sym (ap length stored ∙ opened_length (opening_values script)) in
+    let run : AreRun (length cells) 0 history script.threads (lists_of vs) =
+    subst (λ (n : ℕ). AreRun n 0 history script.threads (lists_of vs)) same (subst (λ (x : List (Vec Command)). AreRun (length values) 0 history (commands_of x) (lists_of vs)) threaded ran) in
+    let callers : IsBelowCallers (length script.threads) history = subst (λ (n : ℕ). IsBelowCallers n history) (ap length threaded ∙ sym (length-map b.threads.items (λ (v : Vec Command). v.items))) below in
+    let (last, found) : IsLegalFrom (opening_values script) history = subst (λ (x : List ℕ). IsLegalFrom x history) valued legal in
+    let labelled = run_threads_are (length cells) 0 1 refl history script.threads (lists_of vs) run in
+    let opening : opening_store script ≡ store_of cells = ap store_of (sym stored) in
+    record {
+      made = run_made (length cells) history script.threads (lists_of vs) run;
+      opens = λ l. subst (λ (x : List Cell). (store_of x l).version ≡ 0) (sym stored) (opened_zero (opening_values script) l);
+      legal = (placed_from (λ _. 0) history, last, subst (λ (x : Store). Legal (footprint_at (lists_of vs)) (λ _. 0) x (placed_from (λ _. 0) history) last) opening (run_list script (length cells) history (lists_of vs) run last callers found));
+      lists = lists_length 1 b.threads.items vs labelled;
+      counted = records_counted 1 b.threads.items vs labelled;
+      just = run_just (length cells) history script.threads (lists_of vs) run callers;
+      run = λ order end canonical listed. run_of_order script (length cells) history (lists_of vs) run order end canonical (subst (λ (x : Store). Legal (footprint_at (lists_of vs)) (λ _. 0) x order end) (sym opening) listed);
+    }
+
+-- a script without threads runs nothing
+pub run_of_none : (script : Script) → script.threads ≡ [] → IsRun script [] [] (opening_store script)
+run_of_none script threads = record {
+  threads = rw threads tt;
+  canonical = record { stand = λ _. 0; versions = λ _. 0; chooses = (refl, refl); all = λ u k f h. absurd (cc) };
+  replays = refl;
+}
+
+pub no_thread : (threads : List (Vec Command)) → length threads ≡ 0 → commands_of threads ≡ []
+no_thread [] e = refl
+no_thread (v ∷ threads) e = absurd (omega (arith, e))

@@ -1,7 +1,6 @@
-pub mod Run
-pub mod Commit
-pub mod Thread
+pub mod Runnable
+pub mod Served
+pub mod Ran
 pub mod Statuses
 pub mod Numbers
 pub mod Lines
-pub mod Worked

@@ -6,11 +6,15 @@ use Rattle.kc_model.specs.Outside.{Took, TookFront, CameWhole, CamePast, CameSom
 use Rattle.kc_lines.specs.declared.fault.ScriptError.TheVariants as error
 use Rattle.kc_script.specs.declared.parser.TheConstants.{MOST_BYTES}
 use Rattle.kc_bundle.specs.Script.{Script}
-use Rattle.kc_script.specs.Spells.{Spells, IsBuilt}
+use Rattle.kc_script.specs.Spells.{Spells}
 use Rattle.kc_script.specs.Refused.{Refused}
 use Rattle.kc_top.specs.declared.status.Status.{Status}
 use Rattle.kc_top.specs.declared.status.Status.TheVariants as status
-use Rattle.kc_top.specs.Run.{IsText}
+use Rattle.kc_history.specs.declared.record.Record.{Record}
+use Rattle.kc_runs.specs.Run.{IsText}
+use Rattle.kc_top.specs.declared.served.Served.{Served}
+use Rattle.kc_top.specs.declared.served.Served.TheVariants as serving
+use Rattle.kc_top.specs.Served.{IsServed}
 
 -- `run` stands behind the program's name, and nothing else
 abbrev pub is_run : List (List ℕ) → Bool
@@ -30,9 +34,8 @@ module _ {S : Type 0} (left : S → Option (List ℕ)) (faults : S → ℕ) (giv
     pub bytes : List ℕ
     pub all : ReadsAll s bytes s'
     pub spells : Spells bytes script
-    pub built : IsBuilt script
 
-  -- what came spells no script that is built
+  -- what came spells no script
   pub record ReadsNone (s s' : S) (line : ℕ) (why : _) : Type 0 where
     pub bytes : List ℕ
     pub all : ReadsAll s bytes s'
@@ -55,30 +58,36 @@ module _ {K : Type 0} (written : K → Option (List ℕ)) (faults : K → ℕ) (
     pub such : IsSuch text
     pub front : TookFront written faults gives k text k'
 
-  -- what a call does that makes such a text and writes it
-  abbrev pub Performs : {X : Type 0} → (List ℕ → Type 0) → K → K → Result X Status → Type 0
-  Performs IsSuch k k' (Ok x) = Writes IsSuch k k'
-  Performs IsSuch k k' (Err status.WriteFault) = WritesPart IsSuch k k'
-  Performs IsSuch k k' (Err status.NoMemory) = k' ≡ k
-  Performs IsSuch k k' (Err status.Done) = ⊥
-  Performs IsSuch k k' (Err status.Usage) = ⊥
-  Performs IsSuch k k' (Err (status.Script part line why)) = ⊥
-  Performs IsSuch k k' (Err status.ReadFault) = ⊥
-  Performs IsSuch k k' (Err status.TooLong) = ⊥
+  -- the sink took the text of a run of the script, and what was served is this run's
+  pub record ShowsRun (script : Script) (served : Served) (k k' : K) : Type 0 where
+    pub records : List (List Record)
+    pub serves : IsServed script records served
+    pub shows : Writes (IsText script records) k k'
+
+  -- the sink took a front of the text of a run of the script, and what was served is this run's
+  pub record ShowsPart (script : Script) (served : Served) (k k' : K) : Type 0 where
+    pub records : List (List Record)
+    pub serves : IsServed script records served
+    pub shows : WritesPart (IsText script records) k k'
+
+  -- what comes of a run that is shown, or whose showing fails
+  abbrev pub Shows : Script → Served → K → K → Result (Unit {0}) Failed → Type 0
+  Shows script served k k' (Ok u) = ShowsRun script served k k'
+  Shows script served k k' (Err e) = ShowsPart script served k k'
 
 module _ {S K : Type 0} (left : S → Option (List ℕ)) (source_faults : S → ℕ) (read_gives : S → List ℕ → Result ℕ Failed → List ℕ → S → Type 0)
     (written : K → Option (List ℕ)) (sink_faults : K → ℕ) (write_gives : K → List ℕ → Result ℕ Failed → K → Type 0) where
-  -- what a status says of the words, and of the source and the sink before and after the call
-  abbrev pub Says : Bool → S → S → K → K → Status → Type 0
-  Says run s s' k k' status.Usage = (run ≡ false) × (s' ≡ s) × (k' ≡ k)
-  Says run s s' k k' status.ReadFault = (run ≡ true) × CameFront left source_faults read_gives MOST_BYTES s s' × (k' ≡ k)
-  Says run s s' k k' status.TooLong = (run ≡ true) × CamePast left source_faults read_gives MOST_BYTES s s' × (k' ≡ k)
-  Says run s s' k k' status.NoMemory = (run ≡ true) × ReadsOn left source_faults read_gives s s' × (k' ≡ k)
-  Says run s s' k k' (status.Script part line why) = (run ≡ true) × (part ≡ 0) × ReadsNone left source_faults read_gives s s' line why × (k' ≡ k)
-  Says run s s' k k' status.WriteFault = (run ≡ true) × ((script : Script) × Reads left source_faults read_gives s s' script × WritesPart written sink_faults write_gives (IsText script) k k')
-  Says run s s' k k' status.Done = (run ≡ true) × ((script : Script) × Reads left source_faults read_gives s s' script × Writes written sink_faults write_gives (IsText script) k k')
+  -- what a status says of the words, of the source and the sink before and after the call, and of what was served
+  abbrev pub Says : Bool → S → S → K → K → Served → Status → Type 0
+  Says run s s' k k' served status.Usage = (run ≡ false) × (s' ≡ s) × (k' ≡ k) × (served ≡ serving.Nothing)
+  Says run s s' k k' served status.ReadFault = (run ≡ true) × CameFront left source_faults read_gives MOST_BYTES s s' × (k' ≡ k) × (served ≡ serving.Nothing)
+  Says run s s' k k' served status.TooLong = (run ≡ true) × CamePast left source_faults read_gives MOST_BYTES s s' × (k' ≡ k) × (served ≡ serving.Nothing)
+  Says run s s' k k' served status.NoMemory = (run ≡ true) × ReadsOn left source_faults read_gives s s' × (k' ≡ k) × (served ≡ serving.Nothing)
+  Says run s s' k k' served (status.Script part line why) = (run ≡ true) × (part ≡ 0) × ReadsNone left source_faults read_gives s s' line why × (k' ≡ k) × (served ≡ serving.Nothing)
+  Says run s s' k k' served status.WriteFault = (run ≡ true) × ((script : Script) × Reads left source_faults read_gives s s' script × ShowsPart written sink_faults write_gives script served k k')
+  Says run s s' k k' served status.Done = (run ≡ true) × ((script : Script) × Reads left source_faults read_gives s s' script × ShowsRun written sink_faults write_gives script served k k')
 
-  -- a call that ran a command said this, or was done
-  abbrev pub Ends : {X : Type 0} → S → S → K → K → Result X Status → Type 0
-  Ends s s' k k' (Ok x) = Says true s s' k k' status.Done
-  Ends s s' k k' (Err e) = Says true s s' k k' e
+  -- a call that ran a command said this, or ended before it was served anything
+  abbrev pub Ends : S → S → K → K → Result (Status × Served) Status → Type 0
+  Ends s s' k k' (Ok r) = Says true s s' k k' r.1 r.0
+  Ends s s' k k' (Err e) = Says true s s' k k' serving.Nothing e

@@ -2,15 +2,15 @@
 #![tactic(auto)]
 
 mod command_line;
-mod commit;
-mod laws;
 mod run;
+mod served;
+mod settling;
 mod status;
 #[cfg(test)]
 mod tests;
-mod thread;
+mod threads;
 mod top;
 
-pub use laws::runs_are_legal;
+pub use served::Served;
 pub use status::{LONGEST_LINE, Status};
 pub use top::kcas_main;

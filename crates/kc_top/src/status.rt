@@ -6,7 +6,7 @@ ghost use Rattle.kc_top.specs.declared.status.Status.TheVariants as status;
 use arrayvec::ArrayString;
 use itoa::Buffer;
 use kc_lines::{LONGEST_WORDS, Why};
-use kc_model::{Failed, NoMemory};
+use kc_model::NoMemory;
 
 /// The most bytes that a line on standard error has: 19 around two numbers of ten digits, and the words for a fault.
 pub const LONGEST_LINE: usize = 39 + LONGEST_WORDS;
@@ -79,13 +79,5 @@ impl From<NoMemory> for Status {
 
     fn from(_e: NoMemory) -> Self {
         Status::NoMemory
-    }
-}
-
-impl From<Failed> for Status {
-    ghost from_gives = { λ _ e. e ≡ status.WriteFault };
-
-    fn from(_e: Failed) -> Self {
-        Status::WriteFault
     }
 }

@@ -1,38 +1,24 @@
-ghost use Rattle.std.specs.Prelude.{◌≡◌, ◌≤◌, ◌∷◌, [], codes, Some, None};
-ghost use Rattle.kc_model.specs.declared.reply.Reply.TheVariants as reply;
-ghost use Rattle.kc_xt.specs.Meaning.{replied, retried};
-ghost use Rattle.kc_bundle.specs.Meaning.{thread_meaning, end_meaning};
-ghost use Rattle.kc_xt.specs.Commit.{run_on};
-ghost use Rattle.kc_bundle.specs.State.{opening_values};
-ghost use Rattle.kc_top.specs.Run.{run_text};
-ghost use Rattle.kc_run.specs.Labels.{AreThreads};
-ghost use Rattle.kc_top.specs.Worked.{first_script, first_records, first_order, first_last, first_contents, waits_for_nine, one_lives, looks_at_x_and_live};
+ghost use Rattle.std.specs.Prelude.{◌≤◌, None};
+
+mod threads;
 
 use crate::{Status, kcas_main};
 use kc_lines::{Limit, Why};
 use kc_model::{Failed, FrailSink, FrailSource, Sink, SureSource};
+use kc_run::{Gate, OpenGate};
 use std::alloc::Global;
 use std::fmt::Write;
+use std::sync::Wait;
 use std::test::Fail;
+use std::thread::Threads;
+
+// More bytes than any text of these scripts has.
+const ROOM: usize = 4096;
 
 const FIRST: &str = "kcas 1\nloc x 5\nthread\nget x\nset x 7\nadd x 1\n";
 
 const FIRST_TEXT: &str = "1.1 5\n1.2 ok\n1.3 7\norder\n1.1\n1.2\n1.3\n1.end\nstate\nx 8\n";
 
-// The definitions, computed on the first script and its records by hand.
-fn first_script_by_hand()
-    ensures text { run_text first_script first_records first_order first_contents ≡ codes "1.1 5\n1.2 ok\n1.3 7\norder\n1.1\n1.2\n1.3\n1.end\nstate\nx 8\n" }
-    ensures threads { AreThreads 1 first_script.threads first_records }
-    ensures opening { opening_values first_script ≡ 1 ∷ 5 ∷ [] }
-{}
-
-// What a thread's command comes to, computed on the store behind the first script, where x has 8 and no thread lives,
-// and on one where one thread lives.
-fn waiting_by_hand()
-    ensures stranded { run_on (thread_meaning 0 waits_for_nine) one_lives ≡ record { outcome = replied reply.Stranded; touches = looks_at_x_and_live } }
-    ensures waits { run_on (thread_meaning 0 waits_for_nine) first_last ≡ record { outcome = retried; touches = looks_at_x_and_live } }
-    ensures end { run_on (end_meaning 0) one_lives ≡ record { outcome = replied reply.Unit; touches = record { cell = 0; wrote = None } ∷ record { cell = 0; wrote = Some 0 } ∷ [] } }
-{}
 
 fn words(alloc: Global, second: &str) -> Result<Vec<String>, Fail> {
     let mut words = Vec::new(alloc);
@@ -42,12 +28,25 @@ fn words(alloc: Global, second: &str) -> Result<Vec<String>, Fail> {
 }
 
 // The status of `kcas run` on these bytes, and what it wrote.
-fn run(rt: &HostRuntime, script: &[u8]) -> Result<(Status, Vec<u8>), Fail> {
-    let alloc = rt.alloc();
+fn run<R: Threads + Wait + Sync>(
+    rt: &R,
+    alloc: Global,
+    script: &[u8],
+) -> Result<(Status, Vec<u8>), Fail> {
+    run_behind(rt, alloc, script, &OpenGate)
+}
+
+// The same, behind a gate.
+fn run_behind<R: Threads + Wait + Sync, G: Gate>(
+    rt: &R,
+    alloc: Global,
+    script: &[u8],
+    gate: &G,
+) -> Result<(Status, Vec<u8>), Fail> {
     let words = words(alloc, "run")?;
     let mut source = FrailSource::new(script.to_vec(alloc)?, Vec::new(alloc));
-    let mut sink = FrailSink::new(alloc, 4096, Vec::new(alloc))?;
-    let status = kcas_main(rt, alloc, &words, &mut source, &mut sink);
+    let mut sink = FrailSink::new(alloc, ROOM, Vec::new(alloc))?;
+    let (status, _) = kcas_main(rt, alloc, &words, &mut source, &mut sink, gate);
     Ok((status, sink.bytes().to_vec(alloc)?))
 }
 
@@ -74,7 +73,7 @@ fn worked_scripts_give_their_texts(rt: HostRuntime) -> Result<(), Fail> {
         ),
     ];
     for (script, text) in rows {
-        let (status, written) = run(&rt, script.as_bytes())?;
+        let (status, written) = run(&rt, rt.alloc(), script.as_bytes())?;
         assert_eq!(rt; status, Status::Done, "{script}");
         assert_eq!(rt; written.as_slice(), text.as_bytes(), "{script}");
     }
@@ -146,7 +145,7 @@ fn worked_blocks_and_structures_give_their_texts(rt: HostRuntime) -> Result<(), 
         ),
     ];
     for (script, text) in rows {
-        let (status, written) = run(&rt, script.as_bytes())?;
+        let (status, written) = run(&rt, rt.alloc(), script.as_bytes())?;
         assert_eq!(rt; status, Status::Done, "{script}");
         assert_eq!(rt; written.as_slice(), text.as_bytes(), "{script}");
     }
@@ -162,7 +161,7 @@ const TOUR_TEXT: &str =
 
 #[test]
 fn the_tour_of_all_commands_gives_its_text(rt: HostRuntime) -> Result<(), Fail> {
-    let (status, written) = run(&rt, TOUR.as_bytes())?;
+    let (status, written) = run(&rt, rt.alloc(), TOUR.as_bytes())?;
     assert_eq!(rt; status, Status::Done);
     assert_eq!(rt; written.as_slice(), TOUR_TEXT.as_bytes());
     Ok(())
@@ -178,7 +177,7 @@ fn the_longest_and_the_widest_table_are_used(rt: HostRuntime) -> Result<(), Fail
         let text = format!(in rt.alloc();
             "1.1 ok\n1.2 ok\n1.3 ok\n1.4 ok\n1.5 9\n1.6 2\norder\n1.1\n1.2\n1.3\n1.4\n1.5\n1.6\n1.end\nstate\n{state}\n"
         )?;
-        let (status, written) = run(&rt, script.as_bytes())?;
+        let (status, written) = run(&rt, rt.alloc(), script.as_bytes())?;
         assert_eq!(rt; status, Status::Done, "{sizes}");
         assert_eq!(rt; written.as_slice(), text.as_bytes(), "{sizes}");
     }
@@ -217,7 +216,7 @@ fn each_function_and_relation_is_the_one_it_is_called(rt: HostRuntime) -> Result
     for (command, reply, value) in rows {
         let script = format!(in rt.alloc(); "kcas 1\nloc x 12\nthread\n{command}\n")?;
         let text = format!(in rt.alloc(); "1.1 {reply}\norder\n1.1\n1.end\nstate\nx {value}\n")?;
-        let (status, written) = run(&rt, script.as_bytes())?;
+        let (status, written) = run(&rt, rt.alloc(), script.as_bytes())?;
         assert_eq!(rt; status, Status::Done, "{command}");
         assert_eq!(rt; written.as_slice(), text.as_bytes(), "{command}");
     }
@@ -238,7 +237,7 @@ fn what_is_no_script_has_its_fault_and_writes_nothing(rt: HostRuntime) -> Result
         ("kcas 1\nloc x 1\nthread\natomic\nget x\n", 4, Why::UnclosedBlock),
     ];
     for (script, line, why) in rows {
-        let (status, written) = run(&rt, script.as_bytes())?;
+        let (status, written) = run(&rt, rt.alloc(), script.as_bytes())?;
         assert_eq!(rt; status, Status::Script { part: 0, line, why }, "{script}");
         assert!(rt; written.is_empty());
     }
@@ -252,39 +251,40 @@ fn other_words_are_usage(rt: HostRuntime) -> Result<(), Fail> {
         let words = words(alloc, second)?;
         let mut source = FrailSource::new(FIRST.as_bytes().to_vec(alloc)?, Vec::new(alloc));
         let mut sink = FrailSink::new(alloc, 100, Vec::new(alloc))?;
-        let status = kcas_main(&rt, alloc, &words, &mut source, &mut sink);
+        let (status, _) = kcas_main(&rt, alloc, &words, &mut source, &mut sink, &OpenGate);
         assert_eq!(rt; status, Status::Usage, "{second}");
         assert!(rt; sink.bytes().is_empty());
     }
     Ok(())
 }
 
-// The status of `kcas run` on the first script where one read and one write fail, and what it wrote.
-fn run_failing(
-    rt: &HostRuntime,
+// The status of `kcas run` on a script where one read and one write fail, and what it wrote.
+fn run_failing<R: Threads + Wait + Sync>(
+    rt: &R,
+    alloc: Global,
+    script: &str,
     failing_read: u64,
     failing_write: u64,
 ) -> Result<(Status, Vec<u8>), Fail>
     requires read { (1 ≤ failing_read) × (failing_read ≤ 9) }
     requires write { (1 ≤ failing_write) × (failing_write ≤ 9) }
 {
-    let alloc = rt.alloc();
     let words = words(alloc, "run")?;
-    let script = FIRST.as_bytes().to_vec(alloc)?;
+    let script = script.as_bytes().to_vec(alloc)?;
     let mut source = FrailSource::new(script, vec![in alloc; failing_read]?);
     let mut sink = FrailSink::new(alloc, 4096, vec![in alloc; failing_write]?)?;
-    let status = kcas_main(rt, alloc, &words, &mut source, &mut sink);
+    let (status, _) = kcas_main(rt, alloc, &words, &mut source, &mut sink, &OpenGate);
     Ok((status, sink.bytes().to_vec(alloc)?))
 }
 
 #[test]
 fn each_read_that_fails_is_a_read_fault_and_writes_nothing(rt: HostRuntime) -> Result<(), Fail> {
     for call in 1..5 {
-        let (status, written) = run_failing(&rt, call, 9)?;
+        let (status, written) = run_failing(&rt, rt.alloc(), FIRST, call, 9)?;
         assert_eq!(rt; status, Status::ReadFault, "{call}");
         assert!(rt; written.is_empty(), "{call}");
     }
-    let (status, _) = run_failing(&rt, 5, 9)?;
+    let (status, _) = run_failing(&rt, rt.alloc(), FIRST, 5, 9)?;
     assert_eq!(rt; status, Status::Done);
     Ok(())
 }
@@ -294,14 +294,14 @@ fn each_write_that_fails_is_a_write_fault_behind_a_front_of_the_text(
     rt: HostRuntime,
 ) -> Result<(), Fail> {
     for call in 1..5 {
-        let (status, written) = run_failing(&rt, 9, call)?;
+        let (status, written) = run_failing(&rt, rt.alloc(), FIRST, 9, call)?;
         assert_eq!(rt; status, Status::WriteFault, "{call}");
         assert_eq!(rt;
             written.as_slice(),
             &FIRST_TEXT.as_bytes()[..16 * (call as usize - 1)]
         );
     }
-    let (status, written) = run_failing(&rt, 9, 5)?;
+    let (status, written) = run_failing(&rt, rt.alloc(), FIRST, 9, 5)?;
     assert_eq!(rt; status, Status::Done);
     assert_eq!(rt; written.as_slice(), FIRST_TEXT.as_bytes());
     Ok(())
@@ -345,12 +345,12 @@ fn as_many_commands_as_may_be_are_run_and_written_by_the_page(rt: HostRuntime) -
     let words = words(alloc, "run")?;
     let mut source = SureSource::new(script.as_bytes().to_vec(alloc)?);
     let mut sink = FrailSink::new(alloc, 100_000, Vec::new(alloc))?;
-    let status = kcas_main(&rt, alloc, &words, &mut source, &mut sink);
+    let (status, _) = kcas_main(&rt, alloc, &words, &mut source, &mut sink, &OpenGate);
     assert_eq!(rt; status, Status::Done);
     assert_eq!(rt; sink.bytes(), text.as_bytes());
     let mut source = SureSource::new(script.as_bytes().to_vec(alloc)?);
     let mut counting = CountingSink { calls: 0, bytes: 0 };
-    let status = kcas_main(&rt, alloc, &words, &mut source, &mut counting);
+    let (status, _) = kcas_main(&rt, alloc, &words, &mut source, &mut counting, &OpenGate);
     assert_eq!(rt; status, Status::Done);
     assert_eq!(rt; counting.bytes, text.len());
     assert!(rt;
@@ -374,7 +374,7 @@ fn as_many_locations_as_may_be_are_opened(rt: HostRuntime) -> Result<(), Fail> {
     let words = words(alloc, "run")?;
     let mut source = SureSource::new(script.as_bytes().to_vec(alloc)?);
     let mut sink = FrailSink::new(alloc, 1_000_000, Vec::new(alloc))?;
-    let status = kcas_main(&rt, alloc, &words, &mut source, &mut sink);
+    let (status, _) = kcas_main(&rt, alloc, &words, &mut source, &mut sink, &OpenGate);
     assert_eq!(rt; status, Status::Done);
     assert_eq!(rt; sink.bytes(), text.as_bytes());
     Ok(())
@@ -385,11 +385,11 @@ fn one_byte_past_the_limit_is_too_long(rt: HostRuntime) -> Result<(), Fail> {
     let alloc = rt.alloc();
     let mut script = Vec::from_slice(alloc, b"kcas 1\n")?;
     script.resize(1_048_576, b'#')?;
-    let (status, written) = run(&rt, &script)?;
+    let (status, written) = run(&rt, rt.alloc(), &script)?;
     assert_eq!(rt; status, Status::Done);
     assert_eq!(rt; written.as_slice(), b"order\nstate\n".as_slice());
     script.push(b'#')?;
-    let (status, written) = run(&rt, &script)?;
+    let (status, written) = run(&rt, rt.alloc(), &script)?;
     assert_eq!(rt; status, Status::TooLong);
     assert!(rt; written.is_empty());
     Ok(())

@@ -2,6 +2,7 @@
 use Rattle.std.specs.Prelude.{ℕ, Bool, List, Option, None, Result}
 use Rattle.std.specs.Io.KnownBytes.{ReadConsumes, WriteAppends}
 use Rattle.kc_model.specs.declared.outside.Failed.{Failed}
+use Rattle.kc_top.specs.declared.served.Served.{Served}
 use Rattle.kc_top.specs.declared.status.Status.{Status}
 use Rattle.kc_top.specs.Statuses.{Says}
 use Rattle.kcas.specs.declared.ends.StdinSource.{StdinSource}
@@ -17,6 +18,6 @@ PassesWrite contents before buf result after = WriteAppends (contents before.out
 
 -- the status is what the top call says of these words, and of a source and a sink over the reader and the writer
 abbrev pub RunsOn : {R W : Type 0} → (R → Option (List ℕ)) → (W → Option (List ℕ)) → Bool → R → W → Status → Type 0
-RunsOn {R} {W} remaining contents run input output status = (source : StdinSource R) × (sink : StdoutSink W)
+RunsOn {R} {W} remaining contents run input output status = (source : StdinSource R) × (sink : StdoutSink W) × (served : Served)
     × Says (λ (s : StdinSource R). None) (λ (s : StdinSource R). s.faults) (PassesRead remaining) (λ (k : StdoutSink W). None) (λ (k : StdoutSink W). k.faults) (PassesWrite contents)
-    run (record { input = input; faults = 0 }) source (record { output = output; faults = 0 }) sink status
+    run (record { input = input; faults = 0 }) source (record { output = output; faults = 0 }) sink served status

@@ -13,28 +13,30 @@ mod tests;
 mod words;
 
 use ends::{StdinSource, StdoutSink};
+use kc_run::OpenGate;
 use kc_top::{Status, kcas_main};
 use line::report;
+use std::alloc::Global;
 use std::io::{Read, Write};
 use std::process::ExitCode;
+use std::sync::Wait;
+use std::thread::Threads;
 use std::{env, io};
 use words::words_of;
 
 fn main(rt: HostRuntime) -> ExitCode {
-    let status = run(&rt);
+    let alloc = rt.alloc();
+    let status = match words_of(alloc, env::args(&rt)) {
+        Ok(words) => run_on(&rt, alloc, &words, rt.reader(), io::writer(&rt)),
+        Err(status) => status,
+    };
     report(&rt, status)
 }
 
-fn run(rt: &HostRuntime) -> Status {
-    match words_of(rt.alloc(), env::args(rt)) {
-        Ok(words) => run_on(rt, &words, rt.reader(), io::writer(rt)),
-        Err(status) => status,
-    }
-}
-
 // Runs the words over a reader and a writer.
-fn run_on<I: Read + Drop, O: Write + Drop>(
-    rt: &HostRuntime,
+fn run_on<I: Read + Drop, O: Write + Drop, R: Threads + Wait + Sync>(
+    rt: &R,
+    alloc: Global,
     words: &[String],
     input: I,
     output: O,
@@ -43,5 +45,6 @@ fn run_on<I: Read + Drop, O: Write + Drop>(
 {
     let mut source = StdinSource::new(input);
     let mut sink = StdoutSink::new(output);
-    kcas_main(rt, rt.alloc(), words, &mut source, &mut sink)
+    let (status, _) = kcas_main(rt, alloc, words, &mut source, &mut sink, &OpenGate);
+    status
 }

@@ -1,5 +1,5 @@
 use Rattle.std.proofs.Common.{◌+◌, map, ap, ◌∙◌}
-use Rattle.kc_run.specs.Labels.{label, labels}
+use Rattle.kc_runs.specs.Labels.{label, labels}
 use Rattle.kc_run.proofs.Jobs.{rooms_next}
 use Rattle.kc_run.proofs.job.rooms.Goals as goal
 

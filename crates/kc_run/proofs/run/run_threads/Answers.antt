@@ -1,9 +1,14 @@
-use Rattle.std.proofs.Common.{◌≡◌, length, map, refl, sym, ap, subst, ◌∙◌, arith}
+use Rattle.std.proofs.Common.{◌≡◌, List, length, map, refl, sym, ap, subst, ◌∙◌, arith}
 use Rattle.std.specs.Prelude.{All}
-use Rattle.kc_locked.specs.Passes.{of_caller}
-use Rattle.kc_run.specs.Run.{AreRun}
+use Rattle.std.specs.Global.{Vec}
+use Rattle.kc_bundle.specs.declared.operation.Command.{Command}
+use Rattle.kc_history.specs.declared.record.Record.{Record}
+use Rattle.kc_history.specs.Records.{lists_of}
+use Rattle.kc_history.specs.Callers.{of_caller}
+use Rattle.kc_runs.proofs.Replayed.{run_threads_are}
+use Rattle.kc_runs.specs.Threads.{AreRun}
 use Rattle.kc_run.specs.Jobs.{paired}
-use Rattle.kc_run.proofs.Jobs.{jobs_ready, ran_done, threads_of_run}
+use Rattle.kc_run.proofs.Jobs.{jobs_ready, ran_done}
 use Rattle.kc_run.proofs.run.run_threads.Goals as goal
 
 pub pair-requires-clause-same : goal.pair-requires-clause-same
@@ -49,7 +54,7 @@ returns-clause-run g c =
     let q = jobs_ready g.S.Shared.belongs g.S.Shared.number g.S.Shared.left g.S.Shared.own c.args.shared c.args.threads.now c.args.passes.items c.in-Ok-Ok-Ok-Ok.space.items c.pair.result.items c.requires.passes c.in-Ok-Ok-Ok-Ok.ensures c.pair.ensures in
     let done = ran_done g.S.Shared.belongs g.S.Shared.number g.S.Shared.left g.S.Shared.own g.S.Shared.opening c.args.shared c.args.threads.now c.args.passes.items c.in-Ok-Ok-Ok-Ok.space.items c.pair.result.items c.run_jobs-jobs.result.items (g.S.Shared.callers c.args.shared) q c.run_jobs-jobs.ensures.len c.run_jobs-jobs.ensures.ran c.requires.callers in
     let history = g.S.Shared.history c.finish.result in
-    subst (AreRun (length (g.S.Shared.opening c.args.shared)) 0 history c.args.threads.now) (sym c.part-passes.ensures.records) (done.run history (subst (All (λ p. of_caller (g.S.Shared.number p) history ≡ g.S.Shared.own p)) c.part-passes.ensures.passes c.finish.ensures.own))
+    subst (λ (l : List (Vec Record)). AreRun (length (g.S.Shared.opening c.args.shared)) 0 history (map (λ (v : Vec Command). v.items) c.args.threads.now) (lists_of l)) (sym c.part-passes.ensures.records) (done.run history (subst (All (λ p. of_caller (g.S.Shared.number p) history ≡ g.S.Shared.own p)) c.part-passes.ensures.passes c.finish.ensures.own))
 
 pub returns-clause-threads : goal.returns-clause-threads
-returns-clause-threads g c = threads_of_run _ 0 1 refl (g.S.Shared.history c.finish.result) c.args.threads.now c.part-passes.result.1.items (returns-clause-run g c)
+returns-clause-threads g c = run_threads_are _ 0 1 refl (g.S.Shared.history c.finish.result) _ _ (returns-clause-run g c)

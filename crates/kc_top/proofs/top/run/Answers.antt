@@ -1,5 +1,21 @@
-use Rattle.kc_top.proofs.Bundles.{can_run}
+use Rattle.std.proofs.Common.{List, ℕ, refl, subst, arith}
+use Rattle.kc_lines.specs.declared.fault.ScriptError.{ScriptError}
+use Rattle.kc_script.specs.Refused.{Refused}
+use Rattle.kc_top.proofs.Bundles.{runnable}
 use Rattle.kc_top.proofs.top.run.Goals as goal
 
-pub perform-requires : goal.perform-requires
-perform-requires g c = can_run c.in-Ok-parse.ensures.spells.0 c.in-Ok-parse.ensures.spells.1
+pub returns-in-Err-Fault : goal.returns-in-Err-Fault
+returns-in-Err-Fault g c = (
+  refl,
+  refl,
+  rw c.in-Err-Fault.field-0-is (record {
+    bytes = c.in-Ok.bytes.items;
+    all = record { came = c.in-Ok.ensures.whole; within = (let len = c.in-Ok.bytes.ok.0 in let most = c.in-Ok.ensures.within in omega (arith, len, most)) };
+    refused = subst (λ (e : ScriptError). Refused c.in-Ok.bytes.items e) c.in-Err-Fault.field-0-is (subst (λ (bytes : List ℕ). Refused bytes c.in-Err-Fault.field-0) c.deref.ensures.value c.in-Err-Fault.ensures.refused);
+  }),
+  refl,
+  refl,
+)
+
+pub perform-requires-after_bounds : goal.perform-requires-after_bounds
+perform-requires-after_bounds g c κs within = runnable c.in-Ok-parse.ensures.spells

@@ -1,5 +1,6 @@
 use Rattle.std.proofs.Common.{◌++◌, ◌∷◌, []}
-use Rattle.kc_locked.specs.History.{entry_of, told}
+use Rattle.kc_history.specs.Callers.{entry_of}
+use Rattle.kc_locked.specs.History.{told}
 use Rattle.kc_locked.proofs.history.History.add.Given as goal
 
 abbrev pub ghosts-add_on : goal.ghosts-add_on

@@ -1,4 +1,4 @@
-use Rattle.kc_locked.specs.History.{entry_of}
+use Rattle.kc_history.specs.Callers.{entry_of}
 use Rattle.kc_locked.specs.Locked.{made_by}
 use Rattle.kc_locked.proofs.store.LockedStore.attempt.Given as goal
 

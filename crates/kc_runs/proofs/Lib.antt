@@ -1,0 +1,4 @@
+pub mod Legals
+pub mod Replayed
+pub mod Formed
+pub mod Named

@@ -1,0 +1,4 @@
+pub mod Labels
+pub mod Threads
+pub mod Run
+pub mod Worked

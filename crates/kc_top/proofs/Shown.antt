@@ -1,0 +1,41 @@
+-- What a run leaves can be shown.
+use Rattle.std.proofs.Common.{ℕ, List, Option, Result, Ok, Err, length, refl, sym, subst}
+use Rattle.kc_model.specs.Store.{store_of}
+use Rattle.kc_bundle.specs.Script.{Script, CellsWithin}
+use Rattle.kc_bundle.specs.State.{AllStand, AreWellFormed, Content}
+use Rattle.kc_bundle.proofs.Places.{cells_within}
+use Rattle.kc_history.specs.Records.{lists_of, NamesRecords}
+use Rattle.kc_history.specs.declared.record.Record.{Record}
+use Rattle.kc_model.specs.declared.outside.Failed.{Failed}
+use Rattle.kc_model.specs.Pen.{Prints}
+use Rattle.kc_runs.specs.Run.{IsText, opening_store, run_text}
+use Rattle.kc_top.specs.declared.served.Served.{Served}
+use Rattle.kc_top.specs.Served.{IsServed}
+use Rattle.kc_top.specs.Statuses.{Shows}
+use Rattle.kc_runs.proofs.Formed.{run_formed}
+use Rattle.kc_runs.proofs.Named.{replays_named}
+use Rattle.kc_script.proofs.Spelled.{thread_at}
+use Rattle.kc_xt.specs.Meaning.{values}
+use Rattle.kc_top.specs.declared.run.Ran.{Ran}
+use Rattle.kc_top.specs.Ran.{HasRun}
+use Rattle.kc_top.specs.Runnable.{IsRunnable}
+
+-- what prints the text of such a run shows it
+pub shows_of : {K : Type 0} (written : K → Option (List ℕ)) (faults : K → ℕ) (gives : K → List ℕ → Result ℕ Failed → K → Type 0) (script : Script) (records : List (List Record)) (served : Served) (old new : K) (r : Result (Unit {0}) Failed) (text : List ℕ)
+    → IsText script records text → IsServed script records served → Prints written faults gives old new r text → Shows written faults gives script served old new r
+shows_of written faults gives script records served old new (Ok u) text is serves prints = record { records = records; serves = serves; shows = record { text = text; such = is; took = prints.whole } }
+shows_of written faults gives script records served old new (Err e) text is serves prints = record { records = records; serves = serves; shows = record { text = text; such = is; front = prints.front } }
+
+module _ (script : Script) (ran : Ran) (can : IsRunnable script) (has : HasRun script ran) where
+  pub shown_within : CellsWithin (length ran.store) script.objects
+  shown_within = subst (λ (n : ℕ). CellsWithin n script.objects) (sym has.size) (cells_within script.objects can.lies.lie)
+
+  pub shown_named : NamesRecords (lists_of ran.records.items) ran.room.order
+  shown_named = replays_named script.threads (lists_of ran.records.items) (opening_store script) (store_of ran.store) ran.room.order has.run.replays
+
+  pub shown_formed : AreWellFormed script.objects (values (store_of ran.store))
+  shown_formed = run_formed script (lists_of ran.records.items) ran.room.order (store_of ran.store) can.lies.lie can.sized (λ t. (thread_at script.objects script.threads t can.threads).1) has.run
+
+  -- the text of the run, where its objects hold these contents
+  pub shown_text : (contents : List Content) → AllStand script.objects (values (store_of ran.store)) contents → IsText script (lists_of ran.records.items) (run_text script (lists_of ran.records.items) ran.room.order contents)
+  shown_text contents stand = record { order = ran.room.order; last = store_of ran.store; contents = contents; run = has.run; stand = stand; spelled = refl }

@@ -1,0 +1,39 @@
+//! Threads over the store behind one lock.
+
+ghost use Rattle.std.specs.Prelude.{◌≡◌, ◌<◌, ◌≤◌, All, IfOk, length, map};
+ghost use Rattle.kc_history.specs.Callers.{IsBelowCallers, IsLegalFrom};
+ghost use Rattle.kc_history.specs.Records.{lists_of};
+ghost use Rattle.kc_run.specs.Run.{CanRunAll};
+ghost use Rattle.kc_runs.specs.Threads.{AreRun};
+
+use kc_bundle::Command;
+use kc_history::Record;
+use kc_locked::LockPast;
+use kc_model::NoMemory;
+use kc_run::{Gate, open_locked, run_threads};
+use std::alloc::Global;
+use std::sync::Wait;
+use std::thread::Threads;
+
+/// Opens a store on these values and runs the threads on it: their records, and the store's past.
+pub fn run_locked<G: Gate, R: Threads + Wait + Sync>(
+    rt: &R,
+    alloc: Global,
+    values: &[u32],
+    threads: &[Vec<Command>],
+    gate: &G,
+) -> Result<(Vec<Vec<Record>>, LockPast), NoMemory>
+    requires values { (0 < length values.now) × (length values.now ≤ 65536) }
+    requires threads { (0 < length threads.now) × (length threads.now ≤ 64) }
+    requires commands { All (λ v. CanRunAll (length values.now) v.items) threads.now }
+    ensures opening { IfOk result (λ r. r.1.opening ≡ values.now) }
+    ensures legal { IfOk result (λ r. IsLegalFrom values.now r.1.history) }
+    ensures run { IfOk result (λ r. AreRun (length values.now) 0 r.1.history (map (λ v. v.items) threads.now) (lists_of r.0.items)) }
+    ensures nobody_else { IfOk result (λ r. IsBelowCallers (length threads.now) r.1.history) }
+{
+    let (store, passes) = open_locked(alloc, values, threads)?;
+    match run_threads(rt, alloc, threads, store, passes, gate) {
+        Ok(ran) => Ok(ran),
+        Err(_) => Err(NoMemory),
+    }
+}
