@@ -1,0 +1,160 @@
+-- An event of a seat: what it leaves, and what its steps come to.
+use Rattle.std.proofs.Common.{arith, ◌≡◌, ◌≢◌, ◌<◌, ◌≤◌, ◌+◌, ◌⊎◌, inl, inr, ℕ, ◌++◌, ◌==◌, ◌&&◌, Bool, true, false, not, List, [], ◌∷◌, length, Option, None, Some, refl, sym, ap, subst, ◌∙◌, if◌then◌else◌, Contains, All}
+use Rattle.std.specs.Prelude.{slice_get, nat_lt}
+use Rattle.std.specs.Option.{is_some}
+use Rattle.std.proofs.lemmas.Bool.{cases_lt, ltb-false}
+use Rattle.std.proofs.lemmas.List.Elements.{All-nil, All-cons}
+use Rattle.std.proofs.lemmas.Option.{slice_get_within, slice_get_past}
+use borrow.Author.Tests.{eqb-true, eqb-false}
+use Rattle.kc_model.specs.declared.footprint.Loc.{Loc}
+use Rattle.kc_model.specs.declared.footprint.Seen.{Seen}
+use Rattle.kc_words.specs.declared.access.Found.{Found}
+use Rattle.kc_steps.specs.declared.task.Task.{Task}
+use Rattle.kc_steps.specs.declared.task.Task.TheVariants as task
+use Rattle.kc_steps.specs.declared.task.Told.{Told}
+use Rattle.kc_steps.specs.declared.task.Told.TheVariants as told
+use Rattle.kc_steps.specs.declared.task.Onward.{Onward}
+use Rattle.kc_steps.specs.declared.task.Onward.TheVariants as onward
+use Rattle.kc_steps.specs.declared.task.Event.{Event}
+use Rattle.kc_steps.specs.declared.task.Event.TheVariants.{Begin, Step, Halt}
+use Rattle.kc_steps.specs.declared.look.Look.{Look}
+use Rattle.kc_steps.specs.declared.look.LookStep.{LookStep}
+use Rattle.kc_steps.specs.declared.look.LookStep.TheVariants as look
+use Rattle.kc_steps.specs.declared.look.LookNext.{LookNext}
+use Rattle.kc_steps.specs.declared.look.LookNext.TheVariants as looking
+use Rattle.kc_steps.specs.declared.commit.Commit.{Commit}
+use Rattle.kc_steps.specs.Nexts.{Next}
+use Rattle.kc_steps.specs.Nexts as next
+use Rattle.kc_steps.specs.Lines.{after_line}
+use Rattle.kc_steps.specs.Looks.{look_access, look_next, look_after, looks_on, look_tells, told_by, look_halted, look_halted_at, halts_at_once}
+use Rattle.kc_steps.specs.Commits.{commit_onward, commit_after, onward_by, commit_next, loaded}
+use Rattle.kc_steps.specs.Halts.{unowned, commit_halted}
+use Rattle.kc_machine.specs.declared.hang.HangStep.{HangStep}
+use Rattle.kc_machine.specs.declared.hang.HangStep.TheVariants as hang
+use Rattle.kc_machine.specs.declared.hang.HangNext.{HangNext}
+use Rattle.kc_machine.specs.declared.hang.HangNext.TheVariants as hanging
+use Rattle.kc_machine.specs.Hangs.{hang_access_of, read_of, hang_next, hang_step, hangs_on, onward_of, set_or_look, look_of, look_goes_on, looked, look_or_end, clear_or_changed, leave_onward, leave_after, unblocks_or_tells, next_read}
+use Rattle.kc_machine.specs.Waits.{Hang, Leave}
+use Rattle.kc_machine.specs.Works.{Work}
+use Rattle.kc_machine.specs.Works as work
+use Rattle.kc_machine.specs.declared.seat.Seat.{Seat}
+use Rattle.kc_machine.specs.Seats.{access_of, work_access, answer_of, answer_by, after, is_idle, begun, begun_idle, working, halted, halted_by, ended}
+use Rattle.kc_machine.specs.Seats as seats
+use Rattle.kc_machine.specs.Machine.{World, State, Opening, found_at, event_of, seat_of, run}
+use Rattle.kc_machine.specs.Schedules.{IsSchedule}
+use Rattle.kc_machine.proofs.Functions.{put_here}
+use Rattle.kc_effects.specs.Stands.{NoPass, Looks, Waiting, NoWait, Hangs, HangLooks, Leaving, location_of, stand, works, resting, hangs}
+use Rattle.kc_seats.specs.Made.{ReadsAreMade}
+use Rattle.kc_seats.specs.Formed.{WorkIsFormed}
+use Rattle.kc_seats.proofs.MadeSteps.{reads_made}
+use Rattle.kc_seats.proofs.FormedSteps.{formed_always}
+use Rattle.kc_claims.specs.Claims.{WordsResolve}
+use Rattle.kc_claims.specs.Traces.{Moment, Shadow, Trace, listens, reads_of, blocking_after, begins, with_task, shadow_after, now, traced, trace}
+use Rattle.kc_claims.proofs.Follows.{trace_runs}
+use Rattle.kc_traces.specs.Parts.{IsNoStep}
+use Rattle.kc_traces.proofs.Joins.{run-append, trace-append}
+use Rattle.kc_traces.proofs.Moments.{begun_moment, listening_moment}
+use Rattle.kc_traces.proofs.Answers.{moved, seat_cases, answers_when_done}
+use Rattle.kc_traces.proofs.Others.{others_leave, others_leave_shadow, history_kept}
+use Rattle.kc_histories.specs.Places.{pass_of}
+use Rattle.kc_pool.proofs.Filled.{is_there}
+use Rattle.kc_resolving.proofs.Before.{got}
+use Rattle.kc_looks.specs.Promised.{IsPromised, StepPromises, NextPromises, IsConfirmed, HangPromises, WorkPromises}
+use Rattle.kc_looks.proofs.Steps.{look_on}
+use Rattle.kc_looks.proofs.Told.{IsBehind, behind_on, behind_now, history_still, Works, ToldTrue, Asked, StepHears, Hears, Knows, SameShadow, knows_same, confirmed_on, read_there, knows_on, GoesOr, idle_works, after_knows, other_told, TellsOther, commit_tells}
+use Rattle.kc_claims.specs.Traces.{place_after}
+
+-- ---- a seat that stays as it was
+
+same_wait : (x : Waiting) → listens x x ≡ false
+same_wait NoWait = refl
+same_wait (Hangs reads step) = refl
+same_wait (HangLooks reads k) = refl
+same_wait (Leaving reads step) = refl
+
+begins_none : (e : Event) (s : Seat) → begins e s s ≡ None
+begins_none (Begin k t) s = go (is_idle s.work)
+  where
+    go : (b : Bool) → (if b && not b then Some t else None) ≡ None
+    go true = refl
+    go false = refl
+begins_none (Step k) s = refl
+begins_none (Halt k) s = refl
+
+-- the shadow behind an event by which no task begins
+abbrev pub unasked : Moment → Seat → Seat → Shadow → Shadow
+unasked m s r x = record x {
+  listening = if listens (stand s).wait (stand r).wait then m else x.listening;
+  place = place_after m.clock (stand r).pass x.place;
+  blocking = blocking_after s.blocked r.blocked (stand s).wait x.blocking;
+}
+
+same_shadow : (m : Moment) (e : Event) (s : Seat) (x : Shadow) → SameShadow x (shadow_after m e s s x)
+same_shadow m e s x = subst (λ a. SameShadow x (with_task a m (unasked m s s x))) (sym (begins_none e s)) (record {
+  task = refl;
+  begun = refl;
+  listening = ap (λ b. if b then m else x.listening) (same_wait (stand s).wait);
+  blocking = blocked s.blocked;
+})
+  where
+    blocked : (b : Bool) (r : Seen) → Contains (blocking_after b b (stand s).wait x.blocking) r → Contains x.blocking r
+    blocked true r c = c
+    blocked false r c = absurd (omega (arith, c.1))
+
+-- ---- an event of seat k
+
+pub record Going (o : Opening) (es : List Event) (e : Event) (k : ℕ) : Type 0 where
+  pub made : IsSchedule o es
+  pub made_on : IsSchedule o (es ++ e ∷ [])
+  pub resolve : WordsResolve o es
+  pub resolve_on : WordsResolve o (es ++ e ∷ [])
+  pub within : k < o.callers
+  pub known : Knows o es ((run o es).seats k) ((trace o es).shadows k)
+
+module _ (o : Opening) (es : List Event) (e : Event) (k : ℕ) (g : Going o es e k) where
+  abbrev es' : List Event
+  es' = es ++ e ∷ []
+
+  abbrev s : Seat
+  s = (run o es).seats k
+
+  abbrev x : Shadow
+  x = (trace o es).shadows k
+
+  abbrev t : Moment
+  t = now (trace o es)
+
+  abbrev f : Found
+  f = found_at (run o es).world (access_of s)
+
+  pub kept : Knows o es' s x
+  kept = knows_on o es e g.made g.made_on g.resolve_on k g.within g.known
+
+  abbrev Then : Seat → Type 0
+  Then r = Knows o es' r (shadow_after t e s r x)
+
+  pub stays : Then s
+  stays = knows_same o es' x (shadow_after t e s s x) (same_shadow t e s x) s kept
+
+  pub quiet : is_idle s.work ≡ false → s.told ≡ None
+  quiet i = ((answers_when_done o es k).busy i).0
+
+  abbrev gone : Work → Onward → Seat
+  gone a n = after (record s { work = a }) n
+
+  abbrev shade : Work → Onward → Shadow
+  shade a n = shadow_after t e s (gone a n) x
+
+  -- no task begins
+  pub same_task : e ≡ Step k → (r : Seat) → ((shadow_after t e s r x).task ≡ x.task) × ((shadow_after t e s r x).begun ≡ x.begun)
+  same_task q r = subst (λ d. ((shadow_after t d s r x).task ≡ x.task) × ((shadow_after t d s r x).begun ≡ x.begun)) (sym q) (refl, refl)
+
+  pub goes_by : e ≡ Step k → is_idle s.work ≡ false → (a : Work) (n : Onward) → GoesOr o es' (shade a n) a n → Then (gone a n)
+  goes_by q i a n = after_knows o es' s (shade a n) (quiet i) (λ b. let y = same_task q (gone a n) in subst (IsBehind o es') (sym y.1) (kept.begun (sym (ap is_some y.0) ∙ b))) a n
+
+  -- since when it listens, and what it is blocked by
+  pub listening_is : e ≡ Step k → (r : Seat) (a b : Waiting) → (stand s).wait ≡ a → (stand r).wait ≡ b → (shadow_after t e s r x).listening ≡ (if listens a b then t else x.listening)
+  listening_is z r a b p q = subst (λ d. (shadow_after t d s r x).listening ≡ (if listens a b then t else x.listening)) (sym z) (λ i. if listens (p i) (q i) then t else x.listening)
+
+  pub blocking_is : e ≡ Step k → (r : Seat) (a : Waiting) → (stand s).wait ≡ a → s.blocked ≡ false → r.blocked ≡ true → (shadow_after t e s r x).blocking ≡ reads_of a
+  blocking_is y r a p q z = subst (λ d. (shadow_after t d s r x).blocking ≡ reads_of a) (sym y) (λ i. blocking_after (q i) (z i) (p i) x.blocking)

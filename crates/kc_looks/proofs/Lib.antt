@@ -1,0 +1,9 @@
+pub mod Lives
+pub mod Steps
+pub mod Told
+pub mod Going
+pub mod Hanging
+pub mod Stepping
+pub mod Turning
+pub mod Events
+pub mod Stood
