@@ -58,7 +58,7 @@ use Rattle.kc_traces.proofs.Answers.{moved, seat_cases, answers_when_done}
 use Rattle.kc_traces.proofs.Others.{others_leave, others_leave_shadow, history_kept}
 use Rattle.kc_histories.specs.Places.{pass_of}
 use Rattle.kc_pool.proofs.Filled.{is_there}
-use Rattle.kc_resolving.proofs.Before.{got}
+use Rattle.kc_histories.proofs.Filters.{got}
 use Rattle.kc_looks.specs.Promised.{IsPromised, StepPromises, NextPromises, IsConfirmed, HangPromises, WorkPromises}
 use Rattle.kc_looks.proofs.Steps.{look_on}
 use Rattle.kc_looks.proofs.Told.{IsBehind, behind_on, behind_now, history_still, Works, ToldTrue, Asked, StepHears, Hears, Knows, SameShadow, knows_same, confirmed_on, read_there, knows_on, GoesOr, idle_works, after_knows, other_told, TellsOther, commit_tells}
@@ -106,8 +106,6 @@ same_shadow m e s x = subst (λ a. SameShadow x (with_task a m (unasked m s s x)
 pub record Going (o : Opening) (es : List Event) (e : Event) (k : ℕ) : Type 0 where
   pub made : IsSchedule o es
   pub made_on : IsSchedule o (es ++ e ∷ [])
-  pub resolve : WordsResolve o es
-  pub resolve_on : WordsResolve o (es ++ e ∷ [])
   pub within : k < o.callers
   pub known : Knows o es ((run o es).seats k) ((trace o es).shadows k)
 
@@ -128,7 +126,7 @@ module _ (o : Opening) (es : List Event) (e : Event) (k : ℕ) (g : Going o es e
   f = found_at (run o es).world (access_of s)
 
   pub kept : Knows o es' s x
-  kept = knows_on o es e g.made g.made_on g.resolve_on k g.within g.known
+  kept = knows_on o es e g.made g.made_on k g.within g.known
 
   abbrev Then : Seat → Type 0
   Then r = Knows o es' r (shadow_after t e s r x)

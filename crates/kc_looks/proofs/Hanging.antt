@@ -58,7 +58,7 @@ use Rattle.kc_traces.proofs.Answers.{moved, seat_cases, answers_when_done}
 use Rattle.kc_traces.proofs.Others.{others_leave, others_leave_shadow, history_kept}
 use Rattle.kc_histories.specs.Places.{pass_of}
 use Rattle.kc_pool.proofs.Filled.{is_there}
-use Rattle.kc_resolving.proofs.Before.{got}
+use Rattle.kc_histories.proofs.Filters.{got}
 use Rattle.kc_looks.specs.Promised.{IsPromised, StepPromises, NextPromises, IsConfirmed, HangPromises, WorkPromises}
 use Rattle.kc_looks.proofs.Steps.{look_on}
 use Rattle.kc_looks.proofs.Told.{IsBehind, behind_on, behind_now, history_still, Works, ToldTrue, Asked, StepHears, Hears, Knows, SameShadow, knows_same, confirmed_on, read_there, knows_on, GoesOr, idle_works, after_knows, other_told, TellsOther, commit_tells}
@@ -131,7 +131,7 @@ module _ (o : Opening) (es : List Event) (e : Event) (k : ℕ) (g : Going o es e
     behind = behind_on o es e x.listening (subst (StepHears o es x.listening) at (subst (Hears o es x.listening) is g.known.works.hears))
 
     confirmed : (i : ℕ) (v : Seen) → i < j → slice_get reads i ≡ Some v → IsConfirmed o es' x.listening v
-    confirmed i v b z = confirmed_on o es e g.made g.made_on g.resolve_on k g.within x.listening v (old.0 i v b z)
+    confirmed i v b z = confirmed_on o es e g.made g.made_on k g.within x.listening v (old.0 i v b z)
 
     -- it goes on, listening since the same moment
     goes : (i : ℕ) (z : LookStep) → HangPromises o es' x.listening reads (hang.Look i z) → Then (r (hanging.Goes (hang.Look i z)))
@@ -149,7 +149,7 @@ module _ (o : Opening) (es : List Event) (e : Event) (k : ℕ) (g : Going o es e
 
       promised : NextPromises o es' x.listening v.loc (look_next v.loc step f)
       promised = subst (λ z. NextPromises o es' x.listening v.loc (look_next v.loc step z)) (sym found_it)
-          (look_on o es e g.made g.made_on g.resolve g.resolve_on k g.within x.listening (listening_moment o es k) v.loc (read_there o es e g.made g.made_on g.resolve_on k g.within reads made.1.0 j v expected) step
+          (look_on o es e g.made g.made_on k g.within x.listening (listening_moment o es k) v.loc (read_there o es e g.made g.made_on k g.within reads made.1.0 j v expected) step
           (ap (λ z. (works (resting s) z).look) is ∙ ap (λ u. (hangs (resting s) reads u).look) at ∙ ap (λ u. Looks (location_of u) (looking.Goes step)) expected) (old.1 v expected))
 
       -- the read agrees, so it is confirmed too

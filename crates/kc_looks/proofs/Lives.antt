@@ -37,7 +37,7 @@ use Rattle.kc_pool.specs.Owners.{Follows, is_filling, fills}
 use Rattle.kc_pool.specs.Started.{line_of_words}
 use Rattle.kc_pool.proofs.Filled.{is_there}
 use Rattle.kc_pool.proofs.LifeLaws.{statuses_behind, statuses_follow}
-use Rattle.kc_claims.specs.Claims.{WordsResolve, stands_for}
+use Rattle.kc_claims.specs.Claims.{stands_for}
 use Rattle.kc_claims.specs.Histories.{ending, cell_of, IsKnown}
 use Rattle.kc_claims.specs.Traces.{Moment, trace, first_store}
 use Rattle.kc_traces.proofs.Copies.{SameWords}
@@ -54,6 +54,7 @@ use Rattle.kc_resolving.proofs.Changes.{Changes, other, filled, started, install
 use Rattle.kc_resolving.proofs.Before.{target}
 use Rattle.kc_resolving.proofs.Checking.{controls_rise}
 use Rattle.kc_resolving.proofs.Growing.{grow}
+use Rattle.kc_resolving.proofs.Resolving.{words_resolve}
 use Rattle.kc_looks.specs.Promised.{IsPromised, seen_by, IsCurrent, MetIsPromised, SeenIsPromised, StepPromises}
 
 module _ (o : Opening) (es : List Event) (e : Event) (w : IsSchedule o es) (w' : IsSchedule o (es ++ e ∷ [])) where
@@ -194,7 +195,7 @@ module _ (o : Opening) (es : List Event) (e : Event) (w : IsSchedule o es) (w' :
     pub by_phase_on : (p : Phase) → IsPromised o es since (seen_by u l r p) → IsPromised o (es ++ e ∷ []) since (seen_by v l r p)
     by_phase_on p q = subst (IsPromised o (es ++ e ∷ []) since) (same p) (promised_on o es e w w' since (seen_by u l r p) q)
 
-    module _ (resolve : WordsResolve o (es ++ e ∷ [])) (old : MetIsPromised o es since l r) where
+    module _ (old : MetIsPromised o es since l r) where
       -- it has succeeded now, so it stands in its word, which stands for what the history makes
       module _ (y : DecidedNow o es e w w' d r.handle.generation met.published now v) (won : y.phase ≡ Succeeded) where
         stands : u.word l.0 ≡ word_of y.handle r.line
@@ -217,7 +218,7 @@ module _ (o : Opening) (es : List Event) (e : Event) (w : IsSchedule o es) (w' :
             is : cell_of (seen_by v l r (v.status d).phase) ≡ ending (first_store o) (trace o (es ++ e ∷ [])).history l.0
             is =
                 let word : v.word l.0 ≡ Ref y.handle.generation d r.line = ap (λ f. f l.0) y.words ∙ stands ∙ ap (λ i. Ref y.handle.generation i r.line) (sym y.its) in
-                sym (ap (stands_for v) word) ∙ resolve l.0 there
+                sym (ap (stands_for v) word) ∙ words_resolve o (es ++ e ∷ []) w' l.0 there
 
             low : (ending (first_store o) since.history l.0).version ≤ resolved_version (v.first d r.line) (v.status d).phase
             low =
@@ -244,20 +245,19 @@ module _ (o : Opening) (es : List Event) (e : Event) (w : IsSchedule o es) (w' :
 
   -- ---- so a look keeps what it knows
 
-  module _ (resolve : WordsResolve o (es ++ e ∷ [])) where
-    pub seen_on : (x : Option Seen) → SeenIsPromised o es since l x → SeenIsPromised o (es ++ e ∷ []) since l x
-    seen_on None p = tt
-    seen_on (Some r) p = (p.0, promised_on o es e w w' since r p.1)
+  pub seen_on : (x : Option Seen) → SeenIsPromised o es since l x → SeenIsPromised o (es ++ e ∷ []) since l x
+  seen_on None p = tt
+  seen_on (Some r) p = (p.0, promised_on o es e w w' since r p.1)
 
-    pub step_on : (step : LookStep) → ((r : Reference) → met_by_look_step step ≡ Some r → IsMet (run o es).world r) → StepPromises o es since l step → StepPromises o (es ++ e ∷ []) since l step
-    step_on look.Load f p = tt
-    step_on (look.Hold r) f p = λ now. met_on r (f r refl) now resolve (p (before r (f r refl) now))
-    step_on (look.Status r) f p = λ now. met_on r (f r refl) now resolve (p (before r (f r refl) now))
-    step_on (look.First r q) f p = λ now. by_phase_on r (f r refl) now q (p (before r (f r refl) now))
-    step_on (look.Second r q x) f p = λ now. second r (f r refl) now q x (p (before r (f r refl) now))
-      where
-        second : (r : Reference) (y : IsMet (run o es).world r) (now : IsCurrent (run o (es ++ e ∷ [])).world r) (q : Phase) (x : First)
-            → IsPromised o es since (seen_as l x ((run o es).world.second r.handle.descriptor r.line).after q) → IsPromised o (es ++ e ∷ []) since (seen_as l x ((run o (es ++ e ∷ [])).world.second r.handle.descriptor r.line).after q)
-        second r y now q x p = subst (λ f. IsPromised o (es ++ e ∷ []) since (seen_as l x (f r.line).after q)) (words r y now).second
-            (promised_on o es e w w' since (seen_as l x ((run o es).world.second r.handle.descriptor r.line).after q) p)
-    step_on (look.Drop r stray x) f p = seen_on x p
+  pub step_on : (step : LookStep) → ((r : Reference) → met_by_look_step step ≡ Some r → IsMet (run o es).world r) → StepPromises o es since l step → StepPromises o (es ++ e ∷ []) since l step
+  step_on look.Load f p = tt
+  step_on (look.Hold r) f p = λ now. met_on r (f r refl) now (p (before r (f r refl) now))
+  step_on (look.Status r) f p = λ now. met_on r (f r refl) now (p (before r (f r refl) now))
+  step_on (look.First r q) f p = λ now. by_phase_on r (f r refl) now q (p (before r (f r refl) now))
+  step_on (look.Second r q x) f p = λ now. second r (f r refl) now q x (p (before r (f r refl) now))
+    where
+      second : (r : Reference) (y : IsMet (run o es).world r) (now : IsCurrent (run o (es ++ e ∷ [])).world r) (q : Phase) (x : First)
+          → IsPromised o es since (seen_as l x ((run o es).world.second r.handle.descriptor r.line).after q) → IsPromised o (es ++ e ∷ []) since (seen_as l x ((run o (es ++ e ∷ [])).world.second r.handle.descriptor r.line).after q)
+      second r y now q x p = subst (λ f. IsPromised o (es ++ e ∷ []) since (seen_as l x (f r.line).after q)) (words r y now).second
+          (promised_on o es e w w' since (seen_as l x ((run o es).world.second r.handle.descriptor r.line).after q) p)
+  step_on (look.Drop r stray x) f p = seen_on x p

@@ -58,7 +58,7 @@ use Rattle.kc_traces.proofs.Answers.{moved, seat_cases, answers_when_done}
 use Rattle.kc_traces.proofs.Others.{others_leave, others_leave_shadow, history_kept}
 use Rattle.kc_histories.specs.Places.{pass_of}
 use Rattle.kc_pool.proofs.Filled.{is_there}
-use Rattle.kc_resolving.proofs.Before.{got}
+use Rattle.kc_histories.proofs.Filters.{got}
 use Rattle.kc_looks.specs.Promised.{IsPromised, StepPromises, NextPromises, IsConfirmed, HangPromises, WorkPromises}
 use Rattle.kc_looks.proofs.Steps.{look_on}
 use Rattle.kc_looks.proofs.Told.{IsBehind, behind_on, behind_now, history_still, Works, ToldTrue, Asked, StepHears, Hears, Knows, SameShadow, knows_same, confirmed_on, read_there, knows_on, GoesOr, idle_works, after_knows, other_told, TellsOther, commit_tells}
@@ -89,7 +89,7 @@ module _ (o : Opening) (es : List Event) (e : Event) (k : ℕ) (g : Going o es e
 
     promise : NextPromises o es' x.begun a.loc (look_next a.loc a.step f)
     promise = subst (λ z. NextPromises o es' x.begun a.loc (look_next a.loc a.step z)) (sym found)
-        (look_on o es e g.made g.made_on g.resolve g.resolve_on k g.within x.begun (begun_moment o es k) a.loc (subst (ReadsAreMade o.locations) is (reads_made o es g.made k)) a.step
+        (look_on o es e g.made g.made_on k g.within x.begun (begun_moment o es k) a.loc (subst (ReadsAreMade o.locations) is (reads_made o es g.made k)) a.step
         (ap (λ z. (works (resting s) z).look) is) (subst (WorkPromises o es x) is g.known.works.promises))
 
     asked : x.task ≡ Some (task.Look a.loc)

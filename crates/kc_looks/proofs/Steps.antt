@@ -23,7 +23,7 @@ use Rattle.kc_effects.specs.Holds.{held, look_step_hold, look_hold}
 use Rattle.kc_effects.proofs.PoolLaws.{holds_kept}
 use Rattle.kc_pool.specs.References.{Remembers, met_by_look}
 use Rattle.kc_pool.proofs.LifeLaws.{words_published, remembered_published}
-use Rattle.kc_claims.specs.Claims.{WordsResolve, stands_for, history_at}
+use Rattle.kc_claims.specs.Claims.{stands_for}
 use Rattle.kc_claims.specs.Histories.{History, Grows, ending, cell_of}
 use Rattle.kc_claims.specs.Traces.{Moment, trace, first_store}
 use Rattle.kc_traces.specs.Moments.{IsMomentOf}
@@ -32,6 +32,7 @@ use Rattle.kc_traces.proofs.Others.{run_shape}
 use Rattle.kc_passes.proofs.Always.{references_fit, lines_exist}
 use Rattle.kc_histories.proofs.Growth.{end_known}
 use Rattle.kc_resolving.proofs.Growing.{grow}
+use Rattle.kc_resolving.proofs.Resolving.{words_resolve}
 use Rattle.kc_looks.specs.Promised.{IsPromised, seen_by, MetIsPromised, SeenIsPromised, StepPromises, NextPromises}
 use Rattle.kc_looks.proofs.Lives.{IsMet, step_on, seen_on}
 
@@ -57,7 +58,7 @@ seat_met o es k l r h =
 word_met : (o : Opening) (es : List Event) (l g d i : ℕ) → (run o es).world.word l ≡ Ref g d i → IsMet (run o es).world (reference_of g d i)
 word_met o es l g d i q = record { published = words_published o es l g d i q; exists = λ c. (references_fit o es l g d i q).1 }
 
-module _ (o : Opening) (es : List Event) (e : Event) (w : IsSchedule o es) (w' : IsSchedule o (es ++ e ∷ [])) (here : WordsResolve o es) (next : WordsResolve o (es ++ e ∷ [])) where
+module _ (o : Opening) (es : List Event) (e : Event) (w : IsSchedule o es) (w' : IsSchedule o (es ++ e ∷ [])) where
   module _ (k : ℕ) (within : k < o.callers) (since : Moment) (moment : IsMomentOf o es since) (l : Loc) (there : l.0 < o.locations) where
     abbrev u : World
     u = (run o es).world
@@ -66,14 +67,14 @@ module _ (o : Opening) (es : List Event) (e : Event) (w : IsSchedule o es) (w' :
     Then n = NextPromises o (es ++ e ∷ []) since l n
 
     on : (step : LookStep) → ((r : Reference) → met_by_look_step step ≡ Some r → IsMet u r) → StepPromises o es since l step → Then (looking.Goes step)
-    on step = step_on o es e w w' since l there next step
+    on step = step_on o es e w w' since l there step
 
     loads : (v : Word) → u.word l.0 ≡ v → Then (load_next l (found.Word v))
     loads (Plain v x) q =
         let r = seen_at l v x in
-        seen_on o es e w w' since l there next (Some r) (refl, stands_now o es w since moment r (sym (here l.0 there) ∙ ap (stands_for u) q))
+        seen_on o es e w w' since l there (Some r) (refl, stands_now o es w since moment r (sym (words_resolve o es w l.0 there) ∙ ap (stands_for u) q))
     loads (Ref g d i) q = on (look.Hold (reference_of g d i)) (λ r z. subst (IsMet u) (same z) (word_met o es l.0 g d i q))
-        (λ c. ((references_fit o es l.0 g d i q).2, stands_now o es w since moment (seen_by u l (reference_of g d i) (u.status d).phase) (sym (here l.0 there) ∙ ap (stands_for u) q)))
+        (λ c. ((references_fit o es l.0 g d i q).2, stands_now o es w since moment (seen_by u l (reference_of g d i) (u.status d).phase) (sym (words_resolve o es w l.0 there) ∙ ap (stands_for u) q)))
       where
         same : {a b : Reference} → ◌≡◌ {A = Option Reference} (Some a) (Some b) → a ≡ b
         same z = cc
@@ -96,6 +97,6 @@ module _ (o : Opening) (es : List Event) (e : Event) (w : IsSchedule o es) (w' :
         go false = tt
     look_on (look.Status r) q p = on (look.First r (u.status r.handle.descriptor).phase) (met (look.Status r) q) (λ c. (p c).1)
     look_on (look.First r f) q p = on (look.Second r f (u.first r.handle.descriptor r.line)) (met (look.First r f) q) p
-    look_on (look.Second r f x) q p = seen_on o es e w w' since l there next (Some (seen_as l x (u.second r.handle.descriptor r.line).after f)) (refl, p (holds (look.Second r f x) q r refl))
+    look_on (look.Second r f x) q p = seen_on o es e w w' since l there (Some (seen_as l x (u.second r.handle.descriptor r.line).after f)) (refl, p (holds (look.Second r f x) q r refl))
     look_on (look.Drop r stray None) q p = tt
-    look_on (look.Drop r stray (Some x)) q p = seen_on o es e w w' since l there next (Some x) p
+    look_on (look.Drop r stray (Some x)) q p = seen_on o es e w w' since l there (Some x) p

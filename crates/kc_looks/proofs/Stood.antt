@@ -62,7 +62,7 @@ use Rattle.kc_traces.proofs.Answers.{moved, seat_cases, answers_when_done}
 use Rattle.kc_traces.proofs.Others.{others_leave, others_leave_shadow, history_kept}
 use Rattle.kc_histories.specs.Places.{pass_of}
 use Rattle.kc_pool.proofs.Filled.{is_there}
-use Rattle.kc_resolving.proofs.Before.{got}
+use Rattle.kc_histories.proofs.Filters.{got}
 use Rattle.kc_looks.specs.Promised.{LooksArePromised, IsPromised, StepPromises, NextPromises, IsConfirmed, HangPromises, WorkPromises}
 use Rattle.kc_looks.proofs.Steps.{look_on}
 use Rattle.kc_looks.proofs.Told.{IsBehind, behind_on, behind_now, history_still, Works, ToldTrue, Asked, StepHears, Hears, Knows, SameShadow, knows_same, confirmed_on, read_there, knows_on, GoesOr, idle_works, after_knows, other_told, TellsOther, commit_tells}
@@ -70,10 +70,10 @@ use Rattle.kc_claims.specs.Traces.{place_after}
 use Rattle.kc_looks.proofs.Events.{event_known}
 use Rattle.kc_looks.proofs.Going.{Going}
 
-module _ (o : Opening) (resolve : (es : List Event) → IsSchedule o es → WordsResolve o es) where
+module _ (o : Opening) where
   knows : (es : List Event) → IsSchedule o es → (k : ℕ) → k < o.callers → Knows o es ((run o es).seats k) ((trace o es).shadows k)
   knows = every (λ es. IsSchedule o es → (k : ℕ) → k < o.callers → Knows o es ((run o es).seats k) ((trace o es).shadows k))
-      (λ es e h w' k l. let w = (made_parts o es (e ∷ []) w').0 in event_known o es e k (record { made = w; made_on = w'; resolve = resolve es w; resolve_on = resolve (es ++ e ∷ []) w'; within = l; known = h w k l }))
+      (λ es e h w' k l. let w = (made_parts o es (e ∷ []) w').0 in event_known o es e k (record { made = w; made_on = w'; within = l; known = h w k l }))
       (λ w k l. record { works = idle_works o [] ((trace o []).shadows k); said = λ t q. absurd (cc); begun = λ q. absurd (cc) })
 
   module _ (es : List Event) (w : IsSchedule o es) where

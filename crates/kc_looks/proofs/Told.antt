@@ -41,7 +41,7 @@ use Rattle.kc_pool.specs.References.{met_by_look}
 use Rattle.kc_seats.specs.Made.{ReadsAreMade}
 use Rattle.kc_seats.proofs.MadeSteps.{reads_made}
 use Rattle.kc_seats.proofs.Searches.{scanned, taken}
-use Rattle.kc_claims.specs.Claims.{WordsResolve, history_at}
+use Rattle.kc_claims.specs.Claims.{history_at}
 use Rattle.kc_claims.specs.Traces.{Moment, Shadow, now, trace}
 use Rattle.kc_claims.proofs.Follows.{trace_counts}
 use Rattle.kc_histories.specs.Decisions.{MovesByDecision}
@@ -146,7 +146,7 @@ module _ (o : Opening) (es : List Event) (x y : Shadow) (q : SameShadow x y) whe
 
 -- ---- an event leaves what a seat knows, where it leaves the seat
 
-module _ (o : Opening) (es : List Event) (e : Event) (w : IsSchedule o es) (w' : IsSchedule o (es ++ e ∷ [])) (next_resolves : WordsResolve o (es ++ e ∷ [])) (k : ℕ) (within : k < o.callers) where
+module _ (o : Opening) (es : List Event) (e : Event) (w : IsSchedule o es) (w' : IsSchedule o (es ++ e ∷ [])) (k : ℕ) (within : k < o.callers) where
   abbrev es' : List Event
   es' = es ++ e ∷ []
 
@@ -165,7 +165,7 @@ module _ (o : Opening) (es : List Event) (e : Event) (w : IsSchedule o es) (w' :
 
   promises_on : (a : Work) → s.work ≡ a → WorkPromises o es x a → WorkPromises o es' x a
   promises_on work.Idle q p = tt
-  promises_on (work.Look a) q p = step_on o es e w w' x.begun a.loc (subst (ReadsAreMade o.locations) q (reads_made o es w k)) next_resolves a.step
+  promises_on (work.Look a) q p = step_on o es e w w' x.begun a.loc (subst (ReadsAreMade o.locations) q (reads_made o es w k)) a.step
       (λ r z. seat_met o es k within r (inr (inr (inr (ap (λ a. met_by_look (works (resting s) a).look) q ∙ z))))) p
   promises_on (work.Commit c) q p = tt
   promises_on (work.Hang h) q p = go h.step refl p
@@ -175,7 +175,7 @@ module _ (o : Opening) (es : List Event) (e : Event) (w : IsSchedule o es) (w' :
       go (hang.Look j step) z p =
           let made = subst (ReadsAreMade o.locations) q (reads_made o es w k) in
           ((λ i r b y. confirmed_on x.listening r (p.0 i r b y)),
-          λ r y. step_on o es e w w' x.listening r.loc (read_there h.reads.items made.1.0 j r y) next_resolves step
+          λ r y. step_on o es e w w' x.listening r.loc (read_there h.reads.items made.1.0 j r y) step
           (λ v u. seat_met o es k within v (inr (inr (inr (ap (λ a. met_by_look (works (resting s) a).look) q ∙ ap (λ t. met_by_look (hangs (resting s) h.reads.items t).look) z ∙ u))))) (p.1 r y))
       go (hang.Clear j c) z p = tt
   promises_on (work.Leave a) q p = tt

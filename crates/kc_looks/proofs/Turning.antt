@@ -58,7 +58,7 @@ use Rattle.kc_traces.proofs.Answers.{moved, seat_cases, answers_when_done}
 use Rattle.kc_traces.proofs.Others.{others_leave, others_leave_shadow, history_kept}
 use Rattle.kc_histories.specs.Places.{pass_of}
 use Rattle.kc_pool.proofs.Filled.{is_there}
-use Rattle.kc_resolving.proofs.Before.{got}
+use Rattle.kc_histories.proofs.Filters.{got}
 use Rattle.kc_looks.specs.Promised.{IsPromised, StepPromises, NextPromises, IsConfirmed, HangPromises, WorkPromises}
 use Rattle.kc_looks.proofs.Steps.{look_on}
 use Rattle.kc_looks.proofs.Told.{IsBehind, behind_on, behind_now, history_still, Works, ToldTrue, Asked, StepHears, Hears, Knows, SameShadow, knows_same, confirmed_on, read_there, knows_on, GoesOr, idle_works, after_knows, other_told, TellsOther, commit_tells}
