@@ -1,6 +1,6 @@
 pub mod Lives
-pub mod Steps
-pub mod Told
+pub mod Looking
+pub mod Knowing
 pub mod Going
 pub mod Hanging
 pub mod Stepping

@@ -1,18 +1,15 @@
 -- What an event leaves of a current life, and so of what a look knows.
-use Rattle.std.proofs.Common.{arith, ◌+◌, ◌==◌, if◌then◌else◌, ◌≡◌, ◌≢◌, ◌<◌, ◌≤◌, ◌⊎◌, inl, inr, ℕ, ◌++◌, Bool, true, false, List, [], ◌∷◌, length, Option, None, Some, refl, sym, ap, subst, ◌∙◌}
-use Rattle.std.specs.Prelude.{nat_lt, slice_get}
-use Rattle.std.proofs.lemmas.Bool.{ltb-true, ltb-false}
+use Rattle.std.proofs.Common.{arith, ◌+◌, ◌==◌, if◌then◌else◌, ◌≡◌, ◌≢◌, ◌<◌, ◌≤◌, ◌⊎◌, inl, inr, ℕ, ◌++◌, Bool, true, false, List, [], ◌∷◌, Option, None, Some, refl, sym, ap, subst, ◌∙◌}
+use Rattle.std.specs.Prelude.{nat_lt}
+use Rattle.std.proofs.lemmas.Bool.{ltb-true}
 use Rattle.kc_model.specs.declared.footprint.Loc.{Loc}
 use Rattle.kc_model.specs.declared.footprint.Seen.{Seen}
-use Rattle.kc_model.specs.declared.plain_store.Cell.{Cell}
-use Rattle.kc_model.specs.declared.word.Word.{Word}
-use Rattle.kc_model.specs.declared.word.Word.TheVariants.{Plain, Ref}
+use Rattle.kc_model.specs.declared.word.Word.TheVariants.{Ref}
 use Rattle.kc_words.specs.declared.words.Handle.{Handle}
 use Rattle.kc_words.specs.declared.words.Reference.{Reference}
 use Rattle.kc_words.specs.declared.words.Mode.{Mode}
 use Rattle.kc_words.specs.declared.words.Status.{Status}
 use Rattle.kc_words.specs.declared.words.First.{First}
-use Rattle.kc_words.specs.declared.words.Second.{Second}
 use Rattle.kc_words.specs.declared.words.Phase.{Phase}
 use Rattle.kc_words.specs.declared.words.Phase.TheVariants.{Active, Succeeded, Failed, Crossed, Halted}
 use Rattle.kc_steps.specs.declared.line.Line.{Line}
@@ -30,15 +27,14 @@ use Rattle.kc_steps.specs.Passes.{status}
 use Rattle.kc_machine.specs.Machine.{World, State, Opening, put, event_of, seat_of, run}
 use Rattle.kc_machine.specs.Schedules.{IsSchedule}
 use Rattle.kc_machine.proofs.Functions.{put_cases, put_here, put_else}
-use Rattle.kc_effects.specs.Stands.{Stand, Owns, Over, At, met_by_look_step, stand}
+use Rattle.kc_effects.specs.Stands.{Owns, Over, At, met_by_look_step, stand}
 use Rattle.kc_effects.specs.Holds.{own_hold}
 use Rattle.kc_effects.proofs.PoolLaws.{holds_kept}
 use Rattle.kc_pool.specs.Owners.{Follows, is_filling, fills}
-use Rattle.kc_pool.specs.Started.{line_of_words}
 use Rattle.kc_pool.proofs.Filled.{is_there}
 use Rattle.kc_pool.proofs.LifeLaws.{statuses_behind, statuses_follow}
 use Rattle.kc_claims.specs.Claims.{stands_for}
-use Rattle.kc_claims.specs.Histories.{ending, cell_of, IsKnown}
+use Rattle.kc_claims.specs.Histories.{ending, cell_of}
 use Rattle.kc_claims.specs.Traces.{Moment, trace, first_store}
 use Rattle.kc_traces.proofs.Copies.{SameWords}
 use Rattle.kc_traces.proofs.Joins.{run-append}
@@ -47,7 +43,6 @@ use Rattle.kc_traces.proofs.Others.{run_shape, event_out}
 use Rattle.kc_passes.specs.Lines.{IsInstalledLine}
 use Rattle.kc_passes.specs.Passed.{PassedAreInstalled, InstalledBelow, gone_by_phase}
 use Rattle.kc_passes.proofs.Always.{passed_installed}
-use Rattle.kc_passes.proofs.Targets.{Target}
 use Rattle.kc_histories.proofs.Growth.{end_known}
 use Rattle.kc_histories.specs.Places.{pass_of}
 use Rattle.kc_resolving.proofs.Changes.{Changes, other, filled, started, installed, released, decided, event_changes}

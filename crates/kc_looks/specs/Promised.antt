@@ -9,6 +9,8 @@ use Rattle.kc_steps.specs.declared.look.LookStep.TheVariants as look
 use Rattle.kc_steps.specs.declared.look.LookNext.{LookNext}
 use Rattle.kc_steps.specs.declared.look.LookNext.TheVariants as looking
 use Rattle.kc_steps.specs.declared.task.Event.{Event}
+use Rattle.kc_steps.specs.declared.task.Task.TheVariants as task
+use Rattle.kc_steps.specs.declared.task.Told.TheVariants as told
 use Rattle.kc_steps.specs.Looks.{seen_as}
 use Rattle.kc_machine.specs.declared.hang.HangStep.{HangStep}
 use Rattle.kc_machine.specs.declared.hang.HangStep.TheVariants as hang
@@ -70,6 +72,11 @@ WorkPromises o es x (work.Look a) = StepPromises o es x.begun a.loc a.step
 WorkPromises o es x (work.Commit c) = Unit {0}
 WorkPromises o es x (work.Hang h) = HangPromises o es x.listening h.reads.items h.step
 WorkPromises o es x (work.Leave a) = Unit {0}
+
+-- what a look was told is promised
+abbrev pub AnswersArePromised : Opening → List Event → Type 0
+AnswersArePromised o es = (k : ℕ) (l : Loc) (r : Seen) → k < o.callers → ((trace o es).shadows k).task ≡ Some (task.Look l) → ((run o es).seats k).told ≡ Some (told.Seen r)
+    → SeenIsPromised o es ((trace o es).shadows k).begun l (Some r)
 
 abbrev pub LooksArePromised : Opening → List Event → Type 0
 LooksArePromised o es = (k : ℕ) → k < o.callers → WorkPromises o es ((trace o es).shadows k) ((run o es).seats k).work

@@ -5,12 +5,13 @@ ghost use Rattle.kc_steps.specs.declared.task.Event.{Event};
 ghost use Rattle.kc_machine.specs.Machine.{Opening};
 ghost use Rattle.kc_machine.specs.Schedules.{IsSchedule};
 ghost use Rattle.kc_claims.specs.Claims.{HungReadsStood, LooksTellWhatStood};
-ghost use Rattle.kc_looks.specs.Promised.{LooksArePromised};
+ghost use Rattle.kc_looks.specs.Promised.{AnswersArePromised, LooksArePromised};
 
-/// What a look has come to, and will tell, is known to the history and no earlier than what stood at its location when it
-/// began; in a hang, when the last bit was set.
+/// What a look has come to, and what it was told, is known to the history and no earlier than what stood at its location when
+/// it began; in a hang, when the last bit was set.
 pub fn looks_are_promised()
-    ensures { (o : Opening) (es : List Event) → IsSchedule o es → LooksArePromised o es }
+    ensures looks { (o : Opening) (es : List Event) → IsSchedule o es → LooksArePromised o es }
+    ensures answers { (o : Opening) (es : List Event) → IsSchedule o es → AnswersArePromised o es }
 {}
 
 /// A look is told what stood at its location at some moment since it began.

@@ -1,14 +1,11 @@
 -- What a look's own step makes of what it knows.
-use Rattle.std.proofs.Common.{arith, ◌≡◌, ◌<◌, ◌≤◌, inl, inr, ℕ, ◌++◌, ◌==◌, Bool, true, false, List, [], ◌∷◌, Option, None, Some, refl, sym, ap, subst, ◌∙◌, if◌then◌else◌}
-use borrow.Author.Tests.{eqb-true}
+use Rattle.std.proofs.Common.{arith, ◌≡◌, ◌<◌, inr, ℕ, ◌++◌, ◌==◌, Bool, true, false, List, [], ◌∷◌, Option, None, Some, refl, sym, ap, subst, ◌∙◌, if◌then◌else◌}
 use Rattle.kc_model.specs.declared.footprint.Loc.{Loc}
 use Rattle.kc_model.specs.declared.footprint.Seen.{Seen}
 use Rattle.kc_model.specs.declared.plain_store.Cell.{Cell}
 use Rattle.kc_model.specs.declared.word.Word.{Word}
 use Rattle.kc_model.specs.declared.word.Word.TheVariants.{Plain, Ref}
 use Rattle.kc_words.specs.declared.words.Reference.{Reference}
-use Rattle.kc_words.specs.declared.words.Phase.{Phase}
-use Rattle.kc_words.specs.declared.words.First.{First}
 use Rattle.kc_words.specs.declared.access.Found.TheVariants as found
 use Rattle.kc_steps.specs.declared.look.LookStep.{LookStep}
 use Rattle.kc_steps.specs.declared.look.LookStep.TheVariants as look
@@ -16,7 +13,7 @@ use Rattle.kc_steps.specs.declared.look.LookNext.{LookNext}
 use Rattle.kc_steps.specs.declared.look.LookNext.TheVariants as looking
 use Rattle.kc_steps.specs.declared.task.Event.{Event}
 use Rattle.kc_steps.specs.Looks.{reference_of, seen_at, seen_as, look_access, look_next, load_next}
-use Rattle.kc_machine.specs.Machine.{World, State, Opening, found_at, run}
+use Rattle.kc_machine.specs.Machine.{World, Opening, found_at, run}
 use Rattle.kc_machine.specs.Schedules.{IsSchedule}
 use Rattle.kc_effects.specs.Stands.{Looks, met_by_look_step, stand}
 use Rattle.kc_effects.specs.Holds.{held, look_step_hold, look_hold}
@@ -33,7 +30,7 @@ use Rattle.kc_passes.proofs.Always.{references_fit, lines_exist}
 use Rattle.kc_histories.proofs.Growth.{end_known}
 use Rattle.kc_resolving.proofs.Growing.{grow}
 use Rattle.kc_resolving.proofs.Resolving.{words_resolve}
-use Rattle.kc_looks.specs.Promised.{IsPromised, seen_by, MetIsPromised, SeenIsPromised, StepPromises, NextPromises}
+use Rattle.kc_looks.specs.Promised.{IsPromised, seen_by, StepPromises, NextPromises}
 use Rattle.kc_looks.proofs.Lives.{IsMet, step_on, seen_on}
 
 module _ (o : Opening) (es : List Event) (w : IsSchedule o es) (since : Moment) (moment : IsMomentOf o es since) where

@@ -1,15 +1,13 @@
 -- What a seat that looks or hangs knows, and what it has been told.
-use Rattle.std.proofs.Common.{arith, ◌≡◌, ◌≢◌, ◌<◌, ◌≤◌, ◌+◌, inl, inr, ℕ, ◌++◌, ◌==◌, Bool, true, false, List, [], ◌∷◌, length, take, Option, None, Some, refl, sym, ap, subst, ◌∙◌, if◌then◌else◌, Contains, All}
+use Rattle.std.proofs.Common.{arith, ◌≡◌, ◌<◌, ◌+◌, inl, inr, ℕ, ◌++◌, Bool, true, false, List, [], ◌∷◌, length, Option, None, Some, refl, sym, ap, subst, ◌∙◌, Contains, All}
 use Rattle.std.specs.Prelude.{slice_get}
 use Rattle.std.specs.Option.{is_some}
 use Rattle.std.proofs.lemmas.List.{length-append, take-append-le, take_all}
 use Rattle.std.proofs.lemmas.Option.{slice_get_within, get_or_from_slice_get}
 use Rattle.kc_model.specs.declared.footprint.Loc.{Loc}
 use Rattle.kc_model.specs.declared.footprint.Seen.{Seen}
-use Rattle.kc_words.specs.declared.words.Reference.{Reference}
 use Rattle.kc_words.specs.declared.words.Phase.{Phase}
 use Rattle.kc_words.specs.declared.words.Phase.TheVariants.{Active, Succeeded, Failed, Crossed, Halted}
-use Rattle.kc_words.specs.declared.words.Handle.{Handle}
 use Rattle.kc_words.specs.declared.access.Found.{Found}
 use Rattle.kc_steps.specs.declared.task.Task.{Task}
 use Rattle.kc_steps.specs.declared.task.Task.TheVariants as task
@@ -18,8 +16,6 @@ use Rattle.kc_steps.specs.declared.task.Told.TheVariants as told
 use Rattle.kc_steps.specs.declared.task.Onward.{Onward}
 use Rattle.kc_steps.specs.declared.task.Onward.TheVariants as onward
 use Rattle.kc_steps.specs.declared.task.Event.{Event}
-use Rattle.kc_steps.specs.declared.look.LookStep.{LookStep}
-use Rattle.kc_steps.specs.declared.look.LookNext.TheVariants as looking
 use Rattle.kc_steps.specs.declared.commit.Commit.{Commit}
 use Rattle.kc_steps.specs.declared.commit.Stage.{Stage}
 use Rattle.kc_steps.specs.declared.commit.Stage.TheVariants as stage
@@ -36,7 +32,7 @@ use Rattle.kc_machine.specs.declared.seat.Seat.{Seat}
 use Rattle.kc_machine.specs.Seats.{after}
 use Rattle.kc_machine.specs.Machine.{Opening, seat_of, run}
 use Rattle.kc_machine.specs.Schedules.{IsSchedule}
-use Rattle.kc_effects.specs.Stands.{NoPass, Passing, Looks, met_by_look_step, stand, works, resting, hangs}
+use Rattle.kc_effects.specs.Stands.{NoPass, works, resting, hangs}
 use Rattle.kc_pool.specs.References.{met_by_look}
 use Rattle.kc_seats.specs.Made.{ReadsAreMade}
 use Rattle.kc_seats.proofs.MadeSteps.{reads_made}
@@ -49,7 +45,7 @@ use Rattle.kc_histories.specs.Places.{pass_of}
 use Rattle.kc_histories.proofs.Decisions.{moves_by_decision}
 use Rattle.kc_looks.specs.Promised.{IsPromised, StepPromises, IsConfirmed, HangPromises, WorkPromises}
 use Rattle.kc_looks.proofs.Lives.{promised_on, step_on}
-use Rattle.kc_looks.proofs.Steps.{seat_met}
+use Rattle.kc_looks.proofs.Looking.{seat_met}
 
 -- ---- the event at a moment, which left the history
 
@@ -173,10 +169,11 @@ module _ (o : Opening) (es : List Event) (e : Event) (w : IsSchedule o es) (w' :
       go : (step : HangStep) → h.step ≡ step → HangPromises o es x.listening h.reads.items step → HangPromises o es' x.listening h.reads.items step
       go (hang.Set j) z p = tt
       go (hang.Look j step) z p =
-          let made = subst (ReadsAreMade o.locations) q (reads_made o es w k) in
-          ((λ i r b y. confirmed_on x.listening r (p.0 i r b y)),
-          λ r y. step_on o es e w w' x.listening r.loc (read_there h.reads.items made.1.0 j r y) step
-          (λ v u. seat_met o es k within v (inr (inr (inr (ap (λ a. met_by_look (works (resting s) a).look) q ∙ ap (λ t. met_by_look (hangs (resting s) h.reads.items t).look) z ∙ u))))) (p.1 r y))
+          let made = subst (ReadsAreMade o.locations) q (reads_made o es w k) in (
+            (λ i r b y. confirmed_on x.listening r (p.0 i r b y)),
+            λ r y. step_on o es e w w' x.listening r.loc (read_there h.reads.items made.1.0 j r y) step
+                (λ v u. seat_met o es k within v (inr (inr (inr (ap (λ a. met_by_look (works (resting s) a).look) q ∙ ap (λ t. met_by_look (hangs (resting s) h.reads.items t).look) z ∙ u))))) (p.1 r y),
+          )
       go (hang.Clear j c) z p = tt
   promises_on (work.Leave a) q p = tt
 
