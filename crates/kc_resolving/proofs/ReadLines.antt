@@ -8,7 +8,7 @@ use Rattle.std.specs.Option.{option_map}
 use Rattle.kc_words.specs.declared.words.Handle.{Handle}
 use Rattle.kc_words.specs.declared.words.Mode.{Mode}
 use Rattle.kc_words.specs.declared.words.Phase.TheVariants.{Active}
-use Rattle.kc_steps.specs.Commits.{intent_of}
+use Rattle.kc_commits.specs.Commits.{intent_of}
 use Rattle.kc_steps.specs.Passes.{status}
 use Rattle.kc_effects.specs.Stands.{Own, NoOwn, Owns, Runs, Waits}
 use Rattle.kc_passes.specs.Words.{PassesOver}
