@@ -66,7 +66,7 @@ line_that_reads [] r c = absurd (omega (arith, c.1))
 line_that_reads (x ∷ xs) r (zero, l, e) = (x, Contains-first x xs, e)
 line_that_reads (x ∷ xs) r (suc i, l, e) = let y = line_that_reads xs r (i, omega arith, e) in (y.0, Contains-later x xs y.0 y.1, y.2)
 
-puts_installed : (m : Mode) (x : Line) → has_put x.put ≡ true → is_installed m x ≡ true
+pub puts_installed : (m : Mode) (x : Line) → has_put x.put ≡ true → is_installed m x ≡ true
 puts_installed All x e = refl
 puts_installed Light x e = e
 

@@ -48,7 +48,7 @@ use Rattle.kc_resolving.proofs.Checking.{Good, OldChecks, from_step, kept_step, 
 
 -- ---- what follows a check's drop is never the decision for success
 
-abbrev DropFits : Passing → Type 0
+abbrev pub DropFits : Passing → Type 0
 DropFits (Over h m xs (At (CheckDrop j r stray c))) = c ≢ checked.Decide Succeeded
 DropFits x = Unit {0}
 
@@ -69,7 +69,7 @@ step_drops b out h m xs (CheckDrop j r stray c) ne f = no_success out ne b j str
 step_drops b out h m xs (Decide p) ne f = tt
 step_drops b out h m xs (Release j p) ne f = tt
 
-pass_drops : (s : Seat) → WorkFits s.work → DropFits (stand s).pass
+pub pass_drops : (s : Seat) → WorkFits s.work → DropFits (stand s).pass
 pass_drops s f = subst DropFits (sym (pass_is s)) (go s.work f)
   where
     aids : (b : Bool) (r : Reference) (c : Aided) (a : AidStep) → AidFits b c a → DropFits (aid_pass r c a)
