@@ -1,3 +1,4 @@
 pub mod Known
 pub mod Bounds
 pub mod Came
+pub mod Stood

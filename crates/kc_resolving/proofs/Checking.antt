@@ -235,7 +235,7 @@ module _ (o : Opening) (es : List Event) (e : Event) (w : IsSchedule o es) (w' :
               status_other ((run o es').world.status r.handle.descriptor) r.handle.generation q (subst (λ (g : Handle). (run o es').world.status g.descriptor ≡ status g.generation Active) same act)) p)
 
   -- a reference that a check meets now
-  met_now : (p l g d i : ℕ) → m.world.word l ≡ Ref g d i → MetStands o es p l (reference_of g d i)
+  pub met_now : (p l g d i : ℕ) → m.world.word l ≡ Ref g d i → MetStands o es p l (reference_of g d i)
   met_now p l g d i word c = at (status_is (m.world.status d) (status g Active)) refl
     where
       at : (t : Bool) → status_is (m.world.status d) (status g Active) ≡ t → ((m.world.status d ≡ status g Active) × (m.world.word l ≡ Ref g d i)) ⊎ Settled o es p l
