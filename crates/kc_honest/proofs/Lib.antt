@@ -2,3 +2,4 @@ pub mod Known
 pub mod Bounds
 pub mod Came
 pub mod Stood
+pub mod Legal

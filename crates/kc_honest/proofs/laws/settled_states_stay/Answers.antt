@@ -1,4 +1,4 @@
-use Rattle.kc_honest.proofs.Stood.{stood}
+use Rattle.kc_honest.proofs.Legal.{legal}
 use Rattle.kc_honest.proofs.Bounds.{states_stay}
 use Rattle.kc_honest.proofs.laws.settled_states_stay.Goals as goal
 
