@@ -139,7 +139,7 @@ pub record Entrance (t : Trace) (e : Event) (x : Placed) : Type 0 where
   pub entry : x.entry ≡ entry_for (stand (t.machine.seats (seat_of e))) lines
   pub after : is_placed (stand ((event_of t.machine e).seats (seat_of e))).pass ≡ false
 
-module _ (t : Trace) (e : Event) (P : History → Type 0) (same : P t.history) (more : (x : Placed) → Entrance t e x → P (inserted x t.history)) where
+module _ (t : Trace) (e : Event) (P : History → Type 0) where
   abbrev k : ℕ
   k = seat_of e
 
@@ -149,23 +149,30 @@ module _ (t : Trace) (e : Event) (P : History → Type 0) (same : P t.history) (
   abbrev v : World
   v = (event_of t.machine e).world
 
+  -- the seat's pass decides nothing for success
+  abbrev pub Undecided : Type 0
+  Undecided = (h : Handle) (m : Mode) (xs : List Line) (u : Turn) → st.pass ≡ Over h m xs u → decides t.machine.world v h ≡ false
+
   some_place : (o : Option ℕ) → is_some o ≡ true → o ≡ Some (place_or t.clock o)
   some_place None e = absurd (cc)
   some_place (Some p) e = refl
 
+  same_handle : {h g : Handle} {m n : Mode} {xs ys : List Line} {u r : Turn} → Over h m xs u ≡ Over g n ys r → h ≡ g
+  same_handle q = cc
+
   -- where a seat with a placed pass has a place
-  pub history_cases : is_some (t.shadows k).place ≡ is_placed st.pass → P (traced t e).history
-  history_cases has = go st.pass refl
+  pub history_cases : (Undecided → P t.history) → ((x : Placed) → Entrance t e x → P (inserted x t.history)) → is_some (t.shadows k).place ≡ is_placed st.pass → P (traced t e).history
+  history_cases same more has = go st.pass refl
     where
       go : (p : Passing) → st.pass ≡ p → P (history_after (now t) t.machine.world v st (t.shadows k).place p)
-      go NoPass q = same
+      go NoPass q = same (λ h m xs u y. let z : NoPass ≡ Over h m xs u = sym q ∙ y in absurd (cc))
       go (Over h m xs turn) q = at (decides t.machine.world v h) refl
         where
           x : Placed
           x = record { place = place_or t.clock (t.shadows k).place; mode = m; entry = entry_for st xs }
 
           at : (b : Bool) → decides t.machine.world v h ≡ b → P (if b then inserted x t.history else t.history)
-          at false d = same
+          at false d = same (λ g n ys u y. ap (decides t.machine.world v) (same_handle (sym y ∙ q)) ∙ d)
           at true d =
               let y = by_event t.machine h m xs e turn q d in
               let z = q ∙ ap (Over h m xs) y.turn in

@@ -2,13 +2,16 @@
 use Rattle.std.proofs.Common.{arith, ◌≡◌, ◌<◌, ◌⊎◌, inl, inr, ◌++◌, Bool, true, false, List, [], ◌∷◌, Some, refl, sym, ap, subst, ◌∙◌}
 use Rattle.std.specs.Prelude.{nat_lt}
 use Rattle.std.proofs.lemmas.Bool.{ltb-true}
+use Rattle.kc_words.specs.declared.words.Handle.{Handle}
+use Rattle.kc_words.specs.declared.words.Mode.{Mode}
 use Rattle.kc_words.specs.declared.words.Status.{Status}
+use Rattle.kc_steps.specs.declared.line.Line.{Line}
 use Rattle.kc_words.specs.declared.words.Phase.TheVariants.{Active, Succeeded}
 use Rattle.kc_steps.specs.declared.pass.PassStep.TheVariants.{Decide}
 use Rattle.kc_steps.specs.declared.task.Event.{Event}
 use Rattle.kc_steps.specs.Passes.{status}
 use Rattle.kc_machine.specs.Machine.{World, State, Opening, event_of, seat_of, run}
-use Rattle.kc_effects.specs.Stands.{Over, At, Stand, stand}
+use Rattle.kc_effects.specs.Stands.{Over, Turn, At, Stand, stand}
 use Rattle.kc_effects.specs.Holds.{Proper, own_hold}
 use Rattle.kc_pool.specs.Owners.{Follows, is_filling}
 use Rattle.kc_pool.proofs.LifeLaws.{statuses_follow}
@@ -71,11 +74,20 @@ module _ (o : Opening) (es : List Event) (e : Event) where
         footprint = ap (λ (w : Entry). w.footprint) z;
       }
 
+  -- the pass of the event's seat decides nothing for success
+  abbrev pub Undecides : Type 0
+  Undecides = (h : Handle) (m : Mode) (xs : List Line) (u : Turn) → st.pass ≡ Over h m xs u → decides (run o es).world v h ≡ false
+
   -- what holds of the history that stays, and of it with the entry, holds behind the event
-  module _ (P : History → Type 0) (same : P (trace o es).history) (more : (x : Placed) → Decision o es e x → P (inserted x (trace o es).history)) where
-    pub history_moves : P (trace o (es ++ e ∷ [])).history
-    history_moves = subst P (sym (ap (λ (t : Trace). t.history) (trace-append o es (e ∷ []))))
-        (history_cases (trace o es) e P same (λ x n. more x (decision_of x n)) ((placing o es).seats (seat_of e)))
+  module _ (P : History → Type 0) where
+    pub history_moves_by : (Undecides → P (trace o es).history) → ((x : Placed) → Decision o es e x → P (inserted x (trace o es).history)) → P (trace o (es ++ e ∷ [])).history
+    history_moves_by same more = subst P (sym (ap (λ (t : Trace). t.history) (trace-append o es (e ∷ []))))
+        (history_cases (trace o es) e P
+        (λ u. same (λ h m xs t q. ap (λ (n : State). decides n.world (event_of n e).world h) (sym (trace_runs o es)) ∙ u h m xs t (ap (λ (n : State). (stand (n.seats (seat_of e))).pass) (trace_runs o es) ∙ q)))
+        (λ x n. more x (decision_of x n)) ((placing o es).seats (seat_of e)))
+
+    pub history_moves : P (trace o es).history → ((x : Placed) → Decision o es e x → P (inserted x (trace o es).history)) → P (trace o (es ++ e ∷ [])).history
+    history_moves same more = history_moves_by (λ u. same) more
 
   pub moves_by_decision : MovesByDecision o es e
   moves_by_decision = history_moves (λ h. (h ≡ (trace o es).history) ⊎ ((x : Placed) × Decision o es e x × (h ≡ inserted x (trace o es).history)))

@@ -13,12 +13,12 @@ use Rattle.kc_steps.specs.Lines.{put_of, line_of, lines_of}
 use Rattle.kc_claims.specs.Histories.{put_of_line, footprint_of}
 
 module _ {X : Type 0} (at : X → ℕ) where
-  later_above : (n : ℕ) (xs : List X) → IsRisingAbove n (map at xs) → (x : X) → Contains xs x → n < at x
+  pub later_above : (n : ℕ) (xs : List X) → IsRisingAbove n (map at xs) → (x : X) → Contains xs x → n < at x
   later_above n [] r x c = absurd (omega (arith, c.1))
   later_above n (y ∷ xs) r x (zero, l, e) = omega (arith, r.0, ap at e)
   later_above n (y ∷ xs) r x (suc i, l, e) = omega (arith, r.0, later_above (at y) xs r.1 x (i, omega arith, e))
 
-  rest_rises : (x : X) (xs : List X) → IsRising (map at (x ∷ xs)) → IsRising (map at xs)
+  pub rest_rises : (x : X) (xs : List X) → IsRising (map at (x ∷ xs)) → IsRising (map at xs)
   rest_rises x [] r = tt
   rest_rises x (y ∷ xs) r = r.1
 

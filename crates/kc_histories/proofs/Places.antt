@@ -196,11 +196,11 @@ module _ (t : Trace) (e : Event) (h : Placing t) where
     begun = begun_now;
     reached = λ k. let a = reached_now k in omega arith;
     apart = apart_now;
-    entries = λ k p q. history_cases t e (IsNewPlace p) (new_before k p q)
+    entries = λ k p q. history_cases t e (IsNewPlace p) (λ u. new_before k p q)
         (λ y n z c. inserted_contains y t.history z (λ w. w.place ≢ p) (entry_apart y n k p q) (new_before k p q) c)
         (h.seats j);
-    rises = history_cases t e RisesByPlace h.rises (λ y n. rises_inserted y t.history h.rises (h.entries j y.place n.place)) (h.seats j);
-    lower = history_cases t e (IsBelowPlace (t.clock + 1)) (λ y c. let l = h.lower y c in omega arith)
+    rises = history_cases t e RisesByPlace (λ u. h.rises) (λ y n. rises_inserted y t.history h.rises (h.entries j y.place n.place)) (h.seats j);
+    lower = history_cases t e (IsBelowPlace (t.clock + 1)) (λ u y c. let l = h.lower y c in omega arith)
         (λ y n z c. inserted_contains y t.history z (λ w. w.place < t.clock + 1) (let l = h.below j y.place n.place in omega arith) (λ w d. let l = h.lower w d in omega arith) c)
         (h.seats j);
   }

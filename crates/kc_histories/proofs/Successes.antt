@@ -53,10 +53,10 @@ settled t e =
     }
 
 module _ (o : Opening) (es : List Event) (e : Event) (k : ℕ) (l : k < o.callers) where
-  abbrev old : Shadow
+  abbrev pub old : Shadow
   old = (trace o es).shadows k
 
-  abbrev new : Shadow
+  abbrev pub new : Shadow
   new = (trace o (es ++ e ∷ [])).shadows k
 
   -- it stays, and no task begins; or nothing happens

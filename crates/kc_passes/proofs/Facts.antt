@@ -50,7 +50,8 @@ pub record Named (w : World) (l g d i : ℕ) : Type 0 where
   pub line : IsInstalledLine w d i
   pub here : (w.second d i).loc ≡ l
 
-abbrev pub life : ℕ → ℕ → Handle
+-- the handle of a life
+abbrev life : ℕ → ℕ → Handle
 life d g = record { descriptor = d; generation = g }
 
 -- a reference names a line, where its descriptor still has that generation

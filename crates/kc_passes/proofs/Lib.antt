@@ -1,4 +1,5 @@
 pub mod Targets
+pub mod Words
 pub mod Lives
 pub mod Gone
 pub mod Owing

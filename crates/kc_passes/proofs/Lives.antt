@@ -39,15 +39,6 @@ line_stays w v d k s h =
     let n = ap (λ (a : Owner). a.lines) s.owner in
     (omega arith, h.1, subst (λ x. is_installed (v.owner d).mode x ≡ true) (same_line w v d k s) (subst (λ (a : Owner). is_installed a.mode (line_of_words w d k) ≡ true) s.owner h.2))
 
-pub target_stays : (w v : World) (h : Handle) (mode : Mode) (xs : List Line) → SameLife w v h.descriptor → Target w h mode xs → Target v h mode xs
-target_stays w v h mode xs s t = record {
-  control = s.control ∙ t.control;
-  status = s.status ∙ t.status;
-  says = ap (λ (a : Owner). a.mode) (sym s.words.owner) ∙ t.says;
-  lines = ap (λ (a : Owner). a.lines) (sym s.words.owner) ∙ t.lines;
-  line = λ k x e. sym (same_line w v h.descriptor k s.words) ∙ t.line k x e;
-}
-
 -- what is held is counted
 pub held_counts : (w : World) (n m : ℕ) (at : ℕ → Stand) → Lives n m w at → (j : ℕ) → j < n → (d g : ℕ) → Has (at j) (Proper d g) → 1 ≤ (w.control d).holds
 held_counts w n m at p j l d g h =

@@ -2,11 +2,20 @@
 
 ghost use Rattle.kc_claims.specs.Claims.{ReferencesAreHeld};
 ghost use Rattle.kc_machine.specs.Machine.{Opening, run};
+ghost use Rattle.kc_machine.specs.Schedules.{IsSchedule};
+ghost use Rattle.kc_passes.specs.Words.{ActivePassesAreTheirOwners, PassesAreWellMade, PassesGoOverTheirWords};
 ghost use Rattle.kc_passes.specs.Lines.{MetLinesExist, ReferencesFitTheirLines};
 ghost use Rattle.kc_passes.specs.Passed.{InstalledLinesAreAPrefix, PassedLinesAreInstalled};
 ghost use Rattle.kc_passes.specs.Phases.{AidsKnowTheirLine, OnlyHaltedOwnersDecideHalted, ReferencesAreOwed, ReleasesKnowThePhase};
 ghost use Rattle.kc_steps.specs.declared.task.Event.{Event};
 ghost use Rattle.std.specs.Prelude.{List};
+
+/// A pass goes over a life that its seat holds, the last of its descriptor, which was started; the words of the descriptor say the pass's mode and lines, whoever's pass it is. Where the tasks are well made these are. While the life is Active, its owner's intent is the same.
+pub fn passes_go_over_their_words()
+    ensures words { (o : Opening) (schedule : List Event) → PassesGoOverTheirWords (run o schedule) }
+    ensures made { (o : Opening) (schedule : List Event) → IsSchedule o schedule → PassesAreWellMade o.locations (run o schedule) }
+    ensures owners { (o : Opening) (schedule : List Event) → ActivePassesAreTheirOwners (run o schedule) }
+{}
 
 /// A reference in a word is to the last life of its descriptor, which was started; it names a line that the descriptor's words have, that is installed, and that is of this word's location.
 pub fn references_fit_their_lines()

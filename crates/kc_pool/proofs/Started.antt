@@ -70,7 +70,7 @@ line_again x = go x.seen x.put
     go r None = refl
     go r (Some y) = refl
 
-lists_again : (f : ℕ → Line) (xs : List Line) → ((i : ℕ) (x : Line) → slice_get xs i ≡ Some x → f i ≡ x) → listed f (length xs) ≡ xs
+pub lists_again : (f : ℕ → Line) (xs : List Line) → ((i : ℕ) (x : Line) → slice_get xs i ≡ Some x → f i ≡ x) → listed f (length xs) ≡ xs
 lists_again f [] h = refl
 lists_again f (x ∷ xs) h = ap (λ y. y ∷ listed (λ i. f (suc i)) (length xs)) (h 0 x refl) ∙ ap (λ ys. x ∷ ys) (lists_again (λ i. f (suc i)) xs (λ i. h (suc i)))
 

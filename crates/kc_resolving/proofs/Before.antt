@@ -1,5 +1,5 @@
 -- Which pass may decide behind an event, and what it installs.
-use Rattle.std.proofs.Common.{arith, ◌≡◌, ◌≢◌, ◌<◌, ◌≤◌, ◌⊎◌, inl, inr, ℕ, zero, suc, ◌++◌, ◌==◌, Bool, true, false, List, [], ◌∷◌, length, Option, None, Some, refl, sym, ap, subst, ◌∙◌, Contains}
+use Rattle.std.proofs.Common.{arith, ◌≡◌, ◌≢◌, ◌<◌, ◌≤◌, ◌⊎◌, inl, inr, ℕ, zero, suc, ◌++◌, Bool, true, false, List, [], ◌∷◌, length, Option, None, Some, refl, sym, ap, subst, ◌∙◌, Contains}
 use Rattle.std.specs.Prelude.{nat_lt, slice_get}
 use Rattle.std.specs.Option.{is_some}
 use Rattle.std.proofs.lemmas.Bool.{ltb-true}
@@ -8,32 +8,27 @@ use Rattle.kc_model.specs.declared.footprint.Footprint.{Footprint}
 use Rattle.kc_model.specs.declared.footprint.Put.{Put}
 use Rattle.kc_model.specs.declared.footprint.Seen.{Seen}
 use Rattle.kc_model.specs.Footprint.{Reads, put_at}
-use Rattle.kc_model.specs.declared.word.Word.{Word}
-use Rattle.kc_model.specs.declared.word.Word.TheVariants.{Plain, Ref}
 use Rattle.kc_words.specs.declared.words.Handle.{Handle}
 use Rattle.kc_words.specs.declared.words.Mode.{Mode}
 use Rattle.kc_words.specs.declared.words.Status.{Status}
 use Rattle.kc_words.specs.declared.words.Phase.TheVariants.{Active, Succeeded}
 use Rattle.kc_steps.specs.declared.line.Line.{Line}
-use Rattle.kc_steps.specs.declared.pass.PassStep.{PassStep}
 use Rattle.kc_steps.specs.declared.pass.PassStep.TheVariants.{Install, Check, CheckHold, CheckStatus, CheckFirst, CheckDrop, Decide, Release}
 use Rattle.kc_words.specs.declared.words.Phase.TheVariants.{Failed, Crossed, Halted}
-use Rattle.kc_words.specs.declared.words.Phase.{Phase}
-use Rattle.kc_steps.specs.declared.commit.OwnStep.TheVariants as own
 use Rattle.kc_steps.specs.declared.task.Event.{Event}
 use Rattle.kc_steps.specs.Lines.{is_installed, word_of}
 use Rattle.kc_steps.specs.Passes.{status}
-use Rattle.kc_machine.specs.Machine.{World, State, Opening, put, event_of, seat_of, run}
+use Rattle.kc_machine.specs.Machine.{World, State, Opening, event_of, seat_of, run}
 use Rattle.kc_machine.specs.Schedules.{IsSchedule}
 use Rattle.kc_machine.proofs.Functions.{put_cases}
-use Rattle.kc_effects.specs.Stands.{Passing, NoPass, Over, Turn, At, Meets, Ends, Leaves, stand}
-use Rattle.kc_effects.specs.Holds.{Proper, own_hold}
+use Rattle.kc_effects.specs.Stands.{Over, Turn, At, Meets, Ends, Leaves, stand}
+use Rattle.kc_effects.specs.Holds.{own_hold}
 use Rattle.kc_pool.specs.Owners.{Follows, is_filling}
 use Rattle.kc_pool.proofs.Shapes.{goes_over}
 use Rattle.kc_pool.specs.Started.{listed, line_of_words}
 use Rattle.kc_pool.proofs.LifeLaws.{statuses_follow, held_started}
 use Rattle.kc_pool.proofs.Started.{started_made}
-use Rattle.kc_claims.specs.Histories.{History, Placed, inserted, put_of_line, footprint_of}
+use Rattle.kc_claims.specs.Histories.{Placed}
 use Rattle.kc_claims.specs.Traces.{is_placed, is_placed_in, trace}
 use Rattle.kc_traces.proofs.Joins.{run-append}
 use Rattle.kc_traces.proofs.Others.{run_shape, event_out}
@@ -46,7 +41,7 @@ use Rattle.kc_histories.specs.Later.{NoneTouchesAbove, DecidesSoon, NothingLater
 use Rattle.kc_histories.specs.Places.{pass_of, place_of}
 use Rattle.kc_histories.proofs.Insertions.{inserted_contains}
 use Rattle.kc_histories.proofs.Passes.{HoldsLife, pass_holds}
-use Rattle.kc_histories.proofs.Places.{below, has_place, within, place_was, pass_stays}
+use Rattle.kc_histories.proofs.Places.{below, has_place, place_was, pass_stays}
 use Rattle.kc_histories.proofs.Decisions.{history_moves}
 use Rattle.kc_histories.proofs.Begun.{placed_over}
 use Rattle.kc_histories.proofs.Growing.{line_that_puts, line_that_reads}
@@ -155,10 +150,10 @@ module _ (o : Opening) (es : List Event) (e : Event) where
       back l v (filled h i step q f r t y) b = ap (λ f. f d) (sym t) ∙ b
       back l v (started h i q) b = put_cases (λ x. x ≡ status g Active → (run o es).world.status d ≡ status g Active) (run o es).world.status h.descriptor (status h.generation Active) d
           (λ z y.
-              let same : h.generation ≡ g = ap (λ (x : Status). x.generation) y in
-              let f = subst (λ t. Follows t ((run o es).world.status h.descriptor).generation h.generation) (ap is_filling q) (statuses_follow o es (seat_of e) h.descriptor h.generation l (ap own_hold q)) in
-              let u = ap (λ i. ((run o es).world.status i).generation) z in
-              absurd (omega arith))
+          let same : h.generation ≡ g = ap (λ (x : Status). x.generation) y in
+          let f = subst (λ t. Follows t ((run o es).world.status h.descriptor).generation h.generation) (ap is_filling q) (statuses_follow o es (seat_of e) h.descriptor h.generation l (ap own_hold q)) in
+          let u = ap (λ i. ((run o es).world.status i).generation) z in
+          absurd (omega arith))
           (λ ne y. y) b
       back l v (installed h mode xs j x q r t) b = b
       back l v (released h j p x q r) b = b

@@ -1,5 +1,5 @@
 -- What an event changes in words, statuses and the words of descriptors.
-use Rattle.std.proofs.Common.{◌≡◌, ◌≢◌, ℕ, Bool, true, false, List, Option, None, Some, refl, sym, ap, subst, ◌∙◌, if◌then◌else◌}
+use Rattle.std.proofs.Common.{◌≡◌, ◌≢◌, ℕ, Bool, true, false, List, Option, None, Some, refl, sym, if◌then◌else◌}
 use Rattle.std.specs.Prelude.{slice_get, nat_lt}
 use Rattle.kc_model.specs.declared.footprint.Loc.{Loc}
 use Rattle.kc_model.specs.declared.footprint.Seen.{Seen}
@@ -8,7 +8,6 @@ use Rattle.kc_model.specs.declared.word.Word.TheVariants.{Plain, Ref}
 use Rattle.kc_words.specs.declared.words.Handle.{Handle}
 use Rattle.kc_words.specs.declared.words.Mode.{Mode}
 use Rattle.kc_words.specs.declared.words.Reference.{Reference}
-use Rattle.kc_words.specs.declared.words.Status.{Status}
 use Rattle.kc_words.specs.declared.words.Phase.{Phase}
 use Rattle.kc_words.specs.declared.words.Phase.TheVariants.{Active}
 use Rattle.kc_steps.specs.declared.line.Line.{Line}
@@ -43,9 +42,9 @@ use Rattle.kc_machine.specs.Works as work
 use Rattle.kc_machine.specs.declared.seat.Seat.{Seat}
 use Rattle.kc_machine.specs.Words.{word_is, status_is}
 use Rattle.kc_machine.specs.Seats.{access_of, answer_of, work_access}
-use Rattle.kc_machine.specs.Machine.{World, State, put, put_some, put_line, touched, found_at, possible, stepped, happened, event_of, seat_of}
+use Rattle.kc_machine.specs.Machine.{World, State, put, put_some, touched, found_at, possible, happened, event_of, seat_of}
 use Rattle.kc_machine.proofs.Functions.{put_else}
-use Rattle.kc_effects.specs.Stands.{Stand, Own, Owns, Waits, Passing, Over, At, Aids, stand, resting, works, commits, owns, aids}
+use Rattle.kc_effects.specs.Stands.{Stand, Owns, Waits, Over, At, Aids, stand, resting, works, commits, owns, aids}
 use Rattle.kc_effects.proofs.Tests.{status_active, word_same, plain_same}
 use Rattle.kc_pool.specs.Owners.{fills}
 use Rattle.kc_traces.proofs.Copies.{SameWords}

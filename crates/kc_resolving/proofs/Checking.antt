@@ -1,10 +1,8 @@
 -- What a pass in its checks knows of the locations that it has checked.
-use Rattle.std.proofs.Common.{arith, ◌≡◌, ◌≢◌, ◌<◌, ◌≤◌, ◌+◌, ◌-◌, ◌⊎◌, inl, inr, ℕ, zero, suc, ◌++◌, ◌==◌, ◌&&◌, Bool, true, false, not, List, [], ◌∷◌, length, Option, None, Some, refl, sym, ap, subst, ◌∙◌, if◌then◌else◌, Contains}
+use Rattle.std.proofs.Common.{arith, ◌≡◌, ◌≢◌, ◌<◌, ◌≤◌, ◌+◌, ◌-◌, ◌⊎◌, inl, inr, ℕ, ◌++◌, ◌==◌, ◌&&◌, Bool, true, false, not, List, [], ◌∷◌, length, Option, None, Some, refl, sym, ap, subst, ◌∙◌, if◌then◌else◌}
 use Rattle.std.specs.Prelude.{nat_lt, slice_get}
-use Rattle.std.specs.Option.{is_some}
-use Rattle.std.proofs.lemmas.Bool.{ltb-true, ltb-false, lt-ltb, cases_lt}
-use Rattle.std.proofs.lemmas.List.{length-append}
-use borrow.Author.Tests.{eqb-true, eqb-false}
+use Rattle.std.proofs.lemmas.Bool.{ltb-true, lt-ltb, cases_lt}
+use borrow.Author.Tests.{eqb-true}
 use Rattle.kc_model.specs.declared.word.Word.{Word}
 use Rattle.kc_model.specs.declared.word.Word.TheVariants.{Plain, Ref}
 use Rattle.kc_words.specs.declared.words.Control.{Control}
@@ -14,12 +12,10 @@ use Rattle.kc_words.specs.declared.words.Mode.{Mode}
 use Rattle.kc_words.specs.declared.words.Status.{Status}
 use Rattle.kc_words.specs.declared.words.Phase.{Phase}
 use Rattle.kc_words.specs.declared.words.Phase.TheVariants.{Active, Succeeded, Failed, Crossed, Halted}
-use Rattle.kc_words.specs.declared.words.First.{First}
 use Rattle.kc_words.specs.declared.access.Grip.{Grip}
 use Rattle.kc_words.specs.declared.access.Grip.TheVariants as grip
 use Rattle.kc_words.specs.declared.access.Access.{Access}
 use Rattle.kc_words.specs.declared.access.Access.TheVariants as access
-use Rattle.kc_words.specs.declared.access.Found.{Found}
 use Rattle.kc_words.specs.declared.access.Found.TheVariants as found
 use Rattle.kc_steps.specs.declared.line.Line.{Line}
 use Rattle.kc_steps.specs.declared.line.Pick.TheVariants.{Installed, Checked}
@@ -27,39 +23,34 @@ use Rattle.kc_steps.specs.declared.pass.PassStep.{PassStep}
 use Rattle.kc_steps.specs.declared.pass.PassStep.TheVariants.{Install, Check, CheckHold, CheckStatus, CheckFirst, CheckDrop, Decide, Release}
 use Rattle.kc_steps.specs.declared.pass.AfterCheck.{AfterCheck}
 use Rattle.kc_steps.specs.declared.pass.AfterCheck.TheVariants as checked
-use Rattle.kc_steps.specs.declared.pass.PassNext.{PassNext}
 use Rattle.kc_steps.specs.declared.pass.PassNext.TheVariants as pass
 use Rattle.kc_steps.specs.declared.task.Event.{Event}
 use Rattle.kc_steps.specs.declared.task.Event.TheVariants.{Begin, Step, Halt}
 use Rattle.kc_steps.specs.Lines.{after_line, is_installed, next_line, picks, word_of, resolved_version}
 use Rattle.kc_steps.specs.Looks.{reference_of}
-use Rattle.kc_steps.specs.Passes.{status, fits, refers_to, from_check, check_or_decide, from_install, install_or_check, release_or_finish, pass_access, check_access, install_access, pass_next, install_found, check_found, crossed_or_first, agrees_or_fails, check_first_found, check_drop_next, decided_as, decide_next}
+use Rattle.kc_steps.specs.Passes.{status, fits, refers_to, from_check, check_or_decide, from_install, install_or_check, release_or_finish, pass_access, check_access, install_access, pass_next, install_found, check_found, crossed_or_first, agrees_or_fails, check_first_found, decided_as}
 use Rattle.kc_machine.specs.Words.{control, gripped, status_is}
-use Rattle.kc_machine.specs.declared.seat.Seat.{Seat}
 use Rattle.kc_machine.specs.Seats.{access_of, answer_of}
 use Rattle.kc_machine.specs.Machine.{World, State, Opening, put, put_some, touched, found_at, possible, happened, event_of, seat_of, run}
 use Rattle.kc_machine.specs.Schedules.{IsSchedule}
 use Rattle.kc_machine.proofs.Functions.{put_cases}
-use Rattle.kc_effects.specs.Stands.{Stand, Passing, NoPass, Over, Turn, At, stand}
-use Rattle.kc_effects.specs.Holds.{Proper, held, step_hold, turn_hold, check_hold}
+use Rattle.kc_effects.specs.Stands.{Over, At, stand}
+use Rattle.kc_effects.specs.Holds.{held, check_hold}
 use Rattle.kc_effects.proofs.PoolLaws.{holds_kept}
 use Rattle.kc_effects.proofs.Tests.{status_active, status_other}
 use Rattle.kc_pool.specs.References.{met_by_pass}
 use Rattle.kc_pool.proofs.LifeLaws.{statuses_behind, words_published, remembered_published}
-use Rattle.kc_claims.specs.Traces.{is_placed, is_placed_at}
+use Rattle.kc_claims.specs.Traces.{is_placed_at}
 use Rattle.kc_traces.proofs.Joins.{run-append}
-use Rattle.kc_traces.proofs.Others.{run_shape, event_out, event_else}
+use Rattle.kc_traces.proofs.Others.{run_shape, event_out}
 use Rattle.kc_passes.specs.Phases.{IsDecided, AidKnows}
-use Rattle.kc_passes.proofs.Always.{facts_after, phase_known, line_known}
+use Rattle.kc_passes.proofs.Always.{phase_known, line_known}
 use Rattle.kc_passes.proofs.Gone.{next_skips}
 use Rattle.kc_seats.proofs.Searches.{IsPicked, next_fits}
-use Rattle.kc_histories.specs.Later.{DecidesSoon}
-use Rattle.kc_histories.specs.Places.{pass_of, place_of}
-use Rattle.kc_histories.proofs.Places.{has_place, within}
-use Rattle.kc_resolving.specs.Settled.{Settled, checked_by, CheckedAreSettled, MetStands, StepMet, MetAreSettled}
+use Rattle.kc_histories.specs.Places.{pass_of}
+use Rattle.kc_resolving.specs.Settled.{Settled, checked_by, MetStands, StepMet}
 use Rattle.kc_resolving.proofs.Changes.{Changes, other, filled, started, installed, released, decided, Releasing, in_pass, in_aid, event_changes}
-use Rattle.kc_resolving.proofs.Ways.{Way, stays, steps, enters, halts, Onto, event_onto}
-use Rattle.kc_resolving.proofs.Before.{Before, got, same_word, settled_by, was_soon, soon_before, settled_on}
+use Rattle.kc_resolving.proofs.Before.{same_word, settled_by, settled_on}
 
 -- ---- generations of controls never fall
 
@@ -194,10 +185,10 @@ module _ (o : Opening) (es : List Event) (e : Event) (w : IsSchedule o es) (w' :
           (λ ne. word)
       moved b v (released h j p x q r) = put_cases (λ y. y ≡ Ref g d i) m.world.word x.seen.loc.0 _ l
           (λ z.
-              let same = same_word h (record { descriptor = d; generation = g }) j i (sym r ∙ ap m.world.word (sym z) ∙ word) in
-              let c = releasing_decided b h j p x q in
-              let s : status g Active ≡ status h.generation p = sym act ∙ ap (λ (f : Handle). m.world.status f.descriptor) (sym same) ∙ c.0 in
-              absurd (c.1 (sym (ap (λ (u : Status). u.phase) s))))
+          let same = same_word h (record { descriptor = d; generation = g }) j i (sym r ∙ ap m.world.word (sym z) ∙ word) in
+          let c = releasing_decided b h j p x q in
+          let s : status g Active ≡ status h.generation p = sym act ∙ ap (λ (f : Handle). m.world.status f.descriptor) (sym same) ∙ c.0 in
+          absurd (c.1 (sym (ap (λ (u : Status). u.phase) s))))
           (λ ne. word)
       moved b v (decided h mode xs p q was) = word
 
@@ -329,9 +320,12 @@ module _ (o : Opening) (es : List Event) (e : Event) (w : IsSchedule o es) (w' :
             go : (b : Bool) → pass.Goes (if b then from_check mode xs (after_line j) else Decide (Failed j)) ≡ pass.Goes q → is_placed_at q ≡ true → Good q
             go true = by (from_check mode xs (after_line j)) (λ z. past j x g old (settled_by o es w x.seen.loc.0 (λ f i s act. let u : Plain v y ≡ word_of f i = sym r ∙ s in absurd (cc)) p)) q
             go false = by (Decide (Failed j)) (λ z. absurd (cc)) q
-        word x g (Ref a d i) r = by (CheckHold j (reference_of a d i)) (λ z. (kept (CheckHold j (reference_of a d i)) refl, λ y f.
-            let s = same_line j g f in
-            subst (λ (v : Line). MetStands o es' p v.seen.loc.0 (reference_of a d i)) s (met_on p x.seen.loc.0 (reference_of a d i) low (words_published o es x.seen.loc.0 a d i r) (met_now p x.seen.loc.0 a d i r)))) q
+        word x g (Ref a d i) r = by (CheckHold j (reference_of a d i)) (λ z. (
+          kept (CheckHold j (reference_of a d i)) refl,
+          λ y f.
+              let s = same_line j g f in
+              subst (λ (v : Line). MetStands o es' p v.seen.loc.0 (reference_of a d i)) s (met_on p x.seen.loc.0 (reference_of a d i) low (words_published o es x.seen.loc.0 a d i r) (met_now p x.seen.loc.0 a d i r)),
+        )) q
 
         at : (t : Option Line) → slice_get xs j ≡ t → pass.Goes (check_found mode xs j (found_at m.world (check_access t)) t) ≡ pass.Goes q → is_placed_at q ≡ true → Good q
         at None g = by (Check j) (λ z. (kept (Check j) refl, tt)) q

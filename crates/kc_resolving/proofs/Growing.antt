@@ -1,6 +1,5 @@
 -- Nothing later touches what is installed: after every schedule of well-made tasks.
-use Rattle.std.proofs.Common.{arith, ◌≡◌, ◌≢◌, ◌<◌, ◌≤◌, ◌⊎◌, inl, inr, ℕ, ◌++◌, ◌==◌, Bool, true, false, List, [], ◌∷◌, length, take, drop, Option, None, Some, refl, sym, ap, subst, ◌∙◌, Contains}
-use Rattle.std.specs.Prelude.{slice_get}
+use Rattle.std.proofs.Common.{arith, ◌≡◌, ◌≢◌, ◌≤◌, ◌⊎◌, inl, inr, ℕ, ◌++◌, ◌==◌, Bool, true, false, List, [], ◌∷◌, length, take, drop, None, Some, refl, sym, ap, subst, ◌∙◌}
 use Rattle.std.specs.Option.{is_some}
 use Rattle.std.proofs.Math.ListN.{take-append-drop}
 use Rattle.std.proofs.lemmas.List.{length-append}
@@ -23,14 +22,13 @@ use Rattle.kc_steps.specs.declared.commit.Stage.TheVariants as stage
 use Rattle.kc_steps.specs.declared.commit.OwnStep.{OwnStep}
 use Rattle.kc_steps.specs.declared.commit.OwnStep.TheVariants as own
 use Rattle.kc_steps.specs.declared.task.Event.{Event}
-use Rattle.kc_steps.specs.Lines.{is_installed}
 use Rattle.kc_machine.specs.Works.{Work}
 use Rattle.kc_machine.specs.Works as work
 use Rattle.kc_machine.specs.declared.seat.Seat.{Seat}
 use Rattle.kc_machine.specs.Machine.{State, Opening, event_of, seat_of, run}
-use Rattle.kc_machine.specs.Schedules.{BeginsWellMade, IsSchedule}
-use Rattle.kc_effects.specs.Stands.{Passing, NoPass, Over, Turn, At, stand}
-use Rattle.kc_seats.specs.Fits.{StepFits, FollowsOr, Follows, AidFits, OwnFits, StageFits, WorkFits}
+use Rattle.kc_machine.specs.Schedules.{IsSchedule}
+use Rattle.kc_effects.specs.Stands.{Passing, Over, At, stand}
+use Rattle.kc_seats.specs.Fits.{StepFits, FollowsOr, AidFits, OwnFits, StageFits, WorkFits}
 use Rattle.kc_seats.proofs.FitSeats.{fit_always}
 use Rattle.kc_claims.specs.Claims.{HistoriesGrow}
 use Rattle.kc_claims.specs.Traces.{is_placed, is_placed_at}
@@ -41,7 +39,7 @@ use Rattle.kc_histories.specs.Places.{pass_of, place_of}
 use Rattle.kc_histories.proofs.Passes.{aid_pass, own_pass, stage_pass, work_pass, pass_is}
 use Rattle.kc_histories.proofs.Places.{has_place, within, place_was}
 use Rattle.kc_histories.proofs.Growing.{histories_grow}
-use Rattle.kc_resolving.specs.Settled.{Settled, checked_by, CheckedAreSettled, StepMet, MetAreSettled}
+use Rattle.kc_resolving.specs.Settled.{checked_by, CheckedAreSettled, StepMet, MetAreSettled}
 use Rattle.kc_resolving.proofs.Ways.{Way, stays, steps, enters, halts, Onto, event_onto}
 use Rattle.kc_resolving.proofs.Before.{was_soon, later_on}
 use Rattle.kc_resolving.proofs.Checking.{Good, OldChecks, from_step, kept_step, halted_step, entered_step}

@@ -1,5 +1,5 @@
 -- By which ways a pass comes to stand at a check, or at the decision for success.
-use Rattle.std.proofs.Common.{arith, ◌≡◌, ◌≤◌, ◌+◌, ◌-◌, ℕ, suc, ◌==◌, ◌&&◌, Bool, true, false, List, length, Option, None, Some, refl, sym, ap, subst, ◌∙◌, if◌then◌else◌}
+use Rattle.std.proofs.Common.{arith, ◌≡◌, ◌≤◌, ◌+◌, ◌-◌, ℕ, ◌==◌, ◌&&◌, Bool, true, false, List, length, Option, None, Some, refl, sym, ap, subst, if◌then◌else◌}
 use Rattle.std.specs.Prelude.{slice_get, nat_lt, bit_or, bit_and}
 use Rattle.kc_words.specs.declared.words.Handle.{Handle}
 use Rattle.kc_words.specs.declared.words.Reference.{Reference}
@@ -7,7 +7,6 @@ use Rattle.kc_words.specs.declared.words.Mode.{Mode}
 use Rattle.kc_words.specs.declared.words.Phase.{Phase}
 use Rattle.kc_words.specs.declared.words.Phase.TheVariants.{Active, Succeeded, Failed, Crossed, Halted}
 use Rattle.kc_words.specs.declared.words.First.{First}
-use Rattle.kc_words.specs.declared.access.Access.{Access}
 use Rattle.kc_words.specs.declared.access.Found.{Found}
 use Rattle.kc_words.specs.declared.access.Found.TheVariants as found
 use Rattle.kc_steps.specs.declared.line.Line.{Line}
@@ -26,8 +25,6 @@ use Rattle.kc_steps.specs.declared.pass.PassNext.TheVariants as pass
 use Rattle.kc_steps.specs.declared.aid.Aided.{Aided}
 use Rattle.kc_steps.specs.declared.aid.AidStep.{AidStep}
 use Rattle.kc_steps.specs.declared.aid.AidStep.TheVariants as aid
-use Rattle.kc_steps.specs.declared.aid.AidNext.{AidNext}
-use Rattle.kc_steps.specs.declared.aid.AidNext.TheVariants as aiding
 use Rattle.kc_steps.specs.declared.commit.Commit.{Commit}
 use Rattle.kc_steps.specs.declared.commit.Stage.{Stage}
 use Rattle.kc_steps.specs.declared.commit.Stage.TheVariants as stage
@@ -36,9 +33,9 @@ use Rattle.kc_steps.specs.declared.commit.OwnStep.TheVariants as own
 use Rattle.kc_steps.specs.Nexts.{Next}
 use Rattle.kc_steps.specs.Nexts as next
 use Rattle.kc_steps.specs.Lines.{next_line, after_line}
-use Rattle.kc_steps.specs.Passes.{pass_access, pass_next, from_install, from_release, release_or_finish}
-use Rattle.kc_steps.specs.Aids.{aid_access, hold_next, status_next, owner_or_first, first_next, second_next, load_next, owner_next, load_first_next, load_second_next, after_pass, leave_next, drop_or_release}
-use Rattle.kc_steps.specs.Commits.{after_scan, scan_next, take_next, fill_next, fill_or_start, wake_next, wake_or_signal, wake_or_drop, owed_next, after_own_pass, finished, onward_or_back, aid_or_back, stage_next, own_access, copy_by, loaded, gone_on, onward_by}
+use Rattle.kc_steps.specs.Passes.{pass_access, pass_next, from_install, release_or_finish}
+use Rattle.kc_steps.specs.Aids.{hold_next, status_next, owner_or_first, first_next, second_next, load_next, owner_next, load_first_next, load_second_next, after_pass, leave_next, drop_or_release}
+use Rattle.kc_steps.specs.Commits.{after_scan, scan_next, take_next, fill_next, fill_or_start, wake_next, wake_or_signal, owed_next, after_own_pass, finished, onward_or_back, stage_next, copy_by, loaded}
 use Rattle.kc_steps.specs.Halts.{unowned, halted_pass, halted_aid_pass, halted_own, halted_at}
 use Rattle.kc_steps.specs.Looks.{look_after, look_tells, look_halted, halts_at_once}
 use Rattle.kc_steps.specs.declared.task.Onward.{Onward}
@@ -49,7 +46,7 @@ use Rattle.kc_machine.specs.Works as work
 use Rattle.kc_machine.specs.declared.seat.Seat.{Seat}
 use Rattle.kc_machine.specs.Seats.{access_of, work_access, answer_of, answer_by, after, is_idle, begun, begun_idle, halted, halted_by, ended}
 use Rattle.kc_machine.specs.Machine.{World, State, found_at, event_of, seat_of}
-use Rattle.kc_effects.specs.Stands.{Passing, NoPass, Over, Turn, At, Meets, Ends, Leaves, stand}
+use Rattle.kc_effects.specs.Stands.{Passing, NoPass, Over, At, Meets, Ends, Leaves, stand}
 use Rattle.kc_claims.specs.Traces.{is_placed, is_placed_at}
 use Rattle.kc_traces.proofs.Answers.{moved, seat_cases}
 use Rattle.kc_histories.proofs.Passes.{aid_pass, own_pass, stage_pass, work_pass, next_pass, pass_is, next_is, Nexts, finish_unplaced, begun_fresh}

@@ -13,7 +13,7 @@ use Rattle.kc_steps.specs.declared.task.Event.{Event}
 use Rattle.kc_steps.specs.Lines.{is_installed}
 use Rattle.kc_steps.specs.Passes.{status}
 use Rattle.kc_machine.specs.Machine.{Opening, run}
-use Rattle.kc_effects.specs.Stands.{Turn, At, Meets, Ends, Leaves}
+use Rattle.kc_effects.specs.Stands.{At}
 use Rattle.kc_histories.specs.Later.{DecidesSoon}
 
 -- no pass that may decide at a place below p installs a line of location l

@@ -1,12 +1,19 @@
 //! What holds after every schedule of well-made tasks. An empty body: the contract is the law.
 
-ghost use Rattle.std.specs.Prelude.{List};
+ghost use Rattle.std.specs.Prelude.{◌≡◌, ℕ, ◌≤◌, ◌++◌, List, length};
+ghost use Rattle.kc_model.specs.declared.footprint.Seen.{Seen};
+ghost use Rattle.kc_model.specs.Store.{cell_after};
 ghost use Rattle.kc_steps.specs.declared.task.Event.{Event};
 ghost use Rattle.kc_machine.specs.Machine.{Opening};
 ghost use Rattle.kc_machine.specs.Schedules.{IsSchedule};
-ghost use Rattle.kc_claims.specs.Claims.{HistoriesGrow};
+ghost use Rattle.kc_claims.specs.Claims.{HistoriesGrow, WordsResolve, history_at};
+ghost use Rattle.kc_claims.specs.Histories.{FindsInstalled, IsKnown, IsLegalWhereInstalled, Placed, at_place, cell_of, ending, inserted};
+ghost use Rattle.kc_claims.specs.Traces.{first_store, trace};
+ghost use Rattle.kc_histories.specs.Decisions.{Decision};
+ghost use Rattle.kc_histories.specs.Insertions.{put_by};
 ghost use Rattle.kc_histories.specs.Later.{NothingLaterTouches};
-ghost use Rattle.kc_resolving.specs.Settled.{CheckedAreSettled, MetAreSettled};
+ghost use Rattle.kc_resolving.specs.Past.{PutsArePast};
+ghost use Rattle.kc_resolving.specs.Settled.{CheckedAreSettled, MetAreSettled, Settled};
 
 /// No entry behind the place of a pass that may still decide reads or puts the location of a line that the pass installs.
 pub fn nothing_later_touches()
@@ -20,7 +27,39 @@ pub fn checked_lines_are_settled()
     ensures met { (o : Opening) (es : List Event) → IsSchedule o es → MetAreSettled o es }
 {}
 
+/// Each location's word stands for what the history makes there: a plain one for itself, a reference for its line, as its descriptor's status says.
+pub fn words_stand_for_the_history()
+    ensures { (o : Opening) (es : List Event) → IsSchedule o es → WordsResolve o es }
+{}
+
+/// A put that succeeded doesn't fit again: the history has made a later version.
+pub fn succeeded_puts_are_past()
+    ensures { (o : Opening) (es : List Event) → IsSchedule o es → PutsArePast o es }
+{}
+
+/// What a decision's pass installed is what the history made, which then makes the puts of its entry.
+pub fn decisions_make_their_puts()
+    ensures finds { (o : Opening) (es : List Event) (e : Event) → IsSchedule o es → (x : Placed) → Decision o es e x → FindsInstalled x (ending (first_store o) (trace o es).history) }
+    ensures makes { (o : Opening) (es : List Event) (e : Event) → IsSchedule o es → (x : Placed) → Decision o es e x → (l : ℕ) → ending (first_store o) (inserted x (trace o es).history) l ≡ cell_after (put_by x l) (ending (first_store o) (trace o es).history l) }
+{}
+
+/// The history is legal where its entries installed: applied in order, each finds these reads. In mode All these are all that it read.
+pub fn histories_are_legal_where_installed()
+    ensures { (o : Opening) (es : List Event) → IsSchedule o es → IsLegalWhereInstalled (first_store o) (trace o es).history }
+{}
+
+/// What is known to the history stood at its location at a moment of the schedule, since any moment at which the version was no higher.
+pub fn known_reads_stood()
+    ensures { (o : Opening) (es : List Event) → IsSchedule o es → (r : Seen) (n : ℕ) → n ≤ length es → (ending (first_store o) (history_at o es n) r.loc.0).version ≤ r.version → IsKnown (first_store o) (trace o es).history r
+        → (i : ℕ) × (n ≤ i) × (i ≤ length es) × (ending (first_store o) (history_at o es i) r.loc.0 ≡ cell_of r) }
+{}
+
 /// The histories of a schedule grow: an earlier one stands in each later one, and at each location its puts come first.
 pub fn histories_of_schedules_grow()
     ensures { (o : Opening) (es : List Event) → IsSchedule o es → HistoriesGrow o es }
+{}
+
+/// What is settled stays so as a schedule goes on, and what stands at its place then stands there for good.
+pub fn settled_places_stay()
+    ensures { (o : Opening) (es more : List Event) (p l : ℕ) → p ≤ length es → Settled o es p l → Settled o (es ++ more) p l × (at_place (first_store o) (trace o (es ++ more)).history p l ≡ at_place (first_store o) (trace o es).history p l) }
 {}
