@@ -90,31 +90,3 @@ module _ (o : Opening) (es : List Event) (w : IsSchedule o es) (k p : ℕ) (mode
 module _ (o : Opening) (es : List Event) (e : Event) (w : IsSchedule o es) where
   pub versions_on : (l : ℕ) → (ends_at o es l).version ≤ (ends_at o (es ++ e ∷ []) l).version
   versions_on l = versions_rise (first_store o) (trace o es).history (trace o (es ++ e ∷ [])).history l (grows_once o es e (known o es w).later)
-
-  -- an entry that comes below the place doesn't put a settled location
-  pub state_stays : (p l : ℕ) → Settled o es p l → stands_at o (es ++ e ∷ []) p l ≡ stands_at o es p l
-  state_stays p l st = history_moves o es e (λ g. at_place (first_store o) g p l ≡ stands_at o es p l) refl more
-    where
-      more : (x : Placed) → Decision o es e x → at_place (first_store o) (inserted x (trace o es).history) p l ≡ stands_at o es p l
-      more x d = go (cases_lt x.place p)
-        where
-          none : x.place < p → (q : Option Put) → put_by x l ≡ q → put_by x l ≡ None
-          none b None i = i
-          none b (Some q) i =
-              let v = line_that_puts d.lines l (sym (ap (λ (g : Footprint). is_some (put_at g.puts.items l)) d.footprint) ∙ ap is_some i) in
-              absurd (st (seat_of e) x.place x.mode d.lines (soon o es e (known o es w).later x d) b v.line v.among (puts_installed x.mode v.line v.puts) v.at)
-
-          go : (x.place < p) ⊎ (p ≤ x.place) → at_place (first_store o) (inserted x (trace o es).history) p l ≡ stands_at o es p l
-          go (inl b) = at_else (first_store o) x (trace o es).history p l (none b (put_by x l) refl)
-          go (inr b) = ap (λ f. f l) (at_lower (first_store o) x (trace o es).history p b)
-
--- ---- and all later ones
-
-pub states_stay : (o : Opening) (es more : List Event) (p l : ℕ) → IsSchedule o (es ++ more) → p ≤ length es → Settled o es p l → stands_at o (es ++ more) p l ≡ stands_at o es p l
-states_stay o es [] p l w b s = ap (λ xs. stands_at o xs p l) (append-nil es)
-states_stay o es (e ∷ more) p l w b s =
-    let n = length-append es (e ∷ []) in
-    let w' = subst (IsSchedule o) (sym (append_assoc es (e ∷ []) more)) w in
-    ap (λ xs. stands_at o xs p l) (sym (append_assoc es (e ∷ []) more))
-    ∙ states_stay o (es ++ e ∷ []) more p l w' (omega arith) (settled_on o es e p l b s)
-    ∙ state_stays o es e (made_parts o es (e ∷ more) w).0 p l s

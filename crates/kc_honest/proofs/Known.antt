@@ -55,32 +55,15 @@ use Rattle.kc_passes.proofs.Targets.{Target, own_target}
 use Rattle.kc_pool.proofs.Shapes
 use Rattle.kc_histories.specs.Decisions.{own_of}
 use Rattle.kc_histories.specs.Places.{pass_of}
-use Rattle.kc_histories.proofs.Successes.{Stays, Starts, moves, kept}
+use Rattle.kc_histories.proofs.Knew.{Works, at_work, knew_its_reads}
+use Rattle.kc_histories.proofs.Successes.{kept}
+use Rattle.kc_resolving.proofs.Lines.{found}
 use Rattle.kc_resolving.proofs.Before.{target}
 use Rattle.kc_resolving.proofs.Growing.{grow}
-use Rattle.kc_honest.specs.Honest.{ReadsWereKnown}
-
--- ---- the reads of a task
-
-module _ (o : Opening) (es : List Event) (e : Event) (old : ReadsWereKnown o es) (h : BeginsHonestly (first_store o) (trace o es).history e) where
-  known_on : ReadsWereKnown o (es ++ e ∷ [])
-  known_on k f m l q r c = go (moves o es k l e)
-    where
-      begins : (t : Task) → t ≡ task.Commit f m → e ≡ Begin k t → IsKnown (first_store o) (trace o es).history r
-      begins t i z = subst (BeginsHonestly (first_store o) (trace o es).history) (z ∙ ap (Begin k) i) h r c
-
-      go : Stays o es e k l ⊎ Starts o es e k l → IsKnown (first_store o) ((trace o (es ++ e ∷ [])).shadows k).begun.history r
-      go (inl y) = subst (λ (b : Moment). IsKnown (first_store o) b.history r) (sym y.begun) (old k f m l (sym y.task ∙ q) r c)
-      go (inr y) = subst (λ (b : Moment). IsKnown (first_store o) b.history r) (sym y.begun) (begins y.asked (let z : ◌≡◌ {A = Option Task} (Some y.asked) (Some (task.Commit f m)) = sym y.task ∙ q in cc) y.event)
-
-pub reads_known : (o : Opening) (es : List Event) → IsHonest o es → ReadsWereKnown o es
-reads_known o = every (λ es. IsHonest o es → ReadsWereKnown o es)
-    (λ es e f h. let p = honest_parts o es (e ∷ []) h in known_on o es e (f p.0) p.1.0)
-    (λ h k f m l q r c. absurd (cc))
 
 -- ---- what an owner is asked
 
-pub record IsAsked (n : ℕ) (x : Option Task) (i : Intent) : Type 0 where
+record IsAsked (n : ℕ) (x : Option Task) (i : Intent) : Type 0 where
   pub footprint : Footprint
   pub asks : x ≡ Some (task.Commit footprint i.mode)
   pub lines : i.lines.items ≡ lines_of footprint
@@ -107,37 +90,17 @@ module _ (o : Opening) (es : List Event) (w : IsSchedule o es) (k : ℕ) (l : k 
   of_commit (task.Leave reads) i q y = absurd y
 
   asked_by : (i : Intent) → own_intent (own_of o es k) ≡ Some i → IsAsked o.locations asked i
-  asked_by i q = go s.work refl q
+  asked_by i q = go asked refl ((answers_when_done o es k).busy (ap is_idle y.work)).1
     where
-      none : (i : Intent) → ◌≡◌ {A = Option Intent} None (Some i) → IsAsked o.locations asked i
-      none i e = absurd (cc)
+      y : Works s i
+      y = at_work s i q
 
-      at : (t : Option Task) → asked ≡ t → is_some t ≡ true → (c : Commit) → s.work ≡ work.Commit c → IsAsked o.locations asked c.intent
-      at None q b c e = absurd (cc)
-      at (Some t) q b c e =
+      go : (t : Option Task) → asked ≡ t → is_some asked ≡ true → IsAsked o.locations asked i
+      go None e b = let z : is_some asked ≡ false = ap is_some e in absurd (cc)
+      go (Some t) e b =
           let a = by k ((trace o es).shadows k).begun.history in
-          let f : Left (run o es).world k s.calls t s.told (work.Commit c) a (by k (trace o es).history) = subst (λ x. Left (run o es).world k s.calls t s.told x a (by k (trace o es).history)) e ((kept o k l es w).left t q) in
-          of_commit t c.intent q f.1
-
-      commits_it : (c : Commit) → s.work ≡ work.Commit c → (x : Stage) → own_intent (commits (record (resting s) { halted = c.halted }) c.intent c.copy x).own ≡ Some i → IsAsked o.locations asked i
-      commits_it c e (stage.Scan d worn) y = none i y
-      commits_it c e (stage.Take d g) y = none i y
-      commits_it c e (stage.Own h step) y =
-          let z : ◌≡◌ {A = Option Intent} (Some c.intent) (Some i) = sym (owned (record (resting s) { halted = c.halted }) c.intent c.copy h step).2 ∙ y in
-          let same : c.intent ≡ i = cc in
-          subst (IsAsked o.locations asked) same (at asked refl ((answers_when_done o es k).busy (ap (λ x. is_idle x) e)).1 c e)
-
-      hangs_it : (reads : List Seen) (x : HangStep) → own_intent (hangs (resting s) reads x).own ≡ Some i → IsAsked o.locations asked i
-      hangs_it reads (hang.Set j) y = none i y
-      hangs_it reads (hang.Look j step) y = none i y
-      hangs_it reads (hang.Clear j n) y = none i y
-
-      go : (x : Work) → s.work ≡ x → own_intent (works (resting s) x).own ≡ Some i → IsAsked o.locations asked i
-      go work.Idle e y = none i y
-      go (work.Look a) e y = none i y
-      go (work.Commit c) e y = commits_it c e c.stage y
-      go (work.Hang a) e y = hangs_it a.reads.items a.step y
-      go (work.Leave a) e y = none i y
+          let f : Left (run o es).world k s.calls t s.told (work.Commit y.commit) a (by k (trace o es).history) = subst (λ x. Left (run o es).world k s.calls t s.told x a (by k (trace o es).history)) y.work ((kept o k l es w).left t e) in
+          of_commit t i e (subst (IsIntentOf t) y.intent f.1)
 
 -- ---- the lines of a pass over what is Active are those of its owner's task
 
@@ -152,16 +115,12 @@ line_read ps [] i x e = absurd (cc)
 line_read ps (r ∷ rs) zero x e = let q : line_of ps r ≡ x = cc in ap (λ (z : Line). Some z.seen) q
 line_read ps (r ∷ rs) (suc i) x e = line_read ps rs i x e
 
-got_read : (rs : List Seen) (i : ℕ) (r : Seen) → slice_get rs i ≡ Some r → Contains rs r
-got_read [] i r e = absurd (cc)
-got_read (z ∷ rs) zero r e = let q : z ≡ r = cc in subst (Contains (z ∷ rs)) q (Contains-first z rs)
-got_read (z ∷ rs) (suc i) r e = Contains-later z rs r (got_read rs i r e)
-
 pub record OwnerAsked (o : Opening) (es : List Event) (h : Handle) (mode : Mode) (xs : List Line) : Type 0 where
   pub owner : ℕ
   pub within : owner < o.callers
   pub owns : OwnsLife (run o es) owner h.descriptor h.generation
   pub begun : is_filling (own_of o es owner) ≡ false
+  pub intent : own_intent (own_of o es owner) ≡ Some (record { mode = mode; lines = record { items = xs } })
   pub footprint : Footprint
   pub asks : ((trace o es).shadows owner).task ≡ Some (task.Commit footprint mode)
   pub lines : xs ≡ lines_of footprint
@@ -186,6 +145,7 @@ module _ (o : Opening) (es : List Event) (w : IsSchedule o es) where
           within = within;
           owns = owns;
           begun = ap is_filling y ∙ begun;
+          intent = ap own_intent y ∙ has ∙ (λ n. Some (record { mode = sym b.0 n; lines = record { items = sym b.1 n } }));
           footprint = c.footprint;
           asks = c.asks ∙ ap (λ n. Some (task.Commit c.footprint n)) (sym b.0);
           lines = b.1 ∙ c.lines;
@@ -212,14 +172,11 @@ module _ (o : Opening) (es : List Event) (w : IsSchedule o es) where
       pub line_is : slice_get a.footprint.reads.items i ≡ Some x.seen
       line_is = line_read a.footprint.puts.items a.footprint.reads.items i x (ap (λ ys. slice_get ys i) (sym a.lines) ∙ e)
 
-      read : Reads a.footprint x.seen
-      read = got_read a.footprint.reads.items i x.seen line_is
-
       pub line_within : x.seen.loc.0 < o.locations
-      line_within = a.made.1 x.seen read
+      line_within = a.made.1 x.seen (got_read a.footprint.reads.items i x.seen line_is)
 
       pub line_known_then : IsHonest o es → IsKnown (first_store o) begun.history x.seen
-      line_known_then honest = reads_known o es honest a.owner a.footprint mode a.within a.asks x.seen read
+      line_known_then honest = knew_its_reads o es w honest a.owner (record { mode = mode; lines = record { items = xs } }) x a.within a.intent (found xs i x e)
 
       pub line_known : IsHonest o es → IsKnown (first_store o) (trace o es).history x.seen
       line_known honest = known_stays (first_store o) begun.history (trace o es).history x.seen begun_grows (line_known_then honest)

@@ -55,10 +55,11 @@ use Rattle.kc_resolving.proofs.Changes.{Changes, other, filled, started, install
 use Rattle.kc_resolving.proofs.Before.{settled_by}
 use Rattle.kc_resolving.proofs.Checking
 use Rattle.kc_resolving.proofs.Checking.{controls_rise, word_stays, between, entered, after_is, checked_most}
+use Rattle.kc_resolving.proofs.ForGood.{settled_stays}
 use Rattle.kc_resolving.proofs.Growing.{known, DropFits, pass_drops}
 use Rattle.kc_honest.specs.Honest.{ends_at, stands_at, LiesBetween, ResolvesBetween, MetStood, StepStood, CheckedLinesStood, CheckedReferencesStood}
 use Rattle.kc_honest.proofs.Known.{OwnerAsked, owner_asked, line_within}
-use Rattle.kc_honest.proofs.Bounds.{at_most_end, asked, line_low, line_stands, versions_on, state_stays}
+use Rattle.kc_honest.proofs.Bounds.{at_most_end, asked, line_low, line_stands, versions_on}
 use Rattle.kc_honest.proofs.Came.{StoodAt, Came, kept, stepped, first, begun, stopped, came}
 
 -- a word is a reference: it is to what is Active, or resolves between
@@ -123,7 +124,7 @@ module _ (o : Opening) (es : List Event) (e : Event) (w : IsSchedule o es) (w' :
       let d = r.handle.descriptor in
       let y = decided_on d r.handle.generation r.line f b.1 c b.0 in
       let v : resolved_version ((run o es').world.first d r.line) f ≡ resolved_version (m.world.first d r.line) f = ap (λ (x : State). resolved_version (x.world.first d r.line) f) next_is ∙ ap (λ x. resolved_version x f) y.1 in
-      let low = ap (λ (x : Cell). x.version) (state_stays o es e w p l s) in
+      let low = ap (λ (x : Cell). x.version) ((settled_stays o es (e ∷ []) p l low s).1) in
       let high = versions_on o es e w l in
       let a = b.2.0 in
       let z = b.2.1 in
@@ -211,7 +212,7 @@ module _ (o : Opening) (es : List Event) (e : Event) (w : IsSchedule o es) (w' :
 
       -- what it has checked stands as it did
       still : IsHonest o es → (i : ℕ) (x : Line) → slice_get xs i ≡ Some x → is_installed mode x ≡ false → i < checked_by t → stands_at o es' p x.seen.loc.0 ≡ cell_of x.seen
-      still hon i x g f b = state_stays o es e w p x.seen.loc.0 ((known o es w).checked k p mode xs t d was.at.turn i x g f b) ∙ was.lines hon i x g f b
+      still hon i x g f b = (settled_stays o es (e ∷ []) p x.seen.loc.0 low ((known o es w).checked k p mode xs t d was.at.turn i x g f b)).1 ∙ was.lines hon i x g f b
 
       fewer : (q : PassStep) → checked_by q ≤ checked_by t → IsHonest o es → LinesStand es' q
       fewer q l hon i x g f b = still hon i x g f (omega arith)
@@ -262,7 +263,7 @@ module _ (o : Opening) (es : List Event) (e : Event) (w : IsSchedule o es) (w' :
             let b = eqb-true v x.seen.version (both (v == x.seen.version) (y == x.seen.value) f) in
             let lower = line_low o es w k p mode xs d hon j x g in
             let upper = at_most_end o es p x.seen.loc.0 in
-            state_stays o es e w p x.seen.loc.0 s ∙ line_stands o es w k p mode xs d hon j x g (omega arith)
+            (settled_stays o es (e ∷ []) p x.seen.loc.0 low s).1 ∙ line_stands o es w k p mode xs d hon j x g (omega arith)
           where
             both : (a b : Bool) → (a && b) ≡ true → a ≡ true
             both true b e = refl
@@ -328,7 +329,7 @@ module _ (o : Opening) (es : List Event) (e : Event) (w : IsSchedule o es) (w' :
             let b = eqb-true v x.seen.version a in
             let lower = line_low o es w k p mode xs was.at.soon hon j x g in
             let upper = (was.met x g).2.0 in
-            state_stays o es e w p x.seen.loc.0 (settled (CheckFirst j r f) was x g) ∙ line_stands o es w k p mode xs was.at.soon hon j x g (omega arith)
+            (settled_stays o es (e ∷ []) p x.seen.loc.0 low (settled (CheckFirst j r f) was x g)).1 ∙ line_stands o es w k p mode xs was.at.soon hon j x g (omega arith)
 
         drop : (x : Line) → slice_get xs j ≡ Some x → (b : Bool) → (v == x.seen.version) ≡ b → pass.Goes (CheckDrop j r false (agrees_or_fails j b)) ≡ pass.Goes q → is_placed_at q ≡ true → Good q
         drop x g true a = by (CheckDrop j r false checked.Agrees) (λ z. ((λ hon. past (CheckFirst j r f) was j x g (omega arith) (stands x g a) hon (CheckDrop j r false checked.Agrees) (λ i x a b. absurd (omega arith))), tt)) q

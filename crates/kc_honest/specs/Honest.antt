@@ -30,14 +30,6 @@ ends_at o es l = ending (first_store o) (trace o es).history l
 abbrev pub stands_at : Opening → List Event → ℕ → ℕ → Cell
 stands_at o es p l = at_place (first_store o) (trace o es).history p l
 
--- a location that is settled at a place doesn't change below it
-abbrev pub SettledStatesStay : Opening → List Event → List Event → Type 0
-SettledStatesStay o es more = (p l : ℕ) → p ≤ length es → Settled o es p l → stands_at o (es ++ more) p l ≡ stands_at o es p l
-
--- what a commit read was known to the history when it began
-abbrev pub ReadsWereKnown : Opening → List Event → Type 0
-ReadsWereKnown o es = (k : ℕ) (f : Footprint) (m : Mode) → k < o.callers → ((trace o es).shadows k).task ≡ Some (task.Commit f m) → (r : Seen) → Reads f r → IsKnown (first_store o) ((trace o es).shadows k).begun.history r
-
 -- each line that a pass has checked, as long as it may decide, stands at its place
 abbrev pub CheckedLinesStood : Opening → List Event → Type 0
 CheckedLinesStood o es = (k p : ℕ) (m : Mode) (xs : List Line) (q : PassStep) (d : DecidesSoon o es k p m xs) → d.turn ≡ At q → (i : ℕ) (x : Line) → slice_get xs i ≡ Some x → is_installed m x ≡ false → i < checked_by q → stands_at o es p x.seen.loc.0 ≡ cell_of x.seen
