@@ -1,5 +1,5 @@
 -- In an honest schedule a commit knew its reads when it began.
-use Rattle.std.proofs.Common.{arith, ◌≡◌, ◌<◌, ◌⊎◌, inl, inr, ℕ, zero, suc, ◌++◌, Bool, true, false, List, [], ◌∷◌, map, Option, None, Some, refl, sym, ap, subst, ◌∙◌, Contains}
+use Rattle.std.proofs.Common.{arith, ◌≡◌, ◌<◌, ◌⊎◌, inl, inr, ℕ, zero, suc, ◌++◌, false, List, [], ◌∷◌, map, Option, None, Some, refl, sym, ap, subst, ◌∙◌, Contains}
 use Rattle.std.specs.Option.{is_some}
 use Rattle.kc_model.specs.declared.footprint.Footprint.{Footprint}
 use Rattle.kc_model.specs.declared.footprint.Put.{Put}
@@ -26,7 +26,7 @@ use Rattle.kc_machine.specs.Seats.{is_idle}
 use Rattle.kc_machine.specs.Machine.{Opening, run}
 use Rattle.kc_machine.specs.Schedules.{IsSchedule}
 use Rattle.kc_effects.specs.Stands.{stand, works, resting, commits, hangs}
-use Rattle.kc_claims.specs.Histories.{History, IsKnown}
+use Rattle.kc_claims.specs.Histories.{IsKnown}
 use Rattle.kc_claims.specs.Traces.{Moment, BeginsHonestly, IsHonest, first_store, trace}
 use Rattle.kc_traces.specs.Entries.{by, own_intent}
 use Rattle.kc_traces.proofs.Joins.{every, honest_parts}

@@ -1,20 +1,18 @@
 -- What stands at a settled place stands there for good.
 use Rattle.std.proofs.Common.{arith, ◌≡◌, ◌<◌, ◌≤◌, ◌⊎◌, inl, inr, ℕ, ◌++◌, List, [], ◌∷◌, length, Option, None, Some, refl, sym, ap, subst, ◌∙◌, append_assoc, append-nil}
 use Rattle.std.specs.Option.{is_some}
-use Rattle.std.specs.List.{filter}
 use Rattle.std.proofs.lemmas.Bool.{cases_lt}
 use Rattle.std.proofs.lemmas.List.{length-append}
 use Rattle.kc_model.specs.declared.footprint.Footprint.{Footprint}
 use Rattle.kc_model.specs.declared.footprint.Put.{Put}
 use Rattle.kc_model.specs.declared.plain_store.Cell.{Cell}
 use Rattle.kc_model.specs.Footprint.{put_at}
-use Rattle.kc_model.specs.Store.{Store}
 use Rattle.kc_words.specs.declared.words.Phase.TheVariants.{Succeeded}
 use Rattle.kc_steps.specs.declared.pass.PassStep.TheVariants.{Decide}
 use Rattle.kc_steps.specs.declared.task.Event.{Event}
 use Rattle.kc_machine.specs.Machine.{Opening, seat_of}
 use Rattle.kc_effects.specs.Stands.{At}
-use Rattle.kc_claims.specs.Histories.{History, Placed, inserted, at_place}
+use Rattle.kc_claims.specs.Histories.{Placed, inserted, at_place}
 use Rattle.kc_claims.specs.Traces.{first_store, trace}
 use Rattle.kc_traces.proofs.Joins.{every}
 use Rattle.kc_histories.specs.Decisions.{Decision}
