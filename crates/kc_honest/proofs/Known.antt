@@ -57,7 +57,7 @@ use Rattle.kc_histories.specs.Decisions.{own_of}
 use Rattle.kc_histories.specs.Places.{pass_of}
 use Rattle.kc_histories.proofs.Knew.{Works, at_work, knew_its_reads}
 use Rattle.kc_histories.proofs.Successes.{kept}
-use Rattle.kc_resolving.proofs.Lines.{found}
+use Rattle.kc_histories.proofs.Filters.{found}
 use Rattle.kc_resolving.proofs.Before.{target}
 use Rattle.kc_resolving.proofs.Growing.{grow}
 
@@ -173,7 +173,7 @@ module _ (o : Opening) (es : List Event) (w : IsSchedule o es) where
       line_is = line_read a.footprint.puts.items a.footprint.reads.items i x (ap (λ ys. slice_get ys i) (sym a.lines) ∙ e)
 
       pub line_within : x.seen.loc.0 < o.locations
-      line_within = a.made.1 x.seen (got_read a.footprint.reads.items i x.seen line_is)
+      line_within = a.made.1 x.seen (found a.footprint.reads.items i x.seen line_is)
 
       pub line_known_then : IsHonest o es → IsKnown (first_store o) begun.history x.seen
       line_known_then honest = knew_its_reads o es w honest a.owner (record { mode = mode; lines = record { items = xs } }) x a.within a.intent (found xs i x e)

@@ -19,7 +19,7 @@ use Rattle.kc_steps.specs.Lines.{is_installed, resolved_version, resolved_value}
 use Rattle.kc_machine.specs.Machine.{World, Opening, seat_of, run}
 use Rattle.kc_machine.specs.Schedules.{IsSchedule}
 use Rattle.kc_effects.specs.Stands.{At}
-use Rattle.kc_claims.specs.Claims.{WordsResolve, stands_for}
+use Rattle.kc_claims.specs.Claims.{stands_for}
 use Rattle.kc_claims.specs.Histories.{History, Placed, inserted, at_place, cell_of, IsLegalHistory}
 use Rattle.kc_claims.specs.Traces.{trace, first_store, IsHonest}
 use Rattle.kc_traces.proofs.Joins.{every, made_parts, honest_parts}
@@ -27,12 +27,14 @@ use Rattle.kc_histories.specs.Decisions.{Decision}
 use Rattle.kc_histories.specs.Insertions.{put_by, NoneReadsAbove}
 use Rattle.kc_histories.specs.Later.{NoneTouchesAbove, DecidesSoon}
 use Rattle.kc_histories.proofs.Decisions.{history_moves}
-use Rattle.kc_histories.proofs.Growing.{line_that_puts, line_that_reads, puts_installed, soon}
+use Rattle.kc_histories.proofs.Growing.{line_that_puts, line_that_reads, puts_installed}
 use Rattle.kc_histories.proofs.Insertions.{at_new}
 use Rattle.kc_histories.proofs.Legality.{legal_inserted}
 use Rattle.kc_histories.proofs.Places.{rises, new_place}
-use Rattle.kc_resolving.proofs.Before.{got, target, most_lines, stands_installed}
+use Rattle.kc_histories.proofs.Filters.{got}
+use Rattle.kc_resolving.proofs.Before.{target, most_lines, stands_installed}
 use Rattle.kc_resolving.proofs.Growing.{known}
+use Rattle.kc_resolving.proofs.Resolving.{words_resolve}
 use Rattle.kc_honest.specs.Honest.{ends_at, stands_at}
 use Rattle.kc_honest.proofs.Known.{line_within}
 use Rattle.kc_honest.proofs.Bounds.{asked}
@@ -40,7 +42,7 @@ use Rattle.kc_honest.proofs.Stood.{stood}
 
 -- ---- what a pass that may decide installs stands at its place, and is what the history makes
 
-module _ (o : Opening) (es : List Event) (w : IsSchedule o es) (res : WordsResolve o es) (k p : ℕ) (mode : Mode) (xs : List Line) (d : DecidesSoon o es k p mode xs) (x : Line) (c : Contains xs x) (y : is_installed mode x ≡ true) where
+module _ (o : Opening) (es : List Event) (w : IsSchedule o es) (k p : ℕ) (mode : Mode) (xs : List Line) (d : DecidesSoon o es k p mode xs) (x : Line) (c : Contains xs x) (y : is_installed mode x ≡ true) where
   abbrev v : World
   v = (run o es).world
 
@@ -53,7 +55,7 @@ module _ (o : Opening) (es : List Event) (w : IsSchedule o es) (res : WordsResol
       let n = d.handle.descriptor in
       let l = line_within o es w d.handle mode xs (asked o es w k p mode xs d) s.0 x s.1 in
       let e = (target o es k d.handle mode xs d.turn d.within d.pass).line s.0 x s.1 in
-      sym (res x.seen.loc.0 l) ∙ ap (stands_for v) s.2
+      sym (words_resolve o es w x.seen.loc.0 l) ∙ ap (stands_for v) s.2
       ∙ ap (λ (z : Status). record { version = resolved_version (v.first n s.0) z.phase; value = resolved_value (v.first n s.0) (v.second n s.0).after z.phase }) d.active
       ∙ ap (λ (z : Line). cell_of z.seen) e
 
@@ -62,18 +64,18 @@ module _ (o : Opening) (es : List Event) (w : IsSchedule o es) (res : WordsResol
 
 -- ---- one decision
 
-module _ (o : Opening) (words : (es : List Event) → IsSchedule o es → WordsResolve o es) where
+module _ (o : Opening) where
   module _ (es : List Event) (e : Event) (w : IsSchedule o es) (hon : IsHonest o es) (x : Placed) (u : Decision o es e x) where
     abbrev h : History
     h = (trace o es).history
 
     abbrev d : DecidesSoon o es (seat_of e) x.place x.mode u.lines
-    d = soon o es e (known o es w).later x u
+    d = record { within = u.seat; handle = u.handle; turn = At (Decide Succeeded); pass = u.pass; place = u.place; active = u.was }
 
     -- each line of its pass was installed, or checked
     line_finds : (i : ℕ) (v : Line) → slice_get u.lines i ≡ Some v → Contains u.lines v → i < 64 → (b : Bool) → is_installed x.mode v ≡ b → stands_at o es x.place v.seen.loc.0 ≡ cell_of v.seen
-    line_finds i v g c l true y = installed_stands o es w (words es w) (seat_of e) x.place x.mode u.lines d v c y
-    line_finds i v g c l false y = (stood o words es w).lines hon (seat_of e) x.place x.mode u.lines (Decide Succeeded) d refl i v g y l
+    line_finds i y g c l true b = installed_stands o es w (seat_of e) x.place x.mode u.lines d y c b
+    line_finds i y g c l false b = (stood o es w).lines hon (seat_of e) x.place x.mode u.lines (Decide Succeeded) d refl i y g b l
 
     finds : Finds x.entry.footprint (at_place (first_store o) h x.place)
     finds r c =
@@ -89,7 +91,7 @@ module _ (o : Opening) (words : (es : List Event) → IsSchedule o es → WordsR
         go None q = q
         go (Some p) q =
             let v = line_that_puts u.lines r.loc.0 (sym (ap (λ (g : Footprint). is_some (put_at g.puts.items r.loc.0)) u.footprint) ∙ ap is_some q) in
-            absurd ((untouched o es w (words es w) (seat_of e) x.place x.mode u.lines d v.line v.among (puts_installed x.mode v.line v.puts) y c b).0 r a (sym v.at))
+            absurd ((untouched o es w (seat_of e) x.place x.mode u.lines d v.line v.among (puts_installed x.mode v.line v.puts) y c b).0 r a (sym v.at))
 
     legal_by : IsLegalHistory (first_store o) h → IsLegalHistory (first_store o) (inserted x h)
     legal_by l = legal_inserted (first_store o) x h (rises o es) (new_place o es (seat_of e) x.place u.place) l finds unread

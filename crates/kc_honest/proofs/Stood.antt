@@ -40,7 +40,7 @@ use Rattle.kc_pool.specs.Owners.{Follows, is_filling}
 use Rattle.kc_pool.specs.References.{met_by_pass}
 use Rattle.kc_pool.proofs.LifeLaws.{statuses_behind, statuses_follow, words_published, remembered_published}
 use Rattle.kc_seats.proofs.FitSeats.{fit_always}
-use Rattle.kc_claims.specs.Claims.{WordsResolve, stands_for}
+use Rattle.kc_claims.specs.Claims.{stands_for}
 use Rattle.kc_claims.specs.Histories.{cell_of}
 use Rattle.kc_claims.specs.Traces.{IsHonest, is_placed, is_placed_at, trace}
 use Rattle.kc_traces.proofs.Joins.{run-append, every, made_parts, honest_parts}
@@ -56,6 +56,7 @@ use Rattle.kc_resolving.proofs.Before.{settled_by}
 use Rattle.kc_resolving.proofs.Checking
 use Rattle.kc_resolving.proofs.Checking.{controls_rise, word_stays, between, entered, after_is, checked_most}
 use Rattle.kc_resolving.proofs.ForGood.{settled_stays}
+use Rattle.kc_resolving.proofs.Resolving.{words_resolve}
 use Rattle.kc_resolving.proofs.Growing.{known, DropFits, pass_drops}
 use Rattle.kc_honest.specs.Honest.{ends_at, stands_at, LiesBetween, ResolvesBetween, MetStood, StepStood, CheckedLinesStood, CheckedReferencesStood}
 use Rattle.kc_honest.proofs.Known.{OwnerAsked, owner_asked, line_within}
@@ -63,7 +64,7 @@ use Rattle.kc_honest.proofs.Bounds.{at_most_end, asked, line_low, line_stands, v
 use Rattle.kc_honest.proofs.Came.{StoodAt, Came, kept, stepped, first, begun, stopped, came}
 
 -- a word is a reference: it is to what is Active, or resolves between
-module _ (o : Opening) (es : List Event) (res : WordsResolve o es) where
+module _ (o : Opening) (es : List Event) (w : IsSchedule o es) where
   pub met_now : (p l : ℕ) (r : Reference) → l < o.locations → (run o es).world.word l ≡ Ref r.handle.generation r.handle.descriptor r.line → MetStood o es p l r
   met_now p l r b word c = go (status_is ((run o es).world.status r.handle.descriptor) (status r.handle.generation Active)) refl
     where
@@ -74,13 +75,13 @@ module _ (o : Opening) (es : List Event) (res : WordsResolve o es) where
           let a = (references_fit o es l r.handle.generation r.handle.descriptor r.line word).0 in
           let f = ((run o es).world.status r.handle.descriptor).phase in
           let s = at_phase ((run o es).world.status r.handle.descriptor) r.handle.generation f a.1 refl in
-          let v : resolved_version ((run o es).world.first r.handle.descriptor r.line) f ≡ (ends_at o es l).version = ap (λ (x : Cell). x.version) (ap (stands_for (run o es).world) (sym word) ∙ res l b) in
+          let v : resolved_version ((run o es).world.first r.handle.descriptor r.line) f ≡ (ends_at o es l).version = ap (λ (x : Cell). x.version) (ap (stands_for (run o es).world) (sym word) ∙ words_resolve o es w l b) in
           let low = at_most_end o es p l in
           inr (f, (s, (λ z. status_other ((run o es).world.status r.handle.descriptor) r.handle.generation q (s ∙ ap (status r.handle.generation) z)), (omega arith, omega arith)))
 
 -- ---- one event
 
-module _ (o : Opening) (es : List Event) (e : Event) (w : IsSchedule o es) (w' : IsSchedule o (es ++ e ∷ [])) (res : WordsResolve o es) (res' : WordsResolve o (es ++ e ∷ [])) where
+module _ (o : Opening) (es : List Event) (e : Event) (w : IsSchedule o es) (w' : IsSchedule o (es ++ e ∷ [])) where
   abbrev m : State
   m = run o es
 
@@ -119,19 +120,19 @@ module _ (o : Opening) (es : List Event) (e : Event) (w : IsSchedule o es) (w' :
       go true q = moved (ltb-true (seat_of e) m.callers q) n.world (event_changes m e)
       go false q = let s = event_out m e q in (ap (λ (x : State). x.world.status d) s ∙ st, ap (λ (x : State). x.world.first d i) s)
 
-  resolves_on : (p l : ℕ) (r : Reference) (f : Phase) → Settled o es p l → (m.world.control r.handle.descriptor).generation ≡ r.handle.generation → ResolvesBetween o es p l r f → ResolvesBetween o es' p l r f
-  resolves_on p l r f s c b =
+  resolves_on : (p l : ℕ) (r : Reference) (f : Phase) → p ≤ length es → Settled o es p l → (m.world.control r.handle.descriptor).generation ≡ r.handle.generation → ResolvesBetween o es p l r f → ResolvesBetween o es' p l r f
+  resolves_on p l r f reached s c b =
       let d = r.handle.descriptor in
       let y = decided_on d r.handle.generation r.line f b.1 c b.0 in
       let v : resolved_version ((run o es').world.first d r.line) f ≡ resolved_version (m.world.first d r.line) f = ap (λ (x : State). resolved_version (x.world.first d r.line) f) next_is ∙ ap (λ x. resolved_version x f) y.1 in
-      let low = ap (λ (x : Cell). x.version) ((settled_stays o es (e ∷ []) p l low s).1) in
+      let low = ap (λ (x : Cell). x.version) (settled_stays o es (e ∷ []) p l reached s).1 in
       let high = versions_on o es e w l in
       let a = b.2.0 in
       let z = b.2.1 in
       (ap (λ (x : State). x.world.status d) next_is ∙ y.0, b.1, (omega arith, omega arith))
 
-  met_on : (p l : ℕ) (r : Reference) → l < o.locations → r.handle.generation ≤ (m.world.status r.handle.descriptor).generation → MetStands o es p l r → MetStood o es p l r → MetStood o es' p l r
-  met_on p l r b out stands old c = go (stands before) (old before)
+  met_on : (p l : ℕ) (r : Reference) → p ≤ length es → l < o.locations → r.handle.generation ≤ (m.world.status r.handle.descriptor).generation → MetStands o es p l r → MetStood o es p l r → MetStood o es' p l r
+  met_on p l r reached b out stands old c = go (stands before) (old before)
     where
       before : (m.world.control r.handle.descriptor).generation ≡ r.handle.generation
       before =
@@ -143,9 +144,9 @@ module _ (o : Opening) (es : List Event) (e : Event) (w : IsSchedule o es) (w' :
       go : ((m.world.status r.handle.descriptor ≡ status r.handle.generation Active) × (m.world.word l ≡ Ref r.handle.generation r.handle.descriptor r.line)) ⊎ Settled o es p l
           → ((m.world.status r.handle.descriptor ≡ status r.handle.generation Active) × (m.world.word l ≡ Ref r.handle.generation r.handle.descriptor r.line)) ⊎ ((f : Phase) × ResolvesBetween o es p l r f)
           → (((run o es').world.status r.handle.descriptor ≡ status r.handle.generation Active) × ((run o es').world.word l ≡ Ref r.handle.generation r.handle.descriptor r.line)) ⊎ ((f : Phase) × ResolvesBetween o es' p l r f)
-      go s (inl a) = met_now o es' res' p l r b (ap (λ (x : State). x.world.word l) next_is ∙ word_stays o es e w w' l r.handle.generation r.handle.descriptor r.line a.1 a.0) c
+      go s (inl a) = met_now o es' w' p l r b (ap (λ (x : State). x.world.word l) next_is ∙ word_stays o es e w w' l r.handle.generation r.handle.descriptor r.line a.1 a.0) c
       go (inl a) (inr y) = absurd (y.1.1 (ap (λ (s : Status). s.phase) (sym y.1.0 ∙ a.0)))
-      go (inr s) (inr y) = inr (y.0, resolves_on p l r y.0 s before y.1)
+      go (inr s) (inr y) = inr (y.0, resolves_on p l r y.0 reached s before y.1)
 
   -- ---- the pass of a seat goes on
 
@@ -259,7 +260,7 @@ module _ (o : Opening) (es : List Event) (e : Event) (w : IsSchedule o es) (w' :
         stands x g v y r f hon =
             let d = was.at.soon in
             let s = settled_by o es w x.seen.loc.0 (λ h i z act. let u : Plain v y ≡ word_of h i = sym r ∙ z in absurd (cc)) p in
-            let a : v ≡ (ends_at o es x.seen.loc.0).version = ap (λ (c : Cell). c.version) (ap (stands_for m.world) (sym r) ∙ res x.seen.loc.0 (loc_within (Check j) was j x g)) in
+            let a : v ≡ (ends_at o es x.seen.loc.0).version = ap (λ (c : Cell). c.version) (ap (stands_for m.world) (sym r) ∙ words_resolve o es w x.seen.loc.0 (loc_within (Check j) was j x g)) in
             let b = eqb-true v x.seen.version (both (v == x.seen.version) (y == x.seen.value) f) in
             let lower = line_low o es w k p mode xs d hon j x g in
             let upper = at_most_end o es p x.seen.loc.0 in
@@ -281,7 +282,7 @@ module _ (o : Opening) (es : List Event) (e : Event) (w : IsSchedule o es) (w' :
             (met_met x.seen.loc.0 (loc_within (Check j) was j x g) r))) q
           where
             met_met : (l : ℕ) → l < o.locations → m.world.word l ≡ Ref a d i → MetStood o es' p l (reference_of a d i)
-            met_met l b r = met_on p l (reference_of a d i) b (words_published o es l a d i r) (Checking.met_now o es e w w' p l a d i r) (met_now o es res p l (reference_of a d i) b r)
+            met_met l b r = met_on p l (reference_of a d i) low b (words_published o es l a d i r) (Checking.met_now o es e w w' p l a d i r) (met_now o es w p l (reference_of a d i) b r)
 
         at : (t : Option Line) → slice_get xs j ≡ t → pass.Goes (check_found mode xs j (found_at m.world (check_access t)) t) ≡ pass.Goes q → is_placed_at q ≡ true → Good q
         at None g = by (Check j) (λ z. (fewer (Check j) was (Check j) (omega arith), tt)) q
@@ -292,7 +293,7 @@ module _ (o : Opening) (es : List Event) (e : Event) (w : IsSchedule o es) (w' :
       where
         go : (b : Bool) → pass.Goes (if b then CheckStatus j r else CheckDrop j r true checked.Again) ≡ pass.Goes q → is_placed_at q ≡ true → Good q
         go true = by (CheckStatus j r) (λ z. (fewer (CheckHold j r) was (CheckStatus j r) (omega arith), λ x g.
-            met_on p x.seen.loc.0 r (loc_within (CheckHold j r) was j x g) (published (CheckHold j r) was r refl) (settled (CheckHold j r) was x g) (was.met x g))) q
+            met_on p x.seen.loc.0 r low (loc_within (CheckHold j r) was j x g) (published (CheckHold j r) was r refl) (settled (CheckHold j r) was x g) (was.met x g))) q
         go false = by (CheckDrop j r true checked.Again) (λ z. (fewer (CheckHold j r) was (CheckDrop j r true checked.Again) (omega arith), tt)) q
 
     by_status : (j : ℕ) (r : Reference) → Was (CheckStatus j r) → (q : PassStep) → pass_next h mode xs (CheckStatus j r) (found_at m.world (pass_access h xs (CheckStatus j r))) ≡ pass.Goes q → is_placed_at q ≡ true → Good q
@@ -308,7 +309,7 @@ module _ (o : Opening) (es : List Event) (e : Event) (w : IsSchedule o es) (w' :
                 → ((m.world.status r.handle.descriptor ≡ status r.handle.generation Active) × (m.world.word x.seen.loc.0 ≡ Ref r.handle.generation r.handle.descriptor r.line)) ⊎ ((f : Phase) × ResolvesBetween o es p x.seen.loc.0 r f) → ResolvesBetween o es' p x.seen.loc.0 r f
             at x (inl a) b = absurd (ne (sym y ∙ ap (λ (s : Status). s.phase) a.0))
             at x (inr s) (inl a) = absurd (ne (sym y ∙ ap (λ (s : Status). s.phase) a.0))
-            at x (inr s) (inr b) = resolves_on p x.seen.loc.0 r f s hold (subst (ResolvesBetween o es p x.seen.loc.0 r) (sym (ap (λ (s : Status). s.phase) b.1.0) ∙ y) b.1)
+            at x (inr s) (inr b) = resolves_on p x.seen.loc.0 r f low s hold (subst (ResolvesBetween o es p x.seen.loc.0 r) (sym (ap (λ (s : Status). s.phase) b.1.0) ∙ y) b.1)
 
         go : (f : Phase) → (m.world.status r.handle.descriptor).phase ≡ f → pass.Goes (crossed_or_first j r f) ≡ pass.Goes q → is_placed_at q ≡ true → Good q
         go Active y = by (CheckDrop j r false (checked.Decide (Crossed j))) (λ z. (fewer (CheckStatus j r) was (CheckDrop j r false (checked.Decide (Crossed j))) (omega arith), tt)) q
@@ -382,9 +383,9 @@ module _ (o : Opening) (es : List Event) (e : Event) (w : IsSchedule o es) (w' :
         go : (t : PassStep) → Was t → StepStood o es' p xs t
         go (Install j) was = tt
         go (Check j) was = tt
-        go (CheckHold j r) was = λ x g. met_on p x.seen.loc.0 r (loc_within (CheckHold j r) was j x g) (published (CheckHold j r) was r refl) (settled (CheckHold j r) was x g) (was.met x g)
-        go (CheckStatus j r) was = λ x g. met_on p x.seen.loc.0 r (loc_within (CheckStatus j r) was j x g) (published (CheckStatus j r) was r refl) (settled (CheckStatus j r) was x g) (was.met x g)
-        go (CheckFirst j r f) was = λ x g. resolves_on p x.seen.loc.0 r f (settled (CheckFirst j r f) was x g) (holding (CheckFirst j r f) was r refl) (was.met x g)
+        go (CheckHold j r) was = λ x g. met_on p x.seen.loc.0 r low (loc_within (CheckHold j r) was j x g) (published (CheckHold j r) was r refl) (settled (CheckHold j r) was x g) (was.met x g)
+        go (CheckStatus j r) was = λ x g. met_on p x.seen.loc.0 r low (loc_within (CheckStatus j r) was j x g) (published (CheckStatus j r) was r refl) (settled (CheckStatus j r) was x g) (was.met x g)
+        go (CheckFirst j r f) was = λ x g. resolves_on p x.seen.loc.0 r f low (settled (CheckFirst j r f) was x g) (holding (CheckFirst j r f) was r refl) (was.met x g)
         go (CheckDrop j r stray c) was = tt
         go (Decide f) was = tt
         go (Release j f) was = tt
@@ -395,25 +396,25 @@ pub record Stood (o : Opening) (es : List Event) : Type 0 where
   pub lines : IsHonest o es → CheckedLinesStood o es
   pub met : CheckedReferencesStood o es
 
-module _ (o : Opening) (words : (es : List Event) → IsSchedule o es → WordsResolve o es) where
+module _ (o : Opening) where
   module _ (es : List Event) (e : Event) (w : IsSchedule o es) (w' : IsSchedule o (es ++ e ∷ [])) (old : Stood o es) where
-    good : (k p : ℕ) (mode : Mode) (xs : List Line) (q : PassStep) (d : DecidesSoon o (es ++ e ∷ []) k p mode xs) → d.turn ≡ At q → (low : p ≤ length es) → Good o es e w w' (words es w) (words (es ++ e ∷ []) w') k p mode xs d.handle d.within low q
+    good : (k p : ℕ) (mode : Mode) (xs : List Line) (q : PassStep) (d : DecidesSoon o (es ++ e ∷ []) k p mode xs) → d.turn ≡ At q → (low : p ≤ length es) → Good o es e w w' k p mode xs d.handle d.within low q
     good k p mode xs q d turn low = go (came o es e k p mode xs q d turn)
       where
-        was : (t : PassStep) → StoodAt o es k p mode xs d.handle t → Was o es e w w' (words es w) (words (es ++ e ∷ []) w') k p mode xs d.handle d.within low t
+        was : (t : PassStep) → StoodAt o es k p mode xs d.handle t → Was o es e w w' k p mode xs d.handle d.within low t
         was t b = record { at = b; lines = λ hon. old.lines hon k p mode xs t b.soon b.turn; met = old.met k p mode xs t b.soon b.turn }
 
         placed : is_placed_at q ≡ true
         placed = sym (ap is_placed (d.pass ∙ ap (Over d.handle mode xs) turn)) ∙ sym (has_place o (es ++ e ∷ []) k) ∙ ap is_some d.place
 
-        go : Came o es k p mode xs d.handle q → Good o es e w w' (words es w) (words (es ++ e ∷ []) w') k p mode xs d.handle d.within low q
-        go (kept b) = kept_step o es e w w' (words es w) (words (es ++ e ∷ []) w') k p mode xs d.handle d.within low q (was q b)
-        go (stepped t b z) = from_step o es e w w' (words es w) (words (es ++ e ∷ []) w') k p mode xs d.handle d.within low t (λ y. was t b) q z placed
-        go (first t y b z) = from_step o es e w w' (words es w) (words (es ++ e ∷ []) w') k p mode xs d.handle d.within low t (λ y. let n : true ≡ false = sym y ∙ b in absurd (cc)) q z placed
-        go (begun i y) = subst (Good o es e w w' (words es w) (words (es ++ e ∷ []) w') k p mode xs d.handle d.within low) (sym y) (begins o es e w w' (words es w) (words (es ++ e ∷ []) w') k p mode xs d.handle d.within low i (ap is_placed_at (sym y) ∙ placed))
+        go : Came o es k p mode xs d.handle q → Good o es e w w' k p mode xs d.handle d.within low q
+        go (kept b) = kept_step o es e w w' k p mode xs d.handle d.within low q (was q b)
+        go (stepped t b z) = from_step o es e w w' k p mode xs d.handle d.within low t (λ y. was t b) q z placed
+        go (first t y b z) = from_step o es e w w' k p mode xs d.handle d.within low t (λ y. let n : true ≡ false = sym y ∙ b in absurd (cc)) q z placed
+        go (begun i y) = subst (Good o es e w w' k p mode xs d.handle d.within low) (sym y) (begins o es e w w' k p mode xs d.handle d.within low i (ap is_placed_at (sym y) ∙ placed))
         go (stopped j r stray c t b u l) =
-            let f = fewer o es e w w' (words es w) (words (es ++ e ∷ []) w') k p mode xs d.handle d.within low t (was t b) (CheckDrop j r stray c) (subst (λ x. checked_by x ≤ checked_by t) u l) in
-            subst (Good o es e w w' (words es w) (words (es ++ e ∷ []) w') k p mode xs d.handle d.within low) (sym u) (f, tt)
+            let f = fewer o es e w w' k p mode xs d.handle d.within low t (was t b) (CheckDrop j r stray c) (subst (λ x. checked_by x ≤ checked_by t) u l) in
+            subst (Good o es e w w' k p mode xs d.handle d.within low) (sym u) (f, tt)
 
     stood_on : Stood o (es ++ e ∷ [])
     stood_on = record {

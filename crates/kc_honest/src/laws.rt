@@ -1,18 +1,22 @@
 //! What holds after every honest schedule of well-made tasks. An empty body: the contract is the law.
 
-ghost use Rattle.std.specs.Prelude.{List, ◌++◌};
+ghost use Rattle.std.specs.Prelude.{List};
 ghost use Rattle.kc_steps.specs.declared.task.Event.{Event};
 ghost use Rattle.kc_machine.specs.Machine.{Opening};
 ghost use Rattle.kc_machine.specs.Schedules.{IsSchedule};
+ghost use Rattle.kc_claims.specs.Claims.{HistoryIsLegal};
 ghost use Rattle.kc_claims.specs.Traces.{IsHonest};
-ghost use Rattle.kc_honest.specs.Honest.{ReadsWereKnown, SettledStatesStay};
+ghost use Rattle.kc_honest.specs.Honest.{CheckedLinesStood, CheckedReferencesStood};
 
-/// In an honest schedule what a commit read was known to the history when it began.
-pub fn reads_were_known()
-    ensures { (o : Opening) (es : List Event) → IsHonest o es → ReadsWereKnown o es }
+/// A pass that may still decide has met at its checks what resolves between the state of the location at the pass's place and
+/// what the history makes there, unless it is Active and stands there. So in an honest schedule each line that it has checked
+/// is the state of its location at the pass's place.
+pub fn checks_stood()
+    ensures references { (o : Opening) (es : List Event) → IsSchedule o es → CheckedReferencesStood o es }
+    ensures lines { (o : Opening) (es : List Event) → IsSchedule o es → IsHonest o es → CheckedLinesStood o es }
 {}
 
-/// A location that is settled at a place doesn't change below it, however the schedule goes on: no entry comes before those that found it there. Here no schedule need be honest.
-pub fn settled_states_stay()
-    ensures { (o : Opening) (es more : List Event) → IsSchedule o (es ++ more) → SettledStatesStay o es more }
+/// The history is legal where its entries installed, and all of it in an honest schedule; no call has two entries.
+pub fn histories_are_legal()
+    ensures { (o : Opening) (es : List Event) → IsSchedule o es → HistoryIsLegal o es }
 {}

@@ -3,4 +3,4 @@
 
 mod laws;
 
-pub use laws::{reads_were_known, settled_states_stay};
+pub use laws::{checks_stood, histories_are_legal};
