@@ -21,7 +21,7 @@ use Rattle.kc_histories.specs.Later.{DecidesSoon}
 use Rattle.kc_histories.specs.Places.{pass_of, place_of}
 use Rattle.kc_histories.proofs.Places.{has_place, place_was}
 use Rattle.kc_resolving.specs.Settled.{checked_by}
-use Rattle.kc_resolving.proofs.Ways.{Way, stays, steps, enters, halts, Onto, event_onto}
+use Rattle.kc_resolving.proofs.Ways.{placed_judges, Way, stays, steps, enters, halts, Onto, event_onto}
 use Rattle.kc_resolving.proofs.Before.{was_soon}
 
 -- behind the schedule es, at step t
@@ -62,7 +62,7 @@ module _ (o : Opening) (es : List Event) (e : Event) (k p : ℕ) (mode : Mode) (
       go true b = stepped t (earlier t y b) z
       go false b = first t y b z
   by_way (enters i y) = begun i y
-  by_way (halts j r stray c t y z u l) = stopped j r stray c t (earlier t y z) u l
+  by_way (halts j r stray c t y z u l out) = stopped j r stray c t (earlier t y z) u l
 
   seat_on : pass_of o (es ++ e ∷ []) k ≡ (stand ((event_of (run o es) e).seats k)).pass
   seat_on = ap (λ (m : State). (stand (m.seats k)).pass) (run-append o es (e ∷ []))
@@ -75,4 +75,4 @@ module _ (o : Opening) (es : List Event) (e : Event) (k p : ℕ) (mode : Mode) (
       go true z =
           let i = eqb-true k (seat_of e) z in
           let f : Onto (run o es).world (pass_of o es k) (stand ((event_of (run o es) e).seats k)).pass = subst (λ j. Onto (run o es).world (pass_of o es j) (stand ((event_of (run o es) e).seats j)).pass) (sym i) (event_onto (run o es) e) in
-          by_way (subst (Onto (run o es).world (pass_of o es k)) (sym seat_on ∙ over) f placed)
+          by_way (subst (Onto (run o es).world (pass_of o es k)) (sym seat_on ∙ over) f (placed_judges q placed))
