@@ -21,8 +21,23 @@ use Rattle.kc_histories.specs.Later.{DecidesSoon}
 use Rattle.kc_histories.specs.Places.{pass_of, place_of}
 use Rattle.kc_histories.proofs.Places.{has_place, place_was}
 use Rattle.kc_resolving.specs.Settled.{checked_by}
-use Rattle.kc_resolving.proofs.Ways.{placed_judges, Way, stays, steps, enters, halts, Onto, event_onto}
+use Rattle.kc_resolving.proofs.Ways.{judges, placed_judges, Way, stays, steps, enters, halts, Onto, event_onto}
 use Rattle.kc_resolving.proofs.Before.{was_soon}
+
+-- by which way a pass stands where it judges behind an event: another's event leaves it
+module _ (o : Opening) (es : List Event) (e : Event) (k : ℕ) (h : Handle) (mode : Mode) (xs : List Line) (q : PassStep) (over : pass_of o (es ++ e ∷ []) k ≡ Over h mode xs (At q)) (j : judges q ≡ true) where
+  seat_on : pass_of o (es ++ e ∷ []) k ≡ (stand ((event_of (run o es) e).seats k)).pass
+  seat_on = ap (λ (m : State). (stand (m.seats k)).pass) (run-append o es (e ∷ []))
+
+  pub way_to : Way (run o es).world h mode xs (pass_of o es k) q
+  way_to = go (k == seat_of e) refl
+    where
+      go : (b : Bool) → (k == seat_of e) ≡ b → Way (run o es).world h mode xs (pass_of o es k) q
+      go false z = stays (sym (seat_on ∙ ap (λ s. (stand s).pass) (event_else (run o es) e k (λ i. eqb-false k (seat_of e) z (sym i)))) ∙ over)
+      go true z =
+          let i = eqb-true k (seat_of e) z in
+          let f : Onto (run o es).world (pass_of o es k) (stand ((event_of (run o es) e).seats k)).pass = subst (λ j. Onto (run o es).world (pass_of o es j) (stand ((event_of (run o es) e).seats j)).pass) (sym i) (event_onto (run o es) e) in
+          subst (Onto (run o es).world (pass_of o es k)) (sym seat_on ∙ over) f j
 
 -- behind the schedule es, at step t
 pub record StoodAt (o : Opening) (es : List Event) (k p : ℕ) (mode : Mode) (xs : List Line) (h : Handle) (t : PassStep) : Type 0 where
@@ -64,15 +79,5 @@ module _ (o : Opening) (es : List Event) (e : Event) (k p : ℕ) (mode : Mode) (
   by_way (enters i y) = begun i y
   by_way (halts j r stray c t y z u l out) = stopped j r stray c t (earlier t y z) u l
 
-  seat_on : pass_of o (es ++ e ∷ []) k ≡ (stand ((event_of (run o es) e).seats k)).pass
-  seat_on = ap (λ (m : State). (stand (m.seats k)).pass) (run-append o es (e ∷ []))
-
   pub came : Came o es k p mode xs d.handle q
-  came = go (k == seat_of e) refl
-    where
-      go : (b : Bool) → (k == seat_of e) ≡ b → Came o es k p mode xs d.handle q
-      go false z = kept (earlier q (sym (seat_on ∙ ap (λ s. (stand s).pass) (event_else (run o es) e k (λ i. eqb-false k (seat_of e) z (sym i)))) ∙ over) placed)
-      go true z =
-          let i = eqb-true k (seat_of e) z in
-          let f : Onto (run o es).world (pass_of o es k) (stand ((event_of (run o es) e).seats k)).pass = subst (λ j. Onto (run o es).world (pass_of o es j) (stand ((event_of (run o es) e).seats j)).pass) (sym i) (event_onto (run o es) e) in
-          by_way (subst (Onto (run o es).world (pass_of o es k)) (sym seat_on ∙ over) f (placed_judges q placed))
+  came = by_way (way_to o es e k d.handle mode xs q over (placed_judges q placed))

@@ -3,3 +3,4 @@ pub mod Bounds
 pub mod Came
 pub mod Stood
 pub mod Legal
+pub mod Failing
