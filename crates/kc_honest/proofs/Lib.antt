@@ -4,3 +4,4 @@ pub mod Came
 pub mod Stood
 pub mod Legal
 pub mod Failing
+pub mod Causes
