@@ -5,3 +5,4 @@ pub mod Stood
 pub mod Legal
 pub mod Failing
 pub mod Causes
+pub mod Put

@@ -4,8 +4,9 @@ ghost use Rattle.std.specs.Prelude.{List};
 ghost use Rattle.kc_steps.specs.declared.task.Event.{Event};
 ghost use Rattle.kc_machine.specs.Machine.{Opening};
 ghost use Rattle.kc_machine.specs.Schedules.{IsSchedule};
-ghost use Rattle.kc_claims.specs.Claims.{HistoryIsLegal};
+ghost use Rattle.kc_claims.specs.Claims.{FailuresHaveACause, HistoryIsLegal};
 ghost use Rattle.kc_claims.specs.Traces.{IsHonest};
+ghost use Rattle.kc_honest.specs.Causes.{OwnersFailByPastReads, PassesFailByPastLines, ToldOfPastReads};
 ghost use Rattle.kc_honest.specs.Honest.{CheckedLinesStood, CheckedReferencesStood};
 
 /// A pass that may still decide has met at its checks what resolves between the state of the location at the pass's place and
@@ -19,4 +20,18 @@ pub fn checks_stood()
 /// The history is legal where its entries installed, and all of it in an honest schedule; no call has two entries.
 pub fn histories_are_legal()
     ensures { (o : Opening) (es : List Event) → IsSchedule o es → HistoryIsLegal o es }
+{}
+
+/// In an honest schedule a commit fails by what is past: while a descriptor is Active, a pass over it goes to decide that it
+/// failed only by a line for which the history makes a later version; so of the read by which an owner has failed, and of
+/// the one that it is told.
+pub fn failures_are_past()
+    ensures passes { (o : Opening) (es : List Event) → IsSchedule o es → IsHonest o es → PassesFailByPastLines o es }
+    ensures owners { (o : Opening) (es : List Event) → IsSchedule o es → IsHonest o es → OwnersFailByPastReads o es }
+    ensures told { (o : Opening) (es : List Event) → IsSchedule o es → IsHonest o es → ToldOfPastReads o es }
+{}
+
+/// In an honest schedule, where a commit was told that it failed at a read, the history has an entry that put the read's location from the read's version.
+pub fn failures_have_a_cause()
+    ensures { (o : Opening) (es : List Event) → IsSchedule o es → FailuresHaveACause o es }
 {}

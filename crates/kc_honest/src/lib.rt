@@ -3,4 +3,4 @@
 
 mod laws;
 
-pub use laws::{checks_stood, histories_are_legal};
+pub use laws::{checks_stood, failures_are_past, failures_have_a_cause, histories_are_legal};

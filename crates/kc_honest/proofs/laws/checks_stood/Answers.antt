@@ -1,5 +1,3 @@
-use Rattle.kc_honest.proofs.Causes.{failures}
-use Rattle.kc_honest.proofs.Failing.{failing_on}
 use Rattle.kc_honest.proofs.Stood.{stood}
 use Rattle.kc_honest.proofs.laws.checks_stood.Goals as goal
 
