@@ -6,3 +6,4 @@ pub mod Growing
 pub mod Lines
 pub mod Resolving
 pub mod ForGood
+pub mod ReadLines

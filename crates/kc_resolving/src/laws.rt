@@ -1,15 +1,23 @@
 //! What holds after every schedule of well-made tasks. An empty body: the contract is the law.
 
-ghost use Rattle.std.specs.Prelude.{◌≡◌, ℕ, ◌≤◌, ◌++◌, List, length};
+ghost use Rattle.std.specs.Prelude.{◌≡◌, ℕ, ◌<◌, ◌≤◌, ◌++◌, ◌⊎◌, Contains, List, Some, length};
 ghost use Rattle.kc_model.specs.declared.footprint.Seen.{Seen};
 ghost use Rattle.kc_model.specs.Store.{cell_after};
+ghost use Rattle.kc_steps.specs.declared.line.Intent.{Intent};
+ghost use Rattle.kc_steps.specs.declared.line.Line.{Line};
 ghost use Rattle.kc_steps.specs.declared.task.Event.{Event};
-ghost use Rattle.kc_machine.specs.Machine.{Opening};
+ghost use Rattle.kc_steps.specs.Passes.{status};
+ghost use Rattle.kc_machine.specs.Machine.{Opening, run};
+ghost use Rattle.kc_words.specs.declared.words.Handle.{Handle};
+ghost use Rattle.kc_words.specs.declared.words.Mode.{Mode};
+ghost use Rattle.kc_words.specs.declared.words.Phase.TheVariants.{Active};
+ghost use Rattle.kc_passes.specs.Words.{PassesOver};
 ghost use Rattle.kc_machine.specs.Schedules.{IsSchedule};
 ghost use Rattle.kc_claims.specs.Claims.{HistoriesGrow, WordsResolve, history_at};
 ghost use Rattle.kc_claims.specs.Histories.{FindsInstalled, IsKnown, IsLegalWhereInstalled, Placed, at_place, cell_of, ending, inserted};
-ghost use Rattle.kc_claims.specs.Traces.{first_store, trace};
-ghost use Rattle.kc_histories.specs.Decisions.{Decision};
+ghost use Rattle.kc_claims.specs.Traces.{IsHonest, first_store, trace};
+ghost use Rattle.kc_traces.specs.Entries.{own_intent};
+ghost use Rattle.kc_histories.specs.Decisions.{Decision, own_of};
 ghost use Rattle.kc_histories.specs.Insertions.{put_by};
 ghost use Rattle.kc_histories.specs.Later.{NothingLaterTouches};
 ghost use Rattle.kc_resolving.specs.Past.{PutsArePast};
@@ -62,4 +70,12 @@ pub fn histories_of_schedules_grow()
 /// What is settled stays so as a schedule goes on, and what stands at its place then stands there for good.
 pub fn settled_places_stay()
     ensures { (o : Opening) (es more : List Event) (p l : ℕ) → p ≤ length es → Settled o es p l → Settled o (es ++ more) p l × (at_place (first_store o) (trace o (es ++ more)).history p l ≡ at_place (first_store o) (trace o es).history p l) }
+{}
+
+/// In an honest schedule each line of a seat that owns a descriptor stands, or the history has made a later version there: a line that no longer fits was put. So does each line of a pass over what is Active.
+pub fn lines_stand_or_are_past()
+    ensures owners { (o : Opening) (es : List Event) → IsSchedule o es → IsHonest o es → (k : ℕ) (i : Intent) (x : Line) → k < o.callers → own_intent (own_of o es k) ≡ Some i → Contains i.lines.items x
+        → (ending (first_store o) (trace o es).history x.seen.loc.0 ≡ cell_of x.seen) ⊎ (x.seen.version < (ending (first_store o) (trace o es).history x.seen.loc.0).version) }
+    ensures passes { (o : Opening) (es : List Event) → IsSchedule o es → IsHonest o es → (j : ℕ) (g : Handle) (mode : Mode) (xs : List Line) (x : Line) → j < o.callers → PassesOver (run o es) j g mode xs → (run o es).world.status g.descriptor ≡ status g.generation Active → Contains xs x
+        → (ending (first_store o) (trace o es).history x.seen.loc.0 ≡ cell_of x.seen) ⊎ (x.seen.version < (ending (first_store o) (trace o es).history x.seen.loc.0).version) }
 {}
