@@ -1,39 +1,28 @@
 -- What stands at a place, between what was known and what the history makes; and that a settled location stays as it is below a place.
-use Rattle.std.proofs.Common.{arith, ◌≡◌, ◌<◌, ◌≤◌, ◌+◌, ◌⊎◌, inl, inr, ℕ, ◌++◌, Bool, true, false, List, [], ◌∷◌, length, Option, None, Some, refl, sym, ap, subst, ◌∙◌, Contains, not, append_assoc, append-nil}
+use Rattle.std.proofs.Common.{arith, ◌≡◌, ◌≤◌, ℕ, ◌++◌, List, [], ◌∷◌, length, Some, refl, sym, ap, subst, ◌∙◌, not}
 use Rattle.std.specs.List.{filter}
-use Rattle.std.specs.Option.{is_some}
-use Rattle.std.proofs.lemmas.Bool.{cases_lt}
-use Rattle.std.proofs.lemmas.List.{length-append}
 use Rattle.std.proofs.lemmas.List.Filters.{length-filter_both}
-use Rattle.kc_model.specs.declared.footprint.Footprint.{Footprint}
-use Rattle.kc_model.specs.declared.footprint.Put.{Put}
 use Rattle.kc_model.specs.declared.footprint.Seen.{Seen}
 use Rattle.kc_model.specs.declared.plain_store.Cell.{Cell}
-use Rattle.kc_model.specs.Footprint.{put_at}
 use Rattle.kc_model.specs.Store.{Store}
 use Rattle.std.specs.Prelude.{slice_get}
 use Rattle.kc_words.specs.declared.words.Mode.{Mode}
 use Rattle.kc_steps.specs.declared.line.Line.{Line}
 use Rattle.kc_steps.specs.declared.task.Event.{Event}
-use Rattle.kc_machine.specs.Machine.{Opening, seat_of}
+use Rattle.kc_machine.specs.Machine.{Opening}
 use Rattle.kc_machine.specs.Schedules.{IsSchedule}
-use Rattle.kc_claims.specs.Histories.{History, Placed, inserted, at_place, putting, cell_of, Grows, IsKnown}
+use Rattle.kc_claims.specs.Histories.{History, putting, cell_of, IsKnown}
 use Rattle.kc_claims.specs.Traces.{trace, first_store, IsHonest}
 use Rattle.kc_claims.proofs.ByPlace.{low}
-use Rattle.kc_traces.proofs.Joins.{made_parts}
 use Rattle.kc_traces.proofs.Known.{versions_rise}
-use Rattle.kc_histories.specs.Decisions.{Decision}
-use Rattle.kc_histories.specs.Insertions.{put_by, IsBelowPlace}
-use Rattle.kc_histories.proofs.Decisions.{history_moves}
+use Rattle.kc_histories.specs.Insertions.{IsBelowPlace}
 use Rattle.kc_histories.proofs.Filters.{filter_twice}
-use Rattle.kc_histories.proofs.Growing.{line_that_puts, puts_installed, soon, grows_once}
+use Rattle.kc_histories.proofs.Growing.{grows_once}
 use Rattle.kc_histories.proofs.Growth.{version_is, bounded, same_at}
-use Rattle.kc_histories.proofs.Insertions.{puts, at_lower, at_else, at_new, grows_same}
+use Rattle.kc_histories.proofs.Insertions.{puts, at_new, grows_same}
 use Rattle.kc_histories.proofs.Places.{below, begun_below}
 use Rattle.kc_histories.proofs.Begun.{owners_began_before}
 use Rattle.kc_histories.specs.Later.{DecidesSoon}
-use Rattle.kc_resolving.specs.Settled.{Settled}
-use Rattle.kc_resolving.proofs.Before.{settled_on}
 use Rattle.kc_resolving.proofs.Growing.{known}
 use Rattle.kc_honest.specs.Honest.{ends_at, stands_at}
 use Rattle.kc_honest.proofs.Known.{OwnerAsked, owner_asked, begun, begun_grows, line_known_then}

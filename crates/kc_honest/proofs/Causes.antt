@@ -1,5 +1,5 @@
 -- Who is told that a commit failed, is told of a read that is past.
-use Rattle.std.proofs.Common.{arith, ◌≡◌, ◌≢◌, ◌<◌, ◌≤◌, ◌⊎◌, inl, inr, ℕ, ◌++◌, ◌==◌, Bool, true, false, List, [], ◌∷◌, All, Option, None, Some, refl, sym, ap, subst, ◌∙◌, if◌then◌else◌}
+use Rattle.std.proofs.Common.{arith, ◌≡◌, ◌<◌, ◌⊎◌, inl, inr, ℕ, ◌++◌, ◌==◌, Bool, true, false, List, [], ◌∷◌, All, Option, None, Some, refl, sym, ap, subst, ◌∙◌, if◌then◌else◌}
 use Rattle.std.specs.Prelude.{nat_lt, slice_get}
 use Rattle.std.proofs.lemmas.Bool.{ltb-true}
 use borrow.Author.Tests.{eqb-true, eqb-false}
@@ -23,24 +23,20 @@ use Rattle.kc_steps.specs.declared.commit.OwnStep.{OwnStep}
 use Rattle.kc_steps.specs.declared.commit.OwnStep.TheVariants as own
 use Rattle.kc_steps.specs.declared.task.Task.{Task}
 use Rattle.kc_steps.specs.declared.task.Task.TheVariants as task
-use Rattle.kc_steps.specs.declared.task.Told.{Told}
 use Rattle.kc_steps.specs.declared.task.Told.TheVariants as told
 use Rattle.kc_steps.specs.declared.task.Onward.{Onward}
 use Rattle.kc_steps.specs.declared.task.Onward.TheVariants as onward
 use Rattle.kc_steps.specs.declared.task.Event.{Event}
 use Rattle.kc_steps.specs.declared.task.Event.TheVariants.{Begin, Step, Halt}
-use Rattle.kc_steps.specs.Nexts.{Next}
-use Rattle.kc_steps.specs.Nexts as next
 use Rattle.kc_steps.specs.Lines.{after_line, one_more}
 use Rattle.kc_steps.specs.Looks.{look_next, look_after, told_by, look_tells, halts_at_once}
 use Rattle.kc_steps.specs.Passes.{status}
 use Rattle.kc_steps.specs.Commits.{told_of, stage_next, loaded, onward_by}
-use Rattle.kc_steps.specs.Halts.{unowned, halted_at}
+use Rattle.kc_steps.specs.Halts.{unowned}
 use Rattle.kc_machine.specs.declared.hang.HangStep.{HangStep}
 use Rattle.kc_machine.specs.declared.hang.HangStep.TheVariants as hang
-use Rattle.kc_machine.specs.declared.hang.HangNext.{HangNext}
 use Rattle.kc_machine.specs.declared.hang.HangNext.TheVariants as hanging
-use Rattle.kc_machine.specs.Hangs.{hang_next, onward_of, look_of, look_goes_on, looked, look_or_end, clear_or_changed, unblocks_or_tells, next_read}
+use Rattle.kc_machine.specs.Hangs.{hang_next, onward_of, look_of, look_goes_on, look_or_end, clear_or_changed, unblocks_or_tells, next_read}
 use Rattle.kc_machine.specs.Works.{Work}
 use Rattle.kc_machine.specs.Works as work
 use Rattle.kc_machine.specs.declared.seat.Seat.{Seat}
@@ -48,8 +44,8 @@ use Rattle.kc_machine.specs.Seats.{access_of, answer_of, answer_by, after, is_id
 use Rattle.kc_machine.specs.Machine.{World, State, Opening, found_at, event_of, seat_of, run}
 use Rattle.kc_machine.specs.Schedules.{IsSchedule}
 use Rattle.kc_machine.proofs.Functions.{put_cases, put_here}
-use Rattle.kc_effects.specs.Stands.{Own, Owns, Over, At, stand, works, resting}
-use Rattle.kc_effects.specs.Holds.{Hold, NoHold, Proper, own_hold}
+use Rattle.kc_effects.specs.Stands.{Owns, Over, At, stand, works, resting}
+use Rattle.kc_effects.specs.Holds.{NoHold, Proper, own_hold}
 use Rattle.kc_pool.specs.Owners.{OwnsLife, Follows, is_filling, phase_read}
 use Rattle.kc_pool.proofs.LifeLaws.{owners_differ, statuses_follow, phase_known}
 use Rattle.kc_seats.proofs.Searches.{scanned, taken}
@@ -63,7 +59,7 @@ use Rattle.kc_histories.proofs.Calls.{own_goes}
 use Rattle.kc_histories.proofs.Successes.{Stays, Starts, moves}
 use Rattle.kc_resolving.proofs.Changes.{Changes, other, filled, started, installed, released, decided, event_changes}
 use Rattle.kc_honest.specs.Causes.{PassesFailByPastLines, PastRead, OwnersFailByPastReads, ToldOfPastReads}
-use Rattle.kc_honest.proofs.Known.{OwnerAsked, owner_asked, line_is}
+use Rattle.kc_honest.proofs.Known.{owner_asked, line_is}
 use Rattle.kc_honest.proofs.Failing.{later_past, failing_on}
 
 -- ---- who is told that a commit failed stood at its drop

@@ -1,9 +1,9 @@
 -- A pass fails by a line that is past.
-use Rattle.std.proofs.Common.{arith, ◌≡◌, ◌≢◌, ◌<◌, ◌≤◌, ◌⊎◌, inl, inr, ℕ, ◌++◌, ◌==◌, ◌&&◌, Bool, true, false, List, [], ◌∷◌, length, Option, None, Some, refl, sym, ap, subst, ◌∙◌, if◌then◌else◌}
+use Rattle.std.proofs.Common.{arith, ◌≡◌, ◌<◌, ◌≤◌, ◌⊎◌, inl, inr, ℕ, ◌++◌, ◌==◌, ◌&&◌, Bool, true, false, List, [], ◌∷◌, Option, None, Some, refl, sym, ap, subst, ◌∙◌, if◌then◌else◌}
 use Rattle.std.specs.Prelude.{slice_get}
 use Rattle.std.specs.Option.{is_some}
 use Rattle.std.proofs.lemmas.Bool.{cases_lt}
-use borrow.Author.Tests.{eqb-true, eqb-false, eq-eqb}
+use borrow.Author.Tests.{eqb-false, eq-eqb}
 use Rattle.kc_model.specs.declared.footprint.Seen.{Seen}
 use Rattle.kc_model.specs.declared.plain_store.Cell.{Cell}
 use Rattle.kc_model.specs.declared.word.Word.{Word}
@@ -20,20 +20,17 @@ use Rattle.kc_steps.specs.declared.pass.PassStep.{PassStep}
 use Rattle.kc_steps.specs.declared.pass.PassStep.TheVariants.{Install, Check, CheckHold, CheckStatus, CheckFirst, CheckDrop, Decide, Release}
 use Rattle.kc_steps.specs.declared.pass.AfterCheck.{AfterCheck}
 use Rattle.kc_steps.specs.declared.pass.AfterCheck.TheVariants as checked
-use Rattle.kc_steps.specs.declared.pass.PassNext.{PassNext}
 use Rattle.kc_steps.specs.declared.pass.PassNext.TheVariants as pass
 use Rattle.kc_steps.specs.declared.task.Event.{Event}
 use Rattle.kc_steps.specs.Lines.{after_line, next_line, resolved_version}
 use Rattle.kc_steps.specs.Looks.{reference_of}
-use Rattle.kc_steps.specs.Passes.{status, fits, from_check, check_or_decide, from_install, install_or_check, release_or_finish, pass_access, check_access, install_access, pass_next, install_found, refers_to, check_found, crossed_or_first, agrees_or_fails, check_first_found, decided_as}
-use Rattle.kc_machine.specs.Machine.{World, State, Opening, found_at, event_of, seat_of, run}
+use Rattle.kc_steps.specs.Passes.{fits, from_check, check_or_decide, from_install, install_or_check, release_or_finish, pass_access, check_access, install_access, pass_next, install_found, refers_to, check_found, crossed_or_first, agrees_or_fails, check_first_found, decided_as}
+use Rattle.kc_machine.specs.Machine.{State, Opening, found_at, run}
 use Rattle.kc_machine.specs.Schedules.{IsSchedule}
-use Rattle.kc_effects.specs.Stands.{Over, At, stand}
+use Rattle.kc_effects.specs.Stands.{Over, At}
 use Rattle.kc_claims.specs.Claims.{stands_for}
-use Rattle.kc_claims.specs.Histories.{cell_of}
-use Rattle.kc_claims.specs.Traces.{IsHonest, is_placed, trace}
+use Rattle.kc_claims.specs.Traces.{IsHonest, is_placed}
 use Rattle.kc_traces.proofs.Joins.{run-append}
-use Rattle.kc_traces.proofs.Others.{event_else}
 use Rattle.kc_passes.specs.Passed.{IsActive}
 use Rattle.kc_histories.specs.Later.{DecidesSoon}
 use Rattle.kc_histories.specs.Places.{pass_of, place_of}
@@ -41,8 +38,8 @@ use Rattle.kc_histories.proofs.Places.{has_place}
 use Rattle.kc_resolving.proofs.Before.{level, active_back}
 use Rattle.kc_resolving.proofs.Resolving.{words_resolve}
 use Rattle.kc_resolving.proofs.Ways.{judges, Way, stays, steps, enters, halts}
-use Rattle.kc_honest.specs.Honest.{ends_at, stands_at, ResolvesBetween}
-use Rattle.kc_honest.specs.Causes.{IsPast, failed_by, fails_at, PassesFailByPastLines}
+use Rattle.kc_honest.specs.Honest.{ends_at, ResolvesBetween}
+use Rattle.kc_honest.specs.Causes.{IsPast, fails_at, PassesFailByPastLines}
 use Rattle.kc_honest.proofs.Known.{OwnerAsked, owner_asked, line_within, line_known}
 use Rattle.kc_honest.proofs.Bounds.{known_low, known_end, line_low, versions_on}
 use Rattle.kc_honest.proofs.Came.{way_to}

@@ -1,14 +1,10 @@
 -- What was known when a task began, and what the lines of a pass are.
-use Rattle.std.proofs.Common.{arith, ◌≡◌, ◌<◌, ◌≤◌, ◌⊎◌, inl, inr, ℕ, zero, suc, ◌++◌, Bool, true, false, List, [], ◌∷◌, map, length, Option, None, Some, refl, sym, ap, subst, ◌∙◌, Contains}
+use Rattle.std.proofs.Common.{arith, ◌≡◌, ◌<◌, ℕ, zero, suc, true, false, List, [], ◌∷◌, map, Option, None, Some, refl, sym, ap, subst, ◌∙◌}
 use Rattle.std.specs.Prelude.{slice_get}
 use Rattle.std.specs.Option.{is_some}
 use Rattle.kc_model.specs.declared.footprint.Footprint.{Footprint}
 use Rattle.kc_model.specs.declared.footprint.Put.{Put}
 use Rattle.kc_model.specs.declared.footprint.Seen.{Seen}
-use Rattle.kc_model.specs.declared.plain_store.Cell.{Cell}
-use Rattle.kc_model.specs.Footprint.{Reads}
-use Rattle.kc_model.specs.Store.{Store}
-use Rattle.kc_model.proofs.Stores.{Contains-first, Contains-later}
 use Rattle.kc_words.specs.declared.words.Handle.{Handle}
 use Rattle.kc_words.specs.declared.words.Mode.{Mode}
 use Rattle.kc_words.specs.declared.words.Phase.TheVariants.{Active}
@@ -17,39 +13,29 @@ use Rattle.kc_steps.specs.declared.line.Intent.{Intent}
 use Rattle.kc_steps.specs.declared.task.Task.{Task}
 use Rattle.kc_steps.specs.declared.task.Task.TheVariants as task
 use Rattle.kc_steps.specs.declared.task.Event.{Event}
-use Rattle.kc_steps.specs.declared.task.Event.TheVariants.{Begin}
-use Rattle.kc_steps.specs.declared.commit.Commit.{Commit}
-use Rattle.kc_steps.specs.declared.commit.Stage.{Stage}
-use Rattle.kc_steps.specs.declared.commit.Stage.TheVariants as stage
 use Rattle.kc_steps.specs.Lines.{line_of, lines_of}
 use Rattle.kc_steps.specs.Passes.{status}
-use Rattle.kc_machine.specs.declared.hang.HangStep.{HangStep}
-use Rattle.kc_machine.specs.declared.hang.HangStep.TheVariants as hang
 use Rattle.kc_machine.specs.Works.{Work}
 use Rattle.kc_machine.specs.Works as work
 use Rattle.kc_machine.specs.declared.seat.Seat.{Seat}
 use Rattle.kc_machine.specs.Seats.{is_idle}
-use Rattle.kc_machine.specs.Machine.{World, State, Opening, run}
+use Rattle.kc_machine.specs.Machine.{World, Opening, run}
 use Rattle.kc_machine.specs.Schedules.{IsWellMadeTask, IsSchedule}
-use Rattle.kc_effects.specs.Stands.{Own, NoOwn, Owns, Runs, Waits, Passing, Over, Turn, Stand, stand, works, resting, commits, hangs}
+use Rattle.kc_effects.specs.Stands.{Own, NoOwn, Owns, Runs, Waits, Over, Turn, stand, works}
 use Rattle.kc_effects.specs.Holds.{Proper, own_hold}
 use Rattle.kc_pool.specs.Owners.{OwnsLife, Undecided, is_filling}
 use Rattle.kc_pool.specs.Filled
 use Rattle.kc_pool.specs.Started.{listed, line_of_words}
 use Rattle.kc_pool.proofs.LifeLaws.{active_owned}
-use Rattle.kc_claims.specs.Claims.{history_at}
-use Rattle.kc_claims.specs.Histories.{History, Grows, IsKnown}
-use Rattle.kc_claims.specs.Traces.{Moment, Shadow, trace, first_store, BeginsHonestly, IsHonest}
+use Rattle.kc_claims.specs.Histories.{Grows, IsKnown}
+use Rattle.kc_claims.specs.Traces.{Moment, trace, first_store, IsHonest}
 use Rattle.kc_traces.specs.Entries.{by, own_intent}
-use Rattle.kc_traces.specs.Moments.{AnswersWhenDone}
 use Rattle.kc_traces.proofs.Answers.{answers_when_done}
 use Rattle.kc_traces.proofs.Entries.{lists_again}
-use Rattle.kc_traces.proofs.Joins.{every, honest_parts}
 use Rattle.kc_traces.proofs.Known.{known_stays}
 use Rattle.kc_traces.proofs.Moments.{begun_moment}
 use Rattle.kc_traces.proofs.Onward.{IsIntentOf, Left}
 use Rattle.kc_traces.proofs.Others.{run_shape}
-use Rattle.kc_traces.proofs.Outcomes.{owned}
 use Rattle.kc_passes.proofs.Always.{facts_after}
 use Rattle.kc_passes.proofs.Targets.{Target, own_target}
 use Rattle.kc_pool.proofs.Shapes

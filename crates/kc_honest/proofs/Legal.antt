@@ -1,17 +1,15 @@
 -- An honest schedule's history is legal.
-use Rattle.std.proofs.Common.{arith, ◌≡◌, ◌<◌, ◌⊎◌, inl, inr, ℕ, ◌++◌, Bool, true, false, List, [], ◌∷◌, length, Option, None, Some, refl, sym, ap, subst, ◌∙◌, Contains}
+use Rattle.std.proofs.Common.{arith, ◌≡◌, ◌<◌, ℕ, Bool, true, false, List, [], ◌∷◌, Option, None, Some, refl, sym, ap, subst, ◌∙◌, Contains}
 use Rattle.std.specs.Prelude.{slice_get}
 use Rattle.std.specs.Option.{is_some}
 use Rattle.kc_model.specs.declared.footprint.Footprint.{Footprint}
 use Rattle.kc_model.specs.declared.footprint.Put.{Put}
 use Rattle.kc_model.specs.declared.footprint.Seen.{Seen}
-use Rattle.kc_model.specs.declared.plain_store.Cell.{Cell}
 use Rattle.kc_model.specs.Footprint.{Reads, put_at}
-use Rattle.kc_model.specs.Store.{Store, Finds}
+use Rattle.kc_model.specs.Store.{Finds}
 use Rattle.kc_words.specs.declared.words.Mode.{Mode}
 use Rattle.kc_words.specs.declared.words.Status.{Status}
-use Rattle.kc_words.specs.declared.words.Phase.{Phase}
-use Rattle.kc_words.specs.declared.words.Phase.TheVariants.{Active, Succeeded}
+use Rattle.kc_words.specs.declared.words.Phase.TheVariants.{Succeeded}
 use Rattle.kc_steps.specs.declared.line.Line.{Line}
 use Rattle.kc_steps.specs.declared.pass.PassStep.TheVariants.{Decide}
 use Rattle.kc_steps.specs.declared.task.Event.{Event}
@@ -99,7 +97,7 @@ module _ (o : Opening) where
   pub legal : (es : List Event) → IsSchedule o es → IsHonest o es → IsLegalHistory (first_store o) (trace o es).history
   legal = every (λ es. IsSchedule o es → IsHonest o es → IsLegalHistory (first_store o) (trace o es).history)
       (λ es e f w' hon'.
-          let w = (made_parts o es (e ∷ []) w').0 in
-          let hon = (honest_parts o es (e ∷ []) hon').0 in
-          history_moves o es e (IsLegalHistory (first_store o)) (f w hon) (λ x u. legal_by es e w hon x u (f w hon)))
+      let w = (made_parts o es (e ∷ []) w').0 in
+      let hon = (honest_parts o es (e ∷ []) hon').0 in
+      history_moves o es e (IsLegalHistory (first_store o)) (f w hon) (λ x u. legal_by es e w hon x u (f w hon)))
       (λ w hon. refl)

@@ -1,10 +1,9 @@
 -- In a legal history a version that is past was put, by an entry.
-use Rattle.std.proofs.Common.{arith, ◌≡◌, ◌<◌, ◌≤◌, ◌+◌, ◌⊎◌, inl, inr, ℕ, zero, suc, ◌++◌, ◌==◌, Bool, true, false, List, [], ◌∷◌, Option, None, Some, refl, sym, ap, subst, ◌∙◌, Contains, cond, take}
+use Rattle.std.proofs.Common.{arith, ◌≡◌, ◌<◌, ◌≤◌, ◌⊎◌, inl, inr, ℕ, zero, suc, ◌==◌, Bool, true, false, List, [], ◌∷◌, Option, None, Some, refl, sym, ap, subst, ◌∙◌, Contains, cond, take}
 use Rattle.std.specs.Prelude.{slice_get}
 use Rattle.std.specs.List.{filter_map}
 use Rattle.std.proofs.lemmas.Bool.{cases_lt}
 use borrow.Author.Tests.{eqb-true}
-use Rattle.kc_model.specs.declared.footprint.Footprint.{Footprint}
 use Rattle.kc_model.specs.declared.footprint.Put.{Put}
 use Rattle.kc_model.specs.declared.footprint.Seen.{Seen}
 use Rattle.kc_model.specs.declared.plain_store.Cell.{Cell}
@@ -16,7 +15,7 @@ use Rattle.kc_steps.specs.declared.task.Event.{Event}
 use Rattle.kc_machine.specs.Machine.{Opening}
 use Rattle.kc_machine.specs.Schedules.{IsSchedule}
 use Rattle.kc_claims.specs.Claims.{HasPut, FailuresHaveACause}
-use Rattle.kc_claims.specs.Histories.{History, Placed, ending, put_of_line, footprint_of, cell_of, IsKnown, IsLegalHistory}
+use Rattle.kc_claims.specs.Histories.{History, Placed, ending, put_of_line, footprint_of, IsKnown, IsLegalHistory}
 use Rattle.kc_claims.specs.Traces.{trace, first_store}
 use Rattle.kc_traces.proofs.Joins.{every}
 use Rattle.kc_histories.specs.Insertions.{put_by}

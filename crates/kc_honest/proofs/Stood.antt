@@ -1,14 +1,13 @@
 -- What a pass in its checks knows of what stands at its place.
-use Rattle.std.proofs.Common.{arith, ◌≡◌, ◌≢◌, ◌<◌, ◌≤◌, ◌+◌, ◌⊎◌, inl, inr, ℕ, zero, suc, ◌++◌, ◌==◌, ◌&&◌, Bool, true, false, List, [], ◌∷◌, length, Option, None, Some, refl, sym, ap, subst, ◌∙◌, if◌then◌else◌}
+use Rattle.std.proofs.Common.{arith, ◌≡◌, ◌≢◌, ◌<◌, ◌≤◌, ◌⊎◌, inl, inr, ℕ, ◌++◌, ◌==◌, ◌&&◌, Bool, true, false, List, [], ◌∷◌, length, Option, None, Some, refl, sym, ap, subst, ◌∙◌, if◌then◌else◌}
 use Rattle.std.specs.Prelude.{nat_lt, slice_get}
 use Rattle.std.specs.Option.{is_some}
 use Rattle.std.proofs.lemmas.Bool.{ltb-true, cases_lt}
 use Rattle.std.proofs.lemmas.List.{length-append}
-use borrow.Author.Tests.{eqb-true, eqb-false}
+use borrow.Author.Tests.{eqb-true}
 use Rattle.kc_model.specs.declared.plain_store.Cell.{Cell}
 use Rattle.kc_model.specs.declared.word.Word.{Word}
 use Rattle.kc_model.specs.declared.word.Word.TheVariants.{Plain, Ref}
-use Rattle.kc_words.specs.declared.words.First.{First}
 use Rattle.kc_words.specs.declared.words.Handle.{Handle}
 use Rattle.kc_words.specs.declared.words.Mode.{Mode}
 use Rattle.kc_words.specs.declared.words.Reference.{Reference}
@@ -22,7 +21,6 @@ use Rattle.kc_steps.specs.declared.pass.PassStep.{PassStep}
 use Rattle.kc_steps.specs.declared.pass.PassStep.TheVariants.{Install, Check, CheckHold, CheckStatus, CheckFirst, CheckDrop, Decide, Release}
 use Rattle.kc_steps.specs.declared.pass.AfterCheck.{AfterCheck}
 use Rattle.kc_steps.specs.declared.pass.AfterCheck.TheVariants as checked
-use Rattle.kc_steps.specs.declared.pass.PassNext.{PassNext}
 use Rattle.kc_steps.specs.declared.pass.PassNext.TheVariants as pass
 use Rattle.kc_steps.specs.declared.task.Event.{Event}
 use Rattle.kc_steps.specs.Lines.{after_line, is_installed, next_line, word_of, resolved_version}
@@ -42,7 +40,7 @@ use Rattle.kc_pool.proofs.LifeLaws.{statuses_behind, statuses_follow, words_publ
 use Rattle.kc_seats.proofs.FitSeats.{fit_always}
 use Rattle.kc_claims.specs.Claims.{stands_for}
 use Rattle.kc_claims.specs.Histories.{cell_of}
-use Rattle.kc_claims.specs.Traces.{IsHonest, is_placed, is_placed_at, trace}
+use Rattle.kc_claims.specs.Traces.{IsHonest, is_placed, is_placed_at}
 use Rattle.kc_traces.proofs.Joins.{run-append, every, made_parts, honest_parts}
 use Rattle.kc_traces.proofs.Others.{run_shape, event_out}
 use Rattle.kc_passes.proofs.Always.{references_fit}
@@ -58,8 +56,8 @@ use Rattle.kc_resolving.proofs.Checking.{controls_rise, word_stays, between, ent
 use Rattle.kc_resolving.proofs.ForGood.{settled_stays}
 use Rattle.kc_resolving.proofs.Resolving.{words_resolve}
 use Rattle.kc_resolving.proofs.Growing.{known, DropFits, pass_drops}
-use Rattle.kc_honest.specs.Honest.{ends_at, stands_at, LiesBetween, ResolvesBetween, MetStood, StepStood, CheckedLinesStood, CheckedReferencesStood}
-use Rattle.kc_honest.proofs.Known.{OwnerAsked, owner_asked, line_within}
+use Rattle.kc_honest.specs.Honest.{ends_at, stands_at, ResolvesBetween, MetStood, StepStood, CheckedLinesStood, CheckedReferencesStood}
+use Rattle.kc_honest.proofs.Known.{line_within}
 use Rattle.kc_honest.proofs.Bounds.{at_most_end, asked, line_low, line_stands, versions_on}
 use Rattle.kc_honest.proofs.Came.{StoodAt, Came, kept, stepped, first, begun, stopped, came}
 
@@ -113,8 +111,11 @@ module _ (o : Opening) (es : List Event) (e : Event) (w : IsSchedule o es) (w' :
       moved b v (started h x q) = (put_cases (λ y. y ≡ status g f) m.world.status h.descriptor (status h.generation Active) d (λ z. absurd (unfilled b h (ap own_hold q) (ap is_filling q) z)) (λ z. st), refl)
       moved b v (installed h mode xs j x q r t) = (st, refl)
       moved b v (released h j p x q r) = (st, refl)
-      moved b v (decided h mode xs p q was) = (put_cases (λ y. y ≡ status g f) m.world.status h.descriptor (status h.generation p) d
-          (λ z. absurd (ne (ap (λ (s : Status). s.phase) (sym st ∙ ap m.world.status z ∙ was)))) (λ z. st), refl)
+      moved b v (decided h mode xs p q was) = (
+        put_cases (λ y. y ≡ status g f) m.world.status h.descriptor (status h.generation p) d
+            (λ z. absurd (ne (ap (λ (s : Status). s.phase) (sym st ∙ ap m.world.status z ∙ was)))) (λ z. st),
+        refl,
+      )
 
       go : (b : Bool) → nat_lt (seat_of e) m.callers ≡ b → (n.world.status d ≡ status g f) × (n.world.first d i ≡ m.world.first d i)
       go true q = moved (ltb-true (seat_of e) m.callers q) n.world (event_changes m e)
@@ -276,10 +277,13 @@ module _ (o : Opening) (es : List Event) (e : Event) (w : IsSchedule o es) (w' :
             go : (b : Bool) → fits v y x ≡ b → pass.Goes (if b then from_check mode xs (after_line j) else Decide (Failed j)) ≡ pass.Goes q → is_placed_at q ≡ true → Good q
             go true f = by (from_check mode xs (after_line j)) (λ z. ((λ hon. past (Check j) was j x g (omega arith) (stands x g v y r f) hon (from_check mode xs (after_line j)) (skips (Check j) was j)), met_none (after_line j))) q
             go false f = by (Decide (Failed j)) (λ z. absurd (cc)) q
-        word x g (Ref a d i) r = by (CheckHold j (reference_of a d i)) (λ z. (fewer (Check j) was (CheckHold j (reference_of a d i)) (omega arith), λ y f.
-            let s = same_line j g f in
-            subst (λ (v : Line). MetStood o es' p v.seen.loc.0 (reference_of a d i)) s
-            (met_met x.seen.loc.0 (loc_within (Check j) was j x g) r))) q
+        word x g (Ref a d i) r = by (CheckHold j (reference_of a d i)) (λ z. (
+          fewer (Check j) was (CheckHold j (reference_of a d i)) (omega arith),
+          λ y f.
+              let s = same_line j g f in
+              subst (λ (v : Line). MetStood o es' p v.seen.loc.0 (reference_of a d i)) s
+              (met_met x.seen.loc.0 (loc_within (Check j) was j x g) r),
+        )) q
           where
             met_met : (l : ℕ) → l < o.locations → m.world.word l ≡ Ref a d i → MetStood o es' p l (reference_of a d i)
             met_met l b r = met_on p l (reference_of a d i) low b (words_published o es l a d i r) (Checking.met_now o es e w w' p l a d i r) (met_now o es w p l (reference_of a d i) b r)
@@ -292,8 +296,11 @@ module _ (o : Opening) (es : List Event) (e : Event) (w : IsSchedule o es) (w' :
     by_hold j r was q = go ((m.world.control r.handle.descriptor).generation == r.handle.generation)
       where
         go : (b : Bool) → pass.Goes (if b then CheckStatus j r else CheckDrop j r true checked.Again) ≡ pass.Goes q → is_placed_at q ≡ true → Good q
-        go true = by (CheckStatus j r) (λ z. (fewer (CheckHold j r) was (CheckStatus j r) (omega arith), λ x g.
-            met_on p x.seen.loc.0 r low (loc_within (CheckHold j r) was j x g) (published (CheckHold j r) was r refl) (settled (CheckHold j r) was x g) (was.met x g))) q
+        go true = by (CheckStatus j r) (λ z. (
+          fewer (CheckHold j r) was (CheckStatus j r) (omega arith),
+          λ x g.
+              met_on p x.seen.loc.0 r low (loc_within (CheckHold j r) was j x g) (published (CheckHold j r) was r refl) (settled (CheckHold j r) was x g) (was.met x g),
+        )) q
         go false = by (CheckDrop j r true checked.Again) (λ z. (fewer (CheckHold j r) was (CheckDrop j r true checked.Again) (omega arith), tt)) q
 
     by_status : (j : ℕ) (r : Reference) → Was (CheckStatus j r) → (q : PassStep) → pass_next h mode xs (CheckStatus j r) (found_at m.world (pass_access h xs (CheckStatus j r))) ≡ pass.Goes q → is_placed_at q ≡ true → Good q

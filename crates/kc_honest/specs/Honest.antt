@@ -1,9 +1,6 @@
 -- What passes, checks and answers know of the history in an honest schedule.
-use Rattle.std.specs.Prelude.{◌≡◌, ◌≢◌, ◌<◌, ◌≤◌, ◌⊎◌, ℕ, ◌++◌, List, length, Some, slice_get, false}
-use Rattle.kc_model.specs.declared.footprint.Footprint.{Footprint}
-use Rattle.kc_model.specs.declared.footprint.Seen.{Seen}
+use Rattle.std.specs.Prelude.{◌≡◌, ◌≢◌, ◌<◌, ◌≤◌, ◌⊎◌, ℕ, List, Some, slice_get, false}
 use Rattle.kc_model.specs.declared.plain_store.Cell.{Cell}
-use Rattle.kc_model.specs.Footprint.{Reads}
 use Rattle.kc_model.specs.declared.word.Word.TheVariants.{Ref}
 use Rattle.kc_words.specs.declared.words.Reference.{Reference}
 use Rattle.kc_words.specs.declared.words.Phase.{Phase}
@@ -13,15 +10,14 @@ use Rattle.kc_steps.specs.declared.line.Line.{Line}
 use Rattle.kc_steps.specs.declared.pass.PassStep.{PassStep}
 use Rattle.kc_steps.specs.declared.pass.PassStep.TheVariants.{CheckHold, CheckStatus, CheckFirst}
 use Rattle.kc_steps.specs.declared.task.Event.{Event}
-use Rattle.kc_steps.specs.declared.task.Task.TheVariants as task
 use Rattle.kc_steps.specs.Lines.{is_installed, resolved_version}
 use Rattle.kc_steps.specs.Passes.{status}
 use Rattle.kc_machine.specs.Machine.{Opening, run}
 use Rattle.kc_effects.specs.Stands.{At}
-use Rattle.kc_claims.specs.Histories.{ending, at_place, cell_of, IsKnown}
+use Rattle.kc_claims.specs.Histories.{ending, at_place, cell_of}
 use Rattle.kc_claims.specs.Traces.{trace, first_store}
 use Rattle.kc_histories.specs.Later.{DecidesSoon}
-use Rattle.kc_resolving.specs.Settled.{Settled, checked_by}
+use Rattle.kc_resolving.specs.Settled.{checked_by}
 
 -- what the history makes of a location, and what its entries with places below p make
 abbrev pub ends_at : Opening → List Event → ℕ → Cell
