@@ -38,7 +38,7 @@ use Rattle.kc_histories.proofs.Successes.{Stays, Starts, moves, kept}
 
 -- ---- the task that a seat's shadow names
 
-abbrev Knew : Opening → ℕ → List Event → Type 0
+abbrev pub Knew : Opening → ℕ → List Event → Type 0
 Knew o k es = (f : Footprint) (m : Mode) → ((trace o es).shadows k).task ≡ Some (task.Commit f m) → (r : Seen) → Reads f r → IsKnown (first_store o) ((trace o es).shadows k).begun.history r
 
 knew_on : (o : Opening) (k : ℕ) (l : k < o.callers) (es : List Event) (e : Event) → BeginsHonestly (first_store o) (trace o es).history e → Knew o k es → Knew o k (es ++ e ∷ [])
@@ -54,17 +54,17 @@ knew_on o k l es e b old f m q r c = go (moves o es k l e)
         let h : BeginsHonestly (first_store o) (trace o es).history (Begin k (task.Commit f m)) = subst (BeginsHonestly (first_store o) (trace o es).history) (y.event ∙ ap (Begin k) u) b in
         subst (λ (x : Moment). IsKnown (first_store o) x.history r) (sym y.begun) (h r c)
 
-knew : (o : Opening) (k : ℕ) (l : k < o.callers) (es : List Event) → IsHonest o es → Knew o k es
+pub knew : (o : Opening) (k : ℕ) (l : k < o.callers) (es : List Event) → IsHonest o es → Knew o k es
 knew o k l = every (λ es. IsHonest o es → Knew o k es) (λ es e f h. let p = honest_parts o es (e ∷ []) h in knew_on o k l es e p.1.0 (f p.0)) (λ h f m q. absurd (cc))
 
 -- ---- what a seat is to do is what it was asked
 
-record Works (s : Seat) (i : Intent) : Type 0 where
-  commit : Commit
-  work : s.work ≡ work.Commit commit
-  intent : commit.intent ≡ i
+pub record Works (s : Seat) (i : Intent) : Type 0 where
+  pub commit : Commit
+  pub work : s.work ≡ work.Commit commit
+  pub intent : commit.intent ≡ i
 
-at_work : (s : Seat) (i : Intent) → own_intent (stand s).own ≡ Some i → Works s i
+pub at_work : (s : Seat) (i : Intent) → own_intent (stand s).own ≡ Some i → Works s i
 at_work s i = go s.work refl
   where
     some : {a b : Intent} → ◌≡◌ {A = Option Intent} (Some a) (Some b) → a ≡ b

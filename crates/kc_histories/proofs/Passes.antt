@@ -228,16 +228,19 @@ keeps_itself : (x : Passing) → Keeps x x
 keeps_itself NoPass = tt
 keeps_itself (Over h m xs t) = λ a b. (t, refl)
 
-pub finish_unplaced : (i : Intent) (c : Aided) (h : Handle) (p : Phase) → is_placed (own_pass i c h (finished i p)) ≡ false
-finish_unplaced i c h Active = refl
-finish_unplaced i c h Succeeded = go (next_line Put i.mode i.lines.items 0)
+pub finish_ends : (i : Intent) (c : Aided) (h : Handle) (p : Phase) → own_pass i c h (finished i p) ≡ NoPass
+finish_ends i c h Active = refl
+finish_ends i c h Succeeded = go (next_line Put i.mode i.lines.items 0)
   where
-    go : (o : Option ℕ) → is_placed (own_pass i c h (wake_or_drop o)) ≡ false
+    go : (o : Option ℕ) → own_pass i c h (wake_or_drop o) ≡ NoPass
     go None = refl
     go (Some j) = refl
-finish_unplaced i c h (Failed j) = refl
-finish_unplaced i c h (Crossed j) = refl
-finish_unplaced i c h Halted = refl
+finish_ends i c h (Failed j) = refl
+finish_ends i c h (Crossed j) = refl
+finish_ends i c h Halted = refl
+
+finish_unplaced : (i : Intent) (c : Aided) (h : Handle) (p : Phase) → is_placed (own_pass i c h (finished i p)) ≡ false
+finish_unplaced i c h p = ap is_placed (finish_ends i c h p)
 
 own_turns : (i : Intent) (c : Aided) (h : Handle) (p : PassStep) (n : PassNext) → Keeps (Over h i.mode i.lines.items (At p)) (own_pass i c h (after_own_pass i n))
 own_turns i c h p (pass.Goes q) = λ a b. (At q, refl)

@@ -127,14 +127,14 @@ module _ (mode : Mode) (xs : List Line) where
   SkipsTo k (Some j) = (i : ℕ) (x : Line) → k ≤ i → i < j → slice_get xs i ≡ Some x → picks Checked mode x ≡ false
 
   -- no line to be checked lies from line k to before the next check
-  between : (k i : ℕ) (x : Line) → k ≤ i → i < checked_by (from_check mode xs k) → slice_get xs i ≡ Some x → is_installed mode x ≡ false → ⊥
+  pub between : (k i : ℕ) (x : Line) → k ≤ i → i < checked_by (from_check mode xs k) → slice_get xs i ≡ Some x → is_installed mode x ≡ false → ⊥
   between k i x a b g f = go (next_line Checked mode xs k) (next_skips Checked mode xs k) b
     where
       go : (t : Option ℕ) → SkipsTo k t → i < checked_by (check_or_decide t) → ⊥
       go None s b = unchecked x (s i x a b g) f
       go (Some j) s b = unchecked x (s i x a b g) f
 
-  entered : (k i : ℕ) (x : Line) → is_placed_at (from_install mode xs k) ≡ true → i < checked_by (from_install mode xs k) → slice_get xs i ≡ Some x → is_installed mode x ≡ false → ⊥
+  pub entered : (k i : ℕ) (x : Line) → is_placed_at (from_install mode xs k) ≡ true → i < checked_by (from_install mode xs k) → slice_get xs i ≡ Some x → is_installed mode x ≡ false → ⊥
   entered k i x p b g f = go (next_line Installed mode xs k) p b
     where
       go : (t : Option ℕ) → is_placed_at (install_or_check mode xs t) ≡ true → i < checked_by (install_or_check mode xs t) → ⊥
@@ -142,10 +142,10 @@ module _ (mode : Mode) (xs : List Line) where
       go (Some j) p b = absurd (cc)
 
 -- behind line k the next one is one more
-after_is : (k i : ℕ) → k < i → i < 64 → after_line k ≤ i
+pub after_is : (k i : ℕ) → k < i → i < 64 → after_line k ≤ i
 after_is k i l b = let e : nat_lt k 64 ≡ true = lt-ltb k 64 (omega arith) in subst (λ t. (if t then k + 1 else 64) ≤ i) (sym e) (omega arith)
 
-checked_most : (mode : Mode) (xs : List Line) (k : ℕ) → checked_by (from_check mode xs k) ≤ 64
+pub checked_most : (mode : Mode) (xs : List Line) (k : ℕ) → checked_by (from_check mode xs k) ≤ 64
 checked_most mode xs k = go (next_line Checked mode xs k) (next_fits Checked mode xs k)
   where
     go : (t : Option ℕ) → IsPicked Checked mode xs t → checked_by (check_or_decide t) ≤ 64
@@ -173,7 +173,7 @@ module _ (o : Opening) (es : List Event) (e : Event) (w : IsSchedule o es) (w' :
   releasing_decided l h j p x (in_aid r c s y q) = (subst (AidKnows m.world) q (line_known o es (seat_of e) l)).0
 
   -- a reference to what is Active stays in its word
-  word_stays : (l g d i : ℕ) → m.world.word l ≡ Ref g d i → m.world.status d ≡ status g Active → n.world.word l ≡ Ref g d i
+  pub word_stays : (l g d i : ℕ) → m.world.word l ≡ Ref g d i → m.world.status d ≡ status g Active → n.world.word l ≡ Ref g d i
   word_stays l g d i word act = go (nat_lt (seat_of e) m.callers) refl
     where
       moved : seat_of e < m.callers → (v : World) → Changes m.world (stand (m.seats (seat_of e))) v → v.word l ≡ Ref g d i
@@ -226,7 +226,7 @@ module _ (o : Opening) (es : List Event) (e : Event) (w : IsSchedule o es) (w' :
               status_other ((run o es').world.status r.handle.descriptor) r.handle.generation q (subst (λ (g : Handle). (run o es').world.status g.descriptor ≡ status g.generation Active) same act)) p)
 
   -- a reference that a check meets now
-  met_now : (p l g d i : ℕ) → m.world.word l ≡ Ref g d i → MetStands o es p l (reference_of g d i)
+  pub met_now : (p l g d i : ℕ) → m.world.word l ≡ Ref g d i → MetStands o es p l (reference_of g d i)
   met_now p l g d i word c = at (status_is (m.world.status d) (status g Active)) refl
     where
       at : (t : Bool) → status_is (m.world.status d) (status g Active) ≡ t → ((m.world.status d ≡ status g Active) × (m.world.word l ≡ Ref g d i)) ⊎ Settled o es p l

@@ -40,13 +40,13 @@ use Rattle.kc_histories.proofs.Passes.{aid_pass, own_pass, stage_pass, work_pass
 use Rattle.kc_histories.proofs.Places.{has_place, within, place_was}
 use Rattle.kc_histories.proofs.Growing.{histories_grow}
 use Rattle.kc_resolving.specs.Settled.{checked_by, CheckedAreSettled, StepMet, MetAreSettled}
-use Rattle.kc_resolving.proofs.Ways.{Way, stays, steps, enters, halts, Onto, event_onto}
+use Rattle.kc_resolving.proofs.Ways.{placed_judges, Way, stays, steps, enters, halts, Onto, event_onto}
 use Rattle.kc_resolving.proofs.Before.{was_soon, later_on}
 use Rattle.kc_resolving.proofs.Checking.{Good, OldChecks, from_step, kept_step, halted_step, entered_step}
 
 -- ---- what follows a check's drop is never the decision for success
 
-abbrev DropFits : Passing → Type 0
+abbrev pub DropFits : Passing → Type 0
 DropFits (Over h m xs (At (CheckDrop j r stray c))) = c ≢ checked.Decide Succeeded
 DropFits x = Unit {0}
 
@@ -67,7 +67,7 @@ step_drops b out h m xs (CheckDrop j r stray c) ne f = no_success out ne b j str
 step_drops b out h m xs (Decide p) ne f = tt
 step_drops b out h m xs (Release j p) ne f = tt
 
-pass_drops : (s : Seat) → WorkFits s.work → DropFits (stand s).pass
+pub pass_drops : (s : Seat) → WorkFits s.work → DropFits (stand s).pass
 pass_drops s f = subst DropFits (sym (pass_is s)) (go s.work f)
   where
     aids : (b : Bool) (r : Reference) (c : Aided) (a : AidStep) → AidFits b c a → DropFits (aid_pass r c a)
@@ -150,7 +150,7 @@ module _ (o : Opening) (es : List Event) (e : Event) (w : IsSchedule o es) (w' :
         (λ j r stray c u. subst DropFits (y ∙ ap (λ v. Over d.handle mode xs (At v)) u) (pass_drops ((run o es).seats k) (fit_always o es k)))
         (earlier t y) q z placed
     by_way (enters i y) = subst (Good o es e w w' k p mode xs d.handle d.within low) (sym y) (entered_step o es e w w' k p mode xs d.handle d.within low i (ap is_placed_at (sym y) ∙ placed))
-    by_way (halts j r stray c t y z u l) = subst (Good o es e w w' k p mode xs d.handle d.within low) (sym u) (halted_step o es e w w' k p mode xs d.handle d.within low j r stray c t (earlier t y z).0 (subst (λ v. checked_by v ≤ checked_by t) u l))
+    by_way (halts j r stray c t y z u l out) = subst (Good o es e w w' k p mode xs d.handle d.within low) (sym u) (halted_step o es e w w' k p mode xs d.handle d.within low j r stray c t (earlier t y z).0 (subst (λ v. checked_by v ≤ checked_by t) u l))
 
     seat_on : pass_of o (es ++ e ∷ []) k ≡ (stand ((event_of (run o es) e).seats k)).pass
     seat_on = ap (λ (m : State). (stand (m.seats k)).pass) (run-append o es (e ∷ []))
@@ -163,7 +163,7 @@ module _ (o : Opening) (es : List Event) (e : Event) (w : IsSchedule o es) (w' :
         go true z =
             let i = eqb-true k (seat_of e) z in
             let f : Onto (run o es).world (pass_of o es k) (stand ((event_of (run o es) e).seats k)).pass = subst (λ j. Onto (run o es).world (pass_of o es j) (stand ((event_of (run o es) e).seats j)).pass) (sym i) (event_onto (run o es) e) in
-            by_way (subst (Onto (run o es).world (pass_of o es k)) (sym seat_on ∙ over) f placed)
+            by_way (subst (Onto (run o es).world (pass_of o es k)) (sym seat_on ∙ over) f (placed_judges q placed))
 
   known_on : Known o (es ++ e ∷ [])
   known_on = record {

@@ -1,5 +1,5 @@
--- By which ways a pass comes to stand at a check, or at the decision for success.
-use Rattle.std.proofs.Common.{arith, ◌≡◌, ◌≤◌, ◌+◌, ◌-◌, ℕ, ◌==◌, ◌&&◌, Bool, true, false, List, length, Option, None, Some, refl, sym, ap, subst, if◌then◌else◌}
+-- By which ways a pass comes to stand at a check, or before a decision.
+use Rattle.std.proofs.Common.{arith, ◌≡◌, ◌≤◌, ◌⊎◌, inl, inr, ◌+◌, ◌-◌, ℕ, ◌==◌, ◌&&◌, Bool, true, false, List, length, Option, None, Some, refl, sym, ap, subst, if◌then◌else◌}
 use Rattle.std.specs.Prelude.{slice_get, nat_lt, bit_or, bit_and}
 use Rattle.kc_words.specs.declared.words.Handle.{Handle}
 use Rattle.kc_words.specs.declared.words.Reference.{Reference}
@@ -47,29 +47,63 @@ use Rattle.kc_machine.specs.declared.seat.Seat.{Seat}
 use Rattle.kc_machine.specs.Seats.{access_of, work_access, answer_of, answer_by, after, is_idle, begun, begun_idle, halted, halted_by, ended}
 use Rattle.kc_machine.specs.Machine.{World, State, found_at, event_of, seat_of}
 use Rattle.kc_effects.specs.Stands.{Passing, NoPass, Over, At, Meets, Ends, Leaves, stand}
-use Rattle.kc_claims.specs.Traces.{is_placed, is_placed_at}
+use Rattle.kc_claims.specs.Traces.{is_placed_at}
 use Rattle.kc_traces.proofs.Answers.{moved, seat_cases}
-use Rattle.kc_histories.proofs.Passes.{aid_pass, own_pass, stage_pass, work_pass, next_pass, pass_is, next_is, Nexts, finish_unplaced, begun_fresh}
+use Rattle.kc_histories.proofs.Passes.{aid_pass, own_pass, stage_pass, work_pass, next_pass, pass_is, next_is, Nexts, finish_ends, begun_fresh}
 use Rattle.kc_resolving.specs.Settled.{checked_by}
 
--- of a pass over h, from how the seat's pass stood: to the placed step q
+-- at a check, or before a decision that no halt brought
+abbrev pub judges_phase : Phase → Bool
+judges_phase Halted = false
+judges_phase p = true
+
+abbrev pub judges : PassStep → Bool
+judges (Install k) = false
+judges (Check k) = true
+judges (CheckHold k r) = true
+judges (CheckStatus k r) = true
+judges (CheckFirst k r p) = true
+judges (CheckDrop k r stray c) = true
+judges (Decide p) = judges_phase p
+judges (Release k p) = false
+
+abbrev pub judges_in : Passing → Bool
+judges_in (Over h m xs (At p)) = judges p
+judges_in x = false
+
+-- so where it is placed
+pub placed_judges : (q : PassStep) → is_placed_at q ≡ true → judges q ≡ true
+placed_judges (Install k) e = absurd (cc)
+placed_judges (Check k) e = refl
+placed_judges (CheckHold k r) e = refl
+placed_judges (CheckStatus k r) e = refl
+placed_judges (CheckFirst k r p) e = refl
+placed_judges (CheckDrop k r stray c) e = refl
+placed_judges (Decide Active) e = absurd (cc)
+placed_judges (Decide Succeeded) e = refl
+placed_judges (Decide (Failed k)) e = absurd (cc)
+placed_judges (Decide (Crossed k)) e = absurd (cc)
+placed_judges (Decide Halted) e = absurd (cc)
+placed_judges (Release k p) e = absurd (cc)
+
+-- of a pass over h, from how the seat's pass stood: to the judging step q
 pub data Way (w : World) (h : Handle) (m : Mode) (xs : List Line) (x : Passing) (q : PassStep) : Type 0 where
   stays : x ≡ Over h m xs (At q) → Way w h m xs x q
   steps : (p : PassStep) → x ≡ Over h m xs (At p) → pass_next h m xs p (found_at w (pass_access h xs p)) ≡ pass.Goes q → Way w h m xs x q
   enters : (i : ℕ) → q ≡ from_install m xs i → Way w h m xs x q
-  halts : (k : ℕ) (r : Reference) (stray : Bool) (c : AfterCheck) (p : PassStep) → x ≡ Over h m xs (At p) → is_placed_at p ≡ true → q ≡ CheckDrop k r stray c → checked_by q ≤ checked_by p → Way w h m xs x q
+  halts : (k : ℕ) (r : Reference) (stray : Bool) (c : AfterCheck) (p : PassStep) → x ≡ Over h m xs (At p) → is_placed_at p ≡ true → q ≡ CheckDrop k r stray c → checked_by q ≤ checked_by p → (c ≡ checked.Decide Halted) ⊎ (c ≡ checked.Leave) → Way w h m xs x q
 
 abbrev pub Onto : World → Passing → Passing → Type 0
 Onto w x NoPass = Unit {0}
-Onto w x (Over h m xs (At q)) = is_placed_at q ≡ true → Way w h m xs x q
+Onto w x (Over h m xs (At q)) = judges q ≡ true → Way w h m xs x q
 Onto w x (Over h m xs t) = Unit {0}
 
-unplaced : (w : World) (x y : Passing) → is_placed y ≡ false → Onto w x y
-unplaced w x NoPass e = tt
-unplaced w x (Over h m xs (At q)) e = λ p. absurd (cc)
-unplaced w x (Over h m xs (Meets k r)) e = tt
-unplaced w x (Over h m xs (Ends p)) e = tt
-unplaced w x (Over h m xs Leaves) e = tt
+unjudged : (w : World) (x y : Passing) → judges_in y ≡ false → Onto w x y
+unjudged w x NoPass e = tt
+unjudged w x (Over h m xs (At q)) e = λ p. absurd (cc)
+unjudged w x (Over h m xs (Meets k r)) e = tt
+unjudged w x (Over h m xs (Ends p)) e = tt
+unjudged w x (Over h m xs Leaves) e = tt
 
 itself : (w : World) (x : Passing) → Onto w x x
 itself w NoPass = tt
@@ -85,77 +119,77 @@ no_more k r stray c checked.Agrees e = omega arith
 no_more k r stray c (checked.Decide p) e = omega arith
 no_more k r stray c checked.Leave e = omega arith
 
--- ---- what has no placed pass
+-- ---- what has no judging pass
 
-fill_unplaced : (i : Intent) (c : Aided) (h : Handle) (k : ℕ) (o : Option Line) → is_placed (own_pass i c h (fill_or_start k o)) ≡ false
-fill_unplaced i c h k None = refl
-fill_unplaced i c h k (Some x) = refl
+fill_unjudged : (i : Intent) (c : Aided) (h : Handle) (k : ℕ) (o : Option Line) → judges_in (own_pass i c h (fill_or_start k o)) ≡ false
+fill_unjudged i c h k None = refl
+fill_unjudged i c h k (Some x) = refl
 
-owed_unplaced : (i : Intent) (c : Aided) (h : Handle) (owed : ℕ) → is_placed (own_pass i c h (owed_next owed)) ≡ false
-owed_unplaced i c h owed = go (owed == 0)
+owed_unjudged : (i : Intent) (c : Aided) (h : Handle) (owed : ℕ) → judges_in (own_pass i c h (owed_next owed)) ≡ false
+owed_unjudged i c h owed = go (owed == 0)
   where
-    go : (b : Bool) → is_placed (own_pass i c h (if b then own.Drop Succeeded else own.Signal owed)) ≡ false
+    go : (b : Bool) → judges_in (own_pass i c h (if b then own.Drop Succeeded else own.Signal owed)) ≡ false
     go true = refl
     go false = refl
 
-wake_unplaced : (i : Intent) (c : Aided) (h : Handle) (k owed : ℕ) (f : Found) → is_placed (own_pass i c h (wake_next i k owed f)) ≡ false
-wake_unplaced i c h k owed (found.Callers z) = go (next_line Put i.mode i.lines.items (after_line k))
+wake_unjudged : (i : Intent) (c : Aided) (h : Handle) (k owed : ℕ) (f : Found) → judges_in (own_pass i c h (wake_next i k owed f)) ≡ false
+wake_unjudged i c h k owed (found.Callers z) = go (next_line Put i.mode i.lines.items (after_line k))
   where
-    go : (o : Option ℕ) → is_placed (own_pass i c h (wake_or_signal (bit_or owed z) o)) ≡ false
-    go None = owed_unplaced i c h (bit_or owed z)
+    go : (o : Option ℕ) → judges_in (own_pass i c h (wake_or_signal (bit_or owed z) o)) ≡ false
+    go None = owed_unjudged i c h (bit_or owed z)
     go (Some j) = refl
-wake_unplaced i c h k owed f = refl
+wake_unjudged i c h k owed f = refl
 
-back_unplaced : (i : Intent) (c : Aided) (h : Handle) (b : Bool) (k : ℕ) (o : Option Reference) → is_placed (own_pass i c h (onward_or_back b k o)) ≡ false
-back_unplaced i c h true k o = refl
-back_unplaced i c h false k None = refl
-back_unplaced i c h false k (Some r) = refl
+back_unjudged : (i : Intent) (c : Aided) (h : Handle) (b : Bool) (k : ℕ) (o : Option Reference) → judges_in (own_pass i c h (onward_or_back b k o)) ≡ false
+back_unjudged i c h true k o = refl
+back_unjudged i c h false k None = refl
+back_unjudged i c h false k (Some r) = refl
 
-hold_unplaced : (r : Reference) (c : Aided) (f : Found) → is_placed (aid_pass r c (hold_next r f)) ≡ false
-hold_unplaced r c (found.Control z) = go (z.generation == r.handle.generation)
+hold_unjudged : (r : Reference) (c : Aided) (f : Found) → judges_in (aid_pass r c (hold_next r f)) ≡ false
+hold_unjudged r c (found.Control z) = go (z.generation == r.handle.generation)
   where
-    go : (b : Bool) → is_placed (aid_pass r c (if b then aid.Status else aid.Drop true None)) ≡ false
+    go : (b : Bool) → judges_in (aid_pass r c (if b then aid.Status else aid.Drop true None)) ≡ false
     go true = refl
     go false = refl
-hold_unplaced r c f = refl
+hold_unjudged r c f = refl
 
-status_unplaced : (r : Reference) (c : Aided) (f : Found) → is_placed (aid_pass r c (status_next f)) ≡ false
-status_unplaced r c (found.Status z) = go z.phase
+status_unjudged : (r : Reference) (c : Aided) (f : Found) → judges_in (aid_pass r c (status_next f)) ≡ false
+status_unjudged r c (found.Status z) = go z.phase
   where
-    go : (p : Phase) → is_placed (aid_pass r c (owner_or_first p)) ≡ false
+    go : (p : Phase) → judges_in (aid_pass r c (owner_or_first p)) ≡ false
     go Active = refl
     go Succeeded = refl
     go (Failed k) = refl
     go (Crossed k) = refl
     go Halted = refl
-status_unplaced r c f = refl
+status_unjudged r c f = refl
 
-first_unplaced : (r : Reference) (c : Aided) (p : Phase) (f : Found) → is_placed (aid_pass r c (first_next p f)) ≡ false
-first_unplaced r c p (found.First x) = refl
-first_unplaced r c p f = refl
+first_unjudged : (r : Reference) (c : Aided) (p : Phase) (f : Found) → judges_in (aid_pass r c (first_next p f)) ≡ false
+first_unjudged r c p (found.First x) = refl
+first_unjudged r c p f = refl
 
-second_unplaced : (r : Reference) (c : Aided) (p : Phase) (x : First) (f : Found) → is_placed (aid_pass r c (second_next p x f)) ≡ false
-second_unplaced r c p x (found.Second y) = refl
-second_unplaced r c p x f = refl
+second_unjudged : (r : Reference) (c : Aided) (p : Phase) (x : First) (f : Found) → judges_in (aid_pass r c (second_next p x f)) ≡ false
+second_unjudged r c p x (found.Second y) = refl
+second_unjudged r c p x f = refl
 
-load_first_unplaced : (r : Reference) (c : Aided) (f : Found) → is_placed (aid_pass r c (load_first_next f)) ≡ false
-load_first_unplaced r c (found.First x) = refl
-load_first_unplaced r c f = refl
+load_first_unjudged : (r : Reference) (c : Aided) (f : Found) → judges_in (aid_pass r c (load_first_next f)) ≡ false
+load_first_unjudged r c (found.First x) = refl
+load_first_unjudged r c f = refl
 
-release_unplaced : (r : Reference) (c : Aided) (p : Phase) (o : Option ℕ) → is_placed (aid_pass r c (after_pass (release_or_finish p o))) ≡ false
-release_unplaced r c p None = refl
-release_unplaced r c p (Some k) = refl
+release_unjudged : (r : Reference) (c : Aided) (p : Phase) (o : Option ℕ) → judges_in (aid_pass r c (after_pass (release_or_finish p o))) ≡ false
+release_unjudged r c p None = refl
+release_unjudged r c p (Some k) = refl
 
-leave_unplaced : (r : Reference) (c : Aided) (m : Mode) (xs : List Line) (o : Option Reference) (f : Found) → is_placed (aid_pass r c (leave_next m xs o f)) ≡ false
-leave_unplaced r c m xs o (found.Status z) = go z.phase
+leave_unjudged : (r : Reference) (c : Aided) (m : Mode) (xs : List Line) (o : Option Reference) (f : Found) → judges_in (aid_pass r c (leave_next m xs o f)) ≡ false
+leave_unjudged r c m xs o (found.Status z) = go z.phase
   where
-    go : (p : Phase) → is_placed (aid_pass r c (drop_or_release m xs o p)) ≡ false
+    go : (p : Phase) → judges_in (aid_pass r c (drop_or_release m xs o p)) ≡ false
     go Active = refl
-    go Succeeded = release_unplaced r c Succeeded (next_line Installed m xs 0)
-    go (Failed k) = release_unplaced r c (Failed k) (next_line Installed m xs 0)
-    go (Crossed k) = release_unplaced r c (Crossed k) (next_line Installed m xs 0)
-    go Halted = release_unplaced r c Halted (next_line Installed m xs 0)
-leave_unplaced r c m xs o f = refl
+    go Succeeded = release_unjudged r c Succeeded (next_line Installed m xs 0)
+    go (Failed k) = release_unjudged r c (Failed k) (next_line Installed m xs 0)
+    go (Crossed k) = release_unjudged r c (Crossed k) (next_line Installed m xs 0)
+    go Halted = release_unjudged r c Halted (next_line Installed m xs 0)
+leave_unjudged r c m xs o f = refl
 
 -- ---- a step
 
@@ -190,7 +224,7 @@ module _ (w : World) where
   own_turn : (i : Intent) (c : Aided) (h : Handle) (p : PassStep) (n : PassNext) → pass_next h i.mode i.lines.items p (found_at w (pass_access h i.lines.items p)) ≡ n → Onto w (Over h i.mode i.lines.items (At p)) (own_pass i c h (after_own_pass i n))
   own_turn i c h p (pass.Goes q) e = λ z. steps p refl e
   own_turn i c h p (pass.Met j r) e = tt
-  own_turn i c h p (pass.Finished q) e = unplaced w (Over h i.mode i.lines.items (At p)) (own_pass i c h (finished i q)) (finish_unplaced i c h q)
+  own_turn i c h p (pass.Finished q) e = unjudged w (Over h i.mode i.lines.items (At p)) (own_pass i c h (finished i q)) (ap judges_in (finish_ends i c h q))
   own_turn i c h p pass.Left e = λ z. absurd (cc)
 
   aid_turn : (r : Reference) (c : Aided) (p : PassStep) (n : PassNext) → pass_next r.handle c.owner.mode c.lines.items p (found_at w (pass_access r.handle c.lines.items p)) ≡ n → Onto w (Over r.handle c.owner.mode c.lines.items (At p)) (aid_pass r c (after_pass n))
@@ -225,28 +259,28 @@ module _ (w : World) where
     take_none c d g f = refl
 
     aid_onto : (c : Commit) (h : Handle) (j : ℕ) (r : Reference) (a : AidStep) → Onto w (stage_pass c.intent c.copy (stage.Own h (own.Aid j r a))) (Nexts s c (stage.Own h (own.Aid j r a)) (F c (stage.Own h (own.Aid j r a))))
-    aid_onto c h j r aid.Hold = let g = F c (stage.Own h (own.Aid j r aid.Hold)) in unplaced w NoPass (aid_pass r c.copy (hold_next r g)) (hold_unplaced r c.copy g)
-    aid_onto c h j r aid.Status = let g = F c (stage.Own h (own.Aid j r aid.Status)) in unplaced w NoPass (aid_pass r c.copy (status_next g)) (status_unplaced r c.copy g)
-    aid_onto c h j r (aid.First p) = let g = F c (stage.Own h (own.Aid j r (aid.First p))) in unplaced w NoPass (aid_pass r c.copy (first_next p g)) (first_unplaced r c.copy p g)
-    aid_onto c h j r (aid.Second p x) = let g = F c (stage.Own h (own.Aid j r (aid.Second p x))) in unplaced w NoPass (aid_pass r c.copy (second_next p x g)) (second_unplaced r c.copy p x g)
+    aid_onto c h j r aid.Hold = let g = F c (stage.Own h (own.Aid j r aid.Hold)) in unjudged w NoPass (aid_pass r c.copy (hold_next r g)) (hold_unjudged r c.copy g)
+    aid_onto c h j r aid.Status = let g = F c (stage.Own h (own.Aid j r aid.Status)) in unjudged w NoPass (aid_pass r c.copy (status_next g)) (status_unjudged r c.copy g)
+    aid_onto c h j r (aid.First p) = let g = F c (stage.Own h (own.Aid j r (aid.First p))) in unjudged w NoPass (aid_pass r c.copy (first_next p g)) (first_unjudged r c.copy p g)
+    aid_onto c h j r (aid.Second p x) = let g = F c (stage.Own h (own.Aid j r (aid.Second p x))) in unjudged w NoPass (aid_pass r c.copy (second_next p x g)) (second_unjudged r c.copy p x g)
     aid_onto c h j r (aid.Release p x) = tt
     aid_onto c h j r aid.Owner = owners NoPass r (copy_by c.copy (stage.Own h (own.Aid j r aid.Owner)) (F c (stage.Own h (own.Aid j r aid.Owner)))) (F c (stage.Own h (own.Aid j r aid.Owner)))
-    aid_onto c h j r aid.LoadFirst = let g = F c (stage.Own h (own.Aid j r aid.LoadFirst)) in unplaced w NoPass (aid_pass r c.copy (load_first_next g)) (load_first_unplaced r c.copy g)
+    aid_onto c h j r aid.LoadFirst = let g = F c (stage.Own h (own.Aid j r aid.LoadFirst)) in unjudged w NoPass (aid_pass r c.copy (load_first_next g)) (load_first_unjudged r c.copy g)
     aid_onto c h j r (aid.LoadSecond x) = seconds NoPass r (copy_by c.copy (stage.Own h (own.Aid j r (aid.LoadSecond x))) (F c (stage.Own h (own.Aid j r (aid.LoadSecond x))))) x (F c (stage.Own h (own.Aid j r (aid.LoadSecond x))))
     aid_onto c h j r (aid.Pass p) = aid_turn r c.copy p (pass_next r.handle c.copy.owner.mode c.copy.lines.items p (found_at w (pass_access r.handle c.copy.lines.items p))) refl
-    aid_onto c h j r (aid.Leave o) = let g = F c (stage.Own h (own.Aid j r (aid.Leave o))) in unplaced w NoPass (aid_pass r c.copy (leave_next c.copy.owner.mode c.copy.lines.items o g)) (leave_unplaced r c.copy c.copy.owner.mode c.copy.lines.items o g)
-    aid_onto c h j r (aid.Drop stray o) = unplaced w NoPass (own_pass c.intent c.copy h (onward_or_back c.halted j o)) (back_unplaced c.intent c.copy h c.halted j o)
+    aid_onto c h j r (aid.Leave o) = let g = F c (stage.Own h (own.Aid j r (aid.Leave o))) in unjudged w NoPass (aid_pass r c.copy (leave_next c.copy.owner.mode c.copy.lines.items o g)) (leave_unjudged r c.copy c.copy.owner.mode c.copy.lines.items o g)
+    aid_onto c h j r (aid.Drop stray o) = unjudged w NoPass (own_pass c.intent c.copy h (onward_or_back c.halted j o)) (back_unjudged c.intent c.copy h c.halted j o)
 
     own_onto : (c : Commit) (h : Handle) (step : OwnStep) → Onto w (stage_pass c.intent c.copy (stage.Own h step)) (Nexts s c (stage.Own h step) (F c (stage.Own h step)))
-    own_onto c h own.FillOwner = unplaced w NoPass (own_pass c.intent c.copy h (fill_next c.intent.lines.items 0)) (fill_unplaced c.intent c.copy h 0 (slice_get c.intent.lines.items 0))
+    own_onto c h own.FillOwner = unjudged w NoPass (own_pass c.intent c.copy h (fill_next c.intent.lines.items 0)) (fill_unjudged c.intent c.copy h 0 (slice_get c.intent.lines.items 0))
     own_onto c h (own.FillFirst j) = tt
-    own_onto c h (own.FillSecond j) = unplaced w NoPass (own_pass c.intent c.copy h (fill_next c.intent.lines.items (after_line j))) (fill_unplaced c.intent c.copy h (after_line j) (slice_get c.intent.lines.items (after_line j)))
+    own_onto c h (own.FillSecond j) = unjudged w NoPass (own_pass c.intent c.copy h (fill_next c.intent.lines.items (after_line j))) (fill_unjudged c.intent c.copy h (after_line j) (slice_get c.intent.lines.items (after_line j)))
     own_onto c h own.Start = λ p. enters 0 refl
     own_onto c h own.Abandon = tt
     own_onto c h (own.Pass p) = own_turn c.intent c.copy h p (pass_next h c.intent.mode c.intent.lines.items p (found_at w (pass_access h c.intent.lines.items p))) refl
     own_onto c h (own.Aid j r a) = aid_onto c h j r a
-    own_onto c h (own.Wake j owed) = let g = F c (stage.Own h (own.Wake j owed)) in unplaced w NoPass (own_pass c.intent c.copy h (wake_next c.intent j owed g)) (wake_unplaced c.intent c.copy h j owed g)
-    own_onto c h (own.Signal owed) = unplaced w NoPass (own_pass c.intent c.copy h (owed_next (bit_and owed (owed - 1)))) (owed_unplaced c.intent c.copy h (bit_and owed (owed - 1)))
+    own_onto c h (own.Wake j owed) = let g = F c (stage.Own h (own.Wake j owed)) in unjudged w NoPass (own_pass c.intent c.copy h (wake_next c.intent j owed g)) (wake_unjudged c.intent c.copy h j owed g)
+    own_onto c h (own.Signal owed) = unjudged w NoPass (own_pass c.intent c.copy h (owed_next (bit_and owed (owed - 1)))) (owed_unjudged c.intent c.copy h (bit_and owed (owed - 1)))
     own_onto c h (own.Drop p) = tt
 
     stage_onto : (c : Commit) (x : Stage) → Onto w (stage_pass c.intent c.copy x) (Nexts s c x (F c x))
@@ -284,9 +318,9 @@ module _ (w : World) where
         go (Install k) = λ z. absurd (cc)
         go (Check k) = λ z. absurd (cc)
         go (CheckHold k o) = λ z. absurd (cc)
-        go (CheckStatus k o) = λ z. halts k o false (checked.Decide Halted) (CheckStatus k o) refl refl refl (omega arith)
-        go (CheckFirst k o q) = λ z. halts k o false (checked.Decide Halted) (CheckFirst k o q) refl refl refl (omega arith)
-        go (CheckDrop k o stray n) = λ z. halts k o stray (checked.Decide Halted) (CheckDrop k o stray n) refl refl refl (no_more k o stray (checked.Decide Halted) n refl)
+        go (CheckStatus k o) = λ z. halts k o false (checked.Decide Halted) (CheckStatus k o) refl refl refl (omega arith) (inl refl)
+        go (CheckFirst k o q) = λ z. halts k o false (checked.Decide Halted) (CheckFirst k o q) refl refl refl (omega arith) (inl refl)
+        go (CheckDrop k o stray n) = λ z. halts k o stray (checked.Decide Halted) (CheckDrop k o stray n) refl refl refl (no_more k o stray (checked.Decide Halted) n refl) (inl refl)
         go (Decide q) = λ z. absurd (cc)
         go (Release k q) = λ z. absurd (cc)
     own_halts i c h (own.Aid j r aid.Hold) = λ z. absurd (cc)
@@ -303,9 +337,9 @@ module _ (w : World) where
         go (Install k) = tt
         go (Check k) = tt
         go (CheckHold k o) = tt
-        go (CheckStatus k o) = λ z. halts k o false checked.Leave (CheckStatus k o) refl refl refl (omega arith)
-        go (CheckFirst k o q) = λ z. halts k o false checked.Leave (CheckFirst k o q) refl refl refl (omega arith)
-        go (CheckDrop k o stray n) = λ z. halts k o stray checked.Leave (CheckDrop k o stray n) refl refl refl (no_more k o stray checked.Leave n refl)
+        go (CheckStatus k o) = λ z. halts k o false checked.Leave (CheckStatus k o) refl refl refl (omega arith) (inr refl)
+        go (CheckFirst k o q) = λ z. halts k o false checked.Leave (CheckFirst k o q) refl refl refl (omega arith) (inr refl)
+        go (CheckDrop k o stray n) = λ z. halts k o stray checked.Leave (CheckDrop k o stray n) refl refl refl (no_more k o stray checked.Leave n refl) (inr refl)
         go (Decide q) = tt
         go (Release k q) = λ z. absurd (cc)
     own_halts i c h (own.Aid j r (aid.Leave o)) = tt
@@ -337,7 +371,7 @@ module _ (w : World) where
     begun_onto t = go (is_idle s.work) refl
       where
         go : (b : Bool) → is_idle s.work ≡ b → Onto w (stand s).pass (stand (if b then begun_idle s t else s)).pass
-        go true e = unplaced w (stand s).pass (stand (begun_idle s t)).pass (ap is_placed (begun_fresh s t e).0)
+        go true e = unjudged w (stand s).pass (stand (begun_idle s t)).pass (ap judges_in (begun_fresh s t e).0)
         go false e = itself w (stand s).pass
 
 -- ---- an event
