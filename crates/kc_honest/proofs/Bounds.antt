@@ -1,9 +1,7 @@
 -- What stands at a place, between what was known and what the history makes; and that a settled location stays as it is below a place.
-use Rattle.std.proofs.Common.{arith, ◌≡◌, ◌≤◌, ℕ, ◌++◌, List, [], ◌∷◌, length, Some, refl, sym, ap, subst, ◌∙◌, not}
+use Rattle.std.proofs.Common.{arith, ◌≡◌, ◌≤◌, ℕ, ◌++◌, List, [], ◌∷◌, length, Some, refl, ap, not}
 use Rattle.std.specs.List.{filter}
 use Rattle.std.proofs.lemmas.List.Filters.{length-filter_both}
-use Rattle.kc_model.specs.declared.footprint.Seen.{Seen}
-use Rattle.kc_model.specs.declared.plain_store.Cell.{Cell}
 use Rattle.kc_model.specs.Store.{Store}
 use Rattle.std.specs.Prelude.{slice_get}
 use Rattle.kc_words.specs.declared.words.Mode.{Mode}
@@ -11,7 +9,7 @@ use Rattle.kc_steps.specs.declared.line.Line.{Line}
 use Rattle.kc_steps.specs.declared.task.Event.{Event}
 use Rattle.kc_machine.specs.Machine.{Opening}
 use Rattle.kc_machine.specs.Schedules.{IsSchedule}
-use Rattle.kc_claims.specs.Histories.{History, putting, cell_of, IsKnown}
+use Rattle.kc_claims.specs.Histories.{History, putting, cell_of}
 use Rattle.kc_claims.specs.Traces.{trace, first_store, IsHonest}
 use Rattle.kc_claims.proofs.ByPlace.{low}
 use Rattle.kc_traces.proofs.Known.{versions_rise}
@@ -19,8 +17,8 @@ use Rattle.kc_histories.specs.Insertions.{IsBelowPlace}
 use Rattle.kc_histories.proofs.Filters.{filter_twice}
 use Rattle.kc_histories.proofs.Growing.{grows_once}
 use Rattle.kc_histories.proofs.Growth.{version_is, bounded, same_at}
-use Rattle.kc_histories.proofs.Insertions.{puts, at_new, grows_same}
-use Rattle.kc_histories.proofs.Places.{below, begun_below}
+use Rattle.kc_histories.proofs.Insertions.{puts}
+use Rattle.kc_histories.proofs.Places.{begun_below}
 use Rattle.kc_histories.proofs.Begun.{owners_began_before}
 use Rattle.kc_histories.specs.Later.{DecidesSoon}
 use Rattle.kc_resolving.proofs.Growing.{known}
@@ -41,17 +39,6 @@ module _ (o : Opening) (es : List Event) where
       let c = ap length (filter_twice (puts l) (low p) h) in
       let d = length-filter_both (low p) (λ x. not (low p x)) (λ x. refl) (putting l h) in
       omega arith
-
-  -- all places are below the number of events
-  at_now : (l : ℕ) → stands_at o es (length es) l ≡ ends_at o es l
-  at_now l = at_new s h (length es) l (λ y c b. let a = below o es y c in absurd (omega arith)) (λ y c i. let a = below o es y c in absurd (omega arith))
-
-  module _ (r : Seen) (k : IsKnown s h r) where
-    pub known_low : r.version ≤ (ends_at o es r.loc.0).version
-    known_low = subst (λ (c : Cell). r.version ≤ c.version) (at_now r.loc.0) (bounded s h h (length es) r (below o es) (grows_same h) k)
-
-    pub known_end : (ends_at o es r.loc.0).version ≡ r.version → ends_at o es r.loc.0 ≡ cell_of r
-    known_end e = sym (at_now r.loc.0) ∙ same_at s h h (length es) r (below o es) (grows_same h) k (ap (λ (c : Cell). c.version) (at_now r.loc.0) ∙ e)
 
 -- ---- a line of a pass that may decide
 

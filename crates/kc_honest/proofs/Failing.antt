@@ -1,8 +1,7 @@
 -- A pass fails by a line that is past.
-use Rattle.std.proofs.Common.{arith, ◌≡◌, ◌<◌, ◌≤◌, ◌⊎◌, inl, inr, ℕ, ◌++◌, ◌==◌, ◌&&◌, Bool, true, false, List, [], ◌∷◌, Option, None, Some, refl, sym, ap, subst, ◌∙◌, if◌then◌else◌}
+use Rattle.std.proofs.Common.{arith, ◌≡◌, ◌<◌, ◌⊎◌, inl, inr, ℕ, ◌++◌, ◌==◌, ◌&&◌, Bool, true, false, List, [], ◌∷◌, Option, None, Some, refl, sym, ap, subst, ◌∙◌, if◌then◌else◌}
 use Rattle.std.specs.Prelude.{slice_get}
 use Rattle.std.specs.Option.{is_some}
-use Rattle.std.proofs.lemmas.Bool.{cases_lt}
 use borrow.Author.Tests.{eqb-false, eq-eqb}
 use Rattle.kc_model.specs.declared.footprint.Seen.{Seen}
 use Rattle.kc_model.specs.declared.plain_store.Cell.{Cell}
@@ -29,6 +28,7 @@ use Rattle.kc_machine.specs.Machine.{State, Opening, found_at, run}
 use Rattle.kc_machine.specs.Schedules.{IsSchedule}
 use Rattle.kc_effects.specs.Stands.{Over, At}
 use Rattle.kc_claims.specs.Claims.{stands_for}
+use Rattle.kc_claims.specs.Histories.{cell_of}
 use Rattle.kc_claims.specs.Traces.{IsHonest, is_placed}
 use Rattle.kc_traces.proofs.Joins.{run-append}
 use Rattle.kc_passes.specs.Passed.{IsActive}
@@ -36,12 +36,14 @@ use Rattle.kc_histories.specs.Later.{DecidesSoon}
 use Rattle.kc_histories.specs.Places.{pass_of, place_of}
 use Rattle.kc_histories.proofs.Places.{has_place}
 use Rattle.kc_resolving.proofs.Before.{level, active_back}
+use Rattle.kc_histories.proofs.Filters.{found as found_at_index}
+use Rattle.kc_resolving.proofs.ReadLines.{pass_stands_or_past}
 use Rattle.kc_resolving.proofs.Resolving.{words_resolve}
 use Rattle.kc_resolving.proofs.Ways.{judges, Way, stays, steps, enters, halts}
 use Rattle.kc_honest.specs.Honest.{ends_at, ResolvesBetween}
 use Rattle.kc_honest.specs.Causes.{IsPast, fails_at, PassesFailByPastLines}
-use Rattle.kc_honest.proofs.Known.{OwnerAsked, owner_asked, line_within, line_known}
-use Rattle.kc_honest.proofs.Bounds.{known_low, known_end, line_low, versions_on}
+use Rattle.kc_honest.proofs.Known.{OwnerAsked, owner_asked, line_within}
+use Rattle.kc_honest.proofs.Bounds.{line_low, versions_on}
 use Rattle.kc_honest.proofs.Came.{way_to}
 use Rattle.kc_honest.proofs.Stood.{stood}
 
@@ -103,22 +105,17 @@ module _ (o : Opening) (es : List Event) (w : IsSchedule o es) (hon : IsHonest o
 
       -- a line that its location's word doesn't fit is past
       unfit_past : (i : ℕ) (x : Line) (v y : ℕ) → slice_get xs i ≡ Some x → m.world.word x.seen.loc.0 ≡ Plain v y → fits v y x ≡ false → IsPast o es x.seen
-      unfit_past i x v y g r f = go (cases_lt x.seen.version (ends_at o es x.seen.loc.0).version)
+      unfit_past i x v y g r f = go (pass_stands_or_past o es w hon k h mode xs x lk (At t, over) act (found_at_index xs i x g))
         where
           ends : ◌≡◌ {A = Cell} (record { version = v; value = y }) (ends_at o es x.seen.loc.0)
           ends = ap (stands_for m.world) (sym r) ∙ words_resolve o es w x.seen.loc.0 (line_within o es w h mode xs asks i x g)
 
-          fit : (v y : ℕ) → v ≡ x.seen.version → y ≡ x.seen.value → fits v y x ≡ true
-          fit v y a b = ap (λ z. z && (y == x.seen.value)) (eq-eqb v x.seen.version a) ∙ eq-eqb y x.seen.value b
+          fit : v ≡ x.seen.version → y ≡ x.seen.value → fits v y x ≡ true
+          fit a b = ap (λ z. z && (y == x.seen.value)) (eq-eqb v x.seen.version a) ∙ eq-eqb y x.seen.value b
 
-          go : (x.seen.version < (ends_at o es x.seen.loc.0).version) ⊎ ((ends_at o es x.seen.loc.0).version ≤ x.seen.version) → IsPast o es x.seen
-          go (inl l) = l
-          go (inr l) =
-              let known = line_known o es w h mode xs asks i x g hon in
-              let low = known_low o es x.seen known in
-              let same = ends ∙ known_end o es x.seen known (omega arith) in
-              let z : true ≡ false = sym (fit v y (ap (λ (c : Cell). c.version) same) (ap (λ (c : Cell). c.value) same)) ∙ f in
-              absurd (cc)
+          go : (ends_at o es x.seen.loc.0 ≡ cell_of x.seen) ⊎ IsPast o es x.seen → IsPast o es x.seen
+          go (inl s) = let z : true ≡ false = sym (fit (ap (λ (c : Cell). c.version) (ends ∙ s)) (ap (λ (c : Cell). c.value) (ends ∙ s))) ∙ f in absurd (cc)
+          go (inr l) = l
 
     by_install : (i : ℕ) → pass_of o es k ≡ Over h mode xs (At (Install i)) → (q : PassStep) → pass_next h mode xs (Install i) (found_at m.world (pass_access h xs (Install i))) ≡ pass.Goes q → Fails q
     by_install i over q = at (slice_get xs i) refl

@@ -1,5 +1,5 @@
 -- What was known when a task began, and what the lines of a pass are.
-use Rattle.std.proofs.Common.{arith, ◌≡◌, ◌<◌, ℕ, zero, suc, true, false, List, [], ◌∷◌, map, Option, None, Some, refl, sym, ap, subst, ◌∙◌}
+use Rattle.std.proofs.Common.{Bool, arith, ◌≡◌, ◌<◌, ℕ, zero, suc, true, false, List, [], ◌∷◌, map, Option, None, Some, refl, sym, ap, subst, ◌∙◌}
 use Rattle.std.specs.Prelude.{slice_get}
 use Rattle.std.specs.Option.{is_some}
 use Rattle.kc_model.specs.declared.footprint.Footprint.{Footprint}
@@ -19,33 +19,30 @@ use Rattle.kc_machine.specs.Works.{Work}
 use Rattle.kc_machine.specs.Works as work
 use Rattle.kc_machine.specs.declared.seat.Seat.{Seat}
 use Rattle.kc_machine.specs.Seats.{is_idle}
-use Rattle.kc_machine.specs.Machine.{World, Opening, run}
+use Rattle.kc_machine.specs.Machine.{Opening, run}
 use Rattle.kc_machine.specs.Schedules.{IsWellMadeTask, IsSchedule}
-use Rattle.kc_effects.specs.Stands.{Own, NoOwn, Owns, Runs, Waits, Over, Turn, stand, works}
-use Rattle.kc_effects.specs.Holds.{Proper, own_hold}
-use Rattle.kc_pool.specs.Owners.{OwnsLife, Undecided, is_filling}
+use Rattle.kc_effects.specs.Stands.{Over, Turn}
+use Rattle.kc_pool.specs.Owners.{OwnsLife, Follows, is_filling}
 use Rattle.kc_pool.specs.Filled
-use Rattle.kc_pool.specs.Started.{listed, line_of_words}
-use Rattle.kc_pool.proofs.LifeLaws.{active_owned}
 use Rattle.kc_claims.specs.Histories.{Grows, IsKnown}
 use Rattle.kc_claims.specs.Traces.{Moment, trace, first_store, IsHonest}
 use Rattle.kc_traces.specs.Entries.{by, own_intent}
 use Rattle.kc_traces.proofs.Answers.{answers_when_done}
-use Rattle.kc_traces.proofs.Entries.{lists_again}
-use Rattle.kc_traces.proofs.Known.{known_stays}
 use Rattle.kc_traces.proofs.Moments.{begun_moment}
 use Rattle.kc_traces.proofs.Onward.{IsIntentOf, Left}
 use Rattle.kc_traces.proofs.Others.{run_shape}
-use Rattle.kc_passes.proofs.Always.{facts_after}
-use Rattle.kc_passes.proofs.Targets.{Target, own_target}
-use Rattle.kc_pool.proofs.Shapes
 use Rattle.kc_histories.specs.Decisions.{own_of}
 use Rattle.kc_histories.specs.Places.{pass_of}
 use Rattle.kc_histories.proofs.Knew.{Works, at_work, knew_its_reads}
 use Rattle.kc_histories.proofs.Successes.{kept}
 use Rattle.kc_histories.proofs.Filters.{found}
-use Rattle.kc_resolving.proofs.Before.{target}
 use Rattle.kc_resolving.proofs.Growing.{grow}
+use Rattle.kc_resolving.proofs.ReadLines.{intent_of_task}
+use Rattle.kc_passes.proofs.Words.{over_owners}
+use Rattle.kc_pool.proofs.Filled.{task_held}
+use Rattle.kc_pool.proofs.LifeLaws.{statuses_follow}
+use Rattle.kc_steps.specs.Commits.{intent_of}
+use Rattle.kc_words.specs.declared.words.Status.{Status}
 
 -- ---- what an owner is asked
 
@@ -90,11 +87,6 @@ module _ (o : Opening) (es : List Event) (w : IsSchedule o es) (k : ℕ) (l : k 
 
 -- ---- the lines of a pass over what is Active are those of its owner's task
 
-same_targets : (w : World) (h : Handle) (m n : Mode) (xs ys : List Line) → Target w h m xs → Target w h n ys → (m ≡ n) × (xs ≡ ys)
-same_targets w h m n xs ys a b =
-    let f = line_of_words w h.descriptor in
-    (sym a.says ∙ b.says, sym (lists_again f xs a.line) ∙ ap (listed f) (sym a.lines ∙ b.lines) ∙ lists_again f ys b.line)
-
 -- a line's read is one of the footprint
 line_read : (ps : List Put) (rs : List Seen) (i : ℕ) (x : Line) → slice_get (map (line_of ps) rs) i ≡ Some x → slice_get rs i ≡ Some x.seen
 line_read ps [] i x e = absurd (cc)
@@ -106,46 +98,38 @@ pub record OwnerAsked (o : Opening) (es : List Event) (h : Handle) (mode : Mode)
   pub within : owner < o.callers
   pub owns : OwnsLife (run o es) owner h.descriptor h.generation
   pub begun : is_filling (own_of o es owner) ≡ false
-  pub intent : own_intent (own_of o es owner) ≡ Some (record { mode = mode; lines = record { items = xs } })
+  pub intent : own_intent (own_of o es owner) ≡ Some (intent_of mode xs)
   pub footprint : Footprint
   pub asks : ((trace o es).shadows owner).task ≡ Some (task.Commit footprint mode)
   pub lines : xs ≡ lines_of footprint
   pub made : IsWellMadeTask o.locations (task.Commit footprint mode)
 
 module _ (o : Opening) (es : List Event) (w : IsSchedule o es) where
-  same_life : (d g d' g' : ℕ) → Proper d g ≡ Proper d' g' → ◌≡◌ {A = Handle} (record { descriptor = d; generation = g }) (record { descriptor = d'; generation = g' })
-  same_life d g d' g' q = let x : d ≡ d' = cc in let y : g ≡ g' = cc in (λ i. record { descriptor = x i; generation = y i })
-
-  module _ (j : ℕ) (h : Handle) (mode : Mode) (xs : List Line) (t : Turn) (l : j < o.callers) (q : pass_of o es j ≡ Over h mode xs t) (k : ℕ) (low : k < (run o es).callers) (owns : OwnsLife (run o es) k h.descriptor h.generation) where
-    within : k < o.callers
-    within = let c = (run_shape o es).2 in omega arith
-
-    by_intent : (e : Handle) (i : Intent) (x : Own) → own_of o es k ≡ x → Filled.task x ≡ Some (e, i) → own_intent x ≡ Some i → is_filling x ≡ false → own_hold x ≡ Proper e.descriptor e.generation → Shapes.works x ≡ true → OwnerAsked o es h mode xs
-    by_intent e i x y holds has begun hold works =
-        let tar = own_target (run o es).callers (run o es).descriptors (run o es).world (λ k. stand ((run o es).seats k)) (facts_after o es).copies k low e i (ap Shapes.works y ∙ works) (ap Filled.task y ∙ holds) in
-        let z : e ≡ h = same_life e.descriptor e.generation h.descriptor h.generation (sym hold ∙ ap own_hold (sym y) ∙ owns) in
-        let b = same_targets (run o es).world h mode i.mode xs i.lines.items (target o es j h mode xs t l q) (subst (λ g. Target (run o es).world g i.mode i.lines.items) z tar) in
-        let c = asked_by o es w k within i (ap own_intent y ∙ has) in
-        record {
-          owner = k;
-          within = within;
-          owns = owns;
-          begun = ap is_filling y ∙ begun;
-          intent = ap own_intent y ∙ has ∙ (λ n. Some (record { mode = sym b.0 n; lines = record { items = sym b.1 n } }));
-          footprint = c.footprint;
-          asks = c.asks ∙ ap (λ n. Some (task.Commit c.footprint n)) (sym b.0);
-          lines = b.1 ∙ c.lines;
-          made = c.made;
-        }
-
-    asked_own : (x : Own) → own_of o es k ≡ x → Undecided x (pass_of o es k) → OwnerAsked o es h mode xs
-    asked_own NoOwn y u = absurd u
-    asked_own (Owns e i step) y u = absurd u
-    asked_own (Runs e i) y u = by_intent e i (Runs e i) y refl refl refl refl refl
-    asked_own (Waits e i n) y u = by_intent e i (Waits e i n) y refl refl refl refl refl
-
   pub owner_asked : (j : ℕ) (h : Handle) (mode : Mode) (xs : List Line) (t : Turn) → j < o.callers → pass_of o es j ≡ Over h mode xs t → (run o es).world.status h.descriptor ≡ status h.generation Active → OwnerAsked o es h mode xs
-  owner_asked j h mode xs t l q act = let a = active_owned o es h.descriptor h.generation act in asked_own j h mode xs t l q a.0 a.1 a.2 (own_of o es a.0) refl a.3
+  owner_asked j h mode xs t l q act = go (over_owners o es j h mode xs (let c = (run_shape o es).2 in omega arith) (t, q) act)
+    where
+      at : (k : ℕ) (low : k < (run o es).callers) (within : k < o.callers) → Filled.task (own_of o es k) ≡ Some (h, intent_of mode xs) → own_intent (own_of o es k) ≡ Some (intent_of mode xs) → OwnerAsked o es h mode xs
+      at k low within y intent =
+          let c = asked_by o es w k within (intent_of mode xs) intent in
+          let owns = task_held (own_of o es k) h (intent_of mode xs) y in
+          record {
+            owner = k;
+            within = within;
+            owns = owns;
+            begun = started (is_filling (own_of o es k)) (statuses_follow o es k h.descriptor h.generation low owns);
+            intent = intent;
+            footprint = c.footprint;
+            asks = c.asks;
+            lines = c.lines;
+            made = c.made;
+          }
+        where
+          started : (b : Bool) → Follows b ((run o es).world.status h.descriptor).generation h.generation → b ≡ false
+          started true f = let s = ap (λ (s : Status). s.generation) act in absurd (omega arith)
+          started false f = refl
+
+      go : (k : ℕ) × (k < (run o es).callers) × (Filled.task (own_of o es k) ≡ Some (h, intent_of mode xs)) → OwnerAsked o es h mode xs
+      go (k, low, y) = at k low (let c = (run_shape o es).2 in omega arith) y (intent_of_task o es w (own_of o es k) h (intent_of mode xs) y)
 
   module _ (h : Handle) (mode : Mode) (xs : List Line) (a : OwnerAsked o es h mode xs) where
     abbrev pub begun : Moment
@@ -162,7 +146,4 @@ module _ (o : Opening) (es : List Event) (w : IsSchedule o es) where
       line_within = a.made.1 x.seen (found a.footprint.reads.items i x.seen line_is)
 
       pub line_known_then : IsHonest o es → IsKnown (first_store o) begun.history x.seen
-      line_known_then honest = knew_its_reads o es w honest a.owner (record { mode = mode; lines = record { items = xs } }) x a.within a.intent (found xs i x e)
-
-      pub line_known : IsHonest o es → IsKnown (first_store o) (trace o es).history x.seen
-      line_known honest = known_stays (first_store o) begun.history (trace o es).history x.seen begun_grows (line_known_then honest)
+      line_known_then honest = knew_its_reads o es w honest a.owner (intent_of mode xs) x a.within a.intent (found xs i x e)

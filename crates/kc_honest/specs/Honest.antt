@@ -1,5 +1,5 @@
 -- What passes, checks and answers know of the history in an honest schedule.
-use Rattle.std.specs.Prelude.{◌≡◌, ◌≢◌, ◌<◌, ◌≤◌, ◌⊎◌, ℕ, List, Some, slice_get, false}
+use Rattle.std.specs.Prelude.{◌≡◌, ◌≢◌, ◌<◌, ◌≤◌, ◌⊎◌, ℕ, List, Some, slice_get, Contains, true, false}
 use Rattle.kc_model.specs.declared.plain_store.Cell.{Cell}
 use Rattle.kc_model.specs.declared.word.Word.TheVariants.{Ref}
 use Rattle.kc_words.specs.declared.words.Reference.{Reference}
@@ -25,6 +25,10 @@ ends_at o es l = ending (first_store o) (trace o es).history l
 
 abbrev pub stands_at : Opening → List Event → ℕ → ℕ → Cell
 stands_at o es p l = at_place (first_store o) (trace o es).history p l
+
+-- each line that a pass which may decide installs is what the history makes, and stands at its place
+abbrev pub InstalledLinesStand : Opening → List Event → Type 0
+InstalledLinesStand o es = (k p : ℕ) (m : Mode) (xs : List Line) → DecidesSoon o es k p m xs → (x : Line) → Contains xs x → is_installed m x ≡ true → (ends_at o es x.seen.loc.0 ≡ cell_of x.seen) × (stands_at o es p x.seen.loc.0 ≡ cell_of x.seen)
 
 -- each line that a pass has checked, as long as it may decide, stands at its place
 abbrev pub CheckedLinesStood : Opening → List Event → Type 0

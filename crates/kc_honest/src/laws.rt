@@ -7,7 +7,13 @@ ghost use Rattle.kc_machine.specs.Schedules.{IsSchedule};
 ghost use Rattle.kc_claims.specs.Claims.{FailuresHaveACause, HistoryIsLegal};
 ghost use Rattle.kc_claims.specs.Traces.{IsHonest};
 ghost use Rattle.kc_honest.specs.Causes.{OwnersFailByPastReads, PassesFailByPastLines, ToldOfPastReads};
-ghost use Rattle.kc_honest.specs.Honest.{CheckedLinesStood, CheckedReferencesStood};
+ghost use Rattle.kc_honest.specs.Honest.{CheckedLinesStood, CheckedReferencesStood, InstalledLinesStand};
+
+/// Each line that a pass which may still decide installs is what the history makes, and the state of its location at the
+/// pass's place.
+pub fn installed_lines_stand()
+    ensures { (o : Opening) (es : List Event) → IsSchedule o es → InstalledLinesStand o es }
+{}
 
 /// A pass that may still decide has met at its checks what resolves between the state of the location at the pass's place and
 /// what the history makes there, unless it is Active and stands there. So in an honest schedule each line that it has checked

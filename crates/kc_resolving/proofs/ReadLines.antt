@@ -71,7 +71,7 @@ module _ (o : Opening) (es : List Event) (w : IsSchedule o es) where
       → (ending s h x.seen.loc.0 ≡ cell_of x.seen) ⊎ (x.seen.version < (ending s h x.seen.loc.0).version)
   read_stands_or_past f k i x l q c = stands_or_past k x.seen (knew_its_reads o es w f k i x l q c)
 
-  intent_of_task : (x : Own) (g : Handle) (i : Intent) → task x ≡ Some (g, i) → own_intent x ≡ Some i
+  pub intent_of_task : (x : Own) (g : Handle) (i : Intent) → task x ≡ Some (g, i) → own_intent x ≡ Some i
   intent_of_task NoOwn g i q = absurd (cc)
   intent_of_task (Owns f j step) g i q = ap (option_map (λ p. p.1)) q
   intent_of_task (Runs f j) g i q = ap (option_map (λ p. p.1)) q
