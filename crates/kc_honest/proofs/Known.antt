@@ -41,7 +41,7 @@ use Rattle.kc_resolving.proofs.ReadLines.{intent_of_task}
 use Rattle.kc_passes.proofs.Words.{over_owners}
 use Rattle.kc_pool.proofs.Filled.{task_held}
 use Rattle.kc_pool.proofs.LifeLaws.{statuses_follow}
-use Rattle.kc_steps.specs.Commits.{intent_of}
+use Rattle.kc_commits.specs.Commits.{intent_of}
 use Rattle.kc_words.specs.declared.words.Status.{Status}
 
 -- ---- what an owner is asked
