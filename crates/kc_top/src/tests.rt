@@ -234,7 +234,11 @@ fn what_is_no_script_has_its_fault_and_writes_nothing(rt: HostRuntime) -> Result
         ("kcas 1\nloc x 5\nthread\nget y\n", 4, Why::UnknownName),
         ("kcas 1\nloc x 4294967296\n", 2, Why::BadNumber),
         ("kcas 1\nloc x 1\nget x\n", 3, Why::StrayWord),
-        ("kcas 1\nloc x 1\nthread\natomic\nget x\n", 4, Why::UnclosedBlock),
+        (
+            "kcas 1\nloc x 1\nthread\natomic\nget x\n",
+            4,
+            Why::UnclosedBlock,
+        ),
     ];
     for (script, line, why) in rows {
         let (status, written) = run(&rt, rt.alloc(), script.as_bytes())?;
