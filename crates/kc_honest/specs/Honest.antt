@@ -1,4 +1,4 @@
--- What passes, checks and answers know of the history in an honest schedule.
+-- What stands at a place, and what a pass knows of it.
 use Rattle.std.specs.Prelude.{◌≡◌, ◌≢◌, ◌<◌, ◌≤◌, ◌⊎◌, ℕ, List, Some, slice_get, Contains, true, false}
 use Rattle.kc_model.specs.declared.plain_store.Cell.{Cell}
 use Rattle.kc_model.specs.declared.word.Word.TheVariants.{Ref}

@@ -1,4 +1,4 @@
-//! What holds after every honest schedule of well-made tasks. An empty body: the contract is the law.
+//! What holds after every schedule of well-made tasks, and what only after honest ones. An empty body: the contract is the law.
 
 ghost use Rattle.std.specs.Prelude.{List};
 ghost use Rattle.kc_steps.specs.declared.task.Event.{Event};

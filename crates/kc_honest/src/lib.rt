@@ -1,4 +1,4 @@
-//! That failures have a cause, and that the history is legal, where each commit read what was known.
+//! That the history is legal and failures have a cause, where each commit read what was known when it began.
 #![tactic(auto)]
 
 mod laws;
