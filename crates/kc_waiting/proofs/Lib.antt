@@ -1,3 +1,5 @@
 pub mod Bits
 pub mod Owns
 pub mod Hearing
+pub mod Wakes
+pub mod Covering
