@@ -41,8 +41,9 @@ use Rattle.kc_seats.proofs.FormedSteps.{formed_always}
 use Rattle.kc_seats.proofs.SeatedSteps.{seats_stay}
 use Rattle.kc_seats.proofs.MadeSteps.{intents_made}
 use Rattle.kc_seats.specs.Made.{IntentIsMade}
-use Rattle.kc_effects.specs.Stands.{Own, NoOwn, Owns, Runs, Waits, stand}
+use Rattle.kc_effects.specs.Stands.{Own, NoOwn, Owns, Runs, Waits, Passing, stand}
 use Rattle.kc_effects.specs.Holds.{Proper, own_hold}
+use Rattle.kc_passes.proofs.Holders.{same_handle}
 use Rattle.kc_effects.proofs.PoolLaws.{holds_kept}
 use Rattle.kc_pool.specs.Owners.{Follows, is_filling, OwnsLife, Undecided, phase_read}
 use Rattle.kc_pool.proofs.LifeLaws.{statuses_follow, active_owned, owners_differ, phase_known}
@@ -57,7 +58,7 @@ use Rattle.kc_ranges.proofs.Runs.{seats_in}
 use Rattle.kc_histories.specs.Decisions.{Decision}
 use Rattle.kc_histories.specs.Insertions.{put_by}
 use Rattle.kc_histories.proofs.Decisions.{history_moves}
-use Rattle.kc_histories.proofs.Growing.{line_that_puts}
+use Rattle.kc_histories.proofs.Growing.{LineThatPuts, line_that_puts}
 use Rattle.kc_resolving.proofs.Changes.{Changes, other, filled, started, installed, released, decided, event_changes}
 use Rattle.kc_resolving.proofs.Before.{got}
 use Rattle.kc_resolving.proofs.Resolving.{decision_makes, decision_finds}
@@ -65,7 +66,7 @@ use Rattle.kc_waiting.specs.Awaiting.{IsRegistered, version_at, at_version, Hear
 use Rattle.kc_waiting.proofs.Bits.{is_set, joins_l, joins_r, cleared_else, signalled_or_owed}
 use Rattle.kc_waiting.proofs.Owns.{step_own, stage_own, work_own, own_is, InPass, runs, waits, WakesKept, none, same, goes, ends}
 use Rattle.kc_waiting.proofs.Hearing.{Hearing, still, sets, clears, unsignals, wakes, signals, IsDeaf, event_hears}
-use Rattle.kc_waiting.proofs.Wakes.{behind, still_behind, so_puts, finished_owes, wake_owes, no_bit_of_none, next_owed, wake_owed, pass_lines, pass_owes_none, pass_succeeded, succeeded_pass}
+use Rattle.kc_waiting.proofs.Wakes.{behind, still_behind, so_puts, finished_owes, wake_owes, no_bit_of_none, next_owed, wake_owed, pass_lines, pass_owes_none, pass_succeeded, succeeded_pass, reads_line}
 
 -- ---- by one event of a seat that is there
 
@@ -337,7 +338,7 @@ module _ (o : Opening) (es : List Event) (e : Event) (w : IsSchedule o es) (insi
   -- ---- what is put has its wake to come
 
   module _ (x : Placed) (d : Decision o es e x) where
-    intent : Intent
+    abbrev intent : Intent
     intent = record { mode = x.mode; lines = record { items = d.lines } }
 
     abbrev owner : ℕ
@@ -347,7 +348,112 @@ module _ (o : Opening) (es : List Event) (e : Event) (w : IsSchedule o es) (insi
     owned = (stand (m.seats owner)).own
 
     owns_it : InPass d.handle intent owned
-    owns_it = ?
+    owns_it =
+        let a = active_owned o es d.handle.descriptor d.handle.generation d.was in
+        let same = owners_differ o es a.0 owner d.handle.descriptor d.handle.generation d.handle.generation a.1 (let l = d.caller in let c = callers in omega arith) a.2 d.owns in
+        go owned (stand (m.seats owner)).pass (subst (λ k. Undecided (stand (m.seats k)).own (stand (m.seats k)).pass) same a.3) d.owns d.intent
+      where
+        go : (a : Own) (p : Passing) → Undecided a p → own_hold a ≡ Proper d.handle.descriptor d.handle.generation → own_intent a ≡ Some intent → InPass d.handle intent a
+        go NoOwn p u q i = absurd u
+        go (Owns h y step) p u q i = absurd u
+        go (Runs h y) p u q i =
+            let z = same_handle h d.handle.descriptor d.handle.generation q in
+            let t : y ≡ intent = cc in
+            subst (λ h. InPass d.handle intent (Runs h y)) (sym z) (subst (λ y. InPass d.handle intent (Runs d.handle y)) (sym t) runs)
+        go (Waits h y k) p u q i =
+            let z = same_handle h d.handle.descriptor d.handle.generation q in
+            let t : y ≡ intent = cc in
+            subst (λ h. InPass d.handle intent (Waits h y k)) (sym z) (subst (λ y. InPass d.handle intent (Waits d.handle y k)) (sym t) (waits k))
+
+    installed_put : (y : Mode) (f : Footprint) (l : ℕ) → is_some (put_at f.puts.items l) ≡ true → installs y f l ≡ true
+    installed_put All f l q = refl
+    installed_put Light f l q = q
 
     put_comes : (c : ℕ) (r : Seen) → has_bit (n.world.awaiters r.loc.0) c ≡ true → is_some (put_by x r.loc.0) ≡ true → WakeIsToCome n (at_version r (ending (first_store o) (trace o es).history r.loc.0).version)
-    put_comes c r bit e = ?
+    put_comes c r bit puts = go (owner == j) refl
+      where
+        v : ℕ
+        v = (ending (first_store o) (trace o es).history r.loc.0).version
+
+        y : LineThatPuts d.lines r.loc.0
+        y = line_that_puts d.lines r.loc.0 (sym (ap (λ (g : Footprint). is_some (put_at g.puts.items r.loc.0)) d.footprint) ∙ puts)
+
+        found_so : ending (first_store o) (trace o es).history y.line.seen.loc.0 ≡ cell_of y.line.seen
+        found_so = decision_finds o es e w x d y.line.seen (subst (λ g. Reads g y.line.seen) (sym d.footprint) (reads_line d.lines y.line y.among))
+            (installed_put x.mode x.entry.footprint y.line.seen.loc.0 (subst (λ l. is_some (put_by x l) ≡ true) (sym y.at) puts))
+
+        version : y.line.seen.version ≡ v
+        version = ap (λ (z : Cell). z.version) (sym found_so) ∙ ap (λ l. (ending (first_store o) (trace o es).history l).version) y.at
+
+        loc : y.line.seen.loc ≡ r.loc
+        loc = λ i. record { 0 = y.at i }
+
+        now_is : n.world.status d.handle.descriptor ≡ status d.handle.generation Succeeded
+        now_is = ap (λ (s : State). s.world.status d.handle.descriptor) (sym next_is) ∙ d.now_is
+
+        wakes_it : Contains (still_wakes owned) y.line
+        wakes_it = subst (λ xs. Contains xs y.line) (sym (pass_lines d.handle intent owns_it)) y.among
+
+        done : OwnsSucceeded n.world owned
+        done = succeeded_pass n.world d.handle intent owns_it now_is
+
+        within : owner < n.callers
+        within = let l = d.caller in let q = callers' in omega arith
+
+        go : (t : Bool) → (owner == j) ≡ t → WakeIsToCome n (at_version r v)
+        go false q =
+            let z = sym (else_same owner (eqb-false owner j q)) in
+            (owner, y.line, within, subst (λ s. OwnsSucceeded n.world (stand s).own) z done, subst (λ s. Contains (still_wakes (stand s).own) y.line) z wakes_it, loc, version, so_puts y.line y.puts)
+        go true q =
+            let z = eqb-true owner j q in
+            let own : owned ≡ was = ap (λ k. (stand (m.seats k)).own) z ∙ was_is in
+            let g = wakes_on y.line (so_puts y.line y.puts) c (subst (λ l. has_bit (n.world.awaiters l) c ≡ true) (sym y.at) bit) (subst (λ x'. Contains (still_wakes x') y.line) own wakes_it) (subst (OwnsSucceeded n.world) own done) in
+            let out : is ≡ (stand (n.seats owner)).own = sym is_is ∙ ap (λ k. (stand (n.seats k)).own) (sym z) in
+            (owner, y.line, within, subst (OwnsSucceeded n.world) out g.1, subst (λ x'. Contains (still_wakes x') y.line) out g.0, loc, version, so_puts y.line y.puts)
+
+  -- ---- who hears goes on hearing
+
+  module _ (since : Moment) (c : ℕ) (r : Seen) (within : c < o.callers) (listens : c ≡ j → IsDeaf (n.seats j) → ⊥) where
+    abbrev PutsCome : History → Type 0
+    PutsCome h = (v : ℕ) → version_at o since r ≤ v → v < (ending (first_store o) h r.loc.0).version → WakeIsToCome n (at_version r v)
+
+    come : has_bit (n.world.awaiters r.loc.0) c ≡ true → ((v : ℕ) → version_at o since r ≤ v → v < version_at o (now (trace o es)) r → WakeIsToCome m (at_version r v)) → PutsCome (trace o es').history
+    come bit f = history_moves o es e PutsCome (λ v a b. coming_on c (at_version r v) bit (f v a b)) (λ x d v a b. more x d (put_by x r.loc.0) refl v a b)
+      where
+        more : (x : Placed) → Decision o es e x → (p : Option footprint.Put) → put_by x r.loc.0 ≡ p → PutsCome (inserted x (trace o es).history)
+        more x d None q v a b =
+            let z = ap (λ (y : Cell). y.version) (decision_makes o es e w x d r.loc.0 ∙ ap (λ p. cell_after p (ending (first_store o) (trace o es).history r.loc.0)) q) in
+            coming_on c (at_version r v) bit (f v a (omega arith))
+        more x d (Some p) q v a b = go (v == (ending (first_store o) (trace o es).history r.loc.0).version) refl
+          where
+            go : (t : Bool) → (v == (ending (first_store o) (trace o es).history r.loc.0).version) ≡ t → WakeIsToCome n (at_version r v)
+            go true y = subst (λ v. WakeIsToCome n (at_version r v)) (sym (eqb-true v _ y)) (put_comes x d c r bit (ap is_some q))
+            go false y =
+                let ne = eqb-false v (ending (first_store o) (trace o es).history r.loc.0).version y in
+                let z = ap (λ (y : Cell). y.version) (decision_makes o es e w x d r.loc.0 ∙ ap (λ p. cell_after p (ending (first_store o) (trace o es).history r.loc.0)) q) in
+                coming_on c (at_version r v) bit (f v a (omega arith))
+
+    abbrev HearsAt : State → Type 0
+    HearsAt s = IsAwake s c ⊎ ((has_bit (s.world.awaiters r.loc.0) c ≡ true) × ((v : ℕ) → version_at o since r ≤ v → v < version_at o (now (trace o es')) r → WakeIsToCome s (at_version r v)))
+
+    pub hears_in : Hears o es since c r → Hears o es' since c r
+    hears_in h = subst HearsAt (sym next_is) (go h)
+      where
+        go : Hears o es since c r → HearsAt n
+        go (inl a) = inl (awake_on c within listens a)
+        go (inr (b, f)) = by (bit_on c within listens r.loc.0 b)
+          where
+            by : (has_bit (n.world.awaiters r.loc.0) c ≡ true) ⊎ IsAwake n c → HearsAt n
+            by (inl b) = inr (b, come b f)
+            by (inr a) = inl a
+
+    pub registered_in : IsRegistered m c r → IsRegistered (run o es') c r
+    registered_in h = subst (λ s. IsRegistered s c r) (sym next_is) (go h)
+      where
+        flip : (has_bit (n.world.awaiters r.loc.0) c ≡ true) ⊎ IsAwake n c → IsRegistered n c r
+        flip (inl b) = inr b
+        flip (inr a) = inl a
+
+        go : IsRegistered m c r → IsRegistered n c r
+        go (inl a) = inl (awake_on c within listens a)
+        go (inr b) = flip (bit_on c within listens r.loc.0 b)

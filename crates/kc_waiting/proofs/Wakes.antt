@@ -1,6 +1,7 @@
 -- The wakes that an owner has still to make, from one step to the next.
 use Rattle.std.proofs.Common.{arith, ◌≡◌, ◌≢◌, ◌<◌, ◌≤◌, ◌+◌, ◌⊎◌, inl, inr, zero, suc, not, ℕ, Bool, true, false, List, [], ◌∷◌, length, drop, Option, None, Some, refl, sym, ap, subst, ◌∙◌, if◌then◌else◌, ◌==◌}
-use Rattle.std.specs.Prelude.{slice_get, nat_lt, Contains}
+use Rattle.std.specs.Prelude.{slice_get, nat_lt, Contains, map}
+use Rattle.kc_model.proofs.Stores.{Contains-first, Contains-later}
 use Rattle.std.specs.Option.{is_some}
 use Rattle.std.proofs.lemmas.Option.{slice_get_within}
 use Rattle.std.specs.Int.Bits.{and_zero_l}
@@ -60,6 +61,11 @@ so_puts x e = go x.put e
     go : (o : Option ℕ) → has_put o ≡ true → is_some o ≡ true
     go None e = absurd (cc)
     go (Some a) e = refl
+
+pub reads_line : (xs : List Line) (x : Line) → Contains xs x → Contains (map (λ x. x.seen) xs) x.seen
+reads_line [] x c = absurd (let l = c.1 in omega arith)
+reads_line (y ∷ xs) x (zero, l, e) = subst (λ z. Contains (map (λ x. x.seen) (y ∷ xs)) z.seen) e (Contains-first y.seen (map (λ x. x.seen) xs))
+reads_line (y ∷ xs) x (suc i, l, e) = Contains-later y.seen (map (λ x. x.seen) xs) x.seen (reads_line xs x (i, omega arith, e))
 
 -- ---- the next line that puts
 
