@@ -3,3 +3,4 @@ pub mod Owns
 pub mod Hearing
 pub mod Wakes
 pub mod Covering
+pub mod Listening
