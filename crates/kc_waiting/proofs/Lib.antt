@@ -4,3 +4,4 @@ pub mod Hearing
 pub mod Wakes
 pub mod Covering
 pub mod Listening
+pub mod Always

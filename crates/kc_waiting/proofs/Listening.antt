@@ -71,11 +71,11 @@ use Rattle.kc_waiting.proofs.Hearing.{listens_at, listens_by, IsDeaf}
 
 -- ---- how a work waits
 
-abbrev hang_wait : List Seen → HangStep → Waiting
+abbrev pub hang_wait : List Seen → HangStep → Waiting
 hang_wait reads (hang.Look j step) = HangLooks reads j
 hang_wait reads step = Hangs reads step
 
-abbrev work_wait : Work → Waiting
+abbrev pub work_wait : Work → Waiting
 work_wait (work.Hang h) = hang_wait h.reads.items h.step
 work_wait (work.Leave l) = Leaving l.reads.items l.step
 work_wait _ = NoWait
@@ -119,15 +119,15 @@ wait_is s = go s.work
 
 -- ---- what is told of no hang leaves blocked what was
 
-abbrev Calm : Told → Type 0
+abbrev pub Calm : Told → Type 0
 Calm t = (b : Bool) → blocked_by b t ≡ b
 
-abbrev TellsCalm : Next → Type 0
+abbrev pub TellsCalm : Next → Type 0
 TellsCalm (next.Tells t) = Calm t
 TellsCalm (next.Goes x) = Unit {0}
 TellsCalm (next.Takes x) = Unit {0}
 
-commit_calm : (n calls : ℕ) (c : Commit) (x : Stage) (f : Found) → TellsCalm (stage_next n calls c x f)
+pub commit_calm : (n calls : ℕ) (c : Commit) (x : Stage) (f : Found) → TellsCalm (stage_next n calls c x f)
 commit_calm n calls c (stage.Scan d worn) f = scanned TellsCalm (λ d v. tt) (λ d g. tt) (λ b. refl) n d worn f
 commit_calm n calls c (stage.Take d g) f = taken TellsCalm (λ d v. tt) (λ d g. tt) (λ h. tt) n d g f
 commit_calm n calls c (stage.Own h step) f = go step
@@ -163,7 +163,7 @@ pub record Keeps (o : Opening) (es more : List Event) (k : ℕ) (r : Seat) : Typ
   pub registered : (IsDeaf r → ⊥) → (q : Seen) → IsRegistered (run o es) k q → IsRegistered (run o more) k q
   pub hears : (IsDeaf r → ⊥) → (since : Moment) (q : Seen) → Hears o es since k q → Hears o more since k q
 
-set_listens : (i : ℕ) (step : HangStep) → is_set i step ≡ true → listens_at step ≡ true
+pub set_listens : (i : ℕ) (step : HangStep) → is_set i step ≡ true → listens_at step ≡ true
 set_listens i (hang.Set j) e = refl
 set_listens i (hang.Look j step) e = refl
 set_listens i (hang.Clear j c) e = cc
@@ -173,19 +173,19 @@ look_listens (hang.Set j) e = cc
 look_listens (hang.Look j step) e = refl
 look_listens (hang.Clear j c) e = cc
 
-not_deaf : (r : Seat) (h : Hang) → r.work ≡ work.Hang h → listens_at h.step ≡ true → IsDeaf r → ⊥
+pub not_deaf : (r : Seat) (h : Hang) → r.work ≡ work.Hang h → listens_at h.step ≡ true → IsDeaf r → ⊥
 not_deaf r h q e d = let z : listens_by r.work ≡ true = ap listens_by q ∙ e in let y : true ≡ false = sym z ∙ d.1 in absurd (cc)
 
 blocked_hears : (r : Seat) → r.blocked ≡ true → IsDeaf r → ⊥
 blocked_hears r b d = let y : true ≡ false = sym b ∙ d.0 in absurd (cc)
 
-heard_registered : (o : Opening) (es : List Event) (since : Moment) (k : ℕ) (r : Seen) → Hears o es since k r → IsRegistered (run o es) k r
+pub heard_registered : (o : Opening) (es : List Event) (since : Moment) (k : ℕ) (r : Seen) → Hears o es since k r → IsRegistered (run o es) k r
 heard_registered o es since k r (inl a) = inl a
 heard_registered o es since k r (inr a) = inr a.0
 
 module _ (o : Opening) (es more : List Event) (k : ℕ) (s : Seat) (since : Moment) (blocking : List Seen) (old : Listens o es k s since blocking) where
   -- it stays as it was
-  unchanged : Keeps o es more k s → Listens o more k s since blocking
+  pub unchanged : Keeps o es more k s → Listens o more k s since blocking
   unchanged f = record {
     registered = λ h i r q g e. f.registered (not_deaf s h q (set_listens i h.step e)) r (old.registered h i r q g e);
     hears = λ h i r q g e. f.hears (not_deaf s h q (look_listens h.step e)) since r (old.hears h i r q g e);
@@ -193,7 +193,7 @@ module _ (o : Opening) (es more : List Event) (k : ℕ) (s : Seat) (since : Mome
   }
 
   -- it doesn't hang, and is blocked only if it was
-  unhung : (r : Seat) → Keeps o es more k r → ((h : Hang) → r.work ≡ work.Hang h → ⊥) → (r.blocked ≡ true → s.blocked ≡ true) → Listens o more k r since blocking
+  pub unhung : (r : Seat) → Keeps o es more k r → ((h : Hang) → r.work ≡ work.Hang h → ⊥) → (r.blocked ≡ true → s.blocked ≡ true) → Listens o more k r since blocking
   unhung r f n b = record {
     registered = λ h i q z g e. absurd (n h z);
     hears = λ h i q z g e. absurd (n h z);
@@ -201,7 +201,7 @@ module _ (o : Opening) (es more : List Event) (k : ℕ) (s : Seat) (since : Mome
   }
 
   -- it has given up
-  given_up : (r : Seat) (later : Moment) (reads : List Seen) → r.blocked ≡ false → listens_by r.work ≡ false → Listens o more k r later reads
+  pub given_up : (r : Seat) (later : Moment) (reads : List Seen) → r.blocked ≡ false → listens_by r.work ≡ false → Listens o more k r later reads
   given_up r later reads b l = record {
     registered = λ h i q z g e. absurd (not_deaf r h z (set_listens i h.step e) (b, l));
     hears = λ h i q z g e. absurd (not_deaf r h z (look_listens h.step e) (b, l));
@@ -210,10 +210,10 @@ module _ (o : Opening) (es more : List Event) (k : ℕ) (s : Seat) (since : Mome
 
   -- from a look
   module _ (h : Hang) (hangs : s.work ≡ work.Hang h) (at_look : looks h.step ≡ true) where
-    abbrev Then : HangNext → Seat
+    abbrev pub Then : HangNext → Seat
     Then n = after (record s { work = work.Hang (hangs_on h n) }) (onward_of n)
 
-    from_look : (n : HangNext) → Keeps o es more k (Then n) → s.blocked ≡ false → (reads : List Seen) → ((Then n).blocked ≡ true → reads ≡ h.reads.items) → Listens o more k (Then n) since reads
+    pub from_look : (n : HangNext) → Keeps o es more k (Then n) → s.blocked ≡ false → (reads : List Seen) → ((Then n).blocked ≡ true → reads ≡ h.reads.items) → Listens o more k (Then n) since reads
     from_look (Goes step) f b reads z = record {
       registered = λ g i q y x e.
           let t : record h { step = step } ≡ g = cc in

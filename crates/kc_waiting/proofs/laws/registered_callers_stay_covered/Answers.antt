@@ -4,6 +4,7 @@ use Rattle.kc_waiting.proofs.Hearing.{event_hears}
 use Rattle.kc_waiting.proofs.Wakes.{finished_owes}
 use Rattle.kc_waiting.proofs.Covering.{bit_on}
 use Rattle.kc_waiting.proofs.Listening.{Listens}
+use Rattle.kc_waiting.proofs.Always.{AllListen}
 use Rattle.kc_waiting.proofs.laws.registered_callers_stay_covered.Goals as goal
 
 pub returns : goal.returns
