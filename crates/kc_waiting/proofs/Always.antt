@@ -1,7 +1,7 @@
 -- Every event leaves it so that who listens hears.
 use Rattle.std.proofs.Common.{arith, ◌≡◌, ◌≢◌, ◌<◌, ◌≤◌, ◌+◌, ◌⊎◌, inl, inr, ◌++◌, ◌==◌, ◌&&◌, not, ℕ, Bool, true, false, List, [], ◌∷◌, length, Option, None, Some, refl, sym, ap, subst, ◌∙◌, if◌then◌else◌}
-use Rattle.std.specs.Prelude.{slice_get, nat_lt, Contains}
-use Rattle.std.proofs.lemmas.Option.{slice_get_within}
+use Rattle.std.specs.Prelude.{slice_get, get_or, nat_lt, Contains}
+use Rattle.std.proofs.lemmas.Option.{slice_get_within, slice_get_cases}
 use borrow.Author.Tests.{ltb-true, ltb-false, eqb-true, eqb-false}
 use Rattle.kc_model.specs.declared.footprint.Seen.{Seen}
 use Rattle.kc_words.specs.declared.access.Access.{Access}
@@ -47,10 +47,9 @@ use Rattle.kc_seats.proofs.FormedSteps.{formed_always}
 use Rattle.kc_seats.proofs.MadeSteps.{reads_made, hangs_stand}
 use Rattle.kc_seats.proofs.SeatedSteps.{seats_stay}
 use Rattle.kc_effects.specs.Stands.{Waiting, NoWait, Hangs, HangLooks, Leaving, Passing, NoPass, stand}
-use Rattle.kc_pool.proofs.Filled.{past_end}
 use Rattle.kc_claims.specs.Claims.{has_bit, IsAwake, WakeIsToCome}
 use Rattle.kc_claims.specs.Histories.{History, ending}
-use Rattle.kc_claims.specs.Traces.{Moment, Shadow, Trace, now, trace, first_store, listens, blocking_after, with_task, shadow_after, begins, traced}
+use Rattle.kc_claims.specs.Traces.{Moment, Shadow, Trace, now, trace, first_store, listens, blocking_after, with_task, place_after, shadow_after, begins, traced}
 use Rattle.kc_claims.proofs.Follows.{trace_runs}
 use Rattle.kc_ranges.proofs.Room.{lt_is}
 use Rattle.kc_ranges.proofs.Runs.{steps_possible}
@@ -299,7 +298,11 @@ module _ (o : Opening) (es : List Event) (w : IsSchedule o es) (k : ℕ) (within
             }
           where
             all : (r : Seat) → Keeps o es (es ++ Step k ∷ []) k r → (IsDeaf r → ⊥) → (i : ℕ) (v : Seen) → slice_get h.reads.items i ≡ Some v → IsRegistered (run o (es ++ Step k ∷ [])) k v
-            all r f d i v p = below r f d i v (let a = past_end h.reads.items (after_line j) g in let b = slice_get_within h.reads.items i v p in omega arith) p
+            all r f d i v p = below r f d i v (last (slice_get_cases h.reads.items (after_line j)).1) p
+              where
+                last : ((v : Seen) × (after_line j < length h.reads.items) × (slice_get h.reads.items (after_line j) ≡ Some v) × (get_or h.reads.items (after_line j) v ≡ v)) ⊎ ((length h.reads.items ≤ after_line j) × (slice_get h.reads.items (after_line j) ≡ None)) → i < after_line j
+                last (inl y) = let u = y.2 in let t : None ≡ Some y.0 = sym g ∙ u in absurd (cc)
+                last (inr y) = let a = y.0 in let b = slice_get_within h.reads.items i v p in omega arith
 
             from_now : (v : Seen) → IsRegistered (run o (es ++ Step k ∷ [])) k v → Hears o (es ++ Step k ∷ []) (now (trace o es)) k v
             from_now v (inl a) = inl a
@@ -340,5 +343,54 @@ module _ (o : Opening) (es : List Event) (e : Event) (w : IsSchedule o es) (old 
       subst (λ (y : Shadow). Listens o es' k ((run o es').seats k) y.listening y.blocking) (sym (others_leave_shadow o es (e ∷ []) k (ne, tt)))
       (subst (λ r. Listens o es' k r x.listening x.blocking) (sym (others_leave o es (e ∷ []) k (ne, tt))) (unchanged o es es' k s x.listening x.blocking (old k l) f))
 
-  its : (l : seat_of e < o.callers) (r : Seat) → Type 0
-  its l r = Keeps o es es' (seat_of e) r → Listens o es' (seat_of e) r (since o es w (seat_of e) l r) (reads o es w (seat_of e) l r)
+  abbrev j : ℕ
+  j = seat_of e
+
+  -- what is kept beside the seat of the event
+  abbrev kept : Seat → Shadow
+  kept r = shadow_after (now (trace o es)) e ((run o es).seats j) r ((trace o es).shadows j)
+
+  shadow_is : (trace o es').shadows j ≡ kept ((event_of (run o es) e).seats j)
+  shadow_is =
+      let t = trace o es in
+      ap (λ (x : Trace). x.shadows j) (trace-append o es (e ∷ [])) ∙ put_here t.shadows j _
+      ∙ ap (λ (m : State). shadow_after (now t) e (m.seats j) ((event_of m e).seats j) (t.shadows j)) (trace_runs o es)
+
+  tasks_aside : (a : Option Task) (m : Moment) (y : Shadow) → ((with_task a m y).listening ≡ y.listening) × ((with_task a m y).blocking ≡ y.blocking)
+  tasks_aside None m y = (refl, refl)
+  tasks_aside (Some t) m y = (refl, refl)
+
+  module _ (l : j < o.callers) where
+    goal : Goal o es w j l (old j l) e ((event_of (run o es) e).seats j)
+    goal = seat_cases (λ r. Goal o es w j l (old j l) e r) (run o es) e (same_goal o es w j l (old j l) e) (new e l (old j l))
+      where
+        new : (e : Event) (l : seat_of e < o.callers) (f : Listens o es (seat_of e) ((run o es).seats (seat_of e)) ((trace o es).shadows (seat_of e)).listening ((trace o es).shadows (seat_of e)).blocking) → Goal o es w (seat_of e) l f e (moved (run o es) e)
+        new (Begin k t) l f = begins_goal o es w k l f t
+        new (Step k) l f = steps_goal o es w k l f
+        new (Halt k) l f = halts_goal o es w k l f
+
+    its_own : Listens o es' j ((run o es').seats j) ((trace o es').shadows j).listening ((trace o es').shadows j).blocking
+    its_own =
+        let r = (event_of (run o es) e).seats j in
+        let f = goal (keeps o es e w j l r (λ q. refl)) in
+        let a = tasks_aside (begins e ((run o es).seats j) r) (now (trace o es)) (record ((trace o es).shadows j) {
+          listening = since o es w j l r;
+          place = place_after (trace o es).clock (stand r).pass ((trace o es).shadows j).place;
+          blocking = reads o es w j l r;
+        }) in
+        subst (λ (y : Shadow). Listens o es' j ((run o es').seats j) y.listening y.blocking) (sym shadow_is)
+        (subst (λ r'. Listens o es' j r' (kept r).listening (kept r).blocking) (sym (ap (λ (m : State). m.seats j) (next_is o es e w)))
+        (subst (λ b. Listens o es' j r (kept r).listening b) (sym a.1) (subst (λ b. Listens o es' j r b (reads o es w j l r)) (sym a.0) f)))
+
+  listen_on : AllListen o es'
+  listen_on k l = go (k == j) refl
+    where
+      go : (b : Bool) → (k == j) ≡ b → Listens o es' k ((run o es').seats k) ((trace o es').shadows k).listening ((trace o es').shadows k).blocking
+      go true q =
+          let z = eqb-true k j q in
+          subst (λ i. Listens o es' i ((run o es').seats i) ((trace o es').shadows i).listening ((trace o es').shadows i).blocking) (sym z) (its_own (subst (λ i. i < o.callers) z l))
+      go false q = let ne = eqb-false k j q in other k l (λ z. ne (sym z))
+
+pub all_listen : (o : Opening) (es : List Event) → IsSchedule o es → AllListen o es
+all_listen o = every (λ es. IsSchedule o es → AllListen o es) (λ es e f w'. let w = (made_parts o es (e ∷ []) w').0 in listen_on o es e w (f w))
+    (λ w k l. record { registered = λ h i r q g e. absurd (cc); hears = λ h i r q g e. absurd (cc); blocked = λ r b c. absurd (cc) })
