@@ -1,6 +1,6 @@
 -- No call has two entries.
-use Rattle.std.proofs.Common.{arith, ◌≡◌, ◌<◌, ◌≤◌, ◌+◌, ◌⊎◌, inl, inr, ℕ, zero, suc, ◌++◌, Bool, true, false, List, [], ◌∷◌, Some, refl, sym, ap, subst, ◌∙◌, if◌then◌else◌, Contains}
-use Rattle.std.specs.Prelude.{nat_lt, slice_get}
+use Rattle.std.proofs.Common.{arith, ◌≡◌, ◌<◌, ◌≤◌, ◌+◌, ◌⊎◌, inl, inr, ℕ, zero, suc, ◌++◌, Bool, true, false, List, [], ◌∷◌, refl, sym, ap, subst, ◌∙◌, if◌then◌else◌, Contains}
+use Rattle.std.specs.Prelude.{nat_lt}
 use Rattle.std.proofs.lemmas.Bool.{ltb-true, lt-ltb}
 use Rattle.std.proofs.lemmas.List.Elements.{All-contains}
 use Rattle.kc_model.proofs.Stores.{Contains-first, Contains-later}
@@ -24,6 +24,7 @@ use Rattle.kc_traces.proofs.Statuses.{Starts, Decides}
 use Rattle.kc_traces.proofs.Outcomes.{event_moves}
 use Rattle.kc_ranges.proofs.Runs.{called}
 use Rattle.kc_histories.specs.Decisions.{own_of, Decision}
+use Rattle.kc_histories.proofs.Filters.{found}
 use Rattle.kc_histories.proofs.Insertions.{inserted_contains}
 use Rattle.kc_histories.proofs.Decisions.{history_moves}
 use Rattle.kc_histories.proofs.Calls.{own_goes}
@@ -162,16 +163,11 @@ apart_inserted x (y ∷ h) f a = go (apart_inserted x h (λ z c. f z (Contains-l
     go r true = (f, a)
     go r false = ((λ z c. inserted_contains x h z (λ u. SameCall y u → ⊥) (λ s. f y (Contains-first y h) (sym s.0, sym s.1)) a.0 c), r)
 
-got : (h : History) (i : ℕ) (x : Placed) → slice_get h i ≡ Some x → Contains h x
-got [] i x e = absurd (cc)
-got (y ∷ h) zero x e = let q : y ≡ x = cc in subst (Contains (y ∷ h)) q (Contains-first y h)
-got (y ∷ h) (suc i) x e = Contains-later y h x (got h i x e)
-
 differ_of : (h : History) → AreApart h → EntriesDiffer h
 differ_of [] a i j x y p q c n = absurd (cc)
 differ_of (z ∷ h) a zero zero x y p q c n = refl
-differ_of (z ∷ h) a zero (suc j) x y p q c n = let e : z ≡ x = cc in absurd (a.0 y (got h j y q) (ap (λ u. u.entry.caller) e ∙ c, ap (λ u. u.entry.number) e ∙ n))
-differ_of (z ∷ h) a (suc i) zero x y p q c n = let e : z ≡ y = cc in absurd (a.0 x (got h i x p) (ap (λ u. u.entry.caller) e ∙ sym c, ap (λ u. u.entry.number) e ∙ sym n))
+differ_of (z ∷ h) a zero (suc j) x y p q c n = let e : z ≡ x = cc in absurd (a.0 y (found h j y q) (ap (λ u. u.entry.caller) e ∙ c, ap (λ u. u.entry.number) e ∙ n))
+differ_of (z ∷ h) a (suc i) zero x y p q c n = let e : z ≡ y = cc in absurd (a.0 x (found h i x p) (ap (λ u. u.entry.caller) e ∙ sym c, ap (λ u. u.entry.number) e ∙ sym n))
 differ_of (z ∷ h) a (suc i) (suc j) x y p q c n = ap suc (differ_of h a.1 i j x y p q c n)
 
 -- ---- every schedule

@@ -1,5 +1,6 @@
--- Filters of lists, and fronts of them.
-use Rattle.std.proofs.Common.{◌≡◌, ◌++◌, ◌∙◌, ◌⊎◌, inl, inr, refl, sym, ap, cond, Bool, true, false, List, [], ◌∷◌, Contains}
+-- Filters of lists, fronts of them, and what stands at an index.
+use Rattle.std.proofs.Common.{arith, ◌≡◌, ◌<◌, ◌++◌, ◌∙◌, ◌⊎◌, inl, inr, ℕ, zero, suc, refl, sym, ap, subst, cond, Bool, true, false, List, [], ◌∷◌, length, Contains, Some}
+use Rattle.std.specs.Prelude.{slice_get}
 use Rattle.std.specs.List.{filter}
 use Rattle.kc_model.proofs.Stores.{Contains-first, Contains-later}
 
@@ -60,3 +61,14 @@ module _ {X : Type 0} where
       go : ((left : List X) × (a ≡ xs ++ left)) ⊎ (xs ≡ a ++ x ∷ []) → ((left : List X) × (b ∷ a ≡ y ∷ xs ++ left)) ⊎ (y ∷ xs ≡ b ∷ a ++ x ∷ [])
       go (inl (r, q)) = inl (r, λ i. head i ∷ q i)
       go (inr q) = inr (λ i. sym head i ∷ q i)
+
+  -- what stands at an index is contained, and stands at one where it is
+  pub found : (xs : List X) (i : ℕ) (x : X) → slice_get xs i ≡ Some x → Contains xs x
+  found [] i x e = absurd (cc)
+  found (y ∷ xs) zero x e = let q : y ≡ x = cc in subst (Contains (y ∷ xs)) q (Contains-first y xs)
+  found (y ∷ xs) (suc i) x e = Contains-later y xs x (found xs i x e)
+
+  pub got : (xs : List X) (x : X) → Contains xs x → (i : ℕ) × (i < length xs) × (slice_get xs i ≡ Some x)
+  got [] x c = absurd (omega (arith, c.1))
+  got (y ∷ xs) x (zero, l, e) = (0, l, ap Some e)
+  got (y ∷ xs) x (suc i, l, e) = let r = got xs x (i, omega arith, e) in (suc r.0, omega (arith, r.1), r.2)

@@ -12,3 +12,4 @@ pub mod Growing
 pub mod Begun
 pub mod Footprints
 pub mod Successes
+pub mod Knew

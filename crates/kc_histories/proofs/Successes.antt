@@ -53,25 +53,25 @@ settled t e =
     }
 
 module _ (o : Opening) (es : List Event) (e : Event) (k : ℕ) (l : k < o.callers) where
-  abbrev old : Shadow
+  abbrev pub old : Shadow
   old = (trace o es).shadows k
 
-  abbrev new : Shadow
+  abbrev pub new : Shadow
   new = (trace o (es ++ e ∷ [])).shadows k
 
   -- it stays, and no task begins; or nothing happens
-  record Stays : Type 0 where
-    task : new.task ≡ old.task
-    begun : new.begun ≡ old.begun
-    quiet : BeginsNothing k (e ∷ []) ⊎ (All IsNoStep (e ∷ []) × ((run o (es ++ e ∷ [])).seats k ≡ (run o es).seats k))
+  pub record Stays : Type 0 where
+    pub task : new.task ≡ old.task
+    pub begun : new.begun ≡ old.begun
+    pub quiet : BeginsNothing k (e ∷ []) ⊎ (All IsNoStep (e ∷ []) × ((run o (es ++ e ∷ [])).seats k ≡ (run o es).seats k))
 
-  record Starts : Type 0 where
-    asked : Task
-    event : e ≡ Begin k asked
-    idle : is_idle ((run o es).seats k).work ≡ true
-    busy : is_idle (begun ((run o es).seats k) asked).work ≡ false
-    task : new.task ≡ Some asked
-    begun : new.begun ≡ now (trace o es)
+  pub record Starts : Type 0 where
+    pub asked : Task
+    pub event : e ≡ Begin k asked
+    pub idle : is_idle ((run o es).seats k).work ≡ true
+    pub busy : is_idle (begun ((run o es).seats k) asked).work ≡ false
+    pub task : new.task ≡ Some asked
+    pub begun : new.begun ≡ now (trace o es)
 
   seats_on : (run o (es ++ e ∷ [])).seats k ≡ (event_of (run o es) e).seats k
   seats_on = ap (λ (n : State). n.seats k) (run-append o es (e ∷ []))
@@ -156,7 +156,7 @@ module _ (o : Opening) (es : List Event) (k : ℕ) (l : k < o.callers) where
           let x = starts (ap (λ z. if z && not (is_idle (begun s u).work) then Some u else None) p ∙ ap (λ z. if not z then Some u else None) q) in
           inr (record { asked = u; event = refl; idle = p; busy = q; task = x.0; begun = x.1 })
 
-  moves : (e : Event) → Stays o es e k l ⊎ Starts o es e k l
+  pub moves : (e : Event) → Stays o es e k l ⊎ Starts o es e k l
   moves e = go (seat_of e == k) refl e refl
     where
       go : (b : Bool) → (seat_of e == k) ≡ b → (d : Event) → d ≡ e → Stays o es d k l ⊎ Starts o es d k l
@@ -169,11 +169,11 @@ module _ (o : Opening) (es : List Event) (k : ℕ) (l : k < o.callers) where
 
 -- ---- what is kept of a seat's task
 
-record Kept (o : Opening) (k : ℕ) (l : k < o.callers) (es : List Event) : Type 0 where
-  left : (t : Task) → ((trace o es).shadows k).task ≡ Some t → LeftAfter o k l t (by k ((trace o es).shadows k).begun.history) es
-  made : (t : Task) → ((trace o es).shadows k).task ≡ Some t → IsWellMadeTask o.locations t
+pub record Kept (o : Opening) (k : ℕ) (l : k < o.callers) (es : List Event) : Type 0 where
+  pub left : (t : Task) → ((trace o es).shadows k).task ≡ Some t → LeftAfter o k l t (by k ((trace o es).shadows k).begun.history) es
+  pub made : (t : Task) → ((trace o es).shadows k).task ≡ Some t → IsWellMadeTask o.locations t
   -- an entry of its caller was there when it began, or stands behind
-  behind : (x : Placed) → Contains (trace o es).history x → x.entry.caller ≡ k → Contains ((trace o es).shadows k).begun.history x ⊎ (began o es k ≤ x.place)
+  pub behind : (x : Placed) → Contains (trace o es).history x → x.entry.caller ≡ k → Contains ((trace o es).shadows k).begun.history x ⊎ (began o es k ≤ x.place)
 
 module _ (o : Opening) (k : ℕ) (l : k < o.callers) (es : List Event) (e : Event) where
   abbrev e' : List Event
@@ -219,7 +219,7 @@ module _ (o : Opening) (k : ℕ) (l : k < o.callers) (es : List Event) (e : Even
       go (inl y) = stays h y
       go (inr y) = starts w y
 
-kept : (o : Opening) (k : ℕ) (l : k < o.callers) (es : List Event) → IsSchedule o es → Kept o k l es
+pub kept : (o : Opening) (k : ℕ) (l : k < o.callers) (es : List Event) → IsSchedule o es → Kept o k l es
 kept o k l = every (λ es. IsSchedule o es → Kept o k l es)
     (λ es e f w. let p = made_parts o es (e ∷ []) w in kept_on o k l es e p.1 (f p.0))
     (λ w. record { left = λ t q. absurd (cc); made = λ t q. absurd (cc); behind = λ x c i. absurd (omega (arith, c.1)) })

@@ -9,7 +9,7 @@ pub use lists::{
     insertions_keep_legal, insertions_rise, lines_say_their_footprint, versions_tell_values,
 };
 pub use traces::{
-    decisions_put_last, entries_differ, histories_grow, histories_move_by_decisions,
-    histories_rise_by_place, known_values_stood, passes_have_places, placed_passes_stay,
-    places_differ, successes_have_their_entry,
+    commits_knew_their_reads, decisions_put_last, entries_differ, histories_grow,
+    histories_move_by_decisions, histories_rise_by_place, known_values_stood, passes_have_places,
+    placed_passes_stay, places_differ, successes_have_their_entry,
 };

@@ -1,9 +1,10 @@
 //! What holds after every schedule of every opening. An empty body: the contract is the law.
 
-ghost use Rattle.std.specs.Prelude.{◌≡◌, ℕ, ◌<◌, ◌≤◌, ◌⊎◌, ◌++◌, ◌∷◌, List, [], None, Option, Some, length, true};
+ghost use Rattle.std.specs.Prelude.{◌≡◌, Contains, ℕ, ◌<◌, ◌≤◌, ◌⊎◌, ◌++◌, ◌∷◌, List, [], None, Option, Some, length, true};
 ghost use Rattle.std.specs.Option.{is_some};
 ghost use Rattle.kc_words.specs.declared.words.Handle.{Handle};
 ghost use Rattle.kc_words.specs.declared.words.Mode.{Mode};
+ghost use Rattle.kc_steps.specs.declared.line.Intent.{Intent};
 ghost use Rattle.kc_steps.specs.declared.line.Line.{Line};
 ghost use Rattle.kc_steps.specs.declared.task.Event.{Event};
 ghost use Rattle.kc_machine.specs.Machine.{Opening, seat_of};
@@ -24,8 +25,9 @@ ghost use Rattle.kc_claims.specs.Histories.{
   ending,
   inserted,
 };
-ghost use Rattle.kc_claims.specs.Traces.{first_store, is_placed, trace};
-ghost use Rattle.kc_histories.specs.Decisions.{Decision, MovesByDecision};
+ghost use Rattle.kc_claims.specs.Traces.{IsHonest, first_store, is_placed, trace};
+ghost use Rattle.kc_traces.specs.Entries.{own_intent};
+ghost use Rattle.kc_histories.specs.Decisions.{Decision, MovesByDecision, own_of};
 ghost use Rattle.kc_histories.specs.Insertions.{IsBelowPlace, IsNewPlace, put_by};
 ghost use Rattle.kc_histories.specs.Later.{NothingLaterTouches, NothingLaterTouchesAlong};
 ghost use Rattle.kc_histories.specs.Places.{began, pass_of, place_of};
@@ -94,4 +96,9 @@ pub fn histories_grow()
 pub fn known_values_stood()
     ensures { (o : Opening) (es : List Event) → NothingLaterTouchesAlong o es → (r : Seen) (n : ℕ) → n ≤ length es → (ending (first_store o) (history_at o es n) r.loc.0).version ≤ r.version → IsKnown (first_store o) (trace o es).history r
         → (i : ℕ) × (n ≤ i) × (i ≤ length es) × (ending (first_store o) (history_at o es i) r.loc.0 ≡ cell_of r) }
+{}
+
+/// In an honest schedule of well-made tasks, each line of a seat that owns a descriptor was known to the history when its task began.
+pub fn commits_knew_their_reads()
+    ensures { (o : Opening) (es : List Event) → IsSchedule o es → IsHonest o es → (k : ℕ) (i : Intent) (x : Line) → k < o.callers → own_intent (own_of o es k) ≡ Some i → Contains i.lines.items x → IsKnown (first_store o) ((trace o es).shadows k).begun.history x.seen }
 {}

@@ -39,6 +39,7 @@ use Rattle.kc_histories.specs.Decisions.{Decision}
 use Rattle.kc_histories.specs.Insertions.{put_by}
 use Rattle.kc_histories.specs.Later.{NoneTouchesAbove, DecidesSoon, NothingLaterTouches}
 use Rattle.kc_histories.specs.Places.{pass_of, place_of}
+use Rattle.kc_histories.proofs.Filters.{got}
 use Rattle.kc_histories.proofs.Insertions.{inserted_contains}
 use Rattle.kc_histories.proofs.Passes.{HoldsLife, pass_holds}
 use Rattle.kc_histories.proofs.Places.{below, has_place, place_was, pass_stays}
@@ -49,11 +50,6 @@ use Rattle.kc_resolving.specs.Settled.{Settled, CheckedAreSettled}
 use Rattle.kc_resolving.proofs.Changes.{Changes, other, filled, started, installed, released, decided, event_changes}
 
 -- ---- lists
-
-pub got : {X : Type 0} (xs : List X) (x : X) → Contains xs x → (i : ℕ) × (i < length xs) × (slice_get xs i ≡ Some x)
-got [] x c = absurd (omega (arith, c.1))
-got (y ∷ xs) x (zero, l, e) = (0, l, ap Some e)
-got (y ∷ xs) x (suc i, l, e) = let r = got xs x (i, omega arith, e) in (suc r.0, omega (arith, r.1), r.2)
 
 length_listed : (f : ℕ → Line) (n : ℕ) → length (listed f n) ≡ n
 length_listed f zero = refl

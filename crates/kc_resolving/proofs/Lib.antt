@@ -5,3 +5,4 @@ pub mod Checking
 pub mod Growing
 pub mod Lines
 pub mod Resolving
+pub mod ForGood

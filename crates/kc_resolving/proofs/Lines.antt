@@ -10,7 +10,6 @@ use Rattle.kc_model.specs.declared.plain_store.Cell.{Cell}
 use Rattle.kc_model.specs.Footprint.{put_at}
 use Rattle.kc_model.specs.Rising.{IsRising}
 use Rattle.kc_model.specs.Store.{cell_after}
-use Rattle.kc_model.proofs.Stores.{Contains-first, Contains-later}
 use Rattle.kc_words.specs.declared.words.Handle.{Handle}
 use Rattle.kc_words.specs.declared.words.Mode.{Mode}
 use Rattle.kc_words.specs.declared.words.First.{First}
@@ -29,14 +28,10 @@ use Rattle.kc_pool.proofs.Started.{started_made}
 use Rattle.kc_claims.specs.Histories.{put_of_line}
 use Rattle.kc_traces.proofs.Entries.{lists_again}
 use Rattle.kc_histories.specs.Places.{pass_of}
+use Rattle.kc_histories.proofs.Filters.{found}
 use Rattle.kc_histories.proofs.Footprints.{later_above, rest_rises}
 use Rattle.kc_histories.proofs.Growing.{line_that_puts}
 use Rattle.kc_resolving.proofs.Before.{target}
-
-pub found : (xs : List Line) (i : ℕ) (x : Line) → slice_get xs i ≡ Some x → Contains xs x
-found [] i x e = absurd (cc)
-found (z ∷ xs) zero x e = let q : z ≡ x = cc in subst (Contains (z ∷ xs)) q (Contains-first z xs)
-found (z ∷ xs) (suc i) x e = Contains-later z xs x (found xs i x e)
 
 -- ---- the put of a line, among the puts of rising lines
 

@@ -53,14 +53,15 @@ use Rattle.kc_histories.specs.Decisions.{Decision}
 use Rattle.kc_histories.specs.Insertions.{put_by}
 use Rattle.kc_histories.specs.Later.{NothingLaterTouches}
 use Rattle.kc_histories.specs.Places.{pass_of}
+use Rattle.kc_histories.proofs.Filters.{found, got}
 use Rattle.kc_histories.proofs.Decisions.{Undecides, history_moves_by}
 use Rattle.kc_histories.proofs.Growing.{line_that_puts, line_that_reads, puts_installed, ends_by, grows_by, legal_once}
 use Rattle.kc_resolving.specs.Past.{PutsArePast}
-use Rattle.kc_resolving.proofs.Before.{got, target, stands_installed}
+use Rattle.kc_resolving.proofs.Before.{target, stands_installed}
 use Rattle.kc_resolving.proofs.Changes.{Changes, other, filled, started, installed, released, decided, Releasing, in_pass, in_aid, left_by, event_changes}
 use Rattle.kc_resolving.proofs.Checking.{controls_rise}
 use Rattle.kc_resolving.proofs.Growing.{known}
-use Rattle.kc_resolving.proofs.Lines.{cell_by, first_again, after_again, unresolved, put_lands, still_puts, found, put_of_its_line, made_lines}
+use Rattle.kc_resolving.proofs.Lines.{cell_by, first_again, after_again, unresolved, put_lands, still_puts, put_of_its_line, made_lines}
 
 succeeds_same : (p : Phase) → succeeds p ≡ is_success p
 succeeds_same Active = refl

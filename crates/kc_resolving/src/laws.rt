@@ -1,19 +1,19 @@
 //! What holds after every schedule of well-made tasks. An empty body: the contract is the law.
 
-ghost use Rattle.std.specs.Prelude.{◌≡◌, ℕ, ◌≤◌, List, length};
+ghost use Rattle.std.specs.Prelude.{◌≡◌, ℕ, ◌≤◌, ◌++◌, List, length};
 ghost use Rattle.kc_model.specs.declared.footprint.Seen.{Seen};
 ghost use Rattle.kc_model.specs.Store.{cell_after};
 ghost use Rattle.kc_steps.specs.declared.task.Event.{Event};
 ghost use Rattle.kc_machine.specs.Machine.{Opening};
 ghost use Rattle.kc_machine.specs.Schedules.{IsSchedule};
 ghost use Rattle.kc_claims.specs.Claims.{HistoriesGrow, WordsResolve, history_at};
-ghost use Rattle.kc_claims.specs.Histories.{FindsInstalled, IsKnown, IsLegalWhereInstalled, Placed, cell_of, ending, inserted};
+ghost use Rattle.kc_claims.specs.Histories.{FindsInstalled, IsKnown, IsLegalWhereInstalled, Placed, at_place, cell_of, ending, inserted};
 ghost use Rattle.kc_claims.specs.Traces.{first_store, trace};
 ghost use Rattle.kc_histories.specs.Decisions.{Decision};
 ghost use Rattle.kc_histories.specs.Insertions.{put_by};
 ghost use Rattle.kc_histories.specs.Later.{NothingLaterTouches};
 ghost use Rattle.kc_resolving.specs.Past.{PutsArePast};
-ghost use Rattle.kc_resolving.specs.Settled.{CheckedAreSettled, MetAreSettled};
+ghost use Rattle.kc_resolving.specs.Settled.{CheckedAreSettled, MetAreSettled, Settled};
 
 /// No entry behind the place of a pass that may still decide reads or puts the location of a line that the pass installs.
 pub fn nothing_later_touches()
@@ -57,4 +57,9 @@ pub fn known_reads_stood()
 /// The histories of a schedule grow: an earlier one stands in each later one, and at each location its puts come first.
 pub fn histories_of_schedules_grow()
     ensures { (o : Opening) (es : List Event) → IsSchedule o es → HistoriesGrow o es }
+{}
+
+/// What is settled stays so as a schedule goes on, and what stands at its place then stands there for good.
+pub fn settled_places_stay()
+    ensures { (o : Opening) (es more : List Event) (p l : ℕ) → p ≤ length es → Settled o es p l → Settled o (es ++ more) p l × (at_place (first_store o) (trace o (es ++ more)).history p l ≡ at_place (first_store o) (trace o es).history p l) }
 {}

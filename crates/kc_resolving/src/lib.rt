@@ -5,6 +5,6 @@ mod laws;
 
 pub use laws::{
     checked_lines_are_settled, decisions_make_their_puts, histories_are_legal_where_installed,
-    histories_of_schedules_grow, known_reads_stood, nothing_later_touches, succeeded_puts_are_past,
-    words_stand_for_the_history,
+    histories_of_schedules_grow, known_reads_stood, nothing_later_touches, settled_places_stay,
+    succeeded_puts_are_past, words_stand_for_the_history,
 };

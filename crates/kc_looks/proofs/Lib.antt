@@ -1,0 +1,9 @@
+pub mod Lives
+pub mod Looking
+pub mod Knowing
+pub mod Going
+pub mod Hanging
+pub mod Stepping
+pub mod Turning
+pub mod Events
+pub mod Stood
