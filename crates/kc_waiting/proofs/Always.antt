@@ -74,7 +74,7 @@ module _ (o : Opening) (since : Moment) (c : ℕ) (r : Seen) where
   HearsOf m h = IsAwake m c ⊎ ((has_bit (m.world.awaiters r.loc.0) c ≡ true) × ((v : ℕ) → version_at o since r ≤ v → v < (ending (first_store o) h r.loc.0).version → WakeIsToCome m (at_version r v)))
 
 module _ (o : Opening) (es : List Event) (e : Event) (w : IsSchedule o es) where
-  next_is : run o (es ++ e ∷ []) ≡ event_of (run o es) e
+  pub next_is : run o (es ++ e ∷ []) ≡ event_of (run o es) e
   next_is = run-append o es (e ∷ [])
 
   -- one of a seat that isn't there leaves the machine and its history
@@ -331,17 +331,9 @@ module _ (o : Opening) (es : List Event) (w : IsSchedule o es) (k : ℕ) (within
 abbrev pub AllListen : Opening → List Event → Type 0
 AllListen o es = (k : ℕ) → k < o.callers → Listens o es k ((run o es).seats k) ((trace o es).shadows k).listening ((trace o es).shadows k).blocking
 
-module _ (o : Opening) (es : List Event) (e : Event) (w : IsSchedule o es) (old : AllListen o es) where
+module _ (o : Opening) (es : List Event) (e : Event) where
   abbrev es' : List Event
   es' = es ++ e ∷ []
-
-  other : (k : ℕ) → k < o.callers → seat_of e ≢ k → Listens o es' k ((run o es').seats k) ((trace o es').shadows k).listening ((trace o es').shadows k).blocking
-  other k l ne =
-      let s = (run o es).seats k in
-      let x = (trace o es).shadows k in
-      let f = keeps o es e w k l s (λ q. absurd (ne (sym q))) in
-      subst (λ (y : Shadow). Listens o es' k ((run o es').seats k) y.listening y.blocking) (sym (others_leave_shadow o es (e ∷ []) k (ne, tt)))
-      (subst (λ r. Listens o es' k r x.listening x.blocking) (sym (others_leave o es (e ∷ []) k (ne, tt))) (unchanged o es es' k s x.listening x.blocking (old k l) f))
 
   abbrev j : ℕ
   j = seat_of e
@@ -360,36 +352,53 @@ module _ (o : Opening) (es : List Event) (e : Event) (w : IsSchedule o es) (old 
   tasks_aside None m y = (refl, refl)
   tasks_aside (Some t) m y = (refl, refl)
 
-  module _ (l : j < o.callers) where
-    goal : Goal o es w j l (old j l) e ((event_of (run o es) e).seats j)
-    goal = seat_cases (λ r. Goal o es w j l (old j l) e r) (run o es) e (same_goal o es w j l (old j l) e) (new e l (old j l))
+  pub kept_shadow : (((trace o es').shadows j).listening ≡ (if listens (stand ((run o es).seats j)).wait (stand ((event_of (run o es) e).seats j)).wait then now (trace o es) else ((trace o es).shadows j).listening))
+      × (((trace o es').shadows j).blocking ≡ blocking_after ((run o es).seats j).blocked ((event_of (run o es) e).seats j).blocked (stand ((run o es).seats j)).wait ((trace o es).shadows j).blocking)
+  kept_shadow =
+      let s = (run o es).seats j in
+      let r = (event_of (run o es) e).seats j in
+      let x = (trace o es).shadows j in
+      let a = tasks_aside (begins e s r) (now (trace o es)) (record x {
+        listening = if listens (stand s).wait (stand r).wait then now (trace o es) else x.listening;
+        place = place_after (trace o es).clock (stand r).pass x.place;
+        blocking = blocking_after s.blocked r.blocked (stand s).wait x.blocking;
+      }) in
+      (ap (λ (y : Shadow). y.listening) shadow_is ∙ a.0, ap (λ (y : Shadow). y.blocking) shadow_is ∙ a.1)
+
+  module _ (w : IsSchedule o es) (old : AllListen o es) where
+    other : (k : ℕ) → k < o.callers → seat_of e ≢ k → Listens o es' k ((run o es').seats k) ((trace o es').shadows k).listening ((trace o es').shadows k).blocking
+    other k l ne =
+        let s = (run o es).seats k in
+        let x = (trace o es).shadows k in
+        let f = keeps o es e w k l s (λ q. absurd (ne (sym q))) in
+        subst (λ (y : Shadow). Listens o es' k ((run o es').seats k) y.listening y.blocking) (sym (others_leave_shadow o es (e ∷ []) k (ne, tt)))
+        (subst (λ r. Listens o es' k r x.listening x.blocking) (sym (others_leave o es (e ∷ []) k (ne, tt))) (unchanged o es es' k s x.listening x.blocking (old k l) f))
+
+    module _ (l : j < o.callers) where
+      goal : Goal o es w j l (old j l) e ((event_of (run o es) e).seats j)
+      goal = seat_cases (λ r. Goal o es w j l (old j l) e r) (run o es) e (same_goal o es w j l (old j l) e) (new e l (old j l))
+        where
+          new : (e : Event) (l : seat_of e < o.callers) (f : Listens o es (seat_of e) ((run o es).seats (seat_of e)) ((trace o es).shadows (seat_of e)).listening ((trace o es).shadows (seat_of e)).blocking) → Goal o es w (seat_of e) l f e (moved (run o es) e)
+          new (Begin k t) l f = begins_goal o es w k l f t
+          new (Step k) l f = steps_goal o es w k l f
+          new (Halt k) l f = halts_goal o es w k l f
+
+      its_own : Listens o es' j ((run o es').seats j) ((trace o es').shadows j).listening ((trace o es').shadows j).blocking
+      its_own =
+          let r = (event_of (run o es) e).seats j in
+          let f = goal (keeps o es e w j l r (λ q. refl)) in
+          let a = kept_shadow in
+          subst (λ r'. Listens o es' j r' ((trace o es').shadows j).listening ((trace o es').shadows j).blocking) (sym (ap (λ (m : State). m.seats j) (next_is o es e w)))
+          (subst (λ b. Listens o es' j r ((trace o es').shadows j).listening b) (sym a.1) (subst (λ b. Listens o es' j r b (reads o es w j l r)) (sym a.0) f))
+
+    listen_on : AllListen o es'
+    listen_on k l = go (k == j) refl
       where
-        new : (e : Event) (l : seat_of e < o.callers) (f : Listens o es (seat_of e) ((run o es).seats (seat_of e)) ((trace o es).shadows (seat_of e)).listening ((trace o es).shadows (seat_of e)).blocking) → Goal o es w (seat_of e) l f e (moved (run o es) e)
-        new (Begin k t) l f = begins_goal o es w k l f t
-        new (Step k) l f = steps_goal o es w k l f
-        new (Halt k) l f = halts_goal o es w k l f
-
-    its_own : Listens o es' j ((run o es').seats j) ((trace o es').shadows j).listening ((trace o es').shadows j).blocking
-    its_own =
-        let r = (event_of (run o es) e).seats j in
-        let f = goal (keeps o es e w j l r (λ q. refl)) in
-        let a = tasks_aside (begins e ((run o es).seats j) r) (now (trace o es)) (record ((trace o es).shadows j) {
-          listening = since o es w j l r;
-          place = place_after (trace o es).clock (stand r).pass ((trace o es).shadows j).place;
-          blocking = reads o es w j l r;
-        }) in
-        subst (λ (y : Shadow). Listens o es' j ((run o es').seats j) y.listening y.blocking) (sym shadow_is)
-        (subst (λ r'. Listens o es' j r' (kept r).listening (kept r).blocking) (sym (ap (λ (m : State). m.seats j) (next_is o es e w)))
-        (subst (λ b. Listens o es' j r (kept r).listening b) (sym a.1) (subst (λ b. Listens o es' j r b (reads o es w j l r)) (sym a.0) f)))
-
-  listen_on : AllListen o es'
-  listen_on k l = go (k == j) refl
-    where
-      go : (b : Bool) → (k == j) ≡ b → Listens o es' k ((run o es').seats k) ((trace o es').shadows k).listening ((trace o es').shadows k).blocking
-      go true q =
-          let z = eqb-true k j q in
-          subst (λ i. Listens o es' i ((run o es').seats i) ((trace o es').shadows i).listening ((trace o es').shadows i).blocking) (sym z) (its_own (subst (λ i. i < o.callers) z l))
-      go false q = let ne = eqb-false k j q in other k l (λ z. ne (sym z))
+        go : (b : Bool) → (k == j) ≡ b → Listens o es' k ((run o es').seats k) ((trace o es').shadows k).listening ((trace o es').shadows k).blocking
+        go true q =
+            let z = eqb-true k j q in
+            subst (λ i. Listens o es' i ((run o es').seats i) ((trace o es').shadows i).listening ((trace o es').shadows i).blocking) (sym z) (its_own (subst (λ i. i < o.callers) z l))
+        go false q = let ne = eqb-false k j q in other k l (λ z. ne (sym z))
 
 pub all_listen : (o : Opening) (es : List Event) → IsSchedule o es → AllListen o es
 all_listen o = every (λ es. IsSchedule o es → AllListen o es) (λ es e f w'. let w = (made_parts o es (e ∷ []) w').0 in listen_on o es e w (f w))

@@ -60,7 +60,7 @@ use Rattle.kc_histories.specs.Insertions.{put_by}
 use Rattle.kc_histories.proofs.Decisions.{history_moves}
 use Rattle.kc_histories.proofs.Growing.{LineThatPuts, line_that_puts}
 use Rattle.kc_resolving.proofs.Changes.{Changes, other, filled, started, installed, released, decided, event_changes}
-use Rattle.kc_resolving.proofs.Before.{got}
+use Rattle.kc_histories.proofs.Filters.{got}
 use Rattle.kc_resolving.proofs.Resolving.{decision_makes, decision_finds}
 use Rattle.kc_waiting.specs.Awaiting.{IsRegistered, version_at, at_version, Hears}
 use Rattle.kc_waiting.proofs.Bits.{is_set, joins_l, joins_r, cleared_else, signalled_or_owed}

@@ -5,3 +5,4 @@ pub mod Wakes
 pub mod Covering
 pub mod Listening
 pub mod Always
+pub mod Blocked

@@ -64,7 +64,7 @@ use Rattle.kc_claims.specs.Claims.{has_bit, IsAwake}
 use Rattle.kc_claims.specs.Traces.{Moment, Shadow, now, trace, listens, blocking_after}
 use Rattle.kc_ranges.proofs.Runs.{steps_possible}
 use Rattle.kc_traces.proofs.Others.{step_world}
-use Rattle.kc_resolving.proofs.Before.{got}
+use Rattle.kc_histories.proofs.Filters.{got}
 use Rattle.kc_waiting.specs.Awaiting.{is_set, looks, IsRegistered, version_at, Hears}
 use Rattle.kc_waiting.proofs.Bits
 use Rattle.kc_waiting.proofs.Hearing.{listens_at, listens_by, IsDeaf}

@@ -23,8 +23,8 @@ use Rattle.kc_machine.specs.Machine.{World}
 use Rattle.kc_effects.specs.Stands.{Own, NoOwn, Owns, Runs, Waits}
 use Rattle.kc_claims.specs.Claims.{still_wakes, owed_by, has_bit, OwnsSucceeded}
 use Rattle.kc_passes.proofs.Gone.{next_skips}
-use Rattle.kc_resolving.proofs.Before.{got}
-use Rattle.kc_resolving.proofs.Lines.{found}
+use Rattle.kc_histories.proofs.Filters.{got}
+use Rattle.kc_histories.proofs.Filters.{found}
 use Rattle.kc_waiting.proofs.Owns.{step_own, InPass, runs, waits}
 
 -- ---- lines behind an index

@@ -3,4 +3,6 @@
 
 mod laws;
 
-pub use laws::registered_callers_stay_covered;
+pub use laws::{
+    blocked_callers_are_covered, registered_callers_stay_covered, who_listens_hears,
+};
