@@ -1,10 +1,9 @@
 -- Every event leaves it so that who listens hears.
-use Rattle.std.proofs.Common.{arith, ◌≡◌, ◌≢◌, ◌<◌, ◌≤◌, ◌+◌, ◌⊎◌, inl, inr, ◌++◌, ◌==◌, ◌&&◌, not, ℕ, Bool, true, false, List, [], ◌∷◌, length, Option, None, Some, refl, sym, ap, subst, ◌∙◌, if◌then◌else◌}
+use Rattle.std.proofs.Common.{arith, ◌≡◌, ◌≢◌, ◌<◌, ◌≤◌, ◌+◌, ◌⊎◌, inl, inr, ◌++◌, ◌==◌, ℕ, Bool, true, false, List, [], ◌∷◌, length, Option, None, Some, refl, sym, ap, subst, ◌∙◌, if◌then◌else◌}
 use Rattle.std.specs.Prelude.{slice_get, get_or, nat_lt, Contains}
 use Rattle.std.proofs.lemmas.Option.{slice_get_within, slice_get_cases}
 use borrow.Author.Tests.{ltb-true, ltb-false, eqb-true, eqb-false}
 use Rattle.kc_model.specs.declared.footprint.Seen.{Seen}
-use Rattle.kc_words.specs.declared.access.Access.{Access}
 use Rattle.kc_words.specs.declared.access.Access.TheVariants as access
 use Rattle.kc_words.specs.declared.access.Bits.TheVariants as bits
 use Rattle.kc_words.specs.declared.access.Found.{Found}
@@ -13,58 +12,50 @@ use Rattle.kc_steps.specs.declared.look.LookNext.{LookNext}
 use Rattle.kc_steps.specs.declared.look.LookNext.TheVariants as looking
 use Rattle.kc_steps.specs.declared.look.Look.{Look}
 use Rattle.kc_steps.specs.declared.commit.Commit.{Commit}
-use Rattle.kc_steps.specs.declared.commit.Stage.{Stage}
-use Rattle.kc_steps.specs.declared.commit.Stage.TheVariants as stage
 use Rattle.kc_steps.specs.declared.task.Task.{Task}
 use Rattle.kc_steps.specs.declared.task.Task.TheVariants as task
-use Rattle.kc_steps.specs.declared.task.Onward.{Onward}
-use Rattle.kc_steps.specs.declared.task.Onward.TheVariants as onward
 use Rattle.kc_steps.specs.declared.task.Event.{Event}
 use Rattle.kc_steps.specs.declared.task.Event.TheVariants.{Begin, Step, Halt}
 use Rattle.kc_steps.specs.Nexts.{Next}
 use Rattle.kc_steps.specs.Nexts as next
 use Rattle.kc_steps.specs.Lines.{after_line}
-use Rattle.kc_steps.specs.Looks.{look_next, looks_on, told_by, halts_at_once, look_halted}
-use Rattle.kc_steps.specs.Commits.{stage_next, gone_on, onward_by, loaded}
+use Rattle.kc_steps.specs.Looks.{looks_on, told_by, halts_at_once, look_halted}
+use Rattle.kc_steps.specs.Commits.{gone_on, onward_by, loaded}
 use Rattle.kc_steps.specs.Halts.{unowned, commit_halted}
 use Rattle.kc_machine.specs.Waits.{Hang, Leave}
 use Rattle.kc_machine.specs.declared.hang.HangStep.{HangStep}
 use Rattle.kc_machine.specs.declared.hang.HangStep.TheVariants as hang
 use Rattle.kc_machine.specs.declared.hang.HangNext.{HangNext}
-use Rattle.kc_machine.specs.declared.hang.HangNext.TheVariants.{Goes, Tells}
+use Rattle.kc_machine.specs.declared.hang.HangNext.TheVariants.{Goes}
 use Rattle.kc_machine.specs.Hangs.{hang_next, hangs_on, onward_of, set_or_look, clear_or_changed, leaves_on, unblocks_or_tells, next_read, read_of, hang_access_of}
 use Rattle.kc_machine.specs.Words.{bits_after}
 use Rattle.kc_machine.specs.Works.{Work}
 use Rattle.kc_machine.specs.Works as work
 use Rattle.kc_machine.specs.declared.seat.Seat.{Seat}
-use Rattle.kc_machine.specs.Seats.{access_of, work_access, answer_of, answer_by, after, blocked_by, is_idle, begun, begun_idle, working, hanging, halted, halted_by, ended}
-use Rattle.kc_machine.specs.Machine.{World, State, Opening, put, touched, found_at, event_of, seat_of, run}
+use Rattle.kc_machine.specs.Seats.{access_of, work_access, answer_of, answer_by, after, is_idle, begun, begun_idle, working, hanging, halted, halted_by, ended}
+use Rattle.kc_machine.specs.Machine.{World, State, Opening, touched, found_at, event_of, seat_of, run}
 use Rattle.kc_machine.specs.Schedules.{IsSchedule}
 use Rattle.kc_machine.proofs.Functions.{put_here}
 use Rattle.kc_seats.specs.Formed.{WorkIsFormed}
-use Rattle.kc_seats.specs.Made.{ReadsAreMade}
 use Rattle.kc_seats.proofs.FormedSteps.{formed_always}
-use Rattle.kc_seats.proofs.MadeSteps.{reads_made, hangs_stand}
 use Rattle.kc_seats.proofs.SeatedSteps.{seats_stay}
-use Rattle.kc_effects.specs.Stands.{Waiting, NoWait, Hangs, HangLooks, Leaving, Passing, NoPass, stand}
+use Rattle.kc_effects.specs.Stands.{Waiting, NoWait, Hangs, HangLooks, Leaving, NoPass, stand}
 use Rattle.kc_claims.specs.Claims.{has_bit, IsAwake, WakeIsToCome}
 use Rattle.kc_claims.specs.Histories.{History, ending}
-use Rattle.kc_claims.specs.Traces.{Moment, Shadow, Trace, now, trace, first_store, listens, blocking_after, with_task, place_after, shadow_after, begins, traced}
+use Rattle.kc_claims.specs.Traces.{Moment, Shadow, Trace, now, trace, first_store, listens, blocking_after, with_task, place_after, shadow_after, begins}
 use Rattle.kc_claims.proofs.Follows.{trace_runs}
 use Rattle.kc_ranges.proofs.Room.{lt_is}
 use Rattle.kc_ranges.proofs.Runs.{steps_possible}
 use Rattle.kc_traces.proofs.Joins.{run-append, trace-append, every, made_parts}
-use Rattle.kc_traces.proofs.Others.{step_world, run_shape, event_else, event_out, others_leave, others_leave_shadow}
+use Rattle.kc_traces.proofs.Others.{step_world, run_shape, event_out, others_leave, others_leave_shadow}
 use Rattle.kc_traces.proofs.Answers.{moved, seat_cases}
-use Rattle.kc_histories.specs.Decisions.{Decision}
-use Rattle.kc_histories.specs.Places.{pass_of}
 use Rattle.kc_histories.proofs.Decisions.{history_moves}
 use Rattle.kc_histories.proofs.Passes.{pass_is, work_pass}
 use Rattle.kc_waiting.specs.Awaiting.{is_set, looks, IsRegistered, version_at, at_version, Hears}
 use Rattle.kc_waiting.proofs.Bits
 use Rattle.kc_waiting.proofs.Hearing.{listens_at, listens_by, IsDeaf}
 use Rattle.kc_waiting.proofs.Covering.{hears_in, registered_in}
-use Rattle.kc_waiting.proofs.Listening.{work_wait, hang_wait, wait_is, Calm, TellsCalm, commit_calm, Listens, Keeps, set_listens, not_deaf, heard_registered, unchanged, unhung, given_up, from_look}
+use Rattle.kc_waiting.proofs.Listening.{work_wait, hang_wait, wait_is, TellsCalm, commit_calm, Listens, Keeps, set_listens, not_deaf, unchanged, unhung, given_up, from_look}
 
 -- ---- any event
 

@@ -1,14 +1,14 @@
 -- Callers as bits.
-use Rattle.std.proofs.Common.{◌≡◌, ◌≢◌, ◌<◌, ◌≤◌, ◌*◌, ◌%◌, ◌/◌, ◌^◌, ◌+◌, ◌-◌, ◌⊎◌, inl, inr, ◌∙◌, ◌==◌, not, zero, suc, ℕ, Bool, true, false, refl, sym, ap, arith, if◌then◌else◌}
+use Rattle.std.proofs.Common.{◌≡◌, ◌≢◌, ◌<◌, ◌≤◌, ◌*◌, ◌%◌, ◌/◌, ◌^◌, ◌+◌, ◌-◌, ◌⊎◌, inl, inr, ◌∙◌, ◌==◌, not, zero, suc, ℕ, Bool, true, false, refl, sym, ap, arith}
 use Rattle.std.specs.Prelude.{nat_lt, bit_and, bit_or}
 use Rattle.std.specs.Int.{bit_at, bit_not, w64}
 use Rattle.std.specs.Int.Bits.{and_zero_l}
 use Rattle.std.specs.Int.Count.{count_trailing_zeros}
 use Rattle.std.proofs.lemmas.Nat.{pow_pos}
-use Rattle.std.proofs.lemmas.Nat.Bits.{and_pow, bit_at-lt, bit_at-zero, bit_at_and, bit_at_or, bit_at_set_same, bit_at_set_other, bit_at_clear_other, bit_at-trailing_zeros, bit_at_cat_low, bit_at_cat_high}
+use Rattle.std.proofs.lemmas.Nat.Bits.{and_pow, bit_at-lt, bit_at-zero, bit_at_and, bit_at_or, bit_at_set_same, bit_at_clear_other, bit_at-trailing_zeros, bit_at_cat_low, bit_at_cat_high}
 use Rattle.std.proofs.Math.Pow.{pow-lt}
-use native.Mathlib.Nat.{div-add-mod', mod-lt}
-use borrow.Author.Tests.{ltb-true, ltb-false, eqb-true, eqb-false, eq-eqb, ne_eqb}
+use native.Mathlib.Nat.{div-add-mod'}
+use borrow.Author.Tests.{ltb-true, ltb-false, eqb-true, eqb-false, ne_eqb}
 use Rattle.kc_machine.specs.Words.{bit_of, bits_after}
 use Rattle.kc_words.specs.declared.access.Bits.TheVariants as bits
 use Rattle.kc_claims.specs.Claims.{has_bit}

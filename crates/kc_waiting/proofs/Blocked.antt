@@ -1,8 +1,7 @@
 -- Blocked callers are covered.
-use Rattle.std.proofs.Common.{arith, ◌≡◌, ◌≢◌, ◌<◌, ◌≤◌, ◌+◌, ◌⊎◌, inl, inr, ◌++◌, ◌==◌, ℕ, zero, suc, Bool, true, false, List, [], ◌∷◌, length, Option, None, Some, refl, sym, ap, subst, ◌∙◌, if◌then◌else◌}
-use Rattle.std.specs.Prelude.{nat_lt, Contains, All}
+use Rattle.std.proofs.Common.{arith, ◌≡◌, ◌≢◌, ◌<◌, ◌≤◌, ◌⊎◌, inl, inr, ◌++◌, ◌==◌, ℕ, Bool, true, false, List, [], ◌∷◌, Option, None, Some, refl, sym, ap, subst, ◌∙◌, if◌then◌else◌}
+use Rattle.std.specs.Prelude.{Contains, All}
 use Rattle.std.proofs.lemmas.List.Elements.{All-nil, All-cons}
-use Rattle.std.proofs.lemmas.List.{take_all}
 use borrow.Author.Tests.{eqb-true, eqb-false}
 use Rattle.kc_model.specs.declared.footprint.Seen.{Seen}
 use Rattle.kc_model.proofs.Stores.{Contains-first, Contains-later}
@@ -13,14 +12,13 @@ use Rattle.kc_steps.specs.declared.look.LookNext.TheVariants as looking
 use Rattle.kc_steps.specs.declared.commit.Commit.{Commit}
 use Rattle.kc_steps.specs.declared.task.Task.{Task}
 use Rattle.kc_steps.specs.declared.task.Task.TheVariants as task
-use Rattle.kc_steps.specs.declared.task.Told.{Told}
 use Rattle.kc_steps.specs.declared.task.Told.TheVariants as told
 use Rattle.kc_steps.specs.declared.task.Event.{Event}
 use Rattle.kc_steps.specs.declared.task.Event.TheVariants.{Begin, Step, Halt}
 use Rattle.kc_steps.specs.Nexts.{Next}
 use Rattle.kc_steps.specs.Nexts as next
 use Rattle.kc_steps.specs.Looks.{looks_on, told_by, halts_at_once, look_halted}
-use Rattle.kc_steps.specs.Commits.{stage_next, gone_on, onward_by, loaded}
+use Rattle.kc_steps.specs.Commits.{gone_on, onward_by, loaded}
 use Rattle.kc_steps.specs.Halts.{unowned, commit_halted}
 use Rattle.kc_machine.specs.Waits.{Hang, Leave}
 use Rattle.kc_machine.specs.declared.hang.HangNext.{HangNext}
@@ -29,15 +27,15 @@ use Rattle.kc_machine.specs.Hangs.{hangs_on, onward_of, leaves_on, unblocks_or_t
 use Rattle.kc_machine.specs.Works.{Work}
 use Rattle.kc_machine.specs.Works as work
 use Rattle.kc_machine.specs.declared.seat.Seat.{Seat}
-use Rattle.kc_machine.specs.Seats.{access_of, answer_of, answer_by, after, blocked_by, is_idle, begun, begun_idle, working, hanging, halted, halted_by, ended}
+use Rattle.kc_machine.specs.Seats.{access_of, answer_of, answer_by, after, is_idle, begun, begun_idle, working, hanging, halted, halted_by, ended}
 use Rattle.kc_machine.specs.Machine.{State, Opening, found_at, event_of, seat_of, run}
 use Rattle.kc_machine.specs.Schedules.{IsSchedule}
 use Rattle.kc_seats.specs.Formed.{WorkIsFormed}
 use Rattle.kc_seats.proofs.FormedSteps.{formed_always}
 use Rattle.kc_effects.specs.Stands.{Waiting, stand}
-use Rattle.kc_claims.specs.Claims.{IsAwake, IsCovered, StandsAt, WakeIsToCome, BlockedAreCovered, HungReadsStood, history_at}
+use Rattle.kc_claims.specs.Claims.{IsAwake, IsCovered, StandsAt, WakeIsToCome, BlockedAreCovered, history_at}
 use Rattle.kc_claims.specs.Histories.{ending}
-use Rattle.kc_claims.specs.Traces.{Moment, Shadow, now, trace, first_store, listens, begins, blocking_after}
+use Rattle.kc_claims.specs.Traces.{Moment, Shadow, now, trace, first_store, listens, blocking_after}
 use Rattle.kc_traces.proofs.Joins.{every, made_parts}
 use Rattle.kc_traces.proofs.Known.{versions_on, versions_rise}
 use Rattle.kc_traces.proofs.Moments.{listening_moment}

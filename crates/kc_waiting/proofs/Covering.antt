@@ -1,10 +1,10 @@
 -- One event, and what a caller hears of it that listens on.
-use Rattle.std.proofs.Common.{arith, ◌≡◌, ◌≢◌, ◌<◌, ◌≤◌, ◌^◌, ◌+◌, ◌⊎◌, inl, inr, ◌++◌, ◌==◌, ℕ, Bool, true, false, List, [], ◌∷◌, length, drop, Option, None, Some, refl, sym, ap, subst, ◌∙◌}
-use Rattle.std.specs.Prelude.{slice_get, nat_lt, Contains, bit_and, bit_or, ◌-◌}
+use Rattle.std.proofs.Common.{arith, ◌≡◌, ◌≢◌, ◌<◌, ◌≤◌, ◌^◌, ◌⊎◌, inl, inr, ◌++◌, ◌==◌, ℕ, Bool, true, false, List, [], ◌∷◌, length, Option, None, Some, refl, sym, ap, subst, ◌∙◌}
+use Rattle.std.specs.Prelude.{slice_get, Contains, bit_and, bit_or, ◌-◌}
 use Rattle.std.specs.Int.Count.{count_trailing_zeros}
 use Rattle.std.specs.Option.{is_some}
 use Rattle.std.proofs.Math.Pow.{pow_mono}
-use borrow.Author.Tests.{ltb-true, ltb-false, eqb-true, eqb-false}
+use borrow.Author.Tests.{eqb-true, eqb-false}
 use Rattle.kc_model.specs.declared.footprint.Loc.{Loc}
 use Rattle.kc_model.specs.declared.footprint.Seen.{Seen}
 use Rattle.kc_model.specs.declared.footprint.Put as footprint
@@ -18,7 +18,6 @@ use Rattle.kc_words.specs.declared.words.Mode.TheVariants.{All, Light}
 use Rattle.kc_words.specs.declared.words.Status.{Status}
 use Rattle.kc_words.specs.declared.words.Phase.{Phase}
 use Rattle.kc_words.specs.declared.words.Phase.TheVariants.{Active, Succeeded, Failed, Crossed, Halted}
-use Rattle.kc_words.specs.declared.access.Bits.TheVariants as bits
 use Rattle.kc_steps.specs.declared.line.Line.{Line}
 use Rattle.kc_steps.specs.declared.line.Intent.{Intent}
 use Rattle.kc_steps.specs.declared.commit.OwnStep.{OwnStep}
@@ -30,10 +29,8 @@ use Rattle.kc_steps.specs.declared.commit.Stage.TheVariants as stage
 use Rattle.kc_steps.specs.declared.line.Pick.TheVariants.{Put}
 use Rattle.kc_steps.specs.Lines.{next_line, after_line}
 use Rattle.kc_steps.specs.Commits.{finished, wake_or_signal}
-use Rattle.kc_machine.specs.Words.{bits_after}
 use Rattle.kc_machine.specs.Works.{Work}
 use Rattle.kc_machine.specs.Works as work
-use Rattle.kc_machine.specs.declared.seat.Seat.{Seat}
 use Rattle.kc_machine.specs.Machine.{World, State, Opening, put, event_of, seat_of, run}
 use Rattle.kc_machine.specs.Schedules.{IsSchedule}
 use Rattle.kc_machine.proofs.Functions.{put_cases, put_else, put_here}
@@ -45,14 +42,14 @@ use Rattle.kc_effects.specs.Stands.{Own, NoOwn, Owns, Runs, Waits, Passing, stan
 use Rattle.kc_effects.specs.Holds.{Proper, own_hold}
 use Rattle.kc_passes.proofs.Holders.{same_handle}
 use Rattle.kc_effects.proofs.PoolLaws.{holds_kept}
-use Rattle.kc_pool.specs.Owners.{Follows, is_filling, OwnsLife, Undecided, phase_read}
+use Rattle.kc_pool.specs.Owners.{Follows, is_filling, Undecided, phase_read}
 use Rattle.kc_pool.proofs.LifeLaws.{statuses_follow, active_owned, owners_differ, phase_known}
 use Rattle.kc_claims.specs.Claims.{has_bit, owed_by, IsAwake, still_wakes, OwnsSucceeded, WakeIsToCome}
-use Rattle.kc_claims.specs.Histories.{History, Placed, ending, cell_of, inserted, footprint_of, installs}
+use Rattle.kc_claims.specs.Histories.{History, Placed, ending, cell_of, inserted, installs}
 use Rattle.kc_claims.specs.Traces.{Moment, now, trace, first_store}
 use Rattle.kc_traces.specs.Entries.{own_intent}
 use Rattle.kc_traces.proofs.Joins.{run-append}
-use Rattle.kc_traces.proofs.Others.{run_shape, event_else, event_out}
+use Rattle.kc_traces.proofs.Others.{run_shape, event_else}
 use Rattle.kc_ranges.proofs.Callers.{owed_in}
 use Rattle.kc_ranges.proofs.Runs.{seats_in}
 use Rattle.kc_histories.specs.Decisions.{Decision}
@@ -63,10 +60,10 @@ use Rattle.kc_resolving.proofs.Changes.{Changes, other, filled, started, install
 use Rattle.kc_histories.proofs.Filters.{got}
 use Rattle.kc_resolving.proofs.Resolving.{decision_makes, decision_finds}
 use Rattle.kc_waiting.specs.Awaiting.{IsRegistered, version_at, at_version, Hears}
-use Rattle.kc_waiting.proofs.Bits.{is_set, joins_l, joins_r, cleared_else, signalled_or_owed}
+use Rattle.kc_waiting.proofs.Bits.{joins_l, joins_r, cleared_else, signalled_or_owed}
 use Rattle.kc_waiting.proofs.Owns.{step_own, stage_own, work_own, own_is, InPass, runs, waits, WakesKept, none, same, goes, ends}
 use Rattle.kc_waiting.proofs.Hearing.{Hearing, still, sets, clears, unsignals, wakes, signals, IsDeaf, event_hears}
-use Rattle.kc_waiting.proofs.Wakes.{behind, still_behind, so_puts, finished_owes, wake_owes, no_bit_of_none, next_owed, wake_owed, pass_lines, pass_owes_none, pass_succeeded, succeeded_pass, reads_line}
+use Rattle.kc_waiting.proofs.Wakes.{behind, so_puts, finished_owes, wake_owes, no_bit_of_none, next_owed, wake_owed, pass_lines, pass_owes_none, pass_succeeded, succeeded_pass, reads_line}
 
 -- ---- by one event of a seat that is there
 
@@ -331,7 +328,7 @@ module _ (o : Opening) (es : List Event) (e : Event) (w : IsSchedule o es) (insi
           let z = eqb-true k j q in
           let own : (stand (m.seats k)).own ≡ was = ap (λ k. (stand (m.seats k)).own) z ∙ was_is in
           let g = wakes_on x puts c (subst (λ (v : Loc). has_bit (n.world.awaiters v.0) c ≡ true) (sym loc) bit) (subst (λ x'. Contains (still_wakes x') x) own a)
-                  (subst (OwnsSucceeded n.world) own (owns_on k l (stand (m.seats k)).own refl s)) in
+          (subst (OwnsSucceeded n.world) own (owns_on k l (stand (m.seats k)).own refl s)) in
           let out : is ≡ (stand (n.seats k)).own = sym is_is ∙ ap (λ k. (stand (n.seats k)).own) (sym z) in
           (k, x, l', subst (OwnsSucceeded n.world) out g.1, subst (λ x'. Contains (still_wakes x') x) out g.0, loc, version, puts)
 

@@ -1,17 +1,15 @@
 -- What an event makes of signals, of awaiters' bits, and of whom its seat owes.
-use Rattle.std.proofs.Common.{◌≡◌, ℕ, ◌-◌, Bool, true, false, List, [], Option, None, Some, refl, sym, ap, subst, ◌∙◌, if◌then◌else◌}
+use Rattle.std.proofs.Common.{◌≡◌, ℕ, ◌-◌, Bool, true, false, List, [], Option, None, Some, refl, sym, subst, if◌then◌else◌}
 use Rattle.std.specs.Prelude.{slice_get, bit_or, bit_and, nat_lt}
 use Rattle.std.specs.Int.Count.{count_trailing_zeros}
 use Rattle.kc_model.specs.declared.footprint.Loc.{Loc}
 use Rattle.kc_model.specs.declared.footprint.Seen.{Seen}
 use Rattle.kc_words.specs.declared.words.Handle.{Handle}
-use Rattle.kc_words.specs.declared.words.Phase.{Phase}
 use Rattle.kc_words.specs.declared.words.Reference.{Reference}
 use Rattle.kc_words.specs.declared.access.Access.{Access}
 use Rattle.kc_words.specs.declared.access.Access.TheVariants as access
 use Rattle.kc_words.specs.declared.access.Bits.TheVariants as bits
 use Rattle.kc_words.specs.declared.access.Found.{Found}
-use Rattle.kc_words.specs.declared.access.Found.TheVariants as found
 use Rattle.kc_steps.specs.declared.line.Line.{Line}
 use Rattle.kc_steps.specs.declared.line.Intent.{Intent}
 use Rattle.kc_steps.specs.declared.line.Pick.TheVariants.{Put}
@@ -27,23 +25,20 @@ use Rattle.kc_steps.specs.declared.commit.Stage.TheVariants as stage
 use Rattle.kc_steps.specs.declared.commit.OwnStep.{OwnStep}
 use Rattle.kc_steps.specs.declared.commit.OwnStep.TheVariants as own
 use Rattle.kc_steps.specs.declared.task.Task.{Task}
-use Rattle.kc_steps.specs.declared.task.Told.TheVariants as told
 use Rattle.kc_steps.specs.declared.task.Event.{Event}
 use Rattle.kc_steps.specs.declared.task.Event.TheVariants.{Begin, Step, Halt}
 use Rattle.kc_steps.specs.Lines.{next_line, after_line}
-use Rattle.kc_steps.specs.Looks.{look_access, look_tells, look_after, halts_at_once}
+use Rattle.kc_steps.specs.Looks.{look_access}
 use Rattle.kc_steps.specs.Passes.{pass_access, install_access, check_access, release_at}
 use Rattle.kc_steps.specs.Aids.{aid_access}
-use Rattle.kc_steps.specs.Commits.{own_access, own_next, stage_access, stage_next, commit_access, loaded, gone_on, onward_by, wake_or_signal, owed_next, wake_access, fill_first, fill_second, tells_or_goes, commit_onward, commit_after}
+use Rattle.kc_steps.specs.Commits.{own_access, own_next, stage_access, stage_next, loaded, gone_on, onward_by, wake_or_signal, owed_next, wake_access, fill_first, fill_second}
 use Rattle.kc_steps.specs.Halts.{unowned, halted_at}
 use Rattle.kc_machine.specs.Waits.{Hang, Leave}
 use Rattle.kc_machine.specs.declared.hang.HangStep.{HangStep}
 use Rattle.kc_machine.specs.declared.hang.HangStep.TheVariants as hang
-use Rattle.kc_machine.specs.declared.hang.HangNext.{HangNext}
-use Rattle.kc_machine.specs.declared.hang.HangNext.TheVariants.{Goes, Tells}
 use Rattle.kc_machine.specs.declared.hang.LeaveStep.{LeaveStep}
 use Rattle.kc_machine.specs.declared.hang.LeaveStep.TheVariants as leave
-use Rattle.kc_machine.specs.Hangs.{hang_access_of, hang_next, read_of, hangs_on, onward_of, clear_or_changed, after_clear, leave_access_at, clear_access, leave_after, leaves_on, unblocks_or_tells, next_read}
+use Rattle.kc_machine.specs.Hangs.{hang_access_of, hang_next, read_of, hangs_on, onward_of, clear_or_changed, leave_access_at, clear_access, leaves_on, unblocks_or_tells, next_read}
 use Rattle.kc_machine.specs.Words.{bits_after}
 use Rattle.kc_machine.specs.Works.{Work}
 use Rattle.kc_machine.specs.Works as work

@@ -1,72 +1,42 @@
 -- Who hangs or is blocked goes on hearing, after every schedule of well-made tasks.
-use Rattle.std.proofs.Common.{arith, ◌≡◌, ◌≢◌, ◌<◌, ◌≤◌, ◌+◌, ◌⊎◌, inl, inr, ◌++◌, ◌==◌, ◌&&◌, not, ℕ, Bool, true, false, List, [], ◌∷◌, length, Option, None, Some, refl, sym, ap, subst, ◌∙◌, if◌then◌else◌}
-use Rattle.std.specs.Prelude.{slice_get, nat_lt, Contains}
-use Rattle.std.proofs.lemmas.Option.{slice_get_within}
-use borrow.Author.Tests.{ltb-true, ltb-false, eqb-true, eqb-false}
-use Rattle.kc_model.specs.declared.footprint.TheConstants.{MOST}
+use Rattle.std.proofs.Common.{◌≡◌, inl, inr, ℕ, Bool, true, false, List, Some, refl, sym, ap, subst, ◌∙◌}
+use Rattle.std.specs.Prelude.{slice_get, Contains}
 use Rattle.kc_model.specs.declared.footprint.Seen.{Seen}
 use Rattle.kc_words.specs.declared.words.Phase.{Phase}
 use Rattle.kc_words.specs.declared.words.Phase.TheVariants.{Active, Succeeded, Failed, Crossed, Halted}
 use Rattle.kc_words.specs.declared.words.Handle.{Handle}
 use Rattle.kc_words.specs.declared.words.Reference.{Reference}
-use Rattle.kc_words.specs.declared.access.Access.TheVariants as access
-use Rattle.kc_words.specs.declared.access.Bits.TheVariants as bits
 use Rattle.kc_words.specs.declared.access.Found.{Found}
 use Rattle.kc_steps.specs.declared.line.Intent.{Intent}
 use Rattle.kc_steps.specs.declared.aid.Aided.{Aided}
 use Rattle.kc_steps.specs.declared.aid.AidStep.{AidStep}
 use Rattle.kc_steps.specs.declared.aid.AidStep.TheVariants as aid
-use Rattle.kc_steps.specs.declared.look.LookStep.{LookStep}
-use Rattle.kc_steps.specs.declared.look.LookNext.{LookNext}
-use Rattle.kc_steps.specs.declared.look.LookNext.TheVariants as looking
 use Rattle.kc_steps.specs.declared.commit.Commit.{Commit}
 use Rattle.kc_steps.specs.declared.commit.Stage.{Stage}
 use Rattle.kc_steps.specs.declared.commit.Stage.TheVariants as stage
 use Rattle.kc_steps.specs.declared.commit.OwnStep.{OwnStep}
 use Rattle.kc_steps.specs.declared.commit.OwnStep.TheVariants as own
-use Rattle.kc_steps.specs.declared.task.Task.{Task}
-use Rattle.kc_steps.specs.declared.task.Task.TheVariants as task
 use Rattle.kc_steps.specs.declared.task.Told.{Told}
-use Rattle.kc_steps.specs.declared.task.Told.TheVariants as told
-use Rattle.kc_steps.specs.declared.task.Onward.{Onward}
-use Rattle.kc_steps.specs.declared.task.Onward.TheVariants as onward
 use Rattle.kc_steps.specs.declared.task.Event.{Event}
-use Rattle.kc_steps.specs.declared.task.Event.TheVariants.{Begin, Step, Halt}
 use Rattle.kc_steps.specs.Nexts.{Next}
 use Rattle.kc_steps.specs.Nexts as next
-use Rattle.kc_steps.specs.Lines.{after_line}
-use Rattle.kc_steps.specs.Looks.{look_next, look_after, look_tells, told_by, halts_at_once}
-use Rattle.kc_steps.specs.Commits.{stage_next, tells_or_goes, told_of, gone_on, onward_by, loaded, commit_onward}
-use Rattle.kc_steps.specs.Halts.{unowned}
-use Rattle.kc_machine.specs.Waits.{Hang, Leave}
+use Rattle.kc_steps.specs.Commits.{stage_next, tells_or_goes, told_of}
+use Rattle.kc_machine.specs.Waits.{Hang}
 use Rattle.kc_machine.specs.declared.hang.HangStep.{HangStep}
 use Rattle.kc_machine.specs.declared.hang.HangStep.TheVariants as hang
 use Rattle.kc_machine.specs.declared.hang.HangNext.{HangNext}
 use Rattle.kc_machine.specs.declared.hang.HangNext.TheVariants.{Goes, Tells}
-use Rattle.kc_machine.specs.Hangs.{hang_next, hangs_on, onward_of, set_or_look, clear_or_changed, leaves_on, unblocks_or_tells, next_read, read_of, hang_access_of}
-use Rattle.kc_machine.specs.Words.{bits_after}
+use Rattle.kc_machine.specs.Hangs.{hangs_on, onward_of}
 use Rattle.kc_machine.specs.Works.{Work}
 use Rattle.kc_machine.specs.Works as work
 use Rattle.kc_machine.specs.declared.seat.Seat.{Seat}
-use Rattle.kc_machine.specs.Seats.{access_of, work_access, answer_of, answer_by, after, blocked_by, is_idle, begun, begun_idle, working, hanging, halted, halted_by, ended}
-use Rattle.kc_machine.specs.Machine.{World, State, Opening, put, touched, found_at, event_of, seat_of, run}
-use Rattle.kc_machine.specs.Schedules.{IsSchedule}
-use Rattle.kc_machine.proofs.Functions.{put_here}
-use Rattle.kc_seats.specs.Formed.{HangIsFormed, HangStands, IsWellFormed, WorkIsFormed}
-use Rattle.kc_seats.specs.Made.{ReadsAreMade}
-use Rattle.kc_seats.proofs.FormedSteps.{formed_always}
-use Rattle.kc_seats.proofs.MadeSteps.{reads_made, hangs_stand}
-use Rattle.kc_seats.proofs.SeatedSteps.{seats_stay}
+use Rattle.kc_machine.specs.Seats.{after, blocked_by}
+use Rattle.kc_machine.specs.Machine.{Opening, run}
 use Rattle.kc_seats.proofs.Searches.{scanned, taken}
 use Rattle.kc_effects.specs.Stands.{Stand, Waits, Waiting, NoWait, Hangs, HangLooks, Leaving, stand, works, resting, commits, owns, aids, hangs}
-use Rattle.kc_pool.proofs.Filled.{past_end}
-use Rattle.kc_claims.specs.Claims.{has_bit, IsAwake}
-use Rattle.kc_claims.specs.Traces.{Moment, Shadow, now, trace, listens, blocking_after}
-use Rattle.kc_ranges.proofs.Runs.{steps_possible}
-use Rattle.kc_traces.proofs.Others.{step_world}
+use Rattle.kc_claims.specs.Traces.{Moment}
 use Rattle.kc_histories.proofs.Filters.{got}
-use Rattle.kc_waiting.specs.Awaiting.{is_set, looks, IsRegistered, version_at, Hears}
-use Rattle.kc_waiting.proofs.Bits
+use Rattle.kc_waiting.specs.Awaiting.{is_set, looks, IsRegistered, Hears}
 use Rattle.kc_waiting.proofs.Hearing.{listens_at, listens_by, IsDeaf}
 
 -- ---- how a work waits

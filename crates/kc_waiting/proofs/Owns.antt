@@ -1,12 +1,10 @@
 -- What an event makes of what a seat owes by its own descriptor.
-use Rattle.std.proofs.Common.{◌≡◌, ◌⊎◌, inl, inr, ℕ, ◌+◌, ◌-◌, ◌==◌, ◌&&◌, Bool, true, false, List, [], Option, None, Some, refl, sym, ap, subst, ◌∙◌, if◌then◌else◌}
-use Rattle.std.specs.Prelude.{nat_lt, slice_get}
+use Rattle.std.proofs.Common.{◌≡◌, ℕ, Bool, true, false, List, [], Option, None, Some, refl}
 use Rattle.kc_model.specs.declared.footprint.Seen.{Seen}
 use Rattle.kc_words.specs.declared.words.Handle.{Handle}
 use Rattle.kc_words.specs.declared.words.Reference.{Reference}
 use Rattle.kc_words.specs.declared.words.Phase.{Phase}
 use Rattle.kc_words.specs.declared.access.Found.{Found}
-use Rattle.kc_words.specs.declared.access.Found.TheVariants as found
 use Rattle.kc_steps.specs.declared.line.Intent.{Intent}
 use Rattle.kc_steps.specs.declared.pass.PassNext.{PassNext}
 use Rattle.kc_steps.specs.declared.pass.PassNext.TheVariants as pass
@@ -22,7 +20,7 @@ use Rattle.kc_steps.specs.declared.commit.OwnStep.{OwnStep}
 use Rattle.kc_steps.specs.declared.commit.OwnStep.TheVariants as own
 use Rattle.kc_steps.specs.Passes.{pass_next}
 use Rattle.kc_steps.specs.Aids.{aid_next}
-use Rattle.kc_steps.specs.Commits.{own_next, finished, after_own_pass, aid_or_back, onward_or_back, fill_next, fill_or_start}
+use Rattle.kc_steps.specs.Commits.{own_next, finished, after_own_pass, aid_or_back}
 use Rattle.kc_steps.specs.Halts.{halted_own, halted_aid, aid_or_decide}
 use Rattle.kc_machine.specs.declared.hang.HangStep.{HangStep}
 use Rattle.kc_machine.specs.declared.hang.HangStep.TheVariants as hang

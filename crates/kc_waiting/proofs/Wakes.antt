@@ -1,15 +1,13 @@
 -- The wakes that an owner has still to make, from one step to the next.
-use Rattle.std.proofs.Common.{arith, ◌≡◌, ◌≢◌, ◌<◌, ◌≤◌, ◌+◌, ◌⊎◌, inl, inr, zero, suc, not, ℕ, Bool, true, false, List, [], ◌∷◌, length, drop, Option, None, Some, refl, sym, ap, subst, ◌∙◌, if◌then◌else◌, ◌==◌}
+use Rattle.std.proofs.Common.{arith, ◌≡◌, ◌<◌, ◌≤◌, ◌+◌, zero, suc, not, ℕ, Bool, true, false, List, [], ◌∷◌, length, drop, Option, None, Some, refl, sym, ap, subst, ◌∙◌, if◌then◌else◌, ◌==◌}
 use Rattle.std.specs.Prelude.{slice_get, nat_lt, Contains, map}
 use Rattle.kc_model.proofs.Stores.{Contains-first, Contains-later}
 use Rattle.std.specs.Option.{is_some}
 use Rattle.std.proofs.lemmas.Option.{slice_get_within}
 use Rattle.std.specs.Int.Bits.{and_zero_l}
-use borrow.Author.Tests.{ltb-true, ltb-false, eqb-true, eqb-false}
+use borrow.Author.Tests.{ltb-true, ltb-false, eqb-true}
 use Rattle.kc_words.specs.declared.words.Handle.{Handle}
-use Rattle.kc_words.specs.declared.words.Status.{Status}
-use Rattle.kc_words.specs.declared.words.Phase.{Phase}
-use Rattle.kc_words.specs.declared.words.Phase.TheVariants.{Active, Succeeded, Failed, Crossed, Halted}
+use Rattle.kc_words.specs.declared.words.Phase.TheVariants.{Succeeded}
 use Rattle.kc_steps.specs.declared.line.Line.{Line}
 use Rattle.kc_steps.specs.declared.line.Intent.{Intent}
 use Rattle.kc_steps.specs.declared.line.Pick.TheVariants.{Put}
@@ -20,7 +18,7 @@ use Rattle.kc_steps.specs.Passes.{status}
 use Rattle.kc_steps.specs.Commits.{finished, wake_or_drop, wake_or_signal, owed_next}
 use Rattle.kc_machine.specs.Words.{bit_of}
 use Rattle.kc_machine.specs.Machine.{World}
-use Rattle.kc_effects.specs.Stands.{Own, NoOwn, Owns, Runs, Waits}
+use Rattle.kc_effects.specs.Stands.{Own}
 use Rattle.kc_claims.specs.Claims.{still_wakes, owed_by, has_bit, OwnsSucceeded}
 use Rattle.kc_passes.proofs.Gone.{next_skips}
 use Rattle.kc_histories.proofs.Filters.{got}

@@ -3,6 +3,4 @@
 
 mod laws;
 
-pub use laws::{
-    blocked_callers_are_covered, registered_callers_stay_covered, who_listens_hears,
-};
+pub use laws::{blocked_callers_are_covered, registered_callers_stay_covered, who_listens_hears};
