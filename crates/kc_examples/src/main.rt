@@ -1,9 +1,9 @@
-//! Runs each script of `examples/`, of which `data/` is the copy that the gate lets a program read, and says whether its text and its exit number are those that stand beside it.
+//! Runs each script of `examples/`, of which `data/` is the copy that the gate lets a program read, and says whether its text and its exit number are those that stand beside it; and each script of `faults/`, whether its line on standard error is that.
 #![tactic(auto)]
 
 use kc_model::{FrailSink, FrailSource};
 use kc_run::OpenGate;
-use kc_top::kcas_main;
+use kc_top::{Status, kcas_main};
 use std::alloc::Global;
 use std::sync::Wait;
 use std::thread::Threads;
@@ -31,6 +31,29 @@ const EXAMPLES: [(&str, u8); 18] = [
     ("refused", 3),
 ];
 
+// The name of each script of `faults/`. Beside it stands its line on standard error.
+const FAULTS: [&str; 16] = [
+    "header",
+    "unknown_word",
+    "unknown_name",
+    "repeated_name",
+    "bad_name",
+    "bad_number",
+    "wrong_kind",
+    "missing_word",
+    "extra_word",
+    "unclosed_block",
+    "stray_word",
+    "locations",
+    "threads",
+    "commands",
+    "block",
+    "depth",
+];
+
+// The exit number of a script with a fault.
+const FAULT: u8 = 3;
+
 // More bytes than any text of theirs has.
 const ROOM: usize = 4096;
 
@@ -39,14 +62,20 @@ fn main(rt: HostRuntime) -> io::Result<()> {
     for (name, number) in EXAMPLES {
         let script = fs::read(&rt, &format!(in alloc; "{name}.kcas")?)?;
         let text = fs::read(&rt, &format!(in alloc; "{name}.txt")?)?;
-        let verdict = if is_as_expected(&rt, alloc, script, &text, number)? {
-            "ok"
-        } else {
-            "differs"
-        };
+        let verdict = verdict(is_as_expected(&rt, alloc, script, &text, number)?);
         println!(rt; "{name}: {verdict}")?;
     }
+    for name in FAULTS {
+        let script = fs::read(&rt, &format!(in alloc; "faults/{name}.kcas")?)?;
+        let line = fs::read(&rt, &format!(in alloc; "faults/{name}.txt")?)?;
+        let verdict = verdict(has_its_line(&rt, alloc, script, &line)?);
+        println!(rt; "faults/{name}: {verdict}")?;
+    }
     Ok(())
+}
+
+fn verdict(good: bool) -> &'static str {
+    if good { "ok" } else { "differs" }
 }
 
 fn is_as_expected<R: Threads + Wait + Sync>(
@@ -56,13 +85,45 @@ fn is_as_expected<R: Threads + Wait + Sync>(
     text: &[u8],
     number: u8,
 ) -> io::Result<bool> {
+    let mut sink = sink(alloc)?;
+    let status = run(rt, alloc, script, &mut sink)?;
+    Ok(status.number() == number && sink.bytes() == text)
+}
+
+// Whether the script is refused with this line, which ends with a newline, and nothing is written.
+fn has_its_line<R: Threads + Wait + Sync>(
+    rt: &R,
+    alloc: Global,
+    script: Vec<u8>,
+    line: &[u8],
+) -> io::Result<bool> {
+    let mut sink = sink(alloc)?;
+    let status = run(rt, alloc, script, &mut sink)?;
+    let told = status.line();
+    Ok(
+        status.number() == FAULT
+            && sink.bytes().is_empty()
+            && line.strip_suffix(b"\n".as_slice()) == Some(told.as_bytes()),
+    )
+}
+
+fn sink(alloc: Global) -> io::Result<FrailSink> {
+    match FrailSink::new(alloc, ROOM, Vec::new(alloc)) {
+        Ok(sink) => Ok(sink),
+        Err(_) => Err(io::ErrorKind::OutOfMemory.into()),
+    }
+}
+
+fn run<R: Threads + Wait + Sync>(
+    rt: &R,
+    alloc: Global,
+    script: Vec<u8>,
+    sink: &mut FrailSink,
+) -> io::Result<Status> {
     let mut words = Vec::new(alloc);
     words.push(String::from_str(alloc, "kcas")?)?;
     words.push(String::from_str(alloc, "run")?)?;
     let mut source = FrailSource::new(script, Vec::new(alloc));
-    let Ok(mut sink) = FrailSink::new(alloc, ROOM, Vec::new(alloc)) else {
-        return Err(io::ErrorKind::OutOfMemory.into());
-    };
-    let (status, _) = kcas_main(rt, alloc, &words, &mut source, &mut sink, &OpenGate);
-    Ok(status.number() == number && sink.bytes() == text)
+    let (status, _) = kcas_main(rt, alloc, &words, &mut source, sink, &OpenGate);
+    Ok(status)
 }

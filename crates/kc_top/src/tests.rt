@@ -19,7 +19,6 @@ const FIRST: &str = "kcas 1\nloc x 5\nthread\nget x\nset x 7\nadd x 1\n";
 
 const FIRST_TEXT: &str = "1.1 5\n1.2 ok\n1.3 7\norder\n1.1\n1.2\n1.3\n1.end\nstate\nx 8\n";
 
-
 fn words(alloc: Global, second: &str) -> Result<Vec<String>, Fail> {
     let mut words = Vec::new(alloc);
     words.push(String::from_str(alloc, "kcas")?)?;
