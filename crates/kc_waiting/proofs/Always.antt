@@ -39,7 +39,7 @@ use Rattle.kc_machine.proofs.Functions.{put_here}
 use Rattle.kc_seats.specs.Formed.{WorkIsFormed}
 use Rattle.kc_seats.proofs.FormedSteps.{formed_always}
 use Rattle.kc_seats.proofs.SeatedSteps.{seats_stay}
-use Rattle.kc_effects.specs.Stands.{Waiting, NoWait, Hangs, HangLooks, Leaving, NoPass, stand}
+use Rattle.kc_effects.specs.Stands.{Hangs, HangLooks, NoPass, stand}
 use Rattle.kc_claims.specs.Claims.{has_bit, IsAwake, WakeIsToCome}
 use Rattle.kc_claims.specs.Histories.{History, ending}
 use Rattle.kc_claims.specs.Traces.{Moment, Shadow, Trace, now, trace, first_store, listens, blocking_after, with_task, place_after, shadow_after, begins}
@@ -55,7 +55,7 @@ use Rattle.kc_waiting.specs.Awaiting.{is_set, looks, IsRegistered, version_at, a
 use Rattle.kc_waiting.proofs.Bits
 use Rattle.kc_waiting.proofs.Hearing.{listens_at, listens_by, IsDeaf}
 use Rattle.kc_waiting.proofs.Covering.{hears_in, registered_in}
-use Rattle.kc_waiting.proofs.Listening.{work_wait, hang_wait, wait_is, TellsCalm, commit_calm, Listens, Keeps, set_listens, not_deaf, unchanged, unhung, given_up, from_look}
+use Rattle.kc_waiting.proofs.Listening.{listens_itself, work_wait, hang_wait, wait_is, TellsCalm, commit_calm, Listens, Keeps, set_listens, not_deaf, unchanged, unhung, given_up, from_look}
 
 -- ---- any event
 
@@ -123,14 +123,8 @@ module _ (o : Opening) (es : List Event) (w : IsSchedule o es) (k : ℕ) (within
     since_stays r q = ap (λ (b : Bool). if b then now (trace o es) else x.listening) q
 
     same_goal : (e : Event) → Goal e s
-    same_goal e f = subst (λ at. Listens o (es ++ e ∷ []) k s at (reads s)) (sym (since_stays s (itself (stand s).wait)))
+    same_goal e f = subst (λ at. Listens o (es ++ e ∷ []) k s at (reads s)) (sym (since_stays s (listens_itself (stand s).wait)))
         (fewer e s x.listening x.blocking (reads s) (unchanged o es (es ++ e ∷ []) k s x.listening x.blocking old f) (λ b. reads_stay s b b))
-      where
-        itself : (a : Waiting) → listens a a ≡ false
-        itself NoWait = refl
-        itself (Hangs xs step) = refl
-        itself (HangLooks xs j) = refl
-        itself (Leaving xs step) = refl
 
     abbrev is_hang : Work → Bool
     is_hang (work.Hang h) = true
@@ -342,6 +336,17 @@ module _ (o : Opening) (es : List Event) (e : Event) where
   tasks_aside : (a : Option Task) (m : Moment) (y : Shadow) → ((with_task a m y).listening ≡ y.listening) × ((with_task a m y).blocking ≡ y.blocking)
   tasks_aside None m y = (refl, refl)
   tasks_aside (Some t) m y = (refl, refl)
+
+  pub kept_task : ((trace o es').shadows j).task ≡ (with_task (begins e ((run o es).seats j) ((event_of (run o es) e).seats j)) (now (trace o es)) ((trace o es).shadows j)).task
+  kept_task = ap (λ (y : Shadow). y.task) shadow_is ∙ go (begins e ((run o es).seats j) ((event_of (run o es) e).seats j))
+    where
+      go : (a : Option Task) → (with_task a (now (trace o es)) (record ((trace o es).shadows j) {
+        listening = if listens (stand ((run o es).seats j)).wait (stand ((event_of (run o es) e).seats j)).wait then now (trace o es) else ((trace o es).shadows j).listening;
+        place = place_after (trace o es).clock (stand ((event_of (run o es) e).seats j)).pass ((trace o es).shadows j).place;
+        blocking = blocking_after ((run o es).seats j).blocked ((event_of (run o es) e).seats j).blocked (stand ((run o es).seats j)).wait ((trace o es).shadows j).blocking;
+      })).task ≡ (with_task a (now (trace o es)) ((trace o es).shadows j)).task
+      go None = refl
+      go (Some t) = refl
 
   pub kept_shadow : (((trace o es').shadows j).listening ≡ (if listens (stand ((run o es).seats j)).wait (stand ((event_of (run o es) e).seats j)).wait then now (trace o es) else ((trace o es).shadows j).listening))
       × (((trace o es').shadows j).blocking ≡ blocking_after ((run o es).seats j).blocked ((event_of (run o es) e).seats j).blocked (stand ((run o es).seats j)).wait ((trace o es).shadows j).blocking)

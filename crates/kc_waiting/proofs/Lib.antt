@@ -6,3 +6,4 @@ pub mod Covering
 pub mod Listening
 pub mod Always
 pub mod Blocked
+pub mod Changed

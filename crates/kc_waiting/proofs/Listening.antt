@@ -17,6 +17,7 @@ use Rattle.kc_commits.specs.declared.commit.Stage.TheVariants as stage
 use Rattle.kc_commits.specs.declared.commit.OwnStep.{OwnStep}
 use Rattle.kc_commits.specs.declared.commit.OwnStep.TheVariants as own
 use Rattle.kc_steps.specs.declared.task.Told.{Told}
+use Rattle.kc_steps.specs.declared.task.Told.TheVariants as told
 use Rattle.kc_steps.specs.declared.task.Event.{Event}
 use Rattle.kc_commits.specs.Nexts.{Next}
 use Rattle.kc_commits.specs.Nexts as next
@@ -34,7 +35,7 @@ use Rattle.kc_machine.specs.Seats.{after, blocked_by}
 use Rattle.kc_machine.specs.Machine.{Opening, run}
 use Rattle.kc_seats.proofs.Searches.{scanned, taken}
 use Rattle.kc_effects.specs.Stands.{Stand, Waits, Waiting, NoWait, Hangs, HangLooks, Leaving, stand, works, resting, commits, owns, aids, hangs}
-use Rattle.kc_claims.specs.Traces.{Moment}
+use Rattle.kc_claims.specs.Traces.{listens, Moment}
 use Rattle.kc_histories.proofs.Filters.{got}
 use Rattle.kc_waiting.specs.Awaiting.{is_set, looks, IsRegistered, Hears}
 use Rattle.kc_waiting.proofs.Hearing.{listens_at, listens_by, IsDeaf}
@@ -87,20 +88,47 @@ wait_is s = go s.work
     go (work.Hang h) = waits h.reads.items h.step
     go (work.Leave l) = refl
 
--- ---- what is told of no hang leaves blocked what was
+-- no bit is the last where a wait stays as it is
+pub listens_itself : (a : Waiting) → listens a a ≡ false
+listens_itself NoWait = refl
+listens_itself (Hangs xs step) = refl
+listens_itself (HangLooks xs j) = refl
+listens_itself (Leaving xs step) = refl
 
+-- ---- what a commit tells
+
+-- what holds of all that a commit may tell holds of what it tells
+abbrev pub TellsSo : (Told → Type 0) → Next → Type 0
+TellsSo P (next.Tells t) = P t
+TellsSo P (next.Goes x) = Unit {0}
+TellsSo P (next.Takes x) = Unit {0}
+
+pub commit_tells : (P : Told → Type 0) (n calls : ℕ) → P told.Worn → P told.Halted → ((p : Phase) → P (told_of p calls)) → (c : Commit) (x : Stage) (f : Found) → TellsSo P (stage_next n calls c x f)
+commit_tells P n calls worn halts phases c (stage.Scan d v) f = scanned (TellsSo P) (λ d v. tt) (λ d g. tt) worn n d v f
+commit_tells P n calls worn halts phases c (stage.Take d g) f = taken (TellsSo P) (λ d v. tt) (λ d g. tt) (λ h. tt) n d g f
+commit_tells P n calls worn halts phases c (stage.Own h step) f = go step
+  where
+    go : (step : OwnStep) → TellsSo P (tells_or_goes calls c h step f)
+    go own.FillOwner = tt
+    go (own.FillFirst k) = tt
+    go (own.FillSecond k) = tt
+    go own.Start = tt
+    go own.Abandon = halts
+    go (own.Pass p) = tt
+    go (own.Aid k r a) = tt
+    go (own.Wake k owed) = tt
+    go (own.Signal owed) = tt
+    go (own.Drop p) = phases p
+
+-- what is told of no hang leaves blocked what was
 abbrev pub Calm : Told → Type 0
 Calm t = (b : Bool) → blocked_by b t ≡ b
 
 abbrev pub TellsCalm : Next → Type 0
-TellsCalm (next.Tells t) = Calm t
-TellsCalm (next.Goes x) = Unit {0}
-TellsCalm (next.Takes x) = Unit {0}
+TellsCalm n = TellsSo Calm n
 
 pub commit_calm : (n calls : ℕ) (c : Commit) (x : Stage) (f : Found) → TellsCalm (stage_next n calls c x f)
-commit_calm n calls c (stage.Scan d worn) f = scanned TellsCalm (λ d v. tt) (λ d g. tt) (λ b. refl) n d worn f
-commit_calm n calls c (stage.Take d g) f = taken TellsCalm (λ d v. tt) (λ d g. tt) (λ h. tt) n d g f
-commit_calm n calls c (stage.Own h step) f = go step
+commit_calm n calls = commit_tells Calm n calls (λ b. refl) (λ b. refl) phases
   where
     phases : (p : Phase) → Calm (told_of p calls)
     phases Active b = refl
@@ -108,18 +136,6 @@ commit_calm n calls c (stage.Own h step) f = go step
     phases (Failed k) b = refl
     phases (Crossed k) b = refl
     phases Halted b = refl
-
-    go : (step : OwnStep) → TellsCalm (tells_or_goes calls c h step f)
-    go own.FillOwner = tt
-    go (own.FillFirst k) = tt
-    go (own.FillSecond k) = tt
-    go own.Start = tt
-    go own.Abandon = λ b. refl
-    go (own.Pass p) = tt
-    go (own.Aid k r a) = tt
-    go (own.Wake k owed) = tt
-    go (own.Signal owed) = tt
-    go (own.Drop p) = phases p
 
 -- ---- what a seat hears
 

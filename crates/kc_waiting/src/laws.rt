@@ -6,6 +6,7 @@ ghost use Rattle.kc_machine.specs.Machine.{Opening};
 ghost use Rattle.kc_machine.specs.Schedules.{IsSchedule};
 ghost use Rattle.kc_claims.specs.Claims.{BlockedAreCovered};
 ghost use Rattle.kc_waiting.specs.Awaiting.{BlockedHear, HangsHear, RegisteredStayCovered};
+ghost use Rattle.kc_waiting.specs.Causes.{ChangedReadsMoved};
 
 /// While a caller hangs, it is signalled or owed a wake, or its bit stands at each read where it was set.
 pub fn registered_callers_stay_covered()
@@ -23,4 +24,10 @@ pub fn who_listens_hears()
 /// wake is to come.
 pub fn blocked_callers_are_covered()
     ensures { (o : Opening) (es : List Event) → IsSchedule o es → BlockedAreCovered o es }
+{}
+
+/// Where a hang was told that a read changed, another version than the read's stood at its location at some moment after all
+/// bits were set.
+pub fn changed_reads_moved()
+    ensures { (o : Opening) (es : List Event) → IsSchedule o es → ChangedReadsMoved o es }
 {}

@@ -3,4 +3,7 @@
 
 mod laws;
 
-pub use laws::{blocked_callers_are_covered, registered_callers_stay_covered, who_listens_hears};
+pub use laws::{
+    blocked_callers_are_covered, changed_reads_moved, registered_callers_stay_covered,
+    who_listens_hears,
+};

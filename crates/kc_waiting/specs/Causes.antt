@@ -1,0 +1,23 @@
+-- Why a hang is told Changed.
+use Rattle.std.specs.Prelude.{◌≡◌, ◌≢◌, ◌<◌, ◌≤◌, ℕ, List, length, Some, slice_get}
+use Rattle.kc_model.specs.declared.footprint.Seen.{Seen}
+use Rattle.kc_steps.specs.declared.task.Event.{Event}
+use Rattle.kc_steps.specs.declared.task.Task.TheVariants as task
+use Rattle.kc_steps.specs.declared.task.Told.TheVariants as told
+use Rattle.kc_machine.specs.Machine.{Opening, run}
+use Rattle.kc_claims.specs.Histories.{ending}
+use Rattle.kc_claims.specs.Traces.{Moment, trace, first_store}
+use Rattle.kc_claims.specs.Claims.{history_at}
+
+-- behind the event at a moment, another version than the read's stood once at its location
+abbrev pub OtherStood : Opening → List Event → Moment → Seen → Type 0
+OtherStood o es since r = (i : ℕ) × (since.clock < i) × (i ≤ length es) × ((ending (first_store o) (history_at o es i) r.loc.0).version ≢ r.version)
+
+-- read c is one of which another version stood
+abbrev pub ReadMoved : Opening → List Event → Moment → List Seen → ℕ → Type 0
+ReadMoved o es since reads c = (r : Seen) × (slice_get reads c ≡ Some r) × OtherStood o es since r
+
+-- where a hang was told that a read changed, another version stood there at a moment after all bits were set
+abbrev pub ChangedReadsMoved : Opening → List Event → Type 0
+ChangedReadsMoved o es = (k c : ℕ) (reads : List Seen) → k < o.callers → ((trace o es).shadows k).task ≡ Some (task.Hang (record { items = reads })) → ((run o es).seats k).told ≡ Some (told.Changed c)
+    → ReadMoved o es ((trace o es).shadows k).listening reads c
