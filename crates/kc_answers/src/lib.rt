@@ -1,0 +1,6 @@
+//! Why a seat is told what it is told, and what a commit alone costs.
+#![tactic(auto)]
+
+mod laws;
+
+pub use laws::puts_cost_one_each;
