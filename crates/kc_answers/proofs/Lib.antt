@@ -1,2 +1,4 @@
 pub mod Alone
 pub mod Puts
+pub mod Halts
+pub mod Strays

@@ -11,7 +11,6 @@ use Rattle.kc_model.specs.declared.word.Word.{Word}
 use Rattle.kc_model.specs.declared.word.Word.TheVariants.{Plain}
 use Rattle.kc_words.specs.declared.words.Handle.{Handle}
 use Rattle.kc_words.specs.declared.words.Mode.{Mode}
-use Rattle.kc_words.specs.declared.words.Mode.TheVariants as mode
 use Rattle.kc_words.specs.declared.words.Phase.TheVariants.{Active, Succeeded, Failed}
 use Rattle.kc_words.specs.declared.access.Touch.TheVariants.{CompareExchange}
 use Rattle.kc_words.specs.declared.words.Status.{Status}
@@ -49,6 +48,7 @@ use Rattle.kc_traces.proofs.Others.{run_shape}
 use Rattle.kc_ranges.proofs.Runs.{steps_possible}
 use Rattle.kc_histories.proofs.Filters.{found as among}
 use Rattle.kc_histories.proofs.Footprints.{later_above, rest_rises}
+use Rattle.kc_histories.proofs.Growing.{puts_installed}
 use Rattle.kc_answers.proofs.Alone.{at_step, made, step_is, before_start}
 
 -- ---- lines that rise are of different locations
@@ -65,8 +65,7 @@ lower (z ∷ xs) (suc i) (suc j) x y r e f l = lower xs i j x y (rest_rises line
 -- ---- lines that all put
 
 puts_in : (m : Mode) (x : Line) → is_some x.put ≡ true → is_installed m x ≡ true
-puts_in mode.All x e = refl
-puts_in mode.Light x e = go x.put e
+puts_in m x e = puts_installed m x (go x.put e)
   where
     go : (o : Option ℕ) → is_some o ≡ true → has_put o ≡ true
     go None e = absurd (cc)

@@ -2,9 +2,21 @@
 
 ghost use Rattle.std.specs.Prelude.{List};
 ghost use Rattle.kc_steps.specs.declared.task.Event.{Event};
-ghost use Rattle.kc_machine.specs.Machine.{Opening};
+ghost use Rattle.kc_machine.specs.Machine.{Opening, run};
 ghost use Rattle.kc_machine.specs.Schedules.{IsSchedule};
 ghost use Rattle.kc_claims.specs.Claims.{PutsCostOneEach};
+ghost use Rattle.kc_answers.specs.Causes.{HaltsHaveACause};
+ghost use Rattle.kc_answers.specs.Strays.{StraysAreLate};
+
+/// A task that is told Halted was halted: behind the event by which it began the schedule has a halt of its seat.
+pub fn halts_have_a_cause()
+    ensures { (o : Opening) (es : List Event) → HaltsHaveACause o es }
+{}
+
+/// A seat that holds a descriptor by a stray hold finds it at a later generation than the one that it looked for.
+pub fn strays_are_late()
+    ensures { (o : Opening) (es : List Event) → StraysAreLate (run o es) }
+{}
 
 /// Where the tasks are well made, a commit of k puts that stands before its start, whose words are plain and as it read them, makes k + 1
 /// compare-exchanges from there to its decision for success, if no other seat steps.
