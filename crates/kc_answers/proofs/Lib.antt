@@ -2,3 +2,4 @@ pub mod Alone
 pub mod Puts
 pub mod Halts
 pub mod Strays
+pub mod Standing

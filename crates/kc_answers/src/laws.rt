@@ -6,11 +6,18 @@ ghost use Rattle.kc_machine.specs.Machine.{Opening, run};
 ghost use Rattle.kc_machine.specs.Schedules.{IsSchedule};
 ghost use Rattle.kc_claims.specs.Claims.{PutsCostOneEach};
 ghost use Rattle.kc_answers.specs.Causes.{HaltsHaveACause};
+ghost use Rattle.kc_answers.specs.Met.{MetReferencesStand};
 ghost use Rattle.kc_answers.specs.Strays.{StraysAreLate};
 
 /// A task that is told Halted was halted: behind the event by which it began the schedule has a halt of its seat.
 pub fn halts_have_a_cause()
     ensures { (o : Opening) (es : List Event) → HaltsHaveACause o es }
+{}
+
+/// A reference that a check has met in its line's word stands there as long as its life is Active. So where the check finds it
+/// Active, and its pass goes to decide Crossed, the word refers at that moment to a life that is Active.
+pub fn met_references_stand()
+    ensures { (o : Opening) (es : List Event) → MetReferencesStand (run o es) }
 {}
 
 /// A seat that holds a descriptor by a stray hold finds it at a later generation than the one that it looked for.
