@@ -3,3 +3,5 @@ pub mod Puts
 pub mod Halts
 pub mod Strays
 pub mod Standing
+pub mod Crossing
+pub mod Crossed

@@ -1,5 +1,5 @@
 -- A reference that a check met stands there as long as its life is Active.
-use Rattle.std.proofs.Common.{arith, ◌≡◌, ◌≢◌, ◌<◌, ◌≤◌, ◌⊎◌, inl, inr, ⊎_elim, ◌∙◌, ℕ, Bool, true, false, List, Option, None, Some, refl, sym, ap, subst}
+use Rattle.std.proofs.Common.{arith, ◌≡◌, ◌≢◌, ◌<◌, ◌≤◌, ◌⊎◌, inl, inr, ⊎_elim, ◌∙◌, ℕ, Bool, true, false, not, List, Option, None, Some, refl, sym, ap, subst}
 use Rattle.std.specs.Prelude.{slice_get}
 use Rattle.kc_model.specs.declared.word.Word.TheVariants.{Ref}
 use Rattle.kc_words.specs.declared.words.Handle.{Handle}
@@ -17,7 +17,7 @@ use Rattle.kc_steps.specs.declared.pass.AfterCheck.TheVariants as checked
 use Rattle.kc_steps.specs.declared.aid.AidStep.TheVariants as aid
 use Rattle.kc_steps.specs.declared.commit.OwnStep.TheVariants as own
 use Rattle.kc_steps.specs.declared.task.Event.{Event}
-use Rattle.kc_steps.specs.Lines.{next_line, after_line, word_of}
+use Rattle.kc_steps.specs.Lines.{is_installed, next_line, after_line, word_of}
 use Rattle.kc_steps.specs.Looks.{reference_of}
 use Rattle.kc_steps.specs.Passes.{status, from_install, install_or_check, from_check, check_or_decide, from_release, release_or_finish, decided_as, check_drop_next}
 use Rattle.kc_steps.specs.Halts.{halted_pass, halted_aid_pass}
@@ -28,6 +28,8 @@ use Rattle.kc_effects.specs.Changes.{with_word, with_status, held_once_less}
 use Rattle.kc_effects.specs.Effects
 use Rattle.kc_effects.proofs.Runs.{holds_after}
 use Rattle.kc_effects.proofs.Tests.{some_line}
+use Rattle.kc_seats.specs.Fits.{IsCheckedAt}
+use Rattle.kc_seats.proofs.Searches.{IsPicked, next_fits}
 use Rattle.kc_pool.specs.Owners.{Follows}
 use Rattle.kc_pool.specs.References.{met_by_pass}
 use Rattle.kc_pool.proofs.Published.{Out}
@@ -42,95 +44,102 @@ use Rattle.kc_answers.specs.Met.{StandsIfActive, StepStands, TurnStands, PassSta
 
 -- ---- steps that have met nothing
 
-module _ (w : World) (xs : List Line) (m : Mode) where
-  check_stands : (j : ℕ) → StepStands w xs (from_check m xs j)
-  check_stands j = go (next_line Checked m xs j)
-    where
-      go : (o : Option ℕ) → StepStands w xs (check_or_decide o)
-      go None = tt
-      go (Some i) = tt
+checked_at : (m : Mode) (xs : List Line) (j : ℕ) → IsPicked Checked m xs (Some j) → IsCheckedAt m xs j
+checked_at m xs j (x, e, q, l) = (x, e, go (is_installed m x) q)
+  where
+    go : (b : Bool) → not b ≡ true → b ≡ false
+    go true q = absurd (cc)
+    go false q = refl
 
-  install_stands : (j : ℕ) → StepStands w xs (from_install m xs j)
+module _ (w : World) (xs : List Line) (m : Mode) where
+  check_stands : (j : ℕ) → StepStands w m xs (from_check m xs j)
+  check_stands j = go (next_line Checked m xs j) (next_fits Checked m xs j)
+    where
+      go : (o : Option ℕ) → IsPicked Checked m xs o → StepStands w m xs (check_or_decide o)
+      go None f = tt
+      go (Some i) f = checked_at m xs i f
+
+  install_stands : (j : ℕ) → StepStands w m xs (from_install m xs j)
   install_stands j = go (next_line Installed m xs j)
     where
-      go : (o : Option ℕ) → StepStands w xs (install_or_check m xs o)
+      go : (o : Option ℕ) → StepStands w m xs (install_or_check m xs o)
       go None = check_stands 0
       go (Some i) = tt
 
-  drop_stands : (q : PassStep) (j : ℕ) (c : AfterCheck) → TurnStands w xs (turn q (check_drop_next m xs j c))
-  drop_stands q j checked.Again = tt
-  drop_stands q j checked.Agrees = check_stands (after_line j)
-  drop_stands q j (checked.Decide p) = tt
-  drop_stands q j checked.Leave = tt
+  drop_stands : (q : PassStep) (j : ℕ) (c : AfterCheck) → IsCheckedAt m xs j → TurnStands w m xs (turn q (check_drop_next m xs j c))
+  drop_stands q j checked.Again f = f
+  drop_stands q j checked.Agrees f = check_stands (after_line j)
+  drop_stands q j (checked.Decide p) f = tt
+  drop_stands q j checked.Leave f = tt
 
-  release_stands : (q : PassStep) (j : ℕ) (p : Phase) → TurnStands w xs (turn q (from_release m xs j p))
+  release_stands : (q : PassStep) (j : ℕ) (p : Phase) → TurnStands w m xs (turn q (from_release m xs j p))
   release_stands q j p = go (next_line Installed m xs j)
     where
-      go : (o : Option ℕ) → TurnStands w xs (turn q (release_or_finish p o))
+      go : (o : Option ℕ) → TurnStands w m xs (turn q (release_or_finish p o))
       go None = tt
       go (Some i) = tt
 
-halt_stands : (w : World) (xs : List Line) (p : PassStep) → StepStands w xs (halted_pass (checked.Decide Halted) (Decide Halted) p)
-halt_stands w xs (Install j) = tt
-halt_stands w xs (Check j) = tt
-halt_stands w xs (CheckHold j r) = tt
-halt_stands w xs (CheckStatus j r) = tt
-halt_stands w xs (CheckFirst j r p) = tt
-halt_stands w xs (CheckDrop j r stray c) = tt
-halt_stands w xs (Decide p) = tt
-halt_stands w xs (Release j p) = tt
+  halt_stands : (p : PassStep) → StepStands w m xs p → StepStands w m xs (halted_pass (checked.Decide Halted) (Decide Halted) p)
+  halt_stands (Install j) f = tt
+  halt_stands (Check j) f = tt
+  halt_stands (CheckHold j r) f = tt
+  halt_stands (CheckStatus j r) f = f.0
+  halt_stands (CheckFirst j r p) f = f
+  halt_stands (CheckDrop j r stray c) f = f
+  halt_stands (Decide p) f = tt
+  halt_stands (Release j p) f = tt
 
-halt_aided_stands : (w : World) (xs : List Line) (p q : PassStep) → halted_aid_pass p ≡ aid.Pass q → StepStands w xs q
-halt_aided_stands w xs p q e = go p e
-  where
-    to : (t : PassStep) → aid.Pass t ≡ aid.Pass q → StepStands w xs t → StepStands w xs q
-    to t e h = let s : t ≡ q = cc in subst (StepStands w xs) s h
+  halt_aided_stands : (p q : PassStep) → halted_aid_pass p ≡ aid.Pass q → StepStands w m xs p → StepStands w m xs q
+  halt_aided_stands p q e f = go p e f
+    where
+      to : (t : PassStep) → aid.Pass t ≡ aid.Pass q → StepStands w m xs t → StepStands w m xs q
+      to t e h = let s : t ≡ q = cc in subst (StepStands w m xs) s h
 
-    go : (p : PassStep) → halted_aid_pass p ≡ aid.Pass q → StepStands w xs q
-    go (Install j) e = absurd (cc)
-    go (Check j) e = absurd (cc)
-    go (CheckHold j r) e = absurd (cc)
-    go (CheckStatus j r) e = to (CheckDrop j r false checked.Leave) e tt
-    go (CheckFirst j r p) e = to (CheckDrop j r false checked.Leave) e tt
-    go (CheckDrop j r stray c) e = to (CheckDrop j r stray checked.Leave) e tt
-    go (Decide p) e = absurd (cc)
-    go (Release j p) e = to (Release j p) e tt
+      go : (p : PassStep) → halted_aid_pass p ≡ aid.Pass q → StepStands w m xs p → StepStands w m xs q
+      go (Install j) e f = absurd (cc)
+      go (Check j) e f = absurd (cc)
+      go (CheckHold j r) e f = absurd (cc)
+      go (CheckStatus j r) e f = to (CheckDrop j r false checked.Leave) e f.0
+      go (CheckFirst j r p) e f = to (CheckDrop j r false checked.Leave) e f
+      go (CheckDrop j r stray c) e f = to (CheckDrop j r stray checked.Leave) e f
+      go (Decide p) e f = absurd (cc)
+      go (Release j p) e f = to (Release j p) e tt
 
 -- ---- the seat that steps, behind the step's words
 
 stands_own : (k : ℕ) {w w' : World} {s s' : Stand} → Effects.Effect k w s w' s' → PassStands w' s.pass → PassStands w' s'.pass
-stands_own k (Effects.start {w} s {h} {i} q e z) f = subst (StepStands (with_status w h.descriptor (status h.generation Active)) i.lines.items) (sym e) (install_stands (with_status w h.descriptor (status h.generation Active)) i.lines.items i.mode 0)
-stands_own k (Effects.install {w} s {h} {m} {xs} {j} x q a b e z put_in low) f = subst (StepStands (with_word w x.seen.loc.0 (word_of h j)) xs) (sym e) (install_stands (with_word w x.seen.loc.0 (word_of h j)) xs m (after_line j))
-stands_own k (Effects.installed {w} s {h} {m} {xs} {j} x q a b e z) f = subst (StepStands w xs) (sym e) (install_stands w xs m (after_line j))
+stands_own k (Effects.start {w} s {h} {i} q e z) f = subst (StepStands (with_status w h.descriptor (status h.generation Active)) i.mode i.lines.items) (sym e) (install_stands (with_status w h.descriptor (status h.generation Active)) i.lines.items i.mode 0)
+stands_own k (Effects.install {w} s {h} {m} {xs} {j} x q a b e z put_in low) f = subst (StepStands (with_word w x.seen.loc.0 (word_of h j)) m xs) (sym e) (install_stands (with_word w x.seen.loc.0 (word_of h j)) xs m (after_line j))
+stands_own k (Effects.installed {w} s {h} {m} {xs} {j} x q a b e z) f = subst (StepStands w m xs) (sym e) (install_stands w xs m (after_line j))
 stands_own k (Effects.unfit s x a b e) f = tt
 stands_own k (Effects.meets s x a b e) f = tt
-stands_own k (Effects.check_fits {w} s {h} {m} {xs} {j} x q a b c e z) f = subst (StepStands w xs) (sym e) (check_stands w xs m (after_line j))
+stands_own k (Effects.check_fits {w} s {h} {m} {xs} {j} x q a b c e z) f = subst (StepStands w m xs) (sym e) (check_stands w xs m (after_line j))
 stands_own k (Effects.check_unfit s x a b e) f = tt
-stands_own k (Effects.check_meets {w} s {h} {m} {xs} {j} x a b) f = λ y c act. ap (λ (v : Line). w.word v.seen.loc.0) (some_line (slice_get xs j) y x c a) ∙ b
+stands_own k (Effects.check_meets {w} s {h} {m} {xs} {j} x a b) f = (f, λ y c act. ap (λ (v : Line). w.word v.seen.loc.0) (some_line (slice_get xs j) y x c a) ∙ b)
 stands_own k (Effects.check_hold s q) f = f
-stands_own k (Effects.check_stray s q) f = tt
-stands_own k (Effects.check_active s q) f = tt
-stands_own k (Effects.check_decided s p q n) f = tt
-stands_own k (Effects.check_first s x a) f = tt
-stands_own k (Effects.check_drop {w} s {h} {m} {xs} {j} {r} {stray} {c} t e z) f = subst (TurnStands (held_once_less w r.handle.descriptor) xs) (sym e) (drop_stands (held_once_less w r.handle.descriptor) xs m (CheckDrop j r stray c) j c)
-stands_own k (Effects.decide {w} s {h} {m} {xs} p t a b e z may halts) f = subst (TurnStands (with_status w h.descriptor (status h.generation p)) xs) (sym e) (release_stands (with_status w h.descriptor (status h.generation p)) xs m (Decide p) 0 (decided_as p Active))
-stands_own k (Effects.succeed {w} s {h} {m} {xs} t a e z) f = subst (TurnStands (with_status w h.descriptor (status h.generation Succeeded)) xs) (sym e) (release_stands (with_status w h.descriptor (status h.generation Succeeded)) xs m (Decide Succeeded) 0 Succeeded)
-stands_own k (Effects.learn {w} s {h} {m} {xs} p t a e z may) f = subst (TurnStands w xs) (sym e) (release_stands w xs m (Decide p) 0 (decided_as p (w.status h.descriptor).phase))
-stands_own k (Effects.release {w} s {h} {m} {xs} {j} {p} x t a b e z) f = subst (TurnStands (with_word w x.seen.loc.0 (released x p)) xs) (sym e) (release_stands (with_word w x.seen.loc.0 (released x p)) xs m (Release j p) (after_line j) p)
-stands_own k (Effects.skip {w} s {h} {m} {xs} {j} {p} x t a b e z) f = subst (TurnStands w xs) (sym e) (release_stands w xs m (Release j p) (after_line j) p)
+stands_own k (Effects.check_stray s q) f = f.0
+stands_own k (Effects.check_active s q) f = f.0
+stands_own k (Effects.check_decided s p q n) f = f.0
+stands_own k (Effects.check_first s x a) f = f
+stands_own k (Effects.check_drop {w} s {h} {m} {xs} {j} {r} {stray} {c} t e z) f = subst (TurnStands (held_once_less w r.handle.descriptor) m xs) (sym e) (drop_stands (held_once_less w r.handle.descriptor) xs m (CheckDrop j r stray c) j c f)
+stands_own k (Effects.decide {w} s {h} {m} {xs} p t a b e z may halts) f = subst (TurnStands (with_status w h.descriptor (status h.generation p)) m xs) (sym e) (release_stands (with_status w h.descriptor (status h.generation p)) xs m (Decide p) 0 (decided_as p Active))
+stands_own k (Effects.succeed {w} s {h} {m} {xs} t a e z) f = subst (TurnStands (with_status w h.descriptor (status h.generation Succeeded)) m xs) (sym e) (release_stands (with_status w h.descriptor (status h.generation Succeeded)) xs m (Decide Succeeded) 0 Succeeded)
+stands_own k (Effects.learn {w} s {h} {m} {xs} p t a e z may) f = subst (TurnStands w m xs) (sym e) (release_stands w xs m (Decide p) 0 (decided_as p (w.status h.descriptor).phase))
+stands_own k (Effects.release {w} s {h} {m} {xs} {j} {p} x t a b e z) f = subst (TurnStands (with_word w x.seen.loc.0 (released x p)) m xs) (sym e) (release_stands (with_word w x.seen.loc.0 (released x p)) xs m (Release j p) (after_line j) p)
+stands_own k (Effects.skip {w} s {h} {m} {xs} {j} {p} x t a b e z) f = subst (TurnStands w m xs) (sym e) (release_stands w xs m (Release j p) (after_line j) p)
 stands_own k (Effects.abandon s stopped) f = tt
 stands_own k (Effects.drop s p) f = tt
 stands_own k (Effects.own_meets s c) f = tt
 stands_own k (Effects.own_ends s) f = tt
-stands_own k (Effects.aid_passes {w} s {r} {c} q a e z) f = subst (StepStands w c.lines.items) (sym e) (install_stands w c.lines.items c.owner.mode 0)
+stands_own k (Effects.aid_passes {w} s {r} {c} q a e z) f = subst (StepStands w c.owner.mode c.lines.items) (sym e) (install_stands w c.lines.items c.owner.mode 0)
 stands_own k (Effects.aid_meets s) f = tt
 stands_own k (Effects.aid_ends s) f = tt
 stands_own k (Effects.aid_leaves s) f = tt
-stands_own k (Effects.aid_releases {w} s {r} {c} {o} p t a b e z) f = subst (TurnStands w c.lines.items) (sym e) (release_stands w c.lines.items c.owner.mode (Decide p) 0 p)
+stands_own k (Effects.aid_releases {w} s {r} {c} {o} p t a b e z) f = subst (TurnStands w c.owner.mode c.lines.items) (sym e) (release_stands w c.lines.items c.owner.mode (Decide p) 0 p)
 stands_own k (Effects.aid_back s n) f = tt
 stands_own k (Effects.aid_halted s n) f = tt
-stands_own k (Effects.halt_pass {w} s {m = m} {xs} {p} q n e z) f = subst (StepStands w xs) (sym e) (halt_stands w xs p)
-stands_own k (Effects.halt_aided {w} s {m = m} {xs} {p} q n e z) f = halt_aided_stands w xs p q e
+stands_own k (Effects.halt_pass {w} s {m = m} {xs} {p} q n e z) f = subst (StepStands w m xs) (sym e) (halt_stands w xs m p f)
+stands_own k (Effects.halt_aided {w} s {m = m} {xs} {p} q n e z) f = halt_aided_stands w xs m p q e f
 stands_own k (Effects.halt_leaves s n e z) f = tt
 stands_own k (Effects.halt_back s n) f = tt
 stands_own k e f = f
@@ -153,9 +162,9 @@ active_was k (Effects.succeed {w} s {h} {m} {xs} t a e z) d g =
     (λ ne x. inl x)
 active_was k e d g = λ x. inl x
 
-record Standing (n m : ℕ) (w : World) (at : ℕ → Stand) : Type 0 where
-  facts : Facts n m w at
-  stands : (j : ℕ) → j < n → PassStands w (at j).pass
+pub record Standing (n m : ℕ) (w : World) (at : ℕ → Stand) : Type 0 where
+  pub facts : Facts n m w at
+  pub stands : (j : ℕ) → j < n → PassStands w (at j).pass
 
 module _ (n m k : ℕ) (l : k < n) {w w' : World} (at : ℕ → Stand) {s' : Stand} (e : Effects.Effect k w (at k) w' s') (f : Standing n m w at) where
   -- what is decided isn't Active
@@ -164,7 +173,7 @@ module _ (n m k : ℕ) (l : k < n) {w w' : World} (at : ℕ → Stand) {s' : Sta
       let same : h.descriptor ≡ r.handle.descriptor = cc in
       d.1 (ap (λ (v : Status). v.phase) (sym d.0 ∙ ap w.status same ∙ act))
 
-  keep : (l : ℕ) (r : Reference) → r.handle.generation ≤ (w.status r.handle.descriptor).generation → StandsIfActive w l r → StandsIfActive w' l r
+  pub keep : (l : ℕ) (r : Reference) → r.handle.generation ≤ (w.status r.handle.descriptor).generation → StandsIfActive w l r → StandsIfActive w' l r
   keep a r started old act = was (active_was k e r.handle.descriptor r.handle.generation act)
     where
       by : w.status r.handle.descriptor ≡ status r.handle.generation Active → (w'.word a ≡ Ref r.handle.generation r.handle.descriptor r.line) ⊎ Releases w w' (at k) r.handle.generation r.handle.descriptor r.line → w'.word a ≡ Ref r.handle.generation r.handle.descriptor r.line
@@ -187,19 +196,22 @@ module _ (n m k : ℕ) (l : k < n) {w w' : World} (at : ℕ → Stand) {s' : Sta
       go (Over h mode xs (Ends p)) y o = tt
       go (Over h mode xs Leaves) y o = tt
       go (Over h mode xs (At (Install i))) y o = tt
-      go (Over h mode xs (At (Check i))) y o = tt
-      go (Over h mode xs (At (CheckHold i r))) y o = λ x q. keep x.seen.loc.0 r (o r refl) (y x q)
-      go (Over h mode xs (At (CheckStatus i r))) y o = λ x q. keep x.seen.loc.0 r (o r refl) (y x q)
-      go (Over h mode xs (At (CheckFirst i r p))) y o = tt
-      go (Over h mode xs (At (CheckDrop i r stray c))) y o = tt
+      go (Over h mode xs (At (Check i))) y o = y
+      go (Over h mode xs (At (CheckHold i r))) y o = (y.0, λ x q. keep x.seen.loc.0 r (o r refl) (y.1 x q))
+      go (Over h mode xs (At (CheckStatus i r))) y o = (y.0, λ x q. keep x.seen.loc.0 r (o r refl) (y.1 x q))
+      go (Over h mode xs (At (CheckFirst i r p))) y o = y
+      go (Over h mode xs (At (CheckDrop i r stray c))) y o = y
       go (Over h mode xs (At (Decide p))) y o = tt
       go (Over h mode xs (At (Release i p))) y o = tt
 
-  standing_effect : Standing n m w' (put at k s')
+  pub standing_effect : Standing n m w' (put at k s')
   standing_effect = record {
     facts = facts_effect n m k l at e f.facts;
     stands = λ j b. put_cases (λ t. PassStands w' t.pass) at k s' j (λ q. stands_own k e (on k l)) (λ ne. on j b);
   }
 
+pub standing : (o : Opening) (es : List Event) → Standing (run o es).callers (run o es).descriptors (run o es).world (λ k. stand ((run o es).seats k))
+standing o es = holds_after Standing (λ n m k l w v at t e f. standing_effect n m k l at e f) o es (record { facts = opened_facts o; stands = λ j b. tt })
+
 pub met_stands : (o : Opening) (es : List Event) → MetReferencesStand (run o es)
-met_stands o es = (holds_after Standing (λ n m k l w v at t e f. standing_effect n m k l at e f) o es (record { facts = opened_facts o; stands = λ j b. tt })).stands
+met_stands o es = (standing o es).stands

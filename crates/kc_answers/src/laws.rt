@@ -6,6 +6,7 @@ ghost use Rattle.kc_machine.specs.Machine.{Opening, run};
 ghost use Rattle.kc_machine.specs.Schedules.{IsSchedule};
 ghost use Rattle.kc_claims.specs.Claims.{PutsCostOneEach};
 ghost use Rattle.kc_answers.specs.Causes.{HaltsHaveACause};
+ghost use Rattle.kc_answers.specs.Crosses.{CrossingPassesWereCrossed};
 ghost use Rattle.kc_answers.specs.Met.{MetReferencesStand};
 ghost use Rattle.kc_answers.specs.Strays.{StraysAreLate};
 
@@ -18,6 +19,12 @@ pub fn halts_have_a_cause()
 /// Active, and its pass goes to decide Crossed, the word refers at that moment to a life that is Active.
 pub fn met_references_stand()
     ensures { (o : Opening) (es : List Event) → MetReferencesStand (run o es) }
+{}
+
+/// A pass that is to decide Crossed at a line does so of a comparison of a commit in mode Light, whose word referred to a life
+/// that was Active, at a moment of the schedule since the task began for which it passes, whoever's pass it is.
+pub fn crossing_passes_were_crossed()
+    ensures { (o : Opening) (es : List Event) → CrossingPassesWereCrossed o es }
 {}
 
 /// A seat that holds a descriptor by a stray hold finds it at a later generation than the one that it looked for.
