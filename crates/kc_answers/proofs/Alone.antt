@@ -1,5 +1,5 @@
 -- The steps of a seat that owns a descriptor, as the state that they make.
-use Rattle.std.proofs.Common.{◌≡◌, ◌<◌, ◌∙◌, ℕ, Bool, true, false, List, refl, sym, ap, subst, if◌then◌else◌}
+use Rattle.std.proofs.Common.{◌≡◌, ◌<◌, ◌∙◌, ℕ, Bool, true, false, List, refl, sym, ap, if◌then◌else◌}
 use Rattle.kc_words.specs.declared.words.Handle.{Handle}
 use Rattle.kc_steps.specs.declared.line.Intent.{Intent}
 use Rattle.kc_steps.specs.declared.aid.Aided.{Aided}
@@ -17,7 +17,7 @@ use Rattle.kc_machine.specs.declared.seat.Seat.{Seat}
 use Rattle.kc_model.specs.declared.footprint.Seen.{Seen}
 use Rattle.kc_steps.specs.Lines.{one_more}
 use Rattle.kc_machine.specs.Seats.{access_of, answer_of}
-use Rattle.kc_machine.specs.Machine.{State, put, touched, found_at, possible, stepped, event_of}
+use Rattle.kc_machine.specs.Machine.{State, put, touched, found_at, possible, event_of}
 use Rattle.kc_effects.specs.Stands.{Owns, stand, works, resting, commits, owns, hangs}
 use Rattle.kc_traces.proofs.Others.{event_in}
 use Rattle.kc_pool.specs.Owners.{is_filling}

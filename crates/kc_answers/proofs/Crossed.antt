@@ -1,18 +1,15 @@
 -- Passes that are to decide Crossed, after every schedule.
-use Rattle.std.proofs.Common.{arith, ◌≡◌, ◌≢◌, ◌<◌, ◌≤◌, ◌⊎◌, inl, inr, ◌∙◌, ◌++◌, ◌==◌, ℕ, Bool, true, false, List, [], ◌∷◌, length, take, Option, None, Some, refl, sym, ap, subst, if◌then◌else◌}
+use Rattle.std.proofs.Common.{arith, ◌≡◌, ◌<◌, ◌≤◌, ◌⊎◌, inl, inr, ◌∙◌, ◌++◌, ◌==◌, ℕ, Bool, true, false, List, [], ◌∷◌, length, take, refl, sym, ap, subst, if◌then◌else◌}
 use Rattle.std.proofs.lemmas.List.{length-append, take-append-le}
-use Rattle.std.proofs.Math.Seq.{take-append_seam}
 use borrow.Author.Tests.{eqb-true, eqb-false}
 use Rattle.kc_words.specs.declared.words.Handle.{Handle}
 use Rattle.kc_words.specs.declared.words.Mode.{Mode}
 use Rattle.kc_steps.specs.declared.line.Line.{Line}
-use Rattle.kc_steps.specs.declared.pass.PassStep.{PassStep}
 use Rattle.kc_steps.specs.declared.task.Event.{Event}
 use Rattle.kc_steps.specs.declared.task.Event.TheVariants.{Begin}
 use Rattle.kc_steps.specs.Lines.{one_more}
-use Rattle.kc_machine.specs.declared.seat.Seat.{Seat}
 use Rattle.kc_machine.specs.Seats.{is_idle, begun, begun_idle}
-use Rattle.kc_machine.specs.Machine.{State, World, Opening, event_of, seat_of, run}
+use Rattle.kc_machine.specs.Machine.{State, Opening, event_of, seat_of, run}
 use Rattle.kc_machine.proofs.Functions.{put_here}
 use Rattle.kc_effects.specs.Stands.{Turn, At, Meets, Ends, Leaves, Passing, NoPass, Over, stand}
 use Rattle.kc_effects.specs.Holds.{NoHold, Proper, own_hold}
@@ -20,7 +17,7 @@ use Rattle.kc_seats.proofs.FitSeats.{fit_always}
 use Rattle.kc_seats.proofs.FormedSteps.{formed_always}
 use Rattle.kc_pool.specs.Owners.{Follows, OwnsLife, is_filling}
 use Rattle.kc_pool.proofs.LifeLaws.{statuses_follow, held_started}
-use Rattle.kc_claims.specs.Traces.{Moment, Shadow, trace}
+use Rattle.kc_claims.specs.Traces.{Moment}
 use Rattle.kc_traces.proofs.Joins.{run-append, every}
 use Rattle.kc_traces.proofs.Moments.{begun_moment}
 use Rattle.kc_traces.proofs.Others.{run_shape, event_in, event_else}
@@ -29,7 +26,7 @@ use Rattle.kc_histories.specs.Places.{began, pass_of}
 use Rattle.kc_histories.proofs.Calls.{own_goes}
 use Rattle.kc_histories.proofs.Passes.{HoldsLife, pass_holds, begun_fresh}
 use Rattle.kc_histories.proofs.Successes.{Stays, Starts, moves}
-use Rattle.kc_answers.specs.Crosses.{crosses, IsCrossed, WasCrossed, CrossingPassesWereCrossed}
+use Rattle.kc_answers.specs.Crosses.{IsCrossed, WasCrossed, CrossingPassesWereCrossed}
 use Rattle.kc_answers.proofs.Crossing.{PassCrosses, event_crosses}
 use Rattle.kc_answers.proofs.Standing.{standing}
 
@@ -90,11 +87,16 @@ module _ (o : Opening) (es : List Event) (e : Event) where
   moment_on a m xs i l x = subst (λ ys. IsCrossed (run o ys).world m xs i) (sym (take-append-le a es (e ∷ []) l)) x
 
   crossed_on : (h : Handle) (m : Mode) (xs : List Line) (i : ℕ) → ((run o es).world.status h.descriptor).generation ≡ h.generation → WasCrossed o es h m xs i → WasCrossed o es' h m xs i
-  crossed_on h m xs i level (a, low, x, f) = (a, (let b = longer in omega (arith, b, low)), moment_on a m xs i low x, λ k l owns started.
-      let b = before k l h.descriptor h.generation level owns started in
-      let c : began o es' k ≡ began o es k = ap (λ (y : Moment). y.clock) b.stays.begun in
-      let d = f k l b.owned b.begun_so in
-      omega (arith, c, d))
+  crossed_on h m xs i level (a, low, x, f) = (
+    a,
+    (let b = longer in omega (arith, b, low)),
+    moment_on a m xs i low x,
+    λ k l owns started.
+        let b = before k l h.descriptor h.generation level owns started in
+        let c : began o es' k ≡ began o es k = ap (λ (y : Moment). y.clock) b.stays.begun in
+        let d = f k l b.owned b.begun_so in
+        omega (arith, c, d),
+  )
 
   -- the pass's life is held, so its status is at its generation
   pass_level : (j : ℕ) (h : Handle) (m : Mode) (xs : List Line) (t : Turn) → j < o.callers → pass_of o es j ≡ Over h m xs t → ((run o es).world.status h.descriptor).generation ≡ h.generation

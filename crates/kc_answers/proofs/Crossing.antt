@@ -1,8 +1,7 @@
 -- By which event a pass comes to decide Crossed.
-use Rattle.std.proofs.Common.{arith, ◌≡◌, ◌<◌, ◌≤◌, ◌⊎◌, inl, inr, ◌∙◌, ◌==◌, ℕ, Bool, true, false, List, Option, None, Some, refl, sym, ap, subst, if◌then◌else◌}
-use Rattle.std.specs.Prelude.{slice_get, nat_lt}
+use Rattle.std.proofs.Common.{arith, ◌≡◌, ◌<◌, ◌⊎◌, inl, inr, ◌∙◌, ◌==◌, ℕ, Bool, true, false, List, Option, None, Some, refl, sym, ap, subst, if◌then◌else◌}
+use Rattle.std.specs.Prelude.{nat_lt}
 use Rattle.std.proofs.lemmas.Bool.{ltb-true}
-use Rattle.kc_model.specs.declared.word.Word.TheVariants.{Ref}
 use Rattle.kc_words.specs.declared.words.Handle.{Handle}
 use Rattle.kc_words.specs.declared.words.Reference.{Reference}
 use Rattle.kc_words.specs.declared.words.Mode.{Mode}
@@ -18,7 +17,7 @@ use Rattle.kc_steps.specs.declared.pass.AfterCheck.TheVariants as checked
 use Rattle.kc_steps.specs.declared.aid.AidStep.TheVariants as aid
 use Rattle.kc_steps.specs.declared.task.Event.{Event}
 use Rattle.kc_steps.specs.declared.task.Event.TheVariants.{Begin, Step, Halt}
-use Rattle.kc_steps.specs.Lines.{next_line, after_line, first_of, resolved_version}
+use Rattle.kc_steps.specs.Lines.{next_line, after_line, resolved_version}
 use Rattle.kc_steps.specs.Passes.{status, from_install, install_or_check, from_check, check_or_decide, from_release, release_or_finish, decided_as, check_drop_next, agrees_or_fails}
 use Rattle.kc_steps.specs.Halts.{halted_pass, halted_aid_pass}
 use Rattle.kc_machine.specs.declared.seat.Seat.{Seat}
@@ -27,7 +26,7 @@ use Rattle.kc_machine.specs.Machine.{World, State, put, touched, found_at, possi
 use Rattle.kc_machine.proofs.Functions.{put_here}
 use Rattle.kc_effects.specs.Stands.{Stand, Turn, At, Meets, Ends, Leaves, Passing, NoPass, Over, stand, turn}
 use Rattle.kc_effects.specs.Changes.{with_word, with_status, held_once_less}
-use Rattle.kc_effects.specs.Holds.{Proper, check_hold, held}
+use Rattle.kc_effects.specs.Holds.{check_hold, held}
 use Rattle.kc_effects.specs.Effects
 use Rattle.kc_effects.specs.Effects.{Path, stay, onward}
 use Rattle.kc_effects.proofs.SeatSteps.{step_path, begin_path}

@@ -1,5 +1,5 @@
 -- A task that is told Halted was halted.
-use Rattle.std.proofs.Common.{arith, ◌≡◌, ◌≢◌, ◌<◌, ◌≤◌, ◌⊎◌, inl, inr, ⊎_elim, ◌∙◌, ◌++◌, ◌==◌, ℕ, zero, suc, Bool, true, false, List, [], ◌∷◌, length, Option, None, Some, refl, sym, ap, subst, if◌then◌else◌}
+use Rattle.std.proofs.Common.{arith, ◌≡◌, ◌<◌, ◌⊎◌, inl, inr, ⊎_elim, ◌∙◌, ◌++◌, ◌==◌, ℕ, zero, suc, Bool, true, false, List, [], ◌∷◌, length, Option, None, Some, refl, sym, ap, subst, if◌then◌else◌}
 use Rattle.std.specs.Prelude.{slice_get}
 use borrow.Author.Tests.{eqb-true, eqb-false}
 use Rattle.kc_model.specs.declared.footprint.Seen.{Seen}
@@ -18,7 +18,6 @@ use Rattle.kc_steps.specs.declared.task.Event.TheVariants.{Begin, Step, Halt}
 use Rattle.kc_steps.specs.declared.look.Look.{Look}
 use Rattle.kc_steps.specs.declared.look.LookNext.{LookNext}
 use Rattle.kc_steps.specs.declared.look.LookNext.TheVariants as looking
-use Rattle.kc_steps.specs.declared.look.LookStep.{LookStep}
 use Rattle.kc_steps.specs.declared.commit.Commit.{Commit}
 use Rattle.kc_steps.specs.declared.commit.Stage.{Stage}
 use Rattle.kc_steps.specs.declared.commit.Stage.TheVariants.{Scan, Take, Own}
@@ -33,7 +32,7 @@ use Rattle.kc_machine.specs.declared.hang.HangStep.{HangStep}
 use Rattle.kc_machine.specs.declared.hang.HangStep.TheVariants as hang
 use Rattle.kc_machine.specs.declared.hang.HangNext.{HangNext}
 use Rattle.kc_machine.specs.declared.hang.HangNext.TheVariants as hanging_on
-use Rattle.kc_machine.specs.Hangs.{look_or_end, looked, look_goes_on, look_of, clear_or_changed, after_clear, hang_next, hang_step, onward_of, hang_onward, unblocks_or_tells, leave_onward}
+use Rattle.kc_machine.specs.Hangs.{look_or_end, looked, look_goes_on, look_of, clear_or_changed, hang_next, onward_of, hang_onward, unblocks_or_tells, leave_onward}
 use Rattle.kc_machine.specs.Works.{Work}
 use Rattle.kc_machine.specs.Works as work
 use Rattle.kc_machine.specs.declared.seat.Seat.{Seat}
@@ -53,7 +52,7 @@ use Rattle.kc_passes.proofs.Always.{halted_owners}
 use Rattle.kc_claims.specs.Traces.{Moment}
 use Rattle.kc_traces.proofs.Joins.{run-append, every}
 use Rattle.kc_traces.proofs.Others.{run_shape, event_in, event_else}
-use Rattle.kc_traces.proofs.Answers.{moved, seat_cases}
+use Rattle.kc_traces.proofs.Answers.{seat_cases}
 use Rattle.kc_traces.proofs.Moments.{begun_moment}
 use Rattle.kc_histories.specs.Places.{began}
 use Rattle.kc_histories.proofs.Successes.{Stays, Starts, moves}

@@ -1,8 +1,8 @@
 -- What undisturbed puts cost.
-use Rattle.std.proofs.Common.{arith, ◌≡◌, ◌≢◌, ◌<◌, ◌≤◌, ◌+◌, ◌-◌, ◌==◌, ◌&&◌, ◌∙◌, ◌++◌, ℕ, zero, suc, Bool, true, false, not, List, [], ◌∷◌, length, map, Option, None, Some, Contains, All, refl, sym, ap, subst, cond, if◌then◌else◌}
-use Rattle.std.specs.Prelude.{slice_get, nat_lt}
+use Rattle.std.proofs.Common.{arith, ◌≡◌, ◌<◌, ◌≤◌, ◌+◌, ◌-◌, ◌==◌, ◌&&◌, ◌∙◌, ℕ, zero, suc, Bool, true, not, List, [], ◌∷◌, length, map, Option, None, Some, refl, sym, ap, subst, cond, if◌then◌else◌}
+use Rattle.std.specs.Prelude.{slice_get}
 use Rattle.std.specs.Option.{is_some}
-use Rattle.std.proofs.lemmas.Option.{slice_get_within, slice_get_past}
+use Rattle.std.proofs.lemmas.Option.{slice_get_past}
 use Rattle.std.proofs.lemmas.List.Elements.{All-contains}
 use Rattle.std.proofs.lemmas.Bool.{lt-ltb}
 use borrow.Author.Tests.{eq-eqb, ltb-true}
@@ -13,9 +13,6 @@ use Rattle.kc_words.specs.declared.words.Handle.{Handle}
 use Rattle.kc_words.specs.declared.words.Mode.{Mode}
 use Rattle.kc_words.specs.declared.words.Phase.TheVariants.{Active, Succeeded, Failed}
 use Rattle.kc_words.specs.declared.access.Touch.TheVariants.{CompareExchange}
-use Rattle.kc_words.specs.declared.words.Status.{Status}
-use Rattle.kc_words.specs.declared.access.Access.{Access}
-use Rattle.kc_words.specs.declared.access.Access.TheVariants as access
 use Rattle.kc_words.specs.declared.access.Found.TheVariants as found
 use Rattle.kc_steps.specs.declared.line.Line.{Line}
 use Rattle.kc_steps.specs.declared.line.Intent.{Intent}
@@ -28,21 +25,20 @@ use Rattle.kc_steps.specs.declared.task.Event.{Event}
 use Rattle.kc_steps.specs.declared.task.Event.TheVariants.{Step}
 use Rattle.kc_machine.specs.declared.seat.Seat.{Seat}
 use Rattle.kc_steps.specs.Lines.{has_put, is_installed, picked, next_among, next_line, after_line, word_of}
-use Rattle.kc_steps.specs.Passes.{status, from_install, install_or_check, from_check, check_or_decide, install_access, install_found, decide_access, decide_next}
+use Rattle.kc_steps.specs.Passes.{status, from_install, install_or_check, check_or_decide, install_access, install_found}
 use Rattle.kc_steps.specs.Commits.{after_own_pass}
-use Rattle.kc_machine.specs.Machine.{State, World, Opening, put, put_some, touched, found_at, possible, event_of, run, run_from}
+use Rattle.kc_machine.specs.Machine.{State, Opening, put, put_some, touched, found_at, possible, event_of, run, run_from}
 use Rattle.kc_machine.specs.Schedules.{IsSchedule}
 use Rattle.kc_machine.specs.Seats.{access_of, is_idle}
 use Rattle.kc_machine.specs.Words.{stored_word, stored_status}
 use Rattle.kc_machine.proofs.Functions.{put_here, put_else}
-use Rattle.kc_effects.specs.Stands.{Owns, stand}
 use Rattle.kc_effects.specs.Changes.{with_word, with_status}
 use Rattle.kc_seats.specs.Made.{IsWellMadeIntent, IsWellMadeLine, IntentIsMade, line_location}
 use Rattle.kc_seats.proofs.MadeSteps.{intents_made}
 use Rattle.kc_seats.proofs.Searches.{IsPicked, next_fits}
 use Rattle.kc_steps.proofs.Lines.{next_here, picked_yes}
 use Rattle.kc_pool.proofs.Filled.{is_there}
-use Rattle.kc_claims.specs.Claims.{PutsCostOneEach, PutsWhereItStands, alone, steps, compares, comparing}
+use Rattle.kc_claims.specs.Claims.{PutsCostOneEach, PutsWhereItStands, steps, compares, comparing}
 use Rattle.kc_traces.proofs.Joins.{run-append}
 use Rattle.kc_traces.proofs.Others.{run_shape}
 use Rattle.kc_ranges.proofs.Runs.{steps_possible}
@@ -162,17 +158,18 @@ module _ (k : ℕ) (h : Handle) (i : Intent) where
         let up : after_line j ≡ j + 1 = after_one j (omega (arith, q, most)) in
         let v : State = record m { world = with_word m.world x.seen.loc.0 (word_of h j); seats = put m.seats k (at_step (made s) i b a h (own.Pass (from_install i.mode xs (after_line j)))) } in
         let on = rest_costs n (j + 1) (omega (arith, q)) v (made s) b a
-            (put_here m.seats k (at_step (made s) i b a h (own.Pass (from_install i.mode xs (after_line j)))) ∙ ap (λ z. at_step (made s) i b a h (own.Pass (from_install i.mode xs z))) up)
-            (record {
-              words = λ t y l z. put_else m.world.word x.seen.loc.0 (word_of h j) y.seen.loc.0 (let r = lower xs j t x y rise got.1 z (omega (arith, l)) in λ u. absurd (omega (arith, u, r))) ∙ f.words t y (omega (arith, l)) z;
-              below = f.below;
-              there = f.there;
-              own = f.own;
-              active = f.active;
-            }) in
-        (ap (λ z. (run_from z (steps k (suc n))).world.status h.descriptor) g ∙ on.0,
-        (let u = ap (λ o. compares (install_access h j o)) got.1 in
-        ap (λ (y : Seat). cond (compares (access_of y)) 1 0 + comparing (event_of m (Step k)) k (suc n)) at ∙ ap (λ c. cond c 1 0 + comparing (event_of m (Step k)) k (suc n)) u ∙ ap (λ z. 1 + comparing z k (suc n)) g ∙ ap (λ z. 1 + z) on.1 ∙ omega arith))
+        (put_here m.seats k (at_step (made s) i b a h (own.Pass (from_install i.mode xs (after_line j)))) ∙ ap (λ z. at_step (made s) i b a h (own.Pass (from_install i.mode xs z))) up)
+        (record {
+          words = λ t y l z. put_else m.world.word x.seen.loc.0 (word_of h j) y.seen.loc.0 (let r = lower xs j t x y rise got.1 z (omega (arith, l)) in λ u. absurd (omega (arith, u, r))) ∙ f.words t y (omega (arith, l)) z;
+          below = f.below;
+          there = f.there;
+          own = f.own;
+          active = f.active;
+        }) in (
+          ap (λ z. (run_from z (steps k (suc n))).world.status h.descriptor) g ∙ on.0,
+          (let u = ap (λ o. compares (install_access h j o)) got.1 in
+              ap (λ (y : Seat). cond (compares (access_of y)) 1 0 + comparing (event_of m (Step k)) k (suc n)) at ∙ ap (λ c. cond c 1 0 + comparing (event_of m (Step k)) k (suc n)) u ∙ ap (λ z. 1 + comparing z k (suc n)) g ∙ ap (λ z. 1 + z) on.1 ∙ omega arith),
+        )
       where
         after_one : (j : ℕ) → j < 64 → after_line j ≡ j + 1
         after_one j l = rw (lt-ltb j 64 l) refl
@@ -199,14 +196,15 @@ puts_cost o es w k h i l q all =
     let v : State = record m { world = with_status m.world h.descriptor (status h.generation Active); seats = put m.seats k (at_step (made s) i b a h (own.Pass (from_install i.mode i.lines.items 0))) } in
     let line = λ (t : ℕ) (x : Line) (z : slice_get i.lines.items t ≡ Some x). All-contains (PutsWhereItStands m.world) i.lines.items x all (among i.lines.items t x z) in
     let on = rest_costs k h i made_so.rise made_so.most (λ t x z. (line t x z).0) (length i.lines.items) 0 (omega arith) v (made s) b a
-        (put_here m.seats k (at_step (made s) i b a h (own.Pass (from_install i.mode i.lines.items 0))))
-        (record {
-          words = λ t x z f. (line t x f).1;
-          below = λ t x f. let y = (All-contains (IsWellMadeLine o.locations) i.lines.items x made_so.lines (among i.lines.items t x f)).0 in omega (arith, y, c.0);
-          there = l';
-          own = p;
-          active = put_here m.world.status h.descriptor (status h.generation Active);
-        }) in
-    let two : length i.lines.items + 2 ≡ suc (suc (length i.lines.items)) = omega arith in
-    (ap (λ (z : State). z.world.status h.descriptor) (run-append o es (steps k (length i.lines.items + 2))) ∙ ap (λ n. (run_from m (steps k n)).world.status h.descriptor) two ∙ ap (λ z. (run_from z (steps k (suc (length i.lines.items)))).world.status h.descriptor) g ∙ on.0,
-    ap (comparing m k) two ∙ ap (λ (x : Seat). cond (compares (access_of x)) 1 0 + comparing (event_of m (Step k)) k (suc (length i.lines.items))) e ∙ ap (λ z. 0 + comparing z k (suc (length i.lines.items))) g ∙ ap (λ z. 0 + z) on.1 ∙ omega arith)
+    (put_here m.seats k (at_step (made s) i b a h (own.Pass (from_install i.mode i.lines.items 0))))
+    (record {
+      words = λ t x z f. (line t x f).1;
+      below = λ t x f. let y = (All-contains (IsWellMadeLine o.locations) i.lines.items x made_so.lines (among i.lines.items t x f)).0 in omega (arith, y, c.0);
+      there = l';
+      own = p;
+      active = put_here m.world.status h.descriptor (status h.generation Active);
+    }) in
+    let two : length i.lines.items + 2 ≡ suc (suc (length i.lines.items)) = omega arith in (
+      ap (λ (z : State). z.world.status h.descriptor) (run-append o es (steps k (length i.lines.items + 2))) ∙ ap (λ n. (run_from m (steps k n)).world.status h.descriptor) two ∙ ap (λ z. (run_from z (steps k (suc (length i.lines.items)))).world.status h.descriptor) g ∙ on.0,
+      ap (comparing m k) two ∙ ap (λ (x : Seat). cond (compares (access_of x)) 1 0 + comparing (event_of m (Step k)) k (suc (length i.lines.items))) e ∙ ap (λ z. 0 + comparing z k (suc (length i.lines.items))) g ∙ ap (λ z. 0 + z) on.1 ∙ omega arith,
+    )

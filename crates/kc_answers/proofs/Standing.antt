@@ -1,5 +1,5 @@
 -- A reference that a check met stands there as long as its life is Active.
-use Rattle.std.proofs.Common.{arith, ◌≡◌, ◌≢◌, ◌<◌, ◌≤◌, ◌⊎◌, inl, inr, ⊎_elim, ◌∙◌, ℕ, Bool, true, false, not, List, Option, None, Some, refl, sym, ap, subst}
+use Rattle.std.proofs.Common.{arith, ◌≡◌, ◌<◌, ◌≤◌, ◌⊎◌, inl, inr, ◌∙◌, ℕ, Bool, true, false, not, List, Option, None, Some, refl, sym, ap, subst}
 use Rattle.std.specs.Prelude.{slice_get}
 use Rattle.kc_model.specs.declared.word.Word.TheVariants.{Ref}
 use Rattle.kc_words.specs.declared.words.Handle.{Handle}
@@ -18,12 +18,11 @@ use Rattle.kc_steps.specs.declared.aid.AidStep.TheVariants as aid
 use Rattle.kc_steps.specs.declared.commit.OwnStep.TheVariants as own
 use Rattle.kc_steps.specs.declared.task.Event.{Event}
 use Rattle.kc_steps.specs.Lines.{is_installed, next_line, after_line, word_of}
-use Rattle.kc_steps.specs.Looks.{reference_of}
 use Rattle.kc_steps.specs.Passes.{status, from_install, install_or_check, from_check, check_or_decide, from_release, release_or_finish, decided_as, check_drop_next}
 use Rattle.kc_steps.specs.Halts.{halted_pass, halted_aid_pass}
-use Rattle.kc_machine.specs.Machine.{World, Opening, run, opened, put}
+use Rattle.kc_machine.specs.Machine.{World, Opening, run, put}
 use Rattle.kc_machine.proofs.Functions.{put_cases}
-use Rattle.kc_effects.specs.Stands.{Stand, Owns, Turn, At, Meets, Ends, Leaves, Passing, NoPass, Over, stand, turn}
+use Rattle.kc_effects.specs.Stands.{Stand, Owns, At, Meets, Ends, Leaves, Passing, NoPass, Over, stand, turn}
 use Rattle.kc_effects.specs.Changes.{with_word, with_status, held_once_less}
 use Rattle.kc_effects.specs.Effects
 use Rattle.kc_effects.proofs.Runs.{holds_after}

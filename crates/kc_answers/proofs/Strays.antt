@@ -1,5 +1,5 @@
 -- Who holds a descriptor by a stray hold remembers a reference to the life that it looked for, which was started.
-use Rattle.std.proofs.Common.{arith, ◌≡◌, ◌≢◌, ◌<◌, ◌≤◌, ◌⊎◌, inl, inr, ⊎_elim, ℕ, Bool, true, false, List, Some, refl, sym, ap, subst}
+use Rattle.std.proofs.Common.{arith, ◌≡◌, ◌≤◌, inl, inr, ℕ, Bool, true, false, List, Some, refl, subst}
 use Rattle.kc_words.specs.declared.words.Reference.{Reference}
 use Rattle.kc_steps.specs.declared.pass.PassStep.{PassStep}
 use Rattle.kc_steps.specs.declared.pass.PassStep.TheVariants.{Install, Check, CheckHold, CheckStatus, CheckFirst, CheckDrop, Decide, Release}
@@ -11,12 +11,11 @@ use Rattle.kc_steps.specs.declared.look.LookStep.TheVariants as look
 use Rattle.kc_steps.specs.declared.look.LookNext.TheVariants as looking
 use Rattle.kc_steps.specs.declared.task.Event.{Event}
 use Rattle.kc_machine.specs.Machine.{Opening, run}
-use Rattle.kc_effects.specs.Stands.{Stand, Own, NoOwn, Owns, Runs, Waits, Turn, At, Meets, Ends, Leaves, Passing, NoPass, Over, Aiding, NoAid, Aids, Passes, Looking, NoLook, Looks, stand, met_by_look_step}
+use Rattle.kc_effects.specs.Stands.{Stand, Own, NoOwn, Owns, Runs, Waits, At, Meets, Ends, Leaves, Passing, NoPass, Over, Aiding, NoAid, Aids, Passes, Looking, NoLook, Looks, stand, met_by_look_step}
 use Rattle.kc_effects.specs.Holds.{Stray, Strays, own_hold, dropping, step_hold, check_hold, aid_step_hold, aid_hold, look_step_hold, look_hold}
 use Rattle.kc_effects.proofs.PoolLaws.{strays_kept}
 use Rattle.kc_pool.specs.References.{Remembers, met_by_step, met_by_pass, met_by_aid, met_by_look}
 use Rattle.kc_pool.proofs.LifeLaws.{remembered_published, statuses_behind}
-use Rattle.kc_traces.proofs.Others.{run_shape}
 use Rattle.kc_answers.specs.Strays.{StraysAreLate}
 
 -- a reference to generation g of descriptor d

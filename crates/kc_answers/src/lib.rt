@@ -3,4 +3,7 @@
 
 mod laws;
 
-pub use laws::{crossing_passes_were_crossed, halts_have_a_cause, met_references_stand, puts_cost_one_each, strays_are_late};
+pub use laws::{
+    crossing_passes_were_crossed, halts_have_a_cause, met_references_stand, puts_cost_one_each,
+    strays_are_late,
+};

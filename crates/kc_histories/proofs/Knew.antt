@@ -59,12 +59,12 @@ knew o k l = every (λ es. IsHonest o es → Knew o k es) (λ es e f h. let p = 
 
 -- ---- what a seat is to do is what it was asked
 
-record Works (s : Seat) (i : Intent) : Type 0 where
-  commit : Commit
-  work : s.work ≡ work.Commit commit
-  intent : commit.intent ≡ i
+pub record Works (s : Seat) (i : Intent) : Type 0 where
+  pub commit : Commit
+  pub work : s.work ≡ work.Commit commit
+  pub intent : commit.intent ≡ i
 
-at_work : (s : Seat) (i : Intent) → own_intent (stand s).own ≡ Some i → Works s i
+pub at_work : (s : Seat) (i : Intent) → own_intent (stand s).own ≡ Some i → Works s i
 at_work s i = go s.work refl
   where
     some : {a b : Intent} → ◌≡◌ {A = Option Intent} (Some a) (Some b) → a ≡ b
