@@ -1,0 +1,4 @@
+pub mod Causes
+pub mod Strays
+pub mod Met
+pub mod Crosses

@@ -1,0 +1,39 @@
+//! What holds after every schedule of every opening. An empty body: the contract is the law.
+
+ghost use Rattle.std.specs.Prelude.{List};
+ghost use Rattle.kc_steps.specs.declared.task.Event.{Event};
+ghost use Rattle.kc_machine.specs.Machine.{Opening, run};
+ghost use Rattle.kc_machine.specs.Schedules.{IsSchedule};
+ghost use Rattle.kc_claims.specs.Claims.{PutsCostOneEach};
+ghost use Rattle.kc_answers.specs.Causes.{HaltsHaveACause};
+ghost use Rattle.kc_answers.specs.Crosses.{CrossingPassesWereCrossed};
+ghost use Rattle.kc_answers.specs.Met.{MetReferencesStand};
+ghost use Rattle.kc_answers.specs.Strays.{StraysAreLate};
+
+/// A task that is told Halted was halted: behind the event by which it began the schedule has a halt of its seat.
+pub fn halts_have_a_cause()
+    ensures { (o : Opening) (es : List Event) → HaltsHaveACause o es }
+{}
+
+/// A reference that a check has met in its line's word stands there as long as its life is Active. So where the check finds it
+/// Active, and its pass goes to decide Crossed, the word refers at that moment to a life that is Active.
+pub fn met_references_stand()
+    ensures { (o : Opening) (es : List Event) → MetReferencesStand (run o es) }
+{}
+
+/// A pass that is to decide Crossed at a line does so of a comparison of a commit in mode Light, whose word referred to a life
+/// that was Active, at a moment of the schedule since the task began for which it passes, whoever's pass it is.
+pub fn crossing_passes_were_crossed()
+    ensures { (o : Opening) (es : List Event) → CrossingPassesWereCrossed o es }
+{}
+
+/// A seat that holds a descriptor by a stray hold finds it at a later generation than the one that it looked for.
+pub fn strays_are_late()
+    ensures { (o : Opening) (es : List Event) → StraysAreLate (run o es) }
+{}
+
+/// Where the tasks are well made, a commit of k puts that stands before its start, whose words are plain and as it read them, makes k + 1
+/// compare-exchanges from there to its decision for success, if no other seat steps.
+pub fn puts_cost_one_each()
+    ensures { (o : Opening) (es : List Event) → IsSchedule o es → PutsCostOneEach o es }
+{}

@@ -1,0 +1,9 @@
+//! Why a seat is told what it is told, and what a commit alone costs.
+#![tactic(auto)]
+
+mod laws;
+
+pub use laws::{
+    crossing_passes_were_crossed, halts_have_a_cause, met_references_stand, puts_cost_one_each,
+    strays_are_late,
+};
