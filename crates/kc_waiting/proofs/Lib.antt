@@ -6,4 +6,5 @@ pub mod Covering
 pub mod Listening
 pub mod Always
 pub mod Blocked
+pub mod Silence
 pub mod Changed
