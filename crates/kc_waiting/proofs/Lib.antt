@@ -7,4 +7,4 @@ pub mod Listening
 pub mod Always
 pub mod Blocked
 pub mod Silence
-pub mod Changed
+pub mod Told

@@ -1,4 +1,4 @@
-use Rattle.kc_waiting.proofs.Changed.{freed}
+use Rattle.kc_waiting.proofs.Told.{freed}
 use Rattle.kc_waiting.proofs.laws.free_callers_are_forgotten.Goals as goal
 
 pub returns : goal.returns

@@ -1,9 +1,8 @@
--- What a hang that found a change knows of the read that changed.
+-- What a hang that found a change and a leave know, and so what they are told.
 use Rattle.std.proofs.Common.{arith, ◌≡◌, ◌≢◌, ◌<◌, ◌≤◌, ◌+◌, ◌++◌, ◌==◌, ◌&&◌, not, ℕ, Bool, true, false, List, [], ◌∷◌, Option, None, Some, refl, sym, ap, subst, ◌∙◌, if◌then◌else◌}
-use Rattle.std.specs.Prelude.{slice_get, get_or, nat_lt, Contains, length}
-use Rattle.std.proofs.lemmas.Option.{slice_get_cases}
+use Rattle.std.specs.Prelude.{slice_get, Contains}
 use Rattle.std.proofs.lemmas.List.{take-append-le, length-append}
-use borrow.Author.Tests.{ltb-false, eqb-true, eqb-false}
+use borrow.Author.Tests.{eqb-true, eqb-false}
 use Rattle.kc_model.specs.declared.footprint.Loc.{Loc}
 use Rattle.kc_model.specs.declared.footprint.Seen.{Seen}
 use Rattle.kc_model.specs.declared.plain_store.Cell.{Cell}
@@ -265,8 +264,12 @@ module _ (o : Opening) (es : List Event) (w : IsSchedule o es) (k : ℕ) (within
               rests_on o es (Step k) w k within (ap rests is) r (subst (LeaveGives (run o es) k l.reads.items) z (subst (WorkGives o es k x.task x.listening) is old.works).1 i r (omega arith) g)
 
       left_gives : (v : Option Seen) → slice_get l.reads.items (next_read l.step) ≡ v → Steps (after (record s { work = work.Leave (leaves_on l (next_read l.step) v) }) (unblocks_or_tells v))
-      left_gives None g = tells_by _ told.Free refl refl (l.reads.items, leave_asked, λ r c.
-          let y = got l.reads.items r c in behind_silent l.step refl y.0 r (before_end l.reads.items (next_read l.step) y.0 r g y.2) y.2)
+      left_gives None g = tells_by _ told.Free refl refl (
+        l.reads.items,
+        leave_asked,
+        λ r c.
+            let y = got l.reads.items r c in behind_silent l.step refl y.0 r (before_end l.reads.items (next_read l.step) y.0 r g y.2) y.2,
+      )
       left_gives (Some v) g = goes_by (ap is_idle is) _ refl (leave_asked, behind_silent l.step refl)
 
     module _ (w' : IsSchedule o (es ++ Step k ∷ [])) where
