@@ -7,4 +7,5 @@ pub mod Listening
 pub mod Always
 pub mod Blocked
 pub mod Silence
+pub mod Freed
 pub mod Told

@@ -59,6 +59,7 @@ use Rattle.kc_looks.proofs.Knowing.{IsBehind, behind_on, behind_now, history_sti
 use Rattle.kc_looks.proofs.Looking.{look_on}
 use Rattle.kc_looks.proofs.Stood.{looks_promised}
 use Rattle.kc_histories.proofs.Filters.{got}
+use Rattle.kc_waiting.proofs.Freed.{unblocked}
 use Rattle.kc_waiting.proofs.Silence.{rests, Silent, rests_on, else_on, clears_own}
 use Rattle.kc_waiting.specs.Causes.{ReadMoved, ChangedReadsMoved, FreeIsForgotten}
 use Rattle.kc_waiting.proofs.Listening.{up_to, before_end, work_wait, hang_wait, wait_is, listens_itself, TellsSo, commit_tells}
@@ -453,14 +454,17 @@ left_reads _ = []
 
 pub freed : (o : Opening) (es : List Event) → IsSchedule o es → FreeIsForgotten o es
 unfolding left_reads
-freed o es w k xs l task_is said r c =
-    let f = (all_give o es w k l).said told.Free said in
-    let same : f.0 ≡ xs = ap left_reads (sym f.1 ∙ task_is) in
-    unset (f.2 r (subst (λ xs. Contains xs r) (sym same) c))
+freed o es w k xs l task_is said = (unblocked o es k said, quiet)
   where
-    unset : Silent (run o es) k r → has_bit ((run o es).world.awaiters r.loc.0) k ≡ false
-    unset f = go (has_bit ((run o es).world.awaiters r.loc.0) k) refl
+    unset : (r : Seen) → Silent (run o es) k r → has_bit ((run o es).world.awaiters r.loc.0) k ≡ false
+    unset r f = go (has_bit ((run o es).world.awaiters r.loc.0) k) refl
       where
         go : (b : Bool) → has_bit ((run o es).world.awaiters r.loc.0) k ≡ b → has_bit ((run o es).world.awaiters r.loc.0) k ≡ false
         go true q = absurd (f q)
         go false q = q
+
+    quiet : (r : Seen) → Contains xs r → has_bit ((run o es).world.awaiters r.loc.0) k ≡ false
+    quiet r c =
+        let f = (all_give o es w k l).said told.Free said in
+        let same : f.0 ≡ xs = ap left_reads (sym f.1 ∙ task_is) in
+        unset r (f.2 r (subst (λ xs. Contains xs r) (sym same) c))

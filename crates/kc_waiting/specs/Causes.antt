@@ -22,7 +22,7 @@ abbrev pub ChangedReadsMoved : Opening → List Event → Type 0
 ChangedReadsMoved o es = (k c : ℕ) (reads : List Seen) → k < o.callers → ((trace o es).shadows k).task ≡ Some (task.Hang (record { items = reads })) → ((run o es).seats k).told ≡ Some (told.Changed c)
     → ReadMoved o es ((trace o es).shadows k).listening reads c
 
--- where a leave was told Free, its caller's bit stands at none of its reads
+-- where a leave was told Free, its caller isn't blocked, and its bit stands at none of its reads
 abbrev pub FreeIsForgotten : Opening → List Event → Type 0
 FreeIsForgotten o es = (k : ℕ) (reads : List Seen) → k < o.callers → ((trace o es).shadows k).task ≡ Some (task.Leave (record { items = reads })) → ((run o es).seats k).told ≡ Some told.Free
-    → (r : Seen) → Contains reads r → has_bit ((run o es).world.awaiters r.loc.0) k ≡ false
+    → (((run o es).seats k).blocked ≡ false) × ((r : Seen) → Contains reads r → has_bit ((run o es).world.awaiters r.loc.0) k ≡ false)

@@ -32,7 +32,7 @@ pub fn changed_reads_moved()
     ensures { (o : Opening) (es : List Event) → IsSchedule o es → ChangedReadsMoved o es }
 {}
 
-/// Where a leave was told Free, its caller's bit stands at none of its reads.
+/// Where a leave was told Free, its caller isn't blocked, and its bit stands at none of its reads.
 pub fn free_callers_are_forgotten()
     ensures { (o : Opening) (es : List Event) → IsSchedule o es → FreeIsForgotten o es }
 {}
