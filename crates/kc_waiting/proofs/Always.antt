@@ -1,7 +1,6 @@
 -- Every event leaves it so that who listens hears.
-use Rattle.std.proofs.Common.{arith, ◌≡◌, ◌≢◌, ◌<◌, ◌≤◌, ◌+◌, ◌⊎◌, inl, inr, ◌++◌, ◌==◌, ℕ, Bool, true, false, List, [], ◌∷◌, length, Option, None, Some, refl, sym, ap, subst, ◌∙◌, if◌then◌else◌}
-use Rattle.std.specs.Prelude.{slice_get, get_or, nat_lt, Contains}
-use Rattle.std.proofs.lemmas.Option.{slice_get_within, slice_get_cases}
+use Rattle.std.proofs.Common.{arith, ◌≡◌, ◌≢◌, ◌<◌, ◌≤◌, ◌⊎◌, inl, inr, ◌++◌, ◌==◌, ℕ, Bool, true, false, List, [], ◌∷◌, Option, None, Some, refl, sym, ap, subst, ◌∙◌, if◌then◌else◌}
+use Rattle.std.specs.Prelude.{slice_get, nat_lt, Contains}
 use borrow.Author.Tests.{ltb-true, ltb-false, eqb-true, eqb-false}
 use Rattle.kc_model.specs.declared.footprint.Seen.{Seen}
 use Rattle.kc_words.specs.declared.access.Access.TheVariants as access
@@ -55,7 +54,7 @@ use Rattle.kc_waiting.specs.Awaiting.{is_set, looks, IsRegistered, version_at, a
 use Rattle.kc_waiting.proofs.Bits
 use Rattle.kc_waiting.proofs.Hearing.{listens_at, listens_by, IsDeaf}
 use Rattle.kc_waiting.proofs.Covering.{hears_in, registered_in}
-use Rattle.kc_waiting.proofs.Listening.{listens_itself, work_wait, hang_wait, wait_is, TellsCalm, commit_calm, Listens, Keeps, set_listens, not_deaf, unchanged, unhung, given_up, from_look}
+use Rattle.kc_waiting.proofs.Listening.{up_to, before_end, listens_itself, work_wait, hang_wait, wait_is, TellsCalm, commit_calm, Listens, Keeps, set_listens, not_deaf, unchanged, unhung, given_up, from_look}
 
 -- ---- any event
 
@@ -243,15 +242,11 @@ module _ (o : Opening) (es : List Event) (w : IsSchedule o es) (k : ℕ) (within
         below : (r : Seat) → Keeps o es (es ++ Step k ∷ []) k r → (IsDeaf r → ⊥) → (i : ℕ) (v : Seen) → i < after_line j → slice_get h.reads.items i ≡ Some v → IsRegistered (run o (es ++ Step k ∷ [])) k v
         below r f d i v l g = go (i == j) refl
           where
-            low : (b : Bool) → nat_lt j 64 ≡ b → i < (if b then j + 1 else 64) → i ≤ j
-            low true p a = omega arith
-            low false p a = let y = ltb-false j 64 p in omega arith
-
             go : (b : Bool) → (i == j) ≡ b → IsRegistered (run o (es ++ Step k ∷ [])) k v
             go true p = inr (bit_set v (ap (slice_get h.reads.items) (sym (eqb-true i j p)) ∙ g))
             go false p =
                 let y = eqb-false i j p in
-                let a = low (nat_lt j 64) refl l in
+                let a = up_to i j l in
                 f.registered d v (old.registered h i v q g (ap (is_set i) z ∙ lt_is i j (omega arith)))
 
         still_history : (trace o (es ++ Step k ∷ [])).history ≡ (trace o es).history
@@ -283,11 +278,7 @@ module _ (o : Opening) (es : List Event) (w : IsSchedule o es) (k : ℕ) (within
             }
           where
             all : (r : Seat) → Keeps o es (es ++ Step k ∷ []) k r → (IsDeaf r → ⊥) → (i : ℕ) (v : Seen) → slice_get h.reads.items i ≡ Some v → IsRegistered (run o (es ++ Step k ∷ [])) k v
-            all r f d i v p = below r f d i v (last (slice_get_cases h.reads.items (after_line j)).1) p
-              where
-                last : ((v : Seen) × (after_line j < length h.reads.items) × (slice_get h.reads.items (after_line j) ≡ Some v) × (get_or h.reads.items (after_line j) v ≡ v)) ⊎ ((length h.reads.items ≤ after_line j) × (slice_get h.reads.items (after_line j) ≡ None)) → i < after_line j
-                last (inl y) = let u = y.2 in let t : None ≡ Some y.0 = sym g ∙ u in absurd (cc)
-                last (inr y) = let a = y.0 in let b = slice_get_within h.reads.items i v p in omega arith
+            all r f d i v p = below r f d i v (before_end h.reads.items (after_line j) i v g p) p
 
             from_now : (v : Seen) → IsRegistered (run o (es ++ Step k ∷ [])) k v → Hears o (es ++ Step k ∷ []) (now (trace o es)) k v
             from_now v (inl a) = inl a

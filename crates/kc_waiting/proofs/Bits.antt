@@ -5,7 +5,7 @@ use Rattle.std.specs.Int.{bit_at, bit_not, w64}
 use Rattle.std.specs.Int.Bits.{and_zero_l}
 use Rattle.std.specs.Int.Count.{count_trailing_zeros}
 use Rattle.std.proofs.lemmas.Nat.{pow_pos}
-use Rattle.std.proofs.lemmas.Nat.Bits.{and_pow, bit_at-lt, bit_at-zero, bit_at_and, bit_at_or, bit_at_set_same, bit_at_clear_other, bit_at-trailing_zeros, bit_at_cat_low, bit_at_cat_high}
+use Rattle.std.proofs.lemmas.Nat.Bits.{and_pow, bit_at-lt, bit_at-zero, bit_at_and, bit_at_or, bit_at_set_same, bit_at_set_other, bit_at_clear_same, bit_at_clear_other, bit_at-trailing_zeros, bit_at_cat_low, bit_at_cat_high}
 use Rattle.std.proofs.Math.Pow.{pow-lt}
 use native.Mathlib.Nat.{div-add-mod'}
 use borrow.Author.Tests.{ltb-true, ltb-false, eqb-true, eqb-false, ne_eqb}
@@ -55,6 +55,24 @@ module _ (c : ℕ) (small : c < 64) where
   cleared_else k x l ne e =
       let b : bit_of k ≡ 1 * 2 ^ k % 2 ^ 64 = rw (lt_is k 64 l) refl in
       stood (bit_and x (bit_not w64 (bit_of k))) (ap (λ b. bit_at (bit_and x (bit_not w64 b)) c) b ∙ bit_at_clear_other w64 x k l c small ne ∙ stands x e)
+
+  pub set_else : (k x : ℕ) → k < 64 → c ≢ k → has_bit (bits_after (bits.Set k) x) c ≡ true → has_bit x c ≡ true
+  set_else k x l ne e =
+      let b : bit_of k ≡ 1 * 2 ^ k % 2 ^ 64 = rw (lt_is k 64 l) refl in
+      stood x (sym (ap (λ b. bit_at (bit_or x b) c) b ∙ bit_at_set_other w64 x k l c ne) ∙ stands (bit_or x (bit_of k)) e)
+
+  pub was_set : (k x : ℕ) → has_bit (bits_after (bits.Clear k) x) c ≡ true → has_bit x c ≡ true
+  was_set k x e =
+      let y = bit_not w64 (bit_of k) in
+      let a = stands (bit_and x y) e in
+      let l = bit_at-lt x c in
+      stood x (omega (arith, bit_at_and x y c))
+
+  pub is_cleared : (x : ℕ) → has_bit (bits_after (bits.Clear c) x) c ≡ true → ⊥
+  is_cleared x e =
+      let a = stands (bit_and x (bit_not w64 (bit_of c))) e in
+      let b = ap (λ b. bit_at (bit_and x (bit_not w64 b)) c) bit_is ∙ bit_at_clear_same w64 x c small in
+      absurd (omega arith)
 
   -- ---- the lowest of those owed is signalled
 

@@ -6,4 +6,6 @@ pub mod Covering
 pub mod Listening
 pub mod Always
 pub mod Blocked
-pub mod Changed
+pub mod Silence
+pub mod Freed
+pub mod Told

@@ -1,6 +1,9 @@
 -- Who hangs or is blocked goes on hearing, after every schedule of well-made tasks.
-use Rattle.std.proofs.Common.{◌≡◌, inl, inr, ℕ, Bool, true, false, List, Some, refl, sym, ap, subst, ◌∙◌}
-use Rattle.std.specs.Prelude.{slice_get, Contains}
+use Rattle.kc_steps.specs.Lines.{after_line}
+use borrow.Author.Tests.{ltb-false}
+use Rattle.std.proofs.lemmas.Option.{slice_get_within, slice_get_cases}
+use Rattle.std.proofs.Common.{◌≡◌, inl, inr, ℕ, Bool, true, false, List, Some, refl, sym, ap, subst, ◌∙◌, ◌<◌, ◌≤◌, ◌+◌, ◌⊎◌, if◌then◌else◌, arith, length, None}
+use Rattle.std.specs.Prelude.{slice_get, Contains, get_or, nat_lt}
 use Rattle.kc_model.specs.declared.footprint.Seen.{Seen}
 use Rattle.kc_words.specs.declared.words.Phase.{Phase}
 use Rattle.kc_words.specs.declared.words.Phase.TheVariants.{Active, Succeeded, Failed, Crossed, Halted}
@@ -87,6 +90,22 @@ wait_is s = go s.work
     go (work.Commit c) = staged (record (resting s) { halted = c.halted }) c.intent c.copy c.stage
     go (work.Hang h) = waits h.reads.items h.step
     go (work.Leave l) = refl
+
+-- ---- reads by their index
+
+pub up_to : (i j : ℕ) → i < after_line j → i ≤ j
+up_to i j l = go (nat_lt j 64) refl l
+  where
+    go : (b : Bool) → nat_lt j 64 ≡ b → i < (if b then j + 1 else 64) → i ≤ j
+    go true q a = omega arith
+    go false q a = let y = ltb-false j 64 q in omega arith
+
+pub before_end : (xs : List Seen) (n i : ℕ) (r : Seen) → slice_get xs n ≡ None → slice_get xs i ≡ Some r → i < n
+before_end xs n i r g q = go (slice_get_cases xs n).1
+  where
+    go : ((v : Seen) × (n < length xs) × (slice_get xs n ≡ Some v) × (get_or xs n v ≡ v)) ⊎ ((length xs ≤ n) × (slice_get xs n ≡ None)) → i < n
+    go (inl y) = let u = y.2 in let t : None ≡ Some y.0 = sym g ∙ u in absurd (cc)
+    go (inr y) = let a = y.0 in let b = slice_get_within xs i r q in omega arith
 
 -- no bit is the last where a wait stays as it is
 pub listens_itself : (a : Waiting) → listens a a ≡ false

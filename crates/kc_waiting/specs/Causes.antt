@@ -1,5 +1,5 @@
--- Why a hang is told Changed.
-use Rattle.std.specs.Prelude.{◌≡◌, ◌≢◌, ◌<◌, ◌≤◌, ℕ, List, length, Some, slice_get}
+-- Why a hang is told Changed, and what a leave has done that is told Free.
+use Rattle.std.specs.Prelude.{◌≡◌, ◌≢◌, ◌<◌, ◌≤◌, ℕ, List, length, false, Contains, Some, slice_get}
 use Rattle.kc_model.specs.declared.footprint.Seen.{Seen}
 use Rattle.kc_steps.specs.declared.task.Event.{Event}
 use Rattle.kc_steps.specs.declared.task.Task.TheVariants as task
@@ -7,7 +7,7 @@ use Rattle.kc_steps.specs.declared.task.Told.TheVariants as told
 use Rattle.kc_machine.specs.Machine.{Opening, run}
 use Rattle.kc_claims.specs.Histories.{ending}
 use Rattle.kc_claims.specs.Traces.{Moment, trace, first_store}
-use Rattle.kc_claims.specs.Claims.{history_at}
+use Rattle.kc_claims.specs.Claims.{has_bit, history_at}
 
 -- behind the event at a moment, another version than the read's stood once at its location
 abbrev pub OtherStood : Opening → List Event → Moment → Seen → Type 0
@@ -21,3 +21,8 @@ ReadMoved o es since reads c = (r : Seen) × (slice_get reads c ≡ Some r) × O
 abbrev pub ChangedReadsMoved : Opening → List Event → Type 0
 ChangedReadsMoved o es = (k c : ℕ) (reads : List Seen) → k < o.callers → ((trace o es).shadows k).task ≡ Some (task.Hang (record { items = reads })) → ((run o es).seats k).told ≡ Some (told.Changed c)
     → ReadMoved o es ((trace o es).shadows k).listening reads c
+
+-- where a leave was told Free, its caller isn't blocked, and its bit stands at none of its reads
+abbrev pub FreeIsForgotten : Opening → List Event → Type 0
+FreeIsForgotten o es = (k : ℕ) (reads : List Seen) → k < o.callers → ((trace o es).shadows k).task ≡ Some (task.Leave (record { items = reads })) → ((run o es).seats k).told ≡ Some told.Free
+    → (((run o es).seats k).blocked ≡ false) × ((r : Seen) → Contains reads r → has_bit ((run o es).world.awaiters r.loc.0) k ≡ false)

@@ -6,7 +6,7 @@ ghost use Rattle.kc_machine.specs.Machine.{Opening};
 ghost use Rattle.kc_machine.specs.Schedules.{IsSchedule};
 ghost use Rattle.kc_claims.specs.Claims.{BlockedAreCovered};
 ghost use Rattle.kc_waiting.specs.Awaiting.{BlockedHear, HangsHear, RegisteredStayCovered};
-ghost use Rattle.kc_waiting.specs.Causes.{ChangedReadsMoved};
+ghost use Rattle.kc_waiting.specs.Causes.{ChangedReadsMoved, FreeIsForgotten};
 
 /// While a caller hangs, it is signalled or owed a wake, or its bit stands at each read where it was set.
 pub fn registered_callers_stay_covered()
@@ -30,4 +30,9 @@ pub fn blocked_callers_are_covered()
 /// bits were set.
 pub fn changed_reads_moved()
     ensures { (o : Opening) (es : List Event) → IsSchedule o es → ChangedReadsMoved o es }
+{}
+
+/// Where a leave was told Free, its caller isn't blocked, and its bit stands at none of its reads.
+pub fn free_callers_are_forgotten()
+    ensures { (o : Opening) (es : List Event) → IsSchedule o es → FreeIsForgotten o es }
 {}

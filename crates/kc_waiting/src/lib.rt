@@ -4,6 +4,6 @@
 mod laws;
 
 pub use laws::{
-    blocked_callers_are_covered, changed_reads_moved, registered_callers_stay_covered,
-    who_listens_hears,
+    blocked_callers_are_covered, changed_reads_moved, free_callers_are_forgotten,
+    registered_callers_stay_covered, who_listens_hears,
 };

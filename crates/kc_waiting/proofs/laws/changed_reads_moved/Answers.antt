@@ -1,4 +1,4 @@
-use Rattle.kc_waiting.proofs.Changed.{changed_moved}
+use Rattle.kc_waiting.proofs.Told.{changed_moved}
 use Rattle.kc_waiting.proofs.laws.changed_reads_moved.Goals as goal
 
 pub returns : goal.returns
