@@ -1,5 +1,5 @@
 -- A commit that is told Crossed was crossed.
-use Rattle.std.proofs.Common.{arith, ◌≡◌, ◌≢◌, ◌<◌, ◌≤◌, ◌⊎◌, inl, inr, ⊎_elim, ◌∙◌, ◌++◌, ◌==◌, ℕ, Bool, true, false, List, [], ◌∷◌, length, take, Option, None, Some, refl, sym, ap, subst, if◌then◌else◌}
+use Rattle.std.proofs.Common.{arith, ◌≡◌, ◌<◌, ◌⊎◌, inl, inr, ◌∙◌, ◌++◌, ◌==◌, ℕ, Bool, true, false, List, [], ◌∷◌, take, Option, None, Some, refl, sym, ap, subst, if◌then◌else◌}
 use Rattle.std.specs.Prelude.{slice_get}
 use borrow.Author.Tests.{eqb-true, eqb-false}
 use Rattle.kc_model.specs.declared.footprint.Footprint.{Footprint}
@@ -21,7 +21,6 @@ use Rattle.kc_steps.specs.declared.commit.OwnStep.{OwnStep}
 use Rattle.kc_steps.specs.declared.commit.OwnStep.TheVariants as own
 use Rattle.kc_steps.specs.declared.task.Task.{Task}
 use Rattle.kc_steps.specs.declared.task.Task.TheVariants as task
-use Rattle.kc_steps.specs.declared.task.Told.{Told}
 use Rattle.kc_steps.specs.declared.task.Told.TheVariants as told
 use Rattle.kc_steps.specs.declared.task.Onward.{Onward}
 use Rattle.kc_steps.specs.declared.task.Onward.TheVariants as onward
@@ -46,11 +45,11 @@ use Rattle.kc_pool.specs.Filled.{task as task_of}
 use Rattle.kc_pool.specs.Owners.{OwnsLife, is_filling, phase_read}
 use Rattle.kc_pool.proofs.LifeLaws.{phase_known, owners_differ}
 use Rattle.kc_passes.proofs.Words.{over_owners}
-use Rattle.kc_claims.specs.Traces.{Moment, Shadow, trace}
+use Rattle.kc_claims.specs.Traces.{Moment, trace}
 use Rattle.kc_traces.specs.Entries.{by, own_intent}
 use Rattle.kc_traces.proofs.Joins.{run-append, every, made_parts}
 use Rattle.kc_traces.proofs.Others.{run_shape, event_in, event_else}
-use Rattle.kc_traces.proofs.Answers.{moved, seat_cases, answers_when_done}
+use Rattle.kc_traces.proofs.Answers.{seat_cases, answers_when_done}
 use Rattle.kc_traces.proofs.Onward.{IsIntentOf, Left}
 use Rattle.kc_histories.specs.Decisions.{own_of}
 use Rattle.kc_histories.specs.Places.{began}
