@@ -34,13 +34,13 @@ module _ (o : Opening) (es : List Event) (e : Event) where
   abbrev es' : List Event
   es' = es ++ e ∷ []
 
-  seats_on : (k : ℕ) → (run o es').seats k ≡ (event_of (run o es) e).seats k
+  pub seats_on : (k : ℕ) → (run o es').seats k ≡ (event_of (run o es) e).seats k
   seats_on k = ap (λ (m : State). m.seats k) (run-append o es (e ∷ []))
 
-  longer : length es ≤ length es'
+  pub longer : length es ≤ length es'
   longer = let a = length-append es (e ∷ []) in omega arith
 
-  there : (k : ℕ) → k < o.callers → k < (run o es).callers
+  pub there : (k : ℕ) → k < o.callers → k < (run o es).callers
   there k l = let c = (run_shape o es).2 in omega (arith, l, c)
 
   -- ---- an owner that has started is no new one
@@ -62,7 +62,7 @@ module _ (o : Opening) (es : List Event) (e : Event) where
         go true q = ap own_hold (begun_fresh ((run o es).seats k) z.asked z.idle).1
         go false q = absurd (cc)
 
-    before : Before
+    pub before : Before
     before = go (own_goes (run o es) e k d g (ap (λ s. own_hold (stand s).own) (sym (seats_on k)) ∙ owns)) (moves o es k l e)
       where
         now_started : is_filling (stand ((event_of (run o es) e).seats k)).own ≡ false
@@ -83,7 +83,7 @@ module _ (o : Opening) (es : List Event) (e : Event) where
 
   -- ---- what was crossed stays so
 
-  moment_on : (a : ℕ) (m : Mode) (xs : List Line) (i : ℕ) → a ≤ length es → IsCrossed (run o (take a es)).world m xs i → IsCrossed (run o (take a es')).world m xs i
+  pub moment_on : (a : ℕ) (m : Mode) (xs : List Line) (i : ℕ) → a ≤ length es → IsCrossed (run o (take a es)).world m xs i → IsCrossed (run o (take a es')).world m xs i
   moment_on a m xs i l x = subst (λ ys. IsCrossed (run o ys).world m xs i) (sym (take-append-le a es (e ∷ []) l)) x
 
   crossed_on : (h : Handle) (m : Mode) (xs : List Line) (i : ℕ) → ((run o es).world.status h.descriptor).generation ≡ h.generation → WasCrossed o es h m xs i → WasCrossed o es' h m xs i

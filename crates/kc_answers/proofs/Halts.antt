@@ -1,5 +1,5 @@
 -- A task that is told Halted was halted.
-use Rattle.std.proofs.Common.{arith, ◌≡◌, ◌<◌, ◌⊎◌, inl, inr, ⊎_elim, ◌∙◌, ◌++◌, ◌==◌, ℕ, zero, suc, Bool, true, false, List, [], ◌∷◌, length, Option, None, Some, refl, sym, ap, subst, if◌then◌else◌}
+use Rattle.std.proofs.Common.{◌≢◌, arith, ◌≡◌, ◌<◌, ◌⊎◌, inl, inr, ⊎_elim, ◌∙◌, ◌++◌, ◌==◌, ℕ, zero, suc, Bool, true, false, List, [], ◌∷◌, length, Option, None, Some, refl, sym, ap, subst, if◌then◌else◌}
 use Rattle.std.specs.Prelude.{slice_get}
 use borrow.Author.Tests.{eqb-true, eqb-false}
 use Rattle.kc_model.specs.declared.footprint.Seen.{Seen}
@@ -32,7 +32,7 @@ use Rattle.kc_machine.specs.declared.hang.HangStep.{HangStep}
 use Rattle.kc_machine.specs.declared.hang.HangStep.TheVariants as hang
 use Rattle.kc_machine.specs.declared.hang.HangNext.{HangNext}
 use Rattle.kc_machine.specs.declared.hang.HangNext.TheVariants as hanging_on
-use Rattle.kc_machine.specs.Hangs.{look_or_end, looked, look_goes_on, look_of, clear_or_changed, hang_next, onward_of, hang_onward, unblocks_or_tells, leave_onward}
+use Rattle.kc_machine.specs.Hangs.{after_set, look_or_end, looked, look_goes_on, look_of, clear_or_changed, hang_next, onward_of, hang_onward, unblocks_or_tells, leave_onward}
 use Rattle.kc_machine.specs.Works.{Work}
 use Rattle.kc_machine.specs.Works as work
 use Rattle.kc_machine.specs.declared.seat.Seat.{Seat}
@@ -85,7 +85,7 @@ not_told (Failed k) calls q = absurd (cc)
 not_told (Crossed k) calls q = absurd (cc)
 not_told Halted calls q = inr refl
 
-same_told : {a b : Told} → onward.Tells a ≡ onward.Tells b → a ≡ b
+pub same_told : {a b : Told} → onward.Tells a ≡ onward.Tells b → a ≡ b
 same_told q = cc
 
 commit_tells : (n calls : ℕ) (c : Commit) (f : Found) → Ends c → TellsHalted (commit_onward n calls c f) → c.halted ≡ true
@@ -116,42 +116,54 @@ look_tells_so true n q = refl
 look_tells_so false (looking.Goes step) q = absurd (cc)
 look_tells_so false (looking.Saw seen) q = absurd (cc)
 
--- ---- no hang and no leave does
+-- ---- what no hang and no leave tells
 
-abbrev Silent : HangNext → Type 0
-Silent n = TellsHalted (onward_of n) → ⊥
+pub record IsOther (t : Told) : Type 0 where
+  pub hung : told.Hung ≢ t
+  pub free : told.Free ≢ t
+  pub changed : (k : ℕ) → told.Changed k ≢ t
 
-end_silent : (k : ℕ) (o : Option Seen) → Silent (look_or_end k o)
-end_silent k None q = absurd (cc)
-end_silent k (Some seen) q = absurd (cc)
+module _ (t : Told) (other : IsOther t) where
+  abbrev Silent : HangNext → Type 0
+  Silent n = onward_of n ≡ onward.Tells t → ⊥
 
-looked_silent : (reads : List Seen) (k a b : ℕ) → Silent (looked reads k a b)
-looked_silent reads k a b = go (b == a)
-  where
-    go : (t : Bool) → Silent (if t then look_or_end (after_line k) (slice_get reads (after_line k)) else hanging_on.Goes (hang.Clear 0 k))
-    go true = end_silent (after_line k) (slice_get reads (after_line k))
-    go false = λ q. absurd (cc)
+  goes_silent : (step : HangStep) → Silent (hanging_on.Goes step)
+  goes_silent step q = absurd (cc)
 
-hang_silent : (reads : List Seen) (step : HangStep) (f : Found) → Silent (hang_next reads step f)
-hang_silent reads (hang.Set k) f = λ q. absurd (cc)
-hang_silent reads (hang.Look k step) f = go (slice_get reads k)
-  where
-    by : (a : ℕ) (n : LookNext) → Silent (look_goes_on reads k a n)
-    by a (looking.Goes step) = λ q. absurd (cc)
-    by a (looking.Saw seen) = looked_silent reads k a seen.version
+  end_silent : (k : ℕ) (o : Option Seen) → Silent (look_or_end k o)
+  end_silent k None q = other.hung (same_told q)
+  end_silent k (Some seen) q = absurd (cc)
 
-    go : (o : Option Seen) → Silent (look_of reads k step f o)
-    go None = λ q. absurd (cc)
-    go (Some x) = by x.version (look_next x.loc step f)
-hang_silent reads (hang.Clear k n) f = go (slice_get reads (after_line k))
-  where
-    go : (o : Option Seen) → Silent (clear_or_changed n (after_line k) o)
-    go None q = absurd (cc)
-    go (Some x) q = absurd (cc)
+  looked_silent : (reads : List Seen) (k a b : ℕ) → Silent (looked reads k a b)
+  looked_silent reads k a b = go (b == a)
+    where
+      go : (c : Bool) → Silent (if c then look_or_end (after_line k) (slice_get reads (after_line k)) else hanging_on.Goes (hang.Clear 0 k))
+      go true = end_silent (after_line k) (slice_get reads (after_line k))
+      go false = goes_silent (hang.Clear 0 k)
 
-leave_silent : (o : Option Seen) → TellsHalted (unblocks_or_tells o) → ⊥
-leave_silent None q = absurd (cc)
-leave_silent (Some x) q = absurd (cc)
+  pub hang_silent : (reads : List Seen) (step : HangStep) (f : Found) → Silent (hang_next reads step f)
+  hang_silent reads (hang.Set k) f = goes_silent (after_set reads k)
+  hang_silent reads (hang.Look k step) f = go (slice_get reads k)
+    where
+      by : (a : ℕ) (n : LookNext) → Silent (look_goes_on reads k a n)
+      by a (looking.Goes step) = goes_silent (hang.Look k step)
+      by a (looking.Saw seen) = looked_silent reads k a seen.version
+
+      go : (o : Option Seen) → Silent (look_of reads k step f o)
+      go None = goes_silent (hang.Look k step)
+      go (Some x) = by x.version (look_next x.loc step f)
+  hang_silent reads (hang.Clear k n) f = go (slice_get reads (after_line k))
+    where
+      go : (o : Option Seen) → Silent (clear_or_changed n (after_line k) o)
+      go None = λ q. other.changed n (same_told q)
+      go (Some x) = goes_silent (hang.Clear (after_line k) n)
+
+  pub leave_silent : (o : Option Seen) → unblocks_or_tells o ≡ onward.Tells t → ⊥
+  leave_silent None q = other.free (same_told q)
+  leave_silent (Some x) q = absurd (cc)
+
+halted_other : IsOther told.Halted
+halted_other = record { hung = λ q. absurd (cc); free = λ q. absurd (cc); changed = λ k q. absurd (cc) }
 
 -- ---- a step
 
@@ -179,8 +191,8 @@ module _ (s : Seat) where
       go work.Idle e y = y
       go (work.Look l) e y = goes_on (work.Look (look_after l f)) (look_on l (look_next l.loc l.step f) ∙ sym (ap halted_of e)) (look_tells l f) (λ q. ap halted_of e ∙ look_tells_so l.halted (look_next l.loc l.step f) q) y
       go (work.Commit c) e y = goes_on (work.Commit (commit_after s.descriptors s.calls c f)) (commit_on (loaded c f) (commit_next s.descriptors s.calls (loaded c f) f) ∙ sym (ap halted_of e)) (commit_onward s.descriptors s.calls c f) (λ q. ap halted_of e ∙ commit_tells s.descriptors s.calls c f (ends c e) q) y
-      go (work.Hang h) e y = goes_on _ (sym (ap halted_of e)) (hang_onward h f) (λ q. absurd (hang_silent h.reads.items h.step f q)) y
-      go (work.Leave l) e y = goes_on _ (sym (ap halted_of e)) (leave_onward l) (λ q. absurd (leave_silent (slice_get l.reads.items _) q)) y
+      go (work.Hang h) e y = goes_on _ (sym (ap halted_of e)) (hang_onward h f) (λ q. absurd (hang_silent told.Halted halted_other h.reads.items h.step f q)) y
+      go (work.Leave l) e y = goes_on _ (sym (ap halted_of e)) (leave_onward l) (λ q. absurd (leave_silent told.Halted halted_other (slice_get l.reads.items _) q)) y
 
   -- a task that begins wasn't halted
   begun_same : (t : Task) → Stopped (begun s t) → begun s t ≡ s

@@ -5,3 +5,5 @@ pub mod Strays
 pub mod Standing
 pub mod Crossing
 pub mod Crossed
+pub mod Decided
+pub mod Told

@@ -1,5 +1,6 @@
 -- What a pass that is to decide Crossed has met.
 use Rattle.std.specs.Prelude.{◌≡◌, ◌<◌, ◌≤◌, ℕ, List, Option, None, Some, false, length, slice_get, take}
+use Rattle.kc_model.specs.declared.footprint.Footprint.{Footprint}
 use Rattle.kc_model.specs.declared.word.Word.TheVariants.{Ref}
 use Rattle.kc_words.specs.declared.words.Handle.{Handle}
 use Rattle.kc_words.specs.declared.words.Mode.{Mode}
@@ -11,12 +12,15 @@ use Rattle.kc_steps.specs.declared.pass.PassStep.{PassStep}
 use Rattle.kc_steps.specs.declared.pass.PassStep.TheVariants.{CheckDrop, Decide}
 use Rattle.kc_steps.specs.declared.pass.AfterCheck.{AfterCheck}
 use Rattle.kc_steps.specs.declared.pass.AfterCheck.TheVariants as checked
+use Rattle.kc_steps.specs.declared.task.Task.TheVariants as task
+use Rattle.kc_steps.specs.declared.task.Told.TheVariants as told
 use Rattle.kc_steps.specs.declared.task.Event.{Event}
-use Rattle.kc_steps.specs.Lines.{is_installed}
+use Rattle.kc_steps.specs.Lines.{is_installed, lines_of}
 use Rattle.kc_steps.specs.Passes.{status}
 use Rattle.kc_machine.specs.Machine.{World, Opening, run}
 use Rattle.kc_effects.specs.Stands.{At, Over}
 use Rattle.kc_pool.specs.Owners.{OwnsLife, is_filling}
+use Rattle.kc_claims.specs.Traces.{trace}
 use Rattle.kc_histories.specs.Decisions.{own_of}
 use Rattle.kc_histories.specs.Places.{began, pass_of}
 
@@ -51,3 +55,11 @@ WasCrossed o es h m xs i = (a : ℕ) × (a ≤ length es) × IsCrossed (run o (t
 -- where a pass is to decide Crossed at a line, it was crossed there
 abbrev pub CrossingPassesWereCrossed : Opening → List Event → Type 0
 CrossingPassesWereCrossed o es = (j i : ℕ) (h : Handle) (m : Mode) (xs : List Line) (q : PassStep) → j < o.callers → pass_of o es j ≡ Over h m xs (At q) → crosses q ≡ Some i → WasCrossed o es h m xs i
+
+-- so it stood at a moment since the task of seat k began
+abbrev pub CrossedSince : Opening → List Event → ℕ → Mode → List Line → ℕ → Type 0
+CrossedSince o es k m xs i = (a : ℕ) × (began o es k ≤ a) × (a ≤ length es) × IsCrossed (run o (take a es)).world m xs i
+
+-- where a commit was told Crossed at a line, it was crossed there since its task began
+abbrev pub CrossesHaveACause : Opening → List Event → Type 0
+CrossesHaveACause o es = (k i : ℕ) (f : Footprint) (m : Mode) → k < o.callers → ((trace o es).shadows k).task ≡ Some (task.Commit f m) → ((run o es).seats k).told ≡ Some (told.Crossed i) → CrossedSince o es k m (lines_of f) i

@@ -6,13 +6,19 @@ ghost use Rattle.kc_machine.specs.Machine.{Opening, run};
 ghost use Rattle.kc_machine.specs.Schedules.{IsSchedule};
 ghost use Rattle.kc_claims.specs.Claims.{PutsCostOneEach};
 ghost use Rattle.kc_answers.specs.Causes.{HaltsHaveACause};
-ghost use Rattle.kc_answers.specs.Crosses.{CrossingPassesWereCrossed};
+ghost use Rattle.kc_answers.specs.Crosses.{CrossesHaveACause, CrossingPassesWereCrossed};
 ghost use Rattle.kc_answers.specs.Met.{MetReferencesStand};
 ghost use Rattle.kc_answers.specs.Strays.{StraysAreLate};
 
 /// A task that is told Halted was halted: behind the event by which it began the schedule has a halt of its seat.
 pub fn halts_have_a_cause()
     ensures { (o : Opening) (es : List Event) → HaltsHaveACause o es }
+{}
+
+/// A commit that is told Crossed at a line is of mode Light, the line is a comparison, and its word referred to a life that was
+/// Active at a moment of the schedule since the commit's task began.
+pub fn crosses_have_a_cause()
+    ensures { (o : Opening) (es : List Event) → IsSchedule o es → CrossesHaveACause o es }
 {}
 
 /// A reference that a check has met in its line's word stands there as long as its life is Active. So where the check finds it
