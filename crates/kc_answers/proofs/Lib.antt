@@ -1,5 +1,6 @@
 pub mod Alone
 pub mod Puts
+pub mod Others
 pub mod Halts
 pub mod Strays
 pub mod Standing

@@ -49,7 +49,7 @@ use Rattle.kc_answers.proofs.Alone.{at_step, made, step_is, before_start}
 
 -- ---- lines that rise are of different locations
 
-lower : (xs : List Line) (i j : ℕ) (x y : Line) → IsRising (map line_location xs) → slice_get xs i ≡ Some x → slice_get xs j ≡ Some y → i < j → x.seen.loc.0 < y.seen.loc.0
+pub lower : (xs : List Line) (i j : ℕ) (x y : Line) → IsRising (map line_location xs) → slice_get xs i ≡ Some x → slice_get xs j ≡ Some y → i < j → x.seen.loc.0 < y.seen.loc.0
 lower [] i j x y r e f l = absurd (cc)
 lower (z ∷ xs) zero zero x y r e f l = absurd (omega arith)
 lower (z ∷ xs) zero (suc j) x y r e f l =

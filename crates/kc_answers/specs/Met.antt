@@ -1,7 +1,8 @@
 -- What a check has met.
-use Rattle.std.specs.Prelude.{◌≡◌, ◌<◌, ℕ, List, Some, slice_get}
+use Rattle.std.specs.Prelude.{◌≡◌, ◌≢◌, ◌<◌, ℕ, List, Some, slice_get}
 use Rattle.kc_model.specs.declared.word.Word.TheVariants.{Ref}
 use Rattle.kc_words.specs.declared.words.Reference.{Reference}
+use Rattle.kc_words.specs.declared.words.Handle.{Handle}
 use Rattle.kc_words.specs.declared.words.Mode.{Mode}
 use Rattle.kc_words.specs.declared.words.Phase.TheVariants.{Active}
 use Rattle.kc_steps.specs.declared.line.Line.{Line}
@@ -36,3 +37,8 @@ PassStands w (Over h m xs t) = TurnStands w m xs t
 -- a reference that a check has met stands in its line's word as long as its life is Active
 abbrev pub MetReferencesStand : State → Type 0
 MetReferencesStand m = (j : ℕ) → j < m.callers → PassStands m.world (stand (m.seats j)).pass
+
+-- what a check finds Active is another life than that which its pass goes over
+abbrev pub ChecksMeetOthers : State → Type 0
+ChecksMeetOthers m = (j i : ℕ) (h : Handle) (mode : Mode) (xs : List Line) (r : Reference) → j < m.callers → (stand (m.seats j)).pass ≡ Over h mode xs (At (CheckStatus i r))
+    → m.world.status r.handle.descriptor ≡ status r.handle.generation Active → r.handle ≢ h

@@ -7,7 +7,7 @@ ghost use Rattle.kc_machine.specs.Schedules.{IsSchedule};
 ghost use Rattle.kc_claims.specs.Claims.{PutsCostOneEach};
 ghost use Rattle.kc_answers.specs.Causes.{HaltsHaveACause};
 ghost use Rattle.kc_answers.specs.Crosses.{CrossesHaveACause, CrossingPassesWereCrossed};
-ghost use Rattle.kc_answers.specs.Met.{MetReferencesStand};
+ghost use Rattle.kc_answers.specs.Met.{ChecksMeetOthers, MetReferencesStand};
 ghost use Rattle.kc_answers.specs.Strays.{StraysAreLate};
 
 /// A task that is told Halted was halted: behind the event by which it began the schedule has a halt of its seat.
@@ -31,6 +31,11 @@ pub fn met_references_stand()
 /// that was Active, at a moment of the schedule since the task began for which it passes, whoever's pass it is.
 pub fn crossing_passes_were_crossed()
     ensures { (o : Opening) (es : List Event) → CrossingPassesWereCrossed o es }
+{}
+
+/// Where the tasks are well made, a reference that a check finds Active is to another life than that which its pass goes over.
+pub fn checks_meet_others()
+    ensures { (o : Opening) (es : List Event) → IsSchedule o es → ChecksMeetOthers (run o es) }
 {}
 
 /// A seat that holds a descriptor by a stray hold finds it at a later generation than the one that it looked for.

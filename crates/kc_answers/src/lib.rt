@@ -4,6 +4,6 @@
 mod laws;
 
 pub use laws::{
-    crosses_have_a_cause, crossing_passes_were_crossed, halts_have_a_cause, met_references_stand,
-    puts_cost_one_each, strays_are_late,
+    checks_meet_others, crosses_have_a_cause, crossing_passes_were_crossed, halts_have_a_cause,
+    met_references_stand, puts_cost_one_each, strays_are_late,
 };
