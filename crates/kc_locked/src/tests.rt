@@ -149,5 +149,6 @@ fn open_refuses_by_number(rt: HostRuntime) -> Result<(), Fail> {
     assert_eq!(rt; refusal(alloc, 3, 0)?, Some(OpenError::TooManyCallers));
     assert_eq!(rt; refusal(alloc, 65536, 64)?, None);
     assert_eq!(rt; refusal(alloc, 0, 1)?, None);
+    assert_eq!(rt; refusal(alloc, 3, 2)?, None);
     Ok(())
 }
