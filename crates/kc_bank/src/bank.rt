@@ -38,7 +38,12 @@ pub struct Bank {
 
 impl Bank {
     /// The bank from location 0 on, with room for eight accounts.
-    pub fn new() -> Bank {
+    pub fn new() -> Bank
+        ensures count { result.payouts_made.0 ≡ 0 }
+        ensures accounts { (result.accounts.base.0 ≡ 1) × (result.accounts.buckets ≡ 8) × (result.accounts.cap ≡ 8) }
+        ensures line { (result.line.base.0 ≡ 35) × (result.line.cap ≡ 4) }
+        ensures urgent { (result.urgent.base.0 ≡ 41) × (result.urgent.cap ≡ 2) }
+    {
         Bank {
             payouts_made: Loc(0),
             accounts: Hash::layout(Loc(1), 8, 8),
