@@ -1,6 +1,7 @@
 -- Commits.
 use Rattle.std.specs.Prelude.{ℕ, ◌+◌, ◌-◌, ◌==◌, ◌&&◌, List, length, Bool, true, false, Option, None, Some, if◌then◌else◌, nat_lt, slice_get, bit_and, bit_or}
 use Rattle.std.specs.Int.Count.{count_trailing_zeros}
+use Rattle.kc_words.specs.declared.words.TheConstants.{LAST_GENERATION}
 use Rattle.kc_words.specs.declared.words.Handle.{Handle}
 use Rattle.kc_words.specs.declared.words.Reference.{Reference}
 use Rattle.kc_words.specs.declared.words.Owner.{Owner}
@@ -90,14 +91,14 @@ after_scan n d = if nat_lt d (n - 1) then d + 1 else 0
 
 abbrev pub scan_next : ℕ → ℕ → ℕ → Found → Next
 scan_next n d worn (found.Control c) =
-    if nat_lt c.generation 1099511627775
+    if nat_lt c.generation LAST_GENERATION
     then (if c.holds == 0 then Goes (Take d c.generation) else Goes (Scan (after_scan n d) 0))
     else (if nat_lt worn (n - 1) then Goes (Scan (after_scan n d) (worn + 1)) else Tells told.Worn)
 scan_next n d worn _ = Goes (Scan d worn)
 
 abbrev pub take_next : ℕ → ℕ → ℕ → Found → Next
 take_next n d g (found.Control c) =
-    if (c.generation == g) && (c.holds == 0) && nat_lt g 1099511627775
+    if (c.generation == g) && (c.holds == 0) && nat_lt g LAST_GENERATION
     then Takes (Own (record { descriptor = d; generation = g + 1 }) own.FillOwner)
     else Goes (Scan (after_scan n d) 0)
 take_next n d g _ = Goes (Take d g)

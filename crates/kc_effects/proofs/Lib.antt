@@ -13,3 +13,4 @@ pub mod Worn
 pub mod Pools
 pub mod Runs
 pub mod PoolLaws
+pub mod Left

@@ -4,21 +4,11 @@ use Rattle.kc_steps.specs.declared.task.Event.{Event}
 use Rattle.kc_machine.specs.declared.seat.Seat.{Seat}
 use Rattle.kc_machine.specs.Works.{Work}
 use Rattle.kc_machine.specs.Works as work
-use Rattle.kc_commits.specs.declared.commit.Commit.{Commit}
-use Rattle.kc_commits.specs.declared.commit.Stage.{Stage}
-use Rattle.kc_commits.specs.declared.commit.Stage.TheVariants.{Scan, Take, Own}
-use Rattle.kc_commits.specs.declared.commit.OwnStep.{OwnStep}
-use Rattle.kc_commits.specs.declared.commit.OwnStep.TheVariants as own
-use Rattle.kc_steps.specs.declared.aid.Aided.{Aided}
-use Rattle.kc_steps.specs.declared.aid.AidStep.{AidStep}
-use Rattle.kc_steps.specs.declared.aid.AidStep.TheVariants as aid
 use Rattle.kc_machine.specs.Waits.{Hang}
 use Rattle.kc_machine.specs.declared.hang.HangStep.{HangStep}
 use Rattle.kc_machine.specs.declared.hang.HangStep.TheVariants as hang
-use Rattle.kc_words.specs.declared.words.Handle.{Handle}
-use Rattle.kc_words.specs.declared.words.Reference.{Reference}
 use Rattle.kc_machine.specs.Machine.{World, Opening, run, opened}
-use Rattle.kc_effects.specs.Stands.{Stand, Waits, stand, works, resting, commits, owns, aids, hangs}
+use Rattle.kc_effects.specs.Stands.{Stand, stand, works, resting, hangs}
 use Rattle.kc_effects.specs.Claims.{HoldsAreCounted, HoldsKeepGenerations, StraysAreOthers, WornScansHold, WornIsTrue}
 use Rattle.kc_effects.specs.Holds.{Hold, Proper, Stray, Has}
 use Rattle.kc_effects.proofs.Sums.{total_none}
@@ -26,6 +16,7 @@ use Rattle.kc_effects.proofs.Worn.{place}
 use Rattle.kc_effects.proofs.Held.{Fits}
 use Rattle.kc_effects.proofs.Pools.{Fit, Pool, pool_effect}
 use Rattle.kc_effects.proofs.Runs.{holds_after}
+use Rattle.kc_effects.proofs.Left.{commit_leaves}
 
 pub opened_pool : (o : Opening) → Pool o.callers (opened o).descriptors (opened o).world (λ k. stand ((opened o).seats k))
 opened_pool o = record {
@@ -54,36 +45,6 @@ strays_kept o schedule = λ k d g l h. let r = pool_after o schedule in each_fit
 same_told : (s : Seat) → (stand s).told ≡ s.told
 same_told s = go s.work
   where
-    aided : (t : Stand) (r : Reference) (c : Aided) (a : AidStep) → (aids t r c a).told ≡ t.told
-    aided t r c aid.Hold = refl
-    aided t r c aid.Status = refl
-    aided t r c (aid.First p) = refl
-    aided t r c (aid.Second p f) = refl
-    aided t r c (aid.Release p x) = refl
-    aided t r c aid.Owner = refl
-    aided t r c aid.LoadFirst = refl
-    aided t r c (aid.LoadSecond f) = refl
-    aided t r c (aid.Pass p) = refl
-    aided t r c (aid.Leave o) = refl
-    aided t r c (aid.Drop stray o) = refl
-
-    owned : (t : Stand) (c : Commit) (h : Handle) (step : OwnStep) → (owns t c.intent c.copy h step).told ≡ t.told
-    owned t c h own.FillOwner = refl
-    owned t c h (own.FillFirst j) = refl
-    owned t c h (own.FillSecond j) = refl
-    owned t c h own.Start = refl
-    owned t c h own.Abandon = refl
-    owned t c h (own.Pass p) = refl
-    owned t c h (own.Aid j r a) = aided (record t { own = Waits h c.intent j }) r c.copy a
-    owned t c h (own.Wake j owed) = refl
-    owned t c h (own.Signal owed) = refl
-    owned t c h (own.Drop p) = refl
-
-    staged : (t : Stand) (c : Commit) (x : Stage) → (commits t c.intent c.copy x).told ≡ t.told
-    staged t c (Scan d worn) = refl
-    staged t c (Take d g) = refl
-    staged t c (Own h step) = owned t c h step
-
     hung : (t : Stand) (h : Hang) (step : HangStep) → (hangs t h.reads.items step).told ≡ t.told
     hung t h (hang.Set j) = refl
     hung t h (hang.Look j step) = refl
@@ -92,7 +53,7 @@ same_told s = go s.work
     go : (x : Work) → (works (resting s) x).told ≡ s.told
     go work.Idle = refl
     go (work.Look l) = refl
-    go (work.Commit c) = staged (record (resting s) { halted = c.halted }) c c.stage
+    go (work.Commit c) = (commit_leaves (record (resting s) { halted = c.halted }) c c.stage).0
     go (work.Hang h) = hung (resting s) h h.step
     go (work.Leave l) = refl
 

@@ -51,6 +51,7 @@ use Rattle.kc_histories.proofs.Places.{within, has_place}
 use Rattle.kc_resolving.specs.Settled.{Settled, checked_by, MetStands, StepMet}
 use Rattle.kc_resolving.proofs.Changes.{Changes, other, filled, started, installed, released, decided, event_changes}
 use Rattle.kc_resolving.proofs.Before.{settled_by}
+use Rattle.kc_resolving.proofs.Comings.{comes_to, install_comes_to}
 use Rattle.kc_resolving.proofs.Checking
 use Rattle.kc_resolving.proofs.Checking.{controls_rise, word_stays, between, entered, after_is, checked_most}
 use Rattle.kc_resolving.proofs.ForGood.{settled_stays}
@@ -174,11 +175,8 @@ module _ (o : Opening) (es : List Event) (e : Event) (w : IsSchedule o es) (w' :
     same_line : {a b : Line} (i : ℕ) → slice_get xs i ≡ Some a → slice_get xs i ≡ Some b → a ≡ b
     same_line i x y = let q = sym x ∙ y in cc
 
-    goes_as : {a b : PassStep} → pass.Goes a ≡ pass.Goes b → a ≡ b
-    goes_as e = cc
-
     by : (a : PassStep) → (is_placed_at a ≡ true → Good a) → (q : PassStep) → pass.Goes a ≡ pass.Goes q → is_placed_at q ≡ true → Good q
-    by a g q y z = let s = goes_as y in subst Good s (g (ap is_placed_at s ∙ z))
+    by = comes_to
 
     -- the first step of the checks
     begins : (i : ℕ) → is_placed_at (from_install mode xs i) ≡ true → Good (from_install mode xs i)
@@ -189,23 +187,7 @@ module _ (o : Opening) (es : List Event) (e : Event) (w : IsSchedule o es) (w' :
         go (Some j) = tt
 
     by_install : (j : ℕ) (q : PassStep) → pass_next h mode xs (Install j) (found_at m.world (pass_access h xs (Install j))) ≡ pass.Goes q → is_placed_at q ≡ true → Good q
-    by_install j q = at (slice_get xs j)
-      where
-        word : (x : Line) (v : Word) → install_found h mode xs j (found.Word v) (Some x) ≡ pass.Goes q → is_placed_at q ≡ true → Good q
-        word x (Plain v y) = go (fits v y x)
-          where
-            go : (b : Bool) → (if b then pass.Goes (from_install mode xs (after_line j)) else pass.Goes (Decide (Failed j))) ≡ pass.Goes q → is_placed_at q ≡ true → Good q
-            go true = by (from_install mode xs (after_line j)) (begins (after_line j)) q
-            go false = by (Decide (Failed j)) (λ z. absurd (cc)) q
-        word x (Ref g d i) = go (refers_to h j (reference_of g d i))
-          where
-            go : (b : Bool) → (if b then pass.Goes (from_install mode xs (after_line j)) else pass.Met j (reference_of g d i)) ≡ pass.Goes q → is_placed_at q ≡ true → Good q
-            go true = by (from_install mode xs (after_line j)) (begins (after_line j)) q
-            go false = λ y. absurd (cc)
-
-        at : (t : Option Line) → install_found h mode xs j (found_at m.world (install_access h j t)) t ≡ pass.Goes q → is_placed_at q ≡ true → Good q
-        at None = by (Install j) (λ z. absurd (cc)) q
-        at (Some x) = word x (m.world.word x.seen.loc.0)
+    by_install = install_comes_to h mode xs m.world begins
 
     -- from a step at which it was placed
     module _ (t : PassStep) (was : Was t) where

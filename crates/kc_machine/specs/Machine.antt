@@ -1,5 +1,6 @@
 -- The machine: its state, its events, and its runs.
 use Rattle.std.specs.Prelude.{ℕ, ◌+◌, ◌*◌, ◌==◌, ◌&&◌, List, [], ◌∷◌, Bool, true, false, Option, None, Some, if◌then◌else◌, nat_lt, length, get_or}
+use Rattle.kc_machine.specs.declared.words.TheConstants.{MOST_HOLDS}
 use Rattle.kc_model.specs.declared.word.Word.{Word}
 use Rattle.kc_model.specs.declared.word.Word.TheVariants.{Plain}
 use Rattle.kc_words.specs.declared.words.Control.{Control}
@@ -81,7 +82,7 @@ touched w (access.Signal c s) = record w { signal = put w.signal c s }
 abbrev pub room : Grip → Control → Bool
 room grip.Load c = true
 room (grip.Take g) c = true
-room grip.Add c = nat_lt c.holds 16777215
+room grip.Add c = nat_lt c.holds MOST_HOLDS
 room grip.Subtract c = nat_lt 0 c.holds
 
 -- the word is there, and a count of holds has room

@@ -1,5 +1,6 @@
 -- For which openings and schedules a machine is meant.
 use Rattle.std.specs.Prelude.{◌≢◌, ℕ, ◌^◌, ◌<◌, ◌≤◌, List, [], All, length}
+use Rattle.kc_model.specs.declared.plain_store.TheConstants.{MOST_LOCATIONS}
 use Rattle.kc_model.specs.declared.footprint.TheConstants.{LAST_VERSION, MOST}
 use Rattle.kc_model.specs.declared.footprint.Seen.{Seen}
 use Rattle.kc_model.specs.Footprint.{IsWellMade, IsBelow}
@@ -11,7 +12,7 @@ use Rattle.kc_steps.specs.declared.task.Event.TheVariants.{Begin, Step, Halt}
 use Rattle.kc_machine.specs.Machine.{Opening}
 
 pub record IsInRange (o : Opening) : Type 0 where
-  pub locations : o.locations ≤ 65536
+  pub locations : o.locations ≤ MOST_LOCATIONS
   pub callers : o.callers ≤ 64
   pub versions : (l : ℕ) → o.version l ≤ LAST_VERSION
   pub values : (l : ℕ) → o.value l < 2 ^ 32

@@ -1,6 +1,8 @@
 -- The words of a machine, and what a touch leaves.
 use Rattle.std.specs.Prelude.{ℕ, ◌+◌, ◌-◌, ◌*◌, ◌%◌, ◌^◌, ◌==◌, ◌&&◌, List, get_or, set, Bool, true, false, Option, None, Some, if◌then◌else◌, nat_lt, bit_and, bit_or}
 use Rattle.std.specs.Int.{bit_not, w64}
+use Rattle.kc_machine.specs.declared.words.TheConstants.{MOST_HOLDS}
+use Rattle.kc_words.specs.declared.words.TheConstants.{LAST_GENERATION}
 use Rattle.kc_model.specs.declared.word.Word.{Word}
 use Rattle.kc_model.specs.declared.word.Word.TheVariants.{Plain, Ref}
 use Rattle.kc_words.specs.declared.words.Control.{Control}
@@ -71,8 +73,8 @@ control g h = record { generation = g; holds = h }
 -- a take needs that no one holds the descriptor, and a generation below the last
 abbrev pub gripped : Grip → Control → Option Control
 gripped grip.Load c = None
-gripped (grip.Take g) c = if (c.generation == g) && (c.holds == 0) && nat_lt g 1099511627775 then Some (control (g + 1) 1) else None
-gripped grip.Add c = if nat_lt c.holds 16777215 then Some (control c.generation (c.holds + 1)) else None
+gripped (grip.Take g) c = if (c.generation == g) && (c.holds == 0) && nat_lt g LAST_GENERATION then Some (control (g + 1) 1) else None
+gripped grip.Add c = if nat_lt c.holds MOST_HOLDS then Some (control c.generation (c.holds + 1)) else None
 gripped grip.Subtract c = if nat_lt 0 c.holds then Some (control c.generation (c.holds - 1)) else None
 
 -- bit c stands for caller c

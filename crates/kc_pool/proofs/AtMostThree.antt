@@ -1,23 +1,14 @@
 -- A seat has at most three holds: no seat looks while it commits.
 use Rattle.std.proofs.Common.{◌≡◌, ◌≤◌, refl, ap, arith}
-use Rattle.kc_words.specs.declared.words.Handle.{Handle}
-use Rattle.kc_words.specs.declared.words.Reference.{Reference}
 use Rattle.kc_machine.specs.declared.seat.Seat.{Seat}
 use Rattle.kc_machine.specs.Works.{Work}
 use Rattle.kc_machine.specs.Works as work
 use Rattle.kc_machine.specs.Waits.{Hang}
 use Rattle.kc_machine.specs.declared.hang.HangStep.{HangStep}
 use Rattle.kc_machine.specs.declared.hang.HangStep.TheVariants as hang
-use Rattle.kc_commits.specs.declared.commit.Commit.{Commit}
-use Rattle.kc_commits.specs.declared.commit.Stage.{Stage}
-use Rattle.kc_commits.specs.declared.commit.Stage.TheVariants.{Scan, Take, Own}
-use Rattle.kc_commits.specs.declared.commit.OwnStep.{OwnStep}
-use Rattle.kc_commits.specs.declared.commit.OwnStep.TheVariants as own
-use Rattle.kc_steps.specs.declared.aid.Aided.{Aided}
-use Rattle.kc_steps.specs.declared.aid.AidStep.{AidStep}
-use Rattle.kc_steps.specs.declared.aid.AidStep.TheVariants as aid
-use Rattle.kc_effects.specs.Stands.{Stand, Waits, NoLook, stand, works, resting, commits, owns, aids, hangs}
+use Rattle.kc_effects.specs.Stands.{Stand, NoLook, stand, works, resting, hangs}
 use Rattle.kc_effects.specs.Holds.{Hold, NoHold, Proper, Stray, own_hold, check_hold, aid_hold, look_hold}
+use Rattle.kc_effects.proofs.Left.{commit_leaves}
 use Rattle.kc_pool.specs.Counts.{one_if_held, holds_of}
 
 one_at_most : (x : Hold) → one_if_held x ≤ 1
@@ -27,6 +18,14 @@ one_at_most (Stray d g) = omega arith
 
 -- no look
 unlooking : (s : Stand) → s.look ≡ NoLook → holds_of s ≤ 3
+unlooking s q =
+    let a = one_at_most (own_hold s.own) in
+    let b = one_at_most (check_hold s.pass) in
+    let c = one_at_most (aid_hold s.aid) in
+    let d = ap (λ x. one_if_held (look_hold x)) q in
+    omega arith
+
+looking : (s : Stand) → s.look ≡ NoLook → holds_of s ≤ 3
 unlooking s q =
     let a = one_at_most (own_hold s.own) in
     let b = one_at_most (check_hold s.pass) in
@@ -78,6 +77,6 @@ three_at_most s = go s.work
     go : (x : Work) → holds_of (works (resting s) x) ≤ 3
     go work.Idle = omega arith
     go (work.Look l) = let a = looking (works (resting s) (work.Look l)) in omega arith
-    go (work.Commit c) = unlooking (works (resting s) (work.Commit c)) (staged (record (resting s) { halted = c.halted }) c c.stage)
+    go (work.Commit c) = unlooking (works (resting s) (work.Commit c)) (commit_leaves (record (resting s) { halted = c.halted }) c c.stage).1
     go (work.Hang h) = hung s h h.step
     go (work.Leave l) = omega arith

@@ -7,3 +7,4 @@ pub mod Lines
 pub mod Resolving
 pub mod ForGood
 pub mod ReadLines
+pub mod Comings

@@ -1,5 +1,6 @@
 -- The lines of a commit.
 use Rattle.std.specs.Prelude.{ℕ, zero, suc, ◌+◌, ◌-◌, ◌==◌, List, [], ◌∷◌, Bool, true, false, not, Option, None, Some, if◌then◌else◌, slice_get, nat_lt, map}
+use Rattle.kc_model.specs.declared.footprint.TheConstants.{LAST_VERSION}
 use Rattle.kc_model.specs.declared.footprint.Seen.{Seen}
 use Rattle.kc_model.specs.declared.footprint.Put.{Put}
 use Rattle.kc_model.specs.declared.footprint.Footprint.{Footprint}
@@ -13,6 +14,7 @@ use Rattle.kc_words.specs.declared.words.Mode.TheVariants.{All, Light}
 use Rattle.kc_words.specs.declared.words.First.{First}
 use Rattle.kc_words.specs.declared.words.Second.{Second}
 use Rattle.kc_steps.specs.declared.line.Line.{Line}
+use Rattle.kc_steps.specs.declared.line.TheConstants.{MOST_LINES}
 use Rattle.kc_steps.specs.declared.line.Pick.{Pick}
 use Rattle.kc_steps.specs.declared.line.Pick.TheVariants as pick
 
@@ -20,12 +22,12 @@ use Rattle.kc_steps.specs.declared.line.Pick.TheVariants as pick
 abbrev pub one_more : ℕ → ℕ
 one_more n = if nat_lt n 18446744073709551615 then n + 1 else n
 
--- there are at most 64 lines
+-- the number of the next line, up to the most
 abbrev pub after_line : ℕ → ℕ
-after_line k = if nat_lt k 64 then k + 1 else 64
+after_line k = if nat_lt k MOST_LINES then k + 1 else MOST_LINES
 
 abbrev pub next_version : ℕ → ℕ
-next_version v = if nat_lt v 2147483647 then v + 1 else v
+next_version v = if nat_lt v LAST_VERSION then v + 1 else v
 
 abbrev pub has_put : Option ℕ → Bool
 has_put None = false
