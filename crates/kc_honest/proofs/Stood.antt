@@ -176,7 +176,7 @@ module _ (o : Opening) (es : List Event) (e : Event) (w : IsSchedule o es) (w' :
     same_line i x y = let q = sym x ∙ y in cc
 
     by : (a : PassStep) → (is_placed_at a ≡ true → Good a) → (q : PassStep) → pass.Goes a ≡ pass.Goes q → is_placed_at q ≡ true → Good q
-    by = comes_to
+    by = comes_to Good
 
     -- the first step of the checks
     begins : (i : ℕ) → is_placed_at (from_install mode xs i) ≡ true → Good (from_install mode xs i)
@@ -187,7 +187,7 @@ module _ (o : Opening) (es : List Event) (e : Event) (w : IsSchedule o es) (w' :
         go (Some j) = tt
 
     by_install : (j : ℕ) (q : PassStep) → pass_next h mode xs (Install j) (found_at m.world (pass_access h xs (Install j))) ≡ pass.Goes q → is_placed_at q ≡ true → Good q
-    by_install = install_comes_to h mode xs m.world begins
+    by_install = install_comes_to Good h mode xs m.world begins
 
     -- from a step at which it was placed
     module _ (t : PassStep) (was : Was t) where

@@ -25,44 +25,6 @@ unlooking s q =
     let d = ap (λ x. one_if_held (look_hold x)) q in
     omega arith
 
-looking : (s : Stand) → s.look ≡ NoLook → holds_of s ≤ 3
-unlooking s q =
-    let a = one_at_most (own_hold s.own) in
-    let b = one_at_most (check_hold s.pass) in
-    let c = one_at_most (aid_hold s.aid) in
-    let d = ap (λ x. one_if_held (look_hold x)) q in
-    omega arith
-
-aided : (t : Stand) (r : Reference) (c : Aided) (a : AidStep) → (aids t r c a).look ≡ t.look
-aided t r c aid.Hold = refl
-aided t r c aid.Status = refl
-aided t r c (aid.First p) = refl
-aided t r c (aid.Second p f) = refl
-aided t r c (aid.Release p x) = refl
-aided t r c aid.Owner = refl
-aided t r c aid.LoadFirst = refl
-aided t r c (aid.LoadSecond f) = refl
-aided t r c (aid.Pass p) = refl
-aided t r c (aid.Leave o) = refl
-aided t r c (aid.Drop stray o) = refl
-
-owned : (t : Stand) (c : Commit) (h : Handle) (step : OwnStep) → (owns t c.intent c.copy h step).look ≡ t.look
-owned t c h own.FillOwner = refl
-owned t c h (own.FillFirst j) = refl
-owned t c h (own.FillSecond j) = refl
-owned t c h own.Start = refl
-owned t c h own.Abandon = refl
-owned t c h (own.Pass p) = refl
-owned t c h (own.Aid j r a) = aided (record t { own = Waits h c.intent j }) r c.copy a
-owned t c h (own.Wake j owed) = refl
-owned t c h (own.Signal owed) = refl
-owned t c h (own.Drop p) = refl
-
-staged : (t : Stand) (c : Commit) (x : Stage) → (commits t c.intent c.copy x).look ≡ t.look
-staged t c (Scan d worn) = refl
-staged t c (Take d g) = refl
-staged t c (Own h step) = owned t c h step
-
 looking : (s : Stand) → one_if_held (look_hold s.look) ≤ 1
 looking s = one_at_most (look_hold s.look)
 

@@ -277,7 +277,7 @@ module _ (o : Opening) (es : List Event) (e : Event) (w : IsSchedule o es) (w' :
                 subst (λ (v : Line). Settled o es' p v.seen.loc.0) (sym r) (still y.seen.loc.0 s)
 
     by : (a : PassStep) → (is_placed_at a ≡ true → Good a) → (q : PassStep) → pass.Goes a ≡ pass.Goes q → is_placed_at q ≡ true → Good q
-    by = comes_to
+    by = comes_to Good
 
     -- the first step of the checks
     begins : (i : ℕ) → is_placed_at (from_install mode xs i) ≡ true → Good (from_install mode xs i)
@@ -288,7 +288,7 @@ module _ (o : Opening) (es : List Event) (e : Event) (w : IsSchedule o es) (w' :
         go (Some j) = tt
 
     by_install : (j : ℕ) (q : PassStep) → pass_next h mode xs (Install j) (found_at m.world (pass_access h xs (Install j))) ≡ pass.Goes q → is_placed_at q ≡ true → Good q
-    by_install = install_comes_to h mode xs m.world begins
+    by_install = install_comes_to Good h mode xs m.world begins
 
     by_check : (j : ℕ) → OldChecks (Check j) → (q : PassStep) → pass_next h mode xs (Check j) (found_at m.world (pass_access h xs (Check j))) ≡ pass.Goes q → is_placed_at q ≡ true → Good q
     by_check j old q = at (slice_get xs j) refl

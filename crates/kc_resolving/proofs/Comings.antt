@@ -17,10 +17,10 @@ use Rattle.kc_steps.specs.Passes.{fits, refers_to, from_install, pass_access, in
 use Rattle.kc_machine.specs.Machine.{World, found_at}
 use Rattle.kc_claims.specs.Traces.{is_placed_at}
 
-module _ {Good : PassStep → Type 0} where
-  goes_as : {a b : PassStep} → pass.Goes a ≡ pass.Goes b → a ≡ b
-  goes_as e = cc
+goes_as : {a b : PassStep} → pass.Goes a ≡ pass.Goes b → a ≡ b
+goes_as e = cc
 
+module _ (Good : PassStep → Type 0) where
   -- it is the step to which the pass goes
   pub comes_to : (a : PassStep) → (is_placed_at a ≡ true → Good a) → (q : PassStep) → pass.Goes a ≡ pass.Goes q → is_placed_at q ≡ true → Good q
   comes_to a g q y z = let s = goes_as y in subst Good s (g (ap is_placed_at s ∙ z))
