@@ -4,7 +4,7 @@ ghost use Rattle.std.specs.Prelude.{◌≡◌, ◌≤◌, ◌<◌, ◌++◌, len
 ghost use Rattle.kc_bundle.specs.Script.{script_of, cells, LiesInOrder};
 ghost use Rattle.kc_bundle.specs.State.{opening_value, opening_cells, opening_values};
 
-use crate::bundle::Bundle;
+use crate::bundle::{Bundle, MOST_THREADS};
 use crate::object::Object;
 use crate::place::cells;
 use kc_model::NoMemory;
@@ -39,7 +39,7 @@ fn push_cells(values: &mut Vec<u32>, object: Object) -> Result<(), NoMemory>
 
 /// The values with which a bundle's locations open. Location 0 has the number of threads.
 pub fn opening(alloc: Global, bundle: &Bundle) -> Result<Vec<u32>, NoMemory>
-    requires few { length (script_of bundle.now).threads ≤ 16 }
+    requires few { length (script_of bundle.now).threads ≤ MOST_THREADS }
     requires lies { LiesInOrder (script_of bundle.now) }
     ensures { IfOk result (λ values. values.items ≡ opening_values (script_of bundle.now)) }
 {
