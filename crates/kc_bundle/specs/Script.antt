@@ -11,6 +11,7 @@ use Rattle.kc_bundle.specs.declared.operation.Command.{Command}
 use Rattle.kc_bundle.specs.declared.bundle.Bundle.{Bundle}
 use Rattle.kc_model.specs.declared.plain_store.TheConstants.{MOST_LOCATIONS}
 use Rattle.kc_xt.specs.declared.structure.TheConstants.{MOST_ITEMS, MOST_BUCKETS}
+use Rattle.kc_cells.specs.declared.accumulator.TheConstants.{MOST_CELLS}
 use Rattle.kc_stack.specs.Meaning.{stack_cells}
 use Rattle.kc_queue.specs.Meaning.{queue_cells}
 use Rattle.kc_cells.specs.OnePlace.{place_cells}
@@ -70,7 +71,7 @@ IsSized (object.Stack s) = (1 ≤ s.cap) × (s.cap ≤ MOST_ITEMS)
 IsSized (object.Queue q) = (1 ≤ q.cap) × (q.cap ≤ MOST_ITEMS)
 IsSized (object.Mvar x) = Unit {0}
 IsSized (object.Promise p) = Unit {0}
-IsSized (object.Acc a) = (1 ≤ a.cells) × (a.cells ≤ 32)
+IsSized (object.Acc a) = (1 ≤ a.cells) × (a.cells ≤ MOST_CELLS)
 IsSized (object.Hash h) = (1 ≤ h.buckets) × (h.buckets ≤ MOST_BUCKETS) × (1 ≤ h.cap) × (h.cap ≤ MOST_ITEMS)
 IsSized (object.Cache c) = (1 ≤ c.buckets) × (c.buckets ≤ MOST_BUCKETS) × (1 ≤ c.cap) × (c.cap ≤ MOST_ITEMS)
 

@@ -5,6 +5,9 @@ ghost use Rattle.kc_model.specs.declared.plain_store.TheConstants.{MOST_LOCATION
 
 use kc_model::Loc;
 
+/// How many cells an accumulator may have.
+pub const MOST_CELLS: u32 = 32;
+
 /// An accumulator: its number is the sum of its cells, which wraps. It has a cell, and all are locations of a store:
 /// below 65,536.
 #[derive(Clone, Copy, Debug, PartialEq, Eq)]

@@ -8,7 +8,7 @@ ghost use Rattle.kc_cells.specs.Mvar.{mvar_cells_end, MvarStandsFor};
 ghost use Rattle.kc_cells.specs.OnePlace.{place_cells, place_opening, held};
 ghost use Rattle.kc_cells.specs.Promise.{promise_cells_end, PromiseStandsFor};
 
-use crate::accumulator::Accumulator;
+use crate::accumulator::{Accumulator, MOST_CELLS};
 use crate::mvar::Mvar;
 use crate::one_place;
 use crate::promise::Promise;
@@ -100,7 +100,7 @@ impl Accumulator {
     /// The accumulator at these cells.
     pub fn layout(base: Loc, cells: u32) -> Accumulator
         requires some { 1 ≤ cells }
-        requires most { cells ≤ 32 }
+        requires most { cells ≤ MOST_CELLS }
         requires cells { base.0 + cells ≤ MOST_LOCATIONS }
         ensures base { result.base ≡ base }
         ensures cells { result.cells ≡ cells }
