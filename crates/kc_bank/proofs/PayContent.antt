@@ -39,26 +39,26 @@ pub then_leaves : (l : ℕ) (p : Meaning) (q : Reply → Meaning) → Leaves l p
 then_leaves l p q first second n m ks =
     then_run_leaves (p n m ks).outcome (p n m ks).touches _ m l (first n m ks) (λ a. second a n _ _)
 
-pub account_leaves : (o : HashOp) → 1 ≤ o.hash.buckets → (l : ℕ) → IsOutside (hash_begin o) (accounts_end o.hash) l →
+pub account_leaves : (o : HashOp) → (l : ℕ) → IsOutside (hash_begin o) (accounts_end o.hash) l →
     Leaves l (hash_meaning o)
-account_leaves o some l outside n m ks =
-    stays_outside (hash_begin o) (accounts_end o.hash) (hash_program o.hash o.act replies) (hash_stays o some) n m ks l outside
+account_leaves o l outside n m ks =
+    stays_outside (hash_begin o) (accounts_end o.hash) (hash_program o.hash o.act replies) (hash_stays o) n m ks l outside
 
-pub credited_leaves : (c : Credit) → 1 ≤ c.accounts.buckets → (l : ℕ) →
+pub credited_leaves : (c : Credit) → (l : ℕ) →
     IsOutside c.accounts.base.0 (accounts_end c.accounts) l → (a : Reply) → Leaves l (credited c a)
-credited_leaves c some l outside Unit = λ n m ks. refl
-credited_leaves c some l outside (Value b) = account_leaves (put_of c ((b + DIVIDEND) % 2 ^ 32)) some l outside
-credited_leaves c some l outside (Bool b) = λ n m ks. refl
-credited_leaves c some l outside Empty = λ n m ks. refl
-credited_leaves c some l outside Full = λ n m ks. refl
-credited_leaves c some l outside Stranded = λ n m ks. refl
-credited_leaves c some l outside (Many items) = λ n m ks. refl
+credited_leaves c l outside Unit = λ n m ks. refl
+credited_leaves c l outside (Value b) = account_leaves (put_of c ((b + DIVIDEND) % 2 ^ 32)) l outside
+credited_leaves c l outside (Bool b) = λ n m ks. refl
+credited_leaves c l outside Empty = λ n m ks. refl
+credited_leaves c l outside Full = λ n m ks. refl
+credited_leaves c l outside Stranded = λ n m ks. refl
+credited_leaves c l outside (Many items) = λ n m ks. refl
 
-pub credit_leaves : (c : Credit) → 1 ≤ c.accounts.buckets → (l : ℕ) →
+pub credit_leaves : (c : Credit) → (l : ℕ) →
     IsOutside c.accounts.base.0 (accounts_end c.accounts) l → Leaves l (credit_meaning c)
-credit_leaves c some l outside =
-    then_leaves l (hash_meaning (find_of c)) (credited c) (account_leaves (find_of c) some l outside)
-    (credited_leaves c some l outside)
+credit_leaves c l outside =
+    then_leaves l (hash_meaning (find_of c)) (credited c) (account_leaves (find_of c) l outside)
+    (credited_leaves c l outside)
 
 -- where it takes a front, the line is left without it; else it waits
 abbrev pub paid_value : PayNext → List ℕ → List (ℕ × ℕ) → Reply → Comes (List ℕ × List (ℕ × ℕ))
@@ -71,23 +71,23 @@ pub apart : (p : PayNext) → LieApart p → (l c : ℕ) → p.line.base.0 ≤ l
 apart p (inl h) l c a b d e = λ same. omega arith
 apart p (inr h) l c a b d e = λ same. omega arith
 
-pub paid_means : (p : PayNext) → LieApart p → 1 ≤ p.accounts.buckets → (line : List ℕ) (accounts : List (ℕ × ℕ)) (a : Reply) →
+pub paid_means : (p : PayNext) → LieApart p → (line : List ℕ) (accounts : List (ℕ × ℕ)) (a : Reply) →
     MeansItsValue (LineAndAccounts p) (paid p a) (line, accounts) (paid_value p line accounts a)
-paid_means p far some line accounts Unit = λ n m ks st h. (refl, st)
-paid_means p far some line accounts (Value v) = λ n m ks st h.
+paid_means p far line accounts Unit = λ n m ks st h. (refl, st)
+paid_means p far line accounts (Value v) = λ n m ks st h.
     let f : _ = credit_means (credit_of p v) accounts n m ks st.1 h in (
       f.0,
       (
         queue_own p.line m _ line
-            (λ l from to. sym (credit_leaves (credit_of p v) some l (λ c a b. apart p far l c from to a b) n m ks)) st.0,
+            (λ l from to. sym (credit_leaves (credit_of p v) l (λ c a b. apart p far l c from to a b) n m ks)) st.0,
         f.1,
       ),
     )
-paid_means p far some line accounts (Bool b) = λ n m ks st h. (refl, st)
-paid_means p far some line accounts Empty = λ n m ks st h. (refl, st)
-paid_means p far some line accounts Full = λ n m ks st h. (refl, st)
-paid_means p far some line accounts Stranded = λ n m ks st h. (refl, st)
-paid_means p far some line accounts (Many items) = λ n m ks st h. (refl, st)
+paid_means p far line accounts (Bool b) = λ n m ks st h. (refl, st)
+paid_means p far line accounts Empty = λ n m ks st h. (refl, st)
+paid_means p far line accounts Full = λ n m ks st h. (refl, st)
+paid_means p far line accounts Stranded = λ n m ks st h. (refl, st)
+paid_means p far line accounts (Many items) = λ n m ks st h. (refl, st)
 
 -- what the line's operation comes to, beside the accounts
 abbrev pub next_value : PayNext → List ℕ → List (ℕ × ℕ) → Comes (List ℕ × List (ℕ × ℕ))
@@ -114,10 +114,10 @@ pay_comes p [] accounts = refl
 pay_comes p (x ∷ line) accounts = refl
 
 -- a payout credits the front of the line, which the line is then without, and waits where there is none
-pub pay_means : (p : PayNext) → LieApart p → 1 ≤ p.accounts.buckets → (line : List ℕ) (accounts : List (ℕ × ℕ)) →
+pub pay_means : (p : PayNext) → LieApart p → (line : List ℕ) (accounts : List (ℕ × ℕ)) →
     MeansItsValue (LineAndAccounts p) (pay_meaning p) (line, accounts) (pay_value p line accounts)
-pay_means p far some line accounts =
+pay_means p far line accounts =
     subst (λ v. MeansItsValue (LineAndAccounts p) (pay_meaning p) (line, accounts) v) (pay_comes p line accounts)
     (means_then (LineAndAccounts p) (queue_meaning (next_of p)) (paid p) (line, accounts) (next_value p line accounts)
     (paid_value p (next_value p line accounts).content.0 accounts) (next_means p far line accounts)
-    (λ a e. paid_means p far some (next_value p line accounts).content.0 accounts a))
+    (λ a e. paid_means p far (next_value p line accounts).content.0 accounts a))

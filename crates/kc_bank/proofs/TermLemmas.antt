@@ -26,34 +26,34 @@ pub each_append : {X : Type 0} (P : X → Type 0) (xs ys : List X) → Each P xs
 each_append P [] ys left right = right
 each_append P (x ∷ xs) ys left right = (left.0, each_append P xs ys left.1 right)
 
-pub account_one : (o : HashOp) → 1 ≤ o.hash.buckets → RepliesOneItem (hash_meaning o)
-account_one o some = stays_one (hash_begin o) (cells_end o.hash) (hash_program o.hash o.act replies) (hash_stays o some)
+pub account_one : (o : HashOp) → RepliesOneItem (hash_meaning o)
+account_one o = stays_one (hash_begin o) (cells_end o.hash) (hash_program o.hash o.act replies) (hash_stays o)
 
-pub credited_one : (c : Credit) → 1 ≤ c.accounts.buckets → (a : Reply) → RepliesOneItem (credited c a)
-credited_one c some Unit = λ n m ks. tt
-credited_one c some (Value v) = account_one (put_of c ((v + DIVIDEND) % 2 ^ 32)) some
-credited_one c some (Bool b) = λ n m ks. tt
-credited_one c some Empty = λ n m ks. tt
-credited_one c some Full = λ n m ks. tt
-credited_one c some Stranded = λ n m ks. tt
-credited_one c some (Many items) = λ n m ks. tt
+pub credited_one : (c : Credit) → (a : Reply) → RepliesOneItem (credited c a)
+credited_one c Unit = λ n m ks. tt
+credited_one c (Value v) = account_one (put_of c ((v + DIVIDEND) % 2 ^ 32))
+credited_one c (Bool b) = λ n m ks. tt
+credited_one c Empty = λ n m ks. tt
+credited_one c Full = λ n m ks. tt
+credited_one c Stranded = λ n m ks. tt
+credited_one c (Many items) = λ n m ks. tt
 
-pub paid_one : (p : PayNext) → 1 ≤ p.accounts.buckets → (a : Reply) → RepliesOneItem (paid p a)
-paid_one p some Unit = λ n m ks. tt
-paid_one p some (Value v) =
-    then_one (hash_meaning (find_of (credit_of p v))) (credited (credit_of p v)) (credited_one (credit_of p v) some)
-paid_one p some (Bool b) = λ n m ks. tt
-paid_one p some Empty = λ n m ks. tt
-paid_one p some Full = λ n m ks. tt
-paid_one p some Stranded = λ n m ks. tt
-paid_one p some (Many items) = λ n m ks. tt
+pub paid_one : (p : PayNext) → (a : Reply) → RepliesOneItem (paid p a)
+paid_one p Unit = λ n m ks. tt
+paid_one p (Value v) =
+    then_one (hash_meaning (find_of (credit_of p v))) (credited (credit_of p v)) (credited_one (credit_of p v))
+paid_one p (Bool b) = λ n m ks. tt
+paid_one p Empty = λ n m ks. tt
+paid_one p Full = λ n m ks. tt
+paid_one p Stranded = λ n m ks. tt
+paid_one p (Many items) = λ n m ks. tt
 
 -- each of the bank's operations replies one item
 pub bank_one : (o : BankOp) → BankIsFit o → RepliesOneItem (bank_meaning o)
-bank_one (Account o) fit = account_one o fit.0
+bank_one (Account o) fit = account_one o
 bank_one (Line o) fit = stays_one (queue_begin o) (queue_end o) (queue_program o.queue o.act replies) (queue_stays o)
 bank_one (Count o) fit = stays_one (loc_begin o) (loc_last o + 1) (loc_program o replies) (loc_stays o)
-bank_one (Pay p) fit = then_one (queue_meaning (next_of p)) (paid p) (paid_one p fit.0)
+bank_one (Pay p) fit = then_one (queue_meaning (next_of p)) (paid p) (paid_one p)
 
 pub each_fit : (os : List BankOp) → Each LiesInBank os → Each BankIsFit os
 each_fit [] lie = tt

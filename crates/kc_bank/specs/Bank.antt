@@ -3,7 +3,7 @@ use Rattle.kc_model.specs.declared.Reply.{Reply}
 use Rattle.kc_model.specs.declared.Reply.TheVariants.{Empty, Value}
 use Rattle.kc_hash.specs.declared.HashAct.TheVariants.{Find, Put}
 use Rattle.kc_hash.specs.declared.HashOp.{HashOp}
-use Rattle.kc_hash.specs.Meaning.{HashIsFit, IsLaid, hash_end, hash_meaning}
+use Rattle.kc_hash.specs.Meaning.{hash_end, hash_meaning}
 use Rattle.kc_loc.specs.Meaning.{LocIsFit, loc_end, loc_meaning}
 use Rattle.kc_queue.specs.declared.QueueAct.TheVariants.{DeqWait}
 use Rattle.kc_queue.specs.declared.QueueOp.{QueueOp}
@@ -61,10 +61,10 @@ bank_meaning (Count o) = loc_meaning o
 bank_meaning (Pay p) = pay_meaning p
 
 abbrev pub BankIsFit : BankOp → Type 0
-BankIsFit (Account o) = HashIsFit o
+BankIsFit (Account o) = Unit {0}
 BankIsFit (Line o) = Unit {0}
 BankIsFit (Count o) = LocIsFit o
-BankIsFit (Pay p) = IsLaid p.accounts
+BankIsFit (Pay p) = Unit {0}
 
 abbrev pub bank_op_end : BankOp → ℕ
 bank_op_end (Account o) = hash_end o

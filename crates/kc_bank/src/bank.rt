@@ -1,7 +1,7 @@
 //! A bank's structures on one store, and what it does to them.
 
-ghost use Rattle.std.specs.Prelude.{◌≡◌, ◌≤◌, ◌<◌, ◌+◌, IfOk, OnOk, vec_len};
-ghost use Rattle.kc_hash.specs.Meaning.{IsLaid, cells_end, hash_cells};
+ghost use Rattle.std.specs.Prelude.{◌≡◌, ◌≤◌, ◌<◌, ◌+◌, ⊤, IfOk, OnOk, vec_len};
+ghost use Rattle.kc_hash.specs.Meaning.{hash_cells};
 ghost use Rattle.kc_queue.specs.Meaning.{queue_cells};
 ghost use Rattle.kc_bank.specs.declared.bank.TheConstants.{BANK_CELLS};
 ghost use Rattle.kc_bank.specs.Asked.{count_one, count_told, give, line_up, look_up, on_accounts, pay_from};
@@ -29,7 +29,6 @@ pub struct Bank {
     pub line: Queue,
     pub urgent: Queue,
     ghost count_within: { payouts_made.0 < BANK_CELLS },
-    ghost accounts_laid: { IsLaid accounts },
     ghost accounts_within: { AccountsWithin accounts },
     ghost line_within: { LineWithin line },
     ghost urgent_within: { LineWithin urgent },
@@ -126,7 +125,6 @@ impl Bank {
 }
 
 fn push_accounts(values: &mut Vec<u32>, accounts: &Hash) -> Result<(), AllocError>
-    requires { cells_end accounts.now ≤ 65536 }
     ensures { OnOk result (vec_len values.new ≡ vec_len values.old + hash_cells accounts.now) }
 {
     for index in 0..accounts.cells() {
@@ -175,7 +173,7 @@ impl PayNext {
 impl Transact for PayNext {
     ghost meaning = { pay_meaning };
 
-    ghost is_fit = { λ p. IsLaid p.accounts };
+    ghost is_fit = { λ p. ⊤ };
 
     ghost end = { pay_end };
 
@@ -221,7 +219,7 @@ impl Credit {
 impl Transact for Credit {
     ghost meaning = { credit_meaning };
 
-    ghost is_fit = { λ c. IsLaid c.accounts };
+    ghost is_fit = { λ c. ⊤ };
 
     ghost end = { credit_end };
 

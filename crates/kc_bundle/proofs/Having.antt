@@ -1,14 +1,8 @@
--- Objects that have names: where they lie, and that they have their sizes.
-use Rattle.std.proofs.Common.{ℕ, ◌+◌, ◌≤◌, [], ◌∷◌, inl, inr, ap, subst, arith}
+-- Where objects that have names lie.
+use Rattle.std.proofs.Common.{ℕ, ◌+◌, ◌≤◌, [], ◌∷◌, inl, inr, ap, arith}
 use Rattle.kc_bundle.specs.declared.object.Object.{Object}
-use Rattle.kc_bundle.specs.Script.{Names, base, cells, IsSized, AreSized, HasObject, LieFrom, next_from}
+use Rattle.kc_bundle.specs.Script.{Names, base, cells, HasObject, LieFrom, next_from}
 use Rattle.kc_bundle.proofs.Places.{next_from-above}
-
--- an object has the sizes that a declaration may give
-pub has_sizes : (names : Names) (o : Object) → AreSized names → HasObject names o → IsSized o
-has_sizes [] o sized has = absurd has
-has_sizes (entry ∷ names) o sized (inl e) = subst IsSized e sized.0
-has_sizes (entry ∷ names) o sized (inr has) = has_sizes names o sized.1 has
 
 -- an object lies behind this location, and before the next one
 pub has_place : (at : ℕ) (names : Names) (o : Object) → LieFrom at names → HasObject names o → (at ≤ base o) × (base o + cells o ≤ next_from at names)

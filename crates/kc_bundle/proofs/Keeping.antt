@@ -20,7 +20,7 @@ use Rattle.kc_bundle.specs.declared.object.Object.{Object}
 use Rattle.kc_bundle.specs.declared.object.Object.TheVariants as object
 use Rattle.kc_bundle.specs.declared.operation.Op.{Op}
 use Rattle.kc_bundle.specs.declared.operation.Op.TheVariants as op
-use Rattle.kc_bundle.specs.Script.{Names, base, cells, HasObject, LieFrom, AreSized}
+use Rattle.kc_bundle.specs.Script.{Names, base, cells, HasObject, LieFrom}
 use Rattle.kc_bundle.specs.On.{IsOn, LocIsOn, IsLocation}
 use Rattle.kc_bundle.specs.Meaning.{op_program, op_meaning}
 use Rattle.kc_bundle.specs.State.{Content, number, items, place, pairs, Stands, AreWellFormed}
@@ -58,10 +58,10 @@ one_changes o m w before behind keeps at (entry ∷ names) lie (inr has) (c ∷ 
     (c ∷ rest.0, (stands_same entry.1 m w c (λ l lo hi. before l (let first = lie.0 in omega (arith, hi, later, first))) h, rest.1))
 
 -- an operation on one object that keeps that one well formed
-object_keeps : (names : Names) → LieFrom 1 names → AreSized names → (o : Op) (x : Object) → IsOn names o → HasObject names x → base x ≡ first_of o → base x + cells x ≡ behind_of o → (n : ℕ) (m : ℕ → ℕ) (ks : List ℕ) → (IsWell x m → IsWell x (map_after m (op_meaning o n m ks).touches))
+object_keeps : (names : Names) → LieFrom 1 names → (o : Op) (x : Object) → IsOn names o → HasObject names x → base x ≡ first_of o → base x + cells x ≡ behind_of o → (n : ℕ) (m : ℕ → ℕ) (ks : List ℕ) → (IsWell x m → IsWell x (map_after m (op_meaning o n m ks).touches))
     → AreWellFormed names m → AreWellFormed names (map_after m (op_meaning o n m ks).touches)
-object_keeps names lie sized o x on has first last n m ks keeps well =
-    let same = stays_outside (first_of o) (behind_of o) (op_program o replies) (op_stays names sized o on) n m ks in
+object_keeps names lie o x on has first last n m ks keeps well =
+    let same = stays_outside (first_of o) (behind_of o) (op_program o replies) (op_stays o) n m ks in
     one_changes x m (map_after m (op_meaning o n m ks).touches)
     (λ l lt. sym (same l (λ c lo hi e. omega (arith, first, lt, lo, e))))
     (λ l le. sym (same l (λ c lo hi e. omega (arith, last, le, hi, e))))
@@ -69,7 +69,7 @@ object_keeps names lie sized o x on has first last n m ks keeps well =
 
 -- ---- locations
 
-module _ (names : Names) (lie : LieFrom 1 names) (sized : AreSized names) where
+module _ (names : Names) (lie : LieFrom 1 names) where
   put_keeps : (l : Loc) (v : ℕ) (m : ℕ → ℕ) → IsLocation names l → AreWellFormed names m → AreWellFormed names (put m l.0 v)
   put_keeps l v m (value, has) well =
       let o = object.Loc l value in
@@ -98,10 +98,10 @@ module _ (names : Names) (lie : LieFrom 1 names) (sized : AreSized names) where
 
   pub op_keeps : (o : Op) (n : ℕ) (m : ℕ → ℕ) (ks : List ℕ) → IsOn names o → AreWellFormed names m → (op_meaning o n m ks).outcome ≢ too_large → AreWellFormed names (map_after m (op_meaning o n m ks).touches)
   op_keeps (op.Loc o) n m ks on well ne = subst (AreWellFormed names) (sym (loc_has_value o n m ks ne).1) (value_keeps o m on well)
-  op_keeps (op.Stack o) n m ks on well ne = object_keeps names lie sized (op.Stack o) (object.Stack o.stack) on on refl (omega arith) n m ks (λ (c, (xs, h, e)). (items _, (_, (stack_means o xs n m ks h ne).1, refl))) well
-  op_keeps (op.Queue o) n m ks on well ne = object_keeps names lie sized (op.Queue o) (object.Queue o.queue) on on refl (omega arith) n m ks (λ (c, (xs, h, e)). (items _, (_, (queue_means o xs n m ks h ne).1, refl))) well
-  op_keeps (op.Mvar o) n m ks on well ne = object_keeps names lie sized (op.Mvar o) (object.Mvar o.mvar) on on refl refl n m ks (λ (c, (v, h, e)). (place _, (_, (mvar_means o v n m ks h ne).1, refl))) well
-  op_keeps (op.Promise o) n m ks on well ne = object_keeps names lie sized (op.Promise o) (object.Promise o.promise) on on refl refl n m ks (λ (c, (v, h, e)). (place _, (_, (promise_means o v n m ks h ne).1, refl))) well
-  op_keeps (op.Acc o) n m ks on well ne = object_keeps names lie sized (op.Acc o) (object.Acc o.acc) on on refl refl n m ks (λ h. (number _, (_, refl, refl))) well
-  op_keeps (op.Hash o) n m ks on well ne = object_keeps names lie sized (op.Hash o) (object.Hash o.hash) on on refl (omega arith) n m ks (λ (c, (ps, h, e)). (pairs _, (_, (hash_means o ps n m ks h ne).1, refl))) well
-  op_keeps (op.Cache o) n m ks on well ne = object_keeps names lie sized (op.Cache o) (object.Cache o.cache) on on refl (omega arith) n m ks (λ (c, (ps, h, e)). (pairs _, (_, (cache_means o ps n m ks h ne).1, refl))) well
+  op_keeps (op.Stack o) n m ks on well ne = object_keeps names lie (op.Stack o) (object.Stack o.stack) on on refl (omega arith) n m ks (λ (c, (xs, h, e)). (items _, (_, (stack_means o xs n m ks h ne).1, refl))) well
+  op_keeps (op.Queue o) n m ks on well ne = object_keeps names lie (op.Queue o) (object.Queue o.queue) on on refl (omega arith) n m ks (λ (c, (xs, h, e)). (items _, (_, (queue_means o xs n m ks h ne).1, refl))) well
+  op_keeps (op.Mvar o) n m ks on well ne = object_keeps names lie (op.Mvar o) (object.Mvar o.mvar) on on refl refl n m ks (λ (c, (v, h, e)). (place _, (_, (mvar_means o v n m ks h ne).1, refl))) well
+  op_keeps (op.Promise o) n m ks on well ne = object_keeps names lie (op.Promise o) (object.Promise o.promise) on on refl refl n m ks (λ (c, (v, h, e)). (place _, (_, (promise_means o v n m ks h ne).1, refl))) well
+  op_keeps (op.Acc o) n m ks on well ne = object_keeps names lie (op.Acc o) (object.Acc o.acc) on on refl refl n m ks (λ h. (number _, (_, refl, refl))) well
+  op_keeps (op.Hash o) n m ks on well ne = object_keeps names lie (op.Hash o) (object.Hash o.hash) on on refl (omega arith) n m ks (λ (c, (ps, h, e)). (pairs _, (_, (hash_means o ps n m ks h ne).1, refl))) well
+  op_keeps (op.Cache o) n m ks on well ne = object_keeps names lie (op.Cache o) (object.Cache o.cache) on on refl (omega arith) n m ks (λ (c, (ps, h, e)). (pairs _, (_, (cache_means o ps n m ks h ne).1, refl))) well

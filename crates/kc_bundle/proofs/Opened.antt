@@ -6,7 +6,7 @@ use Rattle.std.specs.List.{flat_map}
 use Rattle.kc_model.specs.Store.{store_of, opened}
 use Rattle.kc_xt.specs.Meaning.{values}
 use Rattle.kc_bundle.specs.declared.object.Object.{Object}
-use Rattle.kc_bundle.specs.Script.{Names, base, cells, LieFrom, AreSized}
+use Rattle.kc_bundle.specs.Script.{Names, base, cells, LieFrom}
 use Rattle.kc_bundle.specs.State.{values_from, opening_value, opening_cells, opening_contents, AllStand}
 use Rattle.kc_bundle.proofs.Places.{value_at, length-opening_cells}
 use Rattle.kc_bundle.proofs.Standing.{stands_opened}
@@ -37,18 +37,18 @@ cell_opened o front behind i lt =
     let start : 0 + i ≡ i = omega arith in
     get_or-append-add front (opening_cells o ++ behind) i 0 ∙ get_or-append (opening_cells o) behind 0 i (omega (arith, lt, long)) ∙ value_at (opening_value o) 0 (cells o) i lt ∙ ap (opening_value o) start
 
-opens_from : (all front : List ℕ) (names : Names) → LieFrom (length front) names → AreSized names → all ≡ front ++ flat_map (λ entry. opening_cells entry.1) names → AllStand names (values (store_of (opened all))) (opening_contents names)
+opens_from : (all front : List ℕ) (names : Names) → LieFrom (length front) names → all ≡ front ++ flat_map (λ entry. opening_cells entry.1) names → AllStand names (values (store_of (opened all))) (opening_contents names)
 unfolding LieFrom
-opens_from all front [] lie sized e = tt
-opens_from all front (entry ∷ names) lie sized e =
+opens_from all front [] lie e = tt
+opens_from all front (entry ∷ names) lie e =
     let o = entry.1 in
     let behind = flat_map (λ entry. opening_cells entry.1) names in
     let m = values (store_of (opened all)) in
     let long : length (front ++ opening_cells o) ≡ length front + cells o = omega (arith, length-append front (opening_cells o), length-opening_cells o) in (
-      stands_opened o m sized.0 (λ i lt. let at : base o + i ≡ length front + i = omega (arith, lie.0) in ap m at ∙ opened_value all (length front + i) ∙ ap (λ xs. get_or xs (length front + i) 0) e ∙ cell_opened o front behind i lt),
-      opens_from all (front ++ opening_cells o) names (subst (λ at. LieFrom at names) (sym long) lie.1) sized.1 (e ∙ sym (append_assoc front (opening_cells o) behind)),
+      stands_opened o m (λ i lt. let at : base o + i ≡ length front + i = omega (arith, lie.0) in ap m at ∙ opened_value all (length front + i) ∙ ap (λ xs. get_or xs (length front + i) 0) e ∙ cell_opened o front behind i lt),
+      opens_from all (front ++ opening_cells o) names (subst (λ at. LieFrom at names) (sym long) lie.1) (e ∙ sym (append_assoc front (opening_cells o) behind)),
     )
 
 -- a script's cells stand for its opening contents
-pub script_opens : (live : ℕ) (names : Names) → LieFrom 1 names → AreSized names → AllStand names (values (store_of (opened (live ∷ flat_map (λ entry. opening_cells entry.1) names)))) (opening_contents names)
-script_opens live names lie sized = opens_from _ (live ∷ []) names lie sized refl
+pub script_opens : (live : ℕ) (names : Names) → LieFrom 1 names → AllStand names (values (store_of (opened (live ∷ flat_map (λ entry. opening_cells entry.1) names)))) (opening_contents names)
+script_opens live names lie = opens_from _ (live ∷ []) names lie refl

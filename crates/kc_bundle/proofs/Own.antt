@@ -1,5 +1,6 @@
 -- Which cells an operation keeps to.
 use Rattle.std.proofs.Common.{◌≡◌, ◌≢◌, ℕ, ◌+◌, ◌<◌, ◌≤◌, arith}
+use Rattle.kc_model.specs.declared.plain_store.TheConstants.{MOST_LOCATIONS}
 use Rattle.kc_model.specs.declared.footprint.Loc.{Loc}
 use Rattle.kc_xt.specs.Program.{replies}
 use Rattle.kc_xt.specs.Stays.{Stays}
@@ -24,10 +25,10 @@ use Rattle.kc_cache.specs.Meaning.{cells_end as cache_cells_end}
 use Rattle.kc_bundle.specs.declared.object.Object.TheVariants as object
 use Rattle.kc_bundle.specs.declared.operation.Op.{Op}
 use Rattle.kc_bundle.specs.declared.operation.Op.TheVariants as op
-use Rattle.kc_bundle.specs.Script.{Names, LieFrom, AreSized, next_from}
+use Rattle.kc_bundle.specs.Script.{Names, LieFrom, next_from}
 use Rattle.kc_bundle.specs.On.{IsLocation, LocIsOn, IsOn}
 use Rattle.kc_bundle.specs.Meaning.{op_program, op_end, OpIsFit}
-use Rattle.kc_bundle.proofs.Having.{has_place, has_sizes}
+use Rattle.kc_bundle.proofs.Having.{has_place}
 
 -- the first cell, and the one behind the last
 abbrev pub first_of : Op → ℕ
@@ -51,15 +52,15 @@ behind_of (op.Hash o) = hash_cells_end o.hash
 behind_of (op.Cache o) = cache_cells_end o.cache
 
 -- it keeps to these
-pub op_stays : (names : Names) → AreSized names → (o : Op) → IsOn names o → Stays (first_of o) (behind_of o) (op_program o replies)
-op_stays names sized (op.Loc o) on = loc_stays o
-op_stays names sized (op.Stack o) on = stack_stays o
-op_stays names sized (op.Queue o) on = queue_stays o
-op_stays names sized (op.Mvar o) on = mvar_stays o
-op_stays names sized (op.Promise o) on = promise_stays o
-op_stays names sized (op.Acc o) on = acc_stays o
-op_stays names sized (op.Hash o) on = hash_stays o (has_sizes names (object.Hash o.hash) sized on).0
-op_stays names sized (op.Cache o) on = cache_stays o (has_sizes names (object.Cache o.cache) sized on).0
+pub op_stays : (o : Op) → Stays (first_of o) (behind_of o) (op_program o replies)
+op_stays (op.Loc o) = loc_stays o
+op_stays (op.Stack o) = stack_stays o
+op_stays (op.Queue o) = queue_stays o
+op_stays (op.Mvar o) = mvar_stays o
+op_stays (op.Promise o) = promise_stays o
+op_stays (op.Acc o) = acc_stays o
+op_stays (op.Hash o) = hash_stays o
+op_stays (op.Cache o) = cache_stays o
 
 module _ (names : Names) (lie : LieFrom 1 names) where
   -- a location's place
@@ -103,7 +104,7 @@ module _ (names : Names) (lie : LieFrom 1 names) where
   op_end_within (op.Hash o) on = let p = op_within (op.Hash o) on in omega (arith, p.1)
   op_end_within (op.Cache o) on = let p = op_within (op.Cache o) on in omega (arith, p.1)
 
-  module _ (within : next_from 1 names ≤ 65536) (sized : AreSized names) where
+  module _ (within : next_from 1 names ≤ MOST_LOCATIONS) where
     pub op_fits : (o : Op) → IsOn names o → OpIsFit o
     op_fits (op.Loc o) on = omega (arith, within, (op_within (op.Loc o) on).1)
     op_fits (op.Stack o) on = tt
@@ -111,5 +112,5 @@ module _ (names : Names) (lie : LieFrom 1 names) where
     op_fits (op.Mvar o) on = tt
     op_fits (op.Promise o) on = tt
     op_fits (op.Acc o) on = tt
-    op_fits (op.Hash o) on = ((has_sizes names (object.Hash o.hash) sized on).0, omega (arith, within, (op_within (op.Hash o) on).1))
-    op_fits (op.Cache o) on = ((has_sizes names (object.Cache o.cache) sized on).0, omega (arith, within, (op_within (op.Cache o) on).1))
+    op_fits (op.Hash o) on = tt
+    op_fits (op.Cache o) on = tt

@@ -18,7 +18,7 @@ use Rattle.kc_hash.proofs.Opened.{hash_opens}
 use Rattle.kc_cache.proofs.Cells.{cache_same, cache_shows, cache_opens}
 use Rattle.kc_bundle.specs.declared.object.Object.{Object}
 use Rattle.kc_bundle.specs.declared.object.Object.TheVariants as object
-use Rattle.kc_bundle.specs.Script.{Names, base, cells, IsSized}
+use Rattle.kc_bundle.specs.Script.{Names, base, cells}
 use Rattle.kc_bundle.specs.State.{Content, number, items, pairs, place, Stands, AllStand, opening_value, opening_content, from_top, stack_shown, from_front, queue_shown, shown, state_line, state_lines, state_text}
 use Rattle.kc_bundle.proofs.Places.{value_at, length-values_from}
 
@@ -91,14 +91,14 @@ all_one names m cs ds h g = sym (all_shown names m cs h) ∙ all_shown names m d
 -- ---- at the opening
 
 -- cells with their opening values stand for the opening content
-pub stands_opened : (o : Object) (m : ℕ → ℕ) → IsSized o → ((i : ℕ) → i < cells o → m (base o + i) ≡ opening_value o i) → Stands o m (opening_content o)
-stands_opened (object.Loc at value) m sized h =
+pub stands_opened : (o : Object) (m : ℕ → ℕ) → ((i : ℕ) → i < cells o → m (base o + i) ≡ opening_value o i) → Stands o m (opening_content o)
+stands_opened (object.Loc at value) m h =
     let e : at.0 + 0 ≡ at.0 = omega arith in
     ap number (sym (h 0 (omega arith)) ∙ ap m e)
-stands_opened (object.Stack s) m sized h = ([], stack_opens s m h, refl)
-stands_opened (object.Queue q) m sized h = ([], queue_opens q m h, refl)
-stands_opened (object.Mvar x) m sized h = (None, place_opens x.base.0 m h, refl)
-stands_opened (object.Promise p) m sized h = (None, place_opens p.base.0 m h, refl)
-stands_opened (object.Acc a) m sized h = (0, acc_opens a m h, refl)
-stands_opened (object.Hash x) m sized h = ([], hash_opens x m h sized.0 sized.2, refl)
-stands_opened (object.Cache x) m sized h = ([], cache_opens x m sized.0 sized.2 h, refl)
+stands_opened (object.Stack s) m h = ([], stack_opens s m h, refl)
+stands_opened (object.Queue q) m h = ([], queue_opens q m h, refl)
+stands_opened (object.Mvar x) m h = (None, place_opens x.base.0 m h, refl)
+stands_opened (object.Promise p) m h = (None, place_opens p.base.0 m h, refl)
+stands_opened (object.Acc a) m h = (0, acc_opens a m h, refl)
+stands_opened (object.Hash x) m h = ([], hash_opens x m h x.some_buckets x.some, refl)
+stands_opened (object.Cache x) m h = ([], cache_opens x m x.some_buckets x.some h, refl)

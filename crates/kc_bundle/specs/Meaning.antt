@@ -11,8 +11,8 @@ use Rattle.kc_queue.specs.Meaning.{queue_program, queue_end}
 use Rattle.kc_cells.specs.Mvar.{mvar_program, mvar_end}
 use Rattle.kc_cells.specs.Promise.{promise_program, promise_end}
 use Rattle.kc_cells.specs.Accumulator.{acc_program, acc_end}
-use Rattle.kc_hash.specs.Meaning.{hash_program, hash_end, HashIsFit}
-use Rattle.kc_cache.specs.Meaning.{cache_program, cache_end, CacheIsFit}
+use Rattle.kc_hash.specs.Meaning.{hash_program, hash_end}
+use Rattle.kc_cache.specs.Meaning.{cache_program, cache_end}
 use Rattle.kc_term.specs.Tree.{operations}
 use Rattle.kc_term.specs.Meaning.{term_meaning, greatest_end}
 use Rattle.kc_term.specs.Fit.{AreFit}
@@ -55,8 +55,8 @@ OpIsFit (op.Queue o) = ⊤
 OpIsFit (op.Mvar o) = ⊤
 OpIsFit (op.Promise o) = ⊤
 OpIsFit (op.Acc o) = ⊤
-OpIsFit (op.Hash o) = HashIsFit o
-OpIsFit (op.Cache o) = CacheIsFit o
+OpIsFit (op.Hash o) = ⊤
+OpIsFit (op.Cache o) = ⊤
 
 -- ---- a command
 

@@ -9,6 +9,9 @@ use Rattle.kc_bundle.specs.declared.object.Object.{Object}
 use Rattle.kc_bundle.specs.declared.object.Object.TheVariants as object
 use Rattle.kc_bundle.specs.declared.operation.Command.{Command}
 use Rattle.kc_bundle.specs.declared.bundle.Bundle.{Bundle}
+use Rattle.kc_model.specs.declared.plain_store.TheConstants.{MOST_LOCATIONS}
+use Rattle.kc_xt.specs.declared.structure.TheConstants.{MOST_ITEMS, MOST_BUCKETS}
+use Rattle.kc_cells.specs.declared.accumulator.TheConstants.{MOST_CELLS}
 use Rattle.kc_stack.specs.Meaning.{stack_cells}
 use Rattle.kc_queue.specs.Meaning.{queue_cells}
 use Rattle.kc_cells.specs.OnePlace.{place_cells}
@@ -64,13 +67,13 @@ base (object.Cache c) = c.base.0
 -- it has the sizes that a declaration may give
 abbrev pub IsSized : Object → Type 0
 IsSized (object.Loc at value) = Unit {0}
-IsSized (object.Stack s) = (1 ≤ s.cap) × (s.cap ≤ 4096)
-IsSized (object.Queue q) = (1 ≤ q.cap) × (q.cap ≤ 4096)
+IsSized (object.Stack s) = (1 ≤ s.cap) × (s.cap ≤ MOST_ITEMS)
+IsSized (object.Queue q) = (1 ≤ q.cap) × (q.cap ≤ MOST_ITEMS)
 IsSized (object.Mvar x) = Unit {0}
 IsSized (object.Promise p) = Unit {0}
-IsSized (object.Acc a) = (1 ≤ a.cells) × (a.cells ≤ 32)
-IsSized (object.Hash h) = (1 ≤ h.buckets) × (h.buckets ≤ 1024) × (1 ≤ h.cap) × (h.cap ≤ 4096)
-IsSized (object.Cache c) = (1 ≤ c.buckets) × (c.buckets ≤ 1024) × (1 ≤ c.cap) × (c.cap ≤ 4096)
+IsSized (object.Acc a) = (1 ≤ a.cells) × (a.cells ≤ MOST_CELLS)
+IsSized (object.Hash h) = (1 ≤ h.buckets) × (h.buckets ≤ MOST_BUCKETS) × (1 ≤ h.cap) × (h.cap ≤ MOST_ITEMS)
+IsSized (object.Cache c) = (1 ≤ c.buckets) × (c.buckets ≤ MOST_BUCKETS) × (1 ≤ c.cap) × (c.cap ≤ MOST_ITEMS)
 
 abbrev pub AreSized : Names → Type 0
 AreSized [] = Unit {0}
@@ -86,10 +89,10 @@ unfoldable pub LieFrom : ℕ → Names → Type 0
 LieFrom at [] = Unit {0}
 LieFrom at (entry ∷ names) = (base entry.1 ≡ at) × LieFrom (at + cells entry.1) names
 
--- the objects lie one behind another from location 1 on, with the last cell below 65,536
+-- the objects lie one behind another from location 1 on, all in a store
 pub record LiesInOrder (s : Script) : Type 0 where
   pub lie : LieFrom 1 s.objects
-  pub within : next_from 1 s.objects ≤ 65536
+  pub within : next_from 1 s.objects ≤ MOST_LOCATIONS
 
 -- its cells lie behind location 0, which counts the live threads, and below this number
 abbrev pub IsWithin : ℕ → Object → Type 0

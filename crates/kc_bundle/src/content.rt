@@ -7,9 +7,7 @@ ghost use Rattle.kc_model.specs.Pen.{Puts};
 ghost use Rattle.kc_xt.specs.Meaning.{values};
 ghost use Rattle.kc_stack.specs.Meaning.{cells_end as stack_cells_end};
 ghost use Rattle.kc_queue.specs.Meaning.{cells_end as queue_cells_end};
-ghost use Rattle.kc_hash.specs.Meaning.{cells_end as hash_cells_end};
 ghost use Rattle.kc_hash.specs.Content.{shown as table_shown};
-ghost use Rattle.kc_cache.specs.Meaning.{cells_end as cache_cells_end};
 ghost use Rattle.kc_cache.specs.Content.{shown as cache_shown};
 ghost use Rattle.kc_bundle.specs.State.{place, stack_shown, queue_shown, number_text, pair_text, content_text};
 
@@ -76,7 +74,6 @@ pub(crate) fn put_queue<K: Sink>(pen: &mut Pen<K>, store: &PlainStore, queue: Qu
 
 /// The pairs, in rising order of key.
 pub(crate) fn put_table<K: Sink>(pen: &mut Pen<K>, store: &PlainStore, hash: Hash)
-    requires { hash_cells_end hash ≤ 65536 }
     ensures { Puts K.written K.faults K.write_gives pen.old pen.new (flat_map pair_text (table_shown hash (values (store_of store.now)))) }
 {
     let mut pairs = hash.pairs(store);
@@ -87,7 +84,6 @@ pub(crate) fn put_table<K: Sink>(pen: &mut Pen<K>, store: &PlainStore, hash: Has
 
 /// The pairs, from the most recently used one.
 pub(crate) fn put_cache<K: Sink>(pen: &mut Pen<K>, store: &PlainStore, cache: Cache)
-    requires { cache_cells_end cache ≤ 65536 }
     ensures { Puts K.written K.faults K.write_gives pen.old pen.new (flat_map pair_text (cache_shown cache (values (store_of store.now)))) }
 {
     let mut pairs = cache.pairs(store);

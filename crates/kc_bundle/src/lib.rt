@@ -12,7 +12,7 @@ mod state;
 #[cfg(test)]
 mod tests;
 
-pub use bundle::Bundle;
+pub use bundle::{Bundle, MOST_COMMANDS, MOST_THREADS};
 pub use laws::{
     contents_are_one, fits, keeps_well_formed, opens_well_formed, shows_its_contents, spares_zero,
 };

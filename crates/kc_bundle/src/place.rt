@@ -1,13 +1,12 @@
 //! How many cells an object has.
 
-ghost use Rattle.std.specs.Prelude.{◌≡◌, ◌≤◌, ◌+◌};
-ghost use Rattle.kc_bundle.specs.Script.{base, cells};
+ghost use Rattle.std.specs.Prelude.{◌≡◌};
+ghost use Rattle.kc_bundle.specs.Script.{cells};
 
 use crate::object::Object;
 
 /// How many cells an object has.
 pub fn cells(object: Object) -> u32
-    requires { base object + cells object ≤ 65536 }
     ensures { result ≡ cells object }
 {
     match object {

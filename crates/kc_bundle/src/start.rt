@@ -1,10 +1,10 @@
 //! The values that a bundle opens with.
 
-ghost use Rattle.std.specs.Prelude.{◌≡◌, ◌≤◌, ◌<◌, ◌+◌, ◌++◌, length, IfOk, OnOk};
-ghost use Rattle.kc_bundle.specs.Script.{script_of, base, cells, LiesInOrder};
+ghost use Rattle.std.specs.Prelude.{◌≡◌, ◌≤◌, ◌<◌, ◌++◌, length, IfOk, OnOk};
+ghost use Rattle.kc_bundle.specs.Script.{script_of, cells, LiesInOrder};
 ghost use Rattle.kc_bundle.specs.State.{opening_value, opening_cells, opening_values};
 
-use crate::bundle::Bundle;
+use crate::bundle::{Bundle, MOST_THREADS};
 use crate::object::Object;
 use crate::place::cells;
 use kc_model::NoMemory;
@@ -12,8 +12,7 @@ use std::alloc::Global;
 
 // What a cell of an object opens with.
 fn opening_value(object: Object, index: u32) -> u32
-    requires within { index < cells object }
-    requires fits { base object + cells object ≤ 65536 }
+    requires { index < cells object }
     ensures { result ≡ opening_value object index }
 {
     match object {
@@ -30,7 +29,6 @@ fn opening_value(object: Object, index: u32) -> u32
 
 // Adds the values with which an object's cells open.
 fn push_cells(values: &mut Vec<u32>, object: Object) -> Result<(), NoMemory>
-    requires { base object + cells object ≤ 65536 }
     ensures { OnOk result (values.new.items ≡ values.old.items ++ opening_cells object) }
 {
     for i in 0..cells(object) {
@@ -41,7 +39,7 @@ fn push_cells(values: &mut Vec<u32>, object: Object) -> Result<(), NoMemory>
 
 /// The values with which a bundle's locations open. Location 0 has the number of threads.
 pub fn opening(alloc: Global, bundle: &Bundle) -> Result<Vec<u32>, NoMemory>
-    requires few { length (script_of bundle.now).threads ≤ 16 }
+    requires few { length (script_of bundle.now).threads ≤ MOST_THREADS }
     requires lies { LiesInOrder (script_of bundle.now) }
     ensures { IfOk result (λ values. values.items ≡ opening_values (script_of bundle.now)) }
 {

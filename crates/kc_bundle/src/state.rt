@@ -14,8 +14,7 @@ use crate::object::Object;
 use kc_model::{Failed, Pen, PlainStore, Sink};
 
 fn put_content<K: Sink>(pen: &mut Pen<K>, store: &PlainStore, object: Object)
-    requires within { base object + cells object ≤ length store.now }
-    requires fits { base object + cells object ≤ 65536 }
+    requires { base object + cells object ≤ length store.now }
     ensures { Puts K.written K.faults K.write_gives pen.old pen.new (content_text (shown object (values (store_of store.now)))) }
 {
     match object {
@@ -31,8 +30,7 @@ fn put_content<K: Sink>(pen: &mut Pen<K>, store: &PlainStore, object: Object)
 }
 
 fn put_line<K: Sink>(pen: &mut Pen<K>, store: &PlainStore, name: &str, object: Object)
-    requires within { base object + cells object ≤ length store.now }
-    requires fits { base object + cells object ≤ 65536 }
+    requires { base object + cells object ≤ length store.now }
     ensures { Puts K.written K.faults K.write_gives pen.old pen.new (state_line name.now (shown object (values (store_of store.now)))) }
 {
     pen.put(name.as_bytes());
@@ -45,7 +43,6 @@ pub fn put_state<K: Sink>(pen: &mut Pen<K>, bundle: &Bundle, store: &PlainStore)
     requires { CellsWithin (length store.now) (names_of bundle.now.objects) }
     ensures { Puts K.written K.faults K.write_gives pen.old pen.new (state_text (names_of bundle.now.objects) (values (store_of store.now))) }
 {
-    prove!(store.len() <= 65536);
     for i in 0..bundle.objects.len() {
         let Some((name, object)) = bundle.objects.get_index(i) else {
             unreachable!("each index has an entry");

@@ -84,11 +84,7 @@ fn an_accumulator_is_shown_as_its_sum(rt: HostRuntime) -> Result<(), Fail> {
 
 #[test]
 fn a_table_is_shown_in_rising_order_of_key(rt: HostRuntime) -> Result<(), Fail> {
-    let table = Object::Hash(Hash {
-        base: Loc(1),
-        buckets: 2,
-        cap: 3,
-    });
+    let table = Object::Hash(Hash::layout(Loc(1), 2, 3));
     let values = [0, 3, 0, 2, 1, 5, 50, 3, 8, 80, 0, 1, 10, 0];
     assert!(rt; shows(&rt, table, &values, "o 1=10 5=50 8=80\n")?);
     let circle = [0, 1, 0, 1, 0, 4, 40, 1, 0, 0, 0, 0, 0, 0];
@@ -98,11 +94,7 @@ fn a_table_is_shown_in_rising_order_of_key(rt: HostRuntime) -> Result<(), Fail> 
 
 #[test]
 fn a_cache_is_shown_from_the_most_recent_pair(rt: HostRuntime) -> Result<(), Fail> {
-    let cache = Object::Cache(Cache {
-        base: Loc(1),
-        buckets: 1,
-        cap: 2,
-    });
+    let cache = Object::Cache(Cache::layout(Loc(1), 1, 2));
     let values = [
         0, 0, 2, 0, 1, 8, 1, 2, 5, 2, 0, 2, 1, 0, 8, 2, 0, 5, 0, 1, 80, 50,
     ];
@@ -129,18 +121,10 @@ fn objects_open_with_their_values(rt: HostRuntime) -> Result<(), Fail> {
     assert!(rt; opens(&rt, Object::Mvar(Mvar::layout(base)), &[0, 0, 0])?);
     assert!(rt; opens(&rt, Object::Promise(Promise::layout(base)), &[0, 0, 0])?);
     assert!(rt; opens(&rt, Object::Acc(Accumulator::layout(base, 1)), &[0, 0])?);
-    let cache = Cache {
-        base,
-        buckets: 1,
-        cap: 1,
-    };
+    let cache = Cache::layout(base, 1, 1);
     let opened = [0, 1, 0, 1, 0, 0, 0, 0, 0, 0, 1, 0, 0, 0, 0];
     assert!(rt; opens(&rt, Object::Cache(cache), &opened)?);
-    let table = Hash {
-        base,
-        buckets: 1,
-        cap: 2,
-    };
+    let table = Hash::layout(base, 1, 2);
     assert!(rt; opens(&rt, Object::Hash(table), &[0, 0, 1, 0, 0, 0, 2, 0, 0, 0])?);
     Ok(())
 }

@@ -5,3 +5,4 @@ pub mod States
 pub mod Runs
 pub mod Values
 pub mod Cells
+pub mod Same

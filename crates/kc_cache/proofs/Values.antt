@@ -240,7 +240,7 @@ module _ (c : Cache) (m : ℕ → ℕ) (l : Content) (v : ℕ → ℕ) (some : 1
 pub cache_inside : (o : CacheOp) (pairs : List (ℕ × ℕ)) → RunsInsideOthers (StandsFor o.cache) (cache_begin o) (cells_end o.cache) (cache_program o.cache o.act) pairs (cache_value o.cache o.act pairs)
 cache_inside o pairs m s =
     let Q : List (ℕ × ℕ) → Type 0 = λ ps. Has o.cache (cache_program o.cache o.act) m (cache_value o.cache o.act ps) in
-    runs_to (cache_stays o s.indexed.some) (subst Q (sym s.holds) (act_value o.cache m s.order (λ i. m (value_cell o.cache i)) s.some (state o.cache m pairs s) s.differ o.act))
+    runs_to (cache_stays o) (subst Q (sym s.holds) (act_value o.cache m s.order (λ i. m (value_cell o.cache i)) s.some (state o.cache m pairs s) s.differ o.act))
 
 pub cache_means : (o : CacheOp) (pairs : List (ℕ × ℕ)) → MeansItsValue (StandsFor o.cache) (cache_meaning o) pairs (cache_value o.cache o.act pairs)
 cache_means o pairs = runs_means (cache_program o.cache o.act) pairs (cache_value o.cache o.act pairs) (cache_inside o pairs)

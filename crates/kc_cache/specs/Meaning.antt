@@ -19,10 +19,10 @@ use Rattle.kc_cache.specs.declared.operation.CacheOp.{CacheOp}
 -- ---- cells: how many places are free, the table from keys to nodes, the list of nodes with keys as payloads, the values of nodes
 
 abbrev pub table_of : Cache → Hash
-table_of c = record { base = record { 0 = c.base.0 + 1 }; buckets = c.buckets; cap = c.cap }
+table_of c = record { base = record { 0 = c.base.0 + 1 }; buckets = c.buckets; cap = c.cap; some_buckets = c.some_buckets; some = c.some; laid = c.table_laid }
 
 abbrev pub order_of : Cache → Dllist
-order_of c = record { base = record { 0 = c.base.0 + 3 + c.buckets + 3 * c.cap }; cap = c.cap }
+order_of c = record { base = record { 0 = c.base.0 + 3 + c.buckets + 3 * c.cap }; cap = c.cap; some = c.some; laid = c.order_laid }
 
 abbrev pub space_cell : Cache → ℕ
 space_cell c = c.base.0
@@ -163,14 +163,10 @@ cache_program c act.Len = length_program c
 abbrev pub cache_meaning : CacheOp → Meaning
 cache_meaning o = meaning (cache_program o.cache o.act replies)
 
--- a number above its locations, where a number of its type is
+-- the number behind its last location
 abbrev pub cache_end : CacheOp → ℕ
-cache_end o = min (cells_end o.cache) (2 ^ 32 - 1)
+cache_end o = cells_end o.cache
 
 -- no location of it is below this one
 abbrev pub cache_begin : CacheOp → ℕ
 cache_begin o = o.cache.base.0
-
--- it has a bucket, and its cells are locations of a store
-abbrev pub CacheIsFit : CacheOp → Type 0
-CacheIsFit o = (1 ≤ o.cache.buckets) × (cells_end o.cache ≤ 65536)

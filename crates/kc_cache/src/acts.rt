@@ -11,9 +11,7 @@ use kc_model::{Loc, Reply};
 use kc_xt::{Peek, Stop, Xt};
 
 pub(crate) fn get<P: Peek>(cache: Cache, key: u32, xt: &mut Xt<P>) -> Result<Reply, Stop>
-    requires some { 1 ≤ cache.buckets }
-    requires fits { cells_end cache ≤ 65536 }
-    requires within { cells_end cache ≤ P.locations xt.old.peek }
+    requires { cells_end cache ≤ P.locations xt.old.peek }
     ensures goes { Does P.peek_gives (get_program cache key) xt.old result xt.new }
     ensures size { P.locations xt.new.peek ≡ P.locations xt.old.peek }
 {
@@ -35,9 +33,7 @@ pub(crate) fn put<P: Peek>(
     value: u32,
     xt: &mut Xt<P>,
 ) -> Result<Reply, Stop>
-    requires some { 1 ≤ cache.buckets }
-    requires fits { cells_end cache ≤ 65536 }
-    requires within { cells_end cache ≤ P.locations xt.old.peek }
+    requires { cells_end cache ≤ P.locations xt.old.peek }
     ensures goes { Does P.peek_gives (put_program cache waits key value) xt.old result xt.new }
     ensures size { P.locations xt.new.peek ≡ P.locations xt.old.peek }
 {
@@ -49,9 +45,7 @@ pub(crate) fn put<P: Peek>(
 }
 
 pub(crate) fn del<P: Peek>(cache: Cache, key: u32, xt: &mut Xt<P>) -> Result<Reply, Stop>
-    requires some { 1 ≤ cache.buckets }
-    requires fits { cells_end cache ≤ 65536 }
-    requires within { cells_end cache ≤ P.locations xt.old.peek }
+    requires { cells_end cache ≤ P.locations xt.old.peek }
     ensures goes { Does P.peek_gives (del_program cache key) xt.old result xt.new }
     ensures size { P.locations xt.new.peek ≡ P.locations xt.old.peek }
 {
@@ -81,7 +75,6 @@ pub(crate) fn length<P: Peek>(cache: Cache, xt: &mut Xt<P>) -> Result<Reply, Sto
 // The pair of this node, if it is one, becomes the most recent one and gets the value.
 fn renew<P: Peek>(cache: Cache, known: u32, value: u32, xt: &mut Xt<P>) -> Result<Reply, Stop>
     requires node { known ≤ cache.cap }
-    requires fits { cells_end cache ≤ 65536 }
     requires within { cells_end cache ≤ P.locations xt.old.peek }
     ensures goes { Does P.peek_gives (renew_program cache known value) xt.old result xt.new }
     ensures size { P.locations xt.new.peek ≡ P.locations xt.old.peek }
@@ -102,9 +95,7 @@ fn add<P: Peek>(
     value: u32,
     xt: &mut Xt<P>,
 ) -> Result<Reply, Stop>
-    requires some { 1 ≤ cache.buckets }
-    requires fits { cells_end cache ≤ 65536 }
-    requires within { cells_end cache ≤ P.locations xt.old.peek }
+    requires { cells_end cache ≤ P.locations xt.old.peek }
     ensures goes { Does P.peek_gives (add_program cache waits key value) xt.old result xt.new }
     ensures size { P.locations xt.new.peek ≡ P.locations xt.old.peek }
 {
@@ -122,9 +113,7 @@ fn add<P: Peek>(
 
 // The least recent pair is dropped, and then the new one is entered.
 fn replace<P: Peek>(cache: Cache, key: u32, value: u32, xt: &mut Xt<P>) -> Result<Reply, Stop>
-    requires some { 1 ≤ cache.buckets }
-    requires fits { cells_end cache ≤ 65536 }
-    requires within { cells_end cache ≤ P.locations xt.old.peek }
+    requires { cells_end cache ≤ P.locations xt.old.peek }
     ensures goes { Does P.peek_gives (replace_program cache key value) xt.old result xt.new }
     ensures size { P.locations xt.new.peek ≡ P.locations xt.old.peek }
 {
@@ -144,9 +133,7 @@ fn replace<P: Peek>(cache: Cache, key: u32, value: u32, xt: &mut Xt<P>) -> Resul
 
 // A free node gets the pair, as the most recent one.
 fn enter<P: Peek>(cache: Cache, key: u32, value: u32, xt: &mut Xt<P>) -> Result<Reply, Stop>
-    requires some { 1 ≤ cache.buckets }
-    requires fits { cells_end cache ≤ 65536 }
-    requires within { cells_end cache ≤ P.locations xt.old.peek }
+    requires { cells_end cache ≤ P.locations xt.old.peek }
     ensures goes { Does P.peek_gives (enter_program cache key value) xt.old result xt.new }
     ensures size { P.locations xt.new.peek ≡ P.locations xt.old.peek }
 {

@@ -4,7 +4,7 @@ ghost use Rattle.std.specs.Prelude.{◌≡◌, ◌≤◌, ℕ, List, []};
 ghost use Rattle.kc_xt.specs.Structure.{MeansItsValue, KeepsWellFormed, TouchesItsOwnCells, RepliesOneItem, RunsInsideOthers, Opens, DependsOnItsCells, ContentIsOne};
 ghost use Rattle.kc_cache.specs.declared.cache.Cache.{Cache};
 ghost use Rattle.kc_cache.specs.declared.operation.CacheOp.{CacheOp};
-ghost use Rattle.kc_cache.specs.Meaning.{cache_meaning, cache_program, cache_cells, cache_opening, cache_begin, cells_end, CacheIsFit};
+ghost use Rattle.kc_cache.specs.Meaning.{cache_meaning, cache_program, cache_cells, cache_opening, cache_begin, cells_end};
 ghost use Rattle.kc_cache.specs.Content.{StandsFor, cache_value, shown};
 
 /// On cells that stand for pairs, and where an operation isn't too large, its meaning by cells is its value on the
@@ -20,8 +20,8 @@ pub fn keeps_well_formed()
 
 /// An operation touches the cache's own cells alone, whatever they hold, and its reply is one item.
 pub fn touches_its_own_cells()
-    ensures touches { (o : CacheOp) → CacheIsFit o → TouchesItsOwnCells (cache_begin o) (cells_end o.cache) (cache_meaning o) }
-    ensures one { (o : CacheOp) → CacheIsFit o → RepliesOneItem (cache_meaning o) }
+    ensures touches { (o : CacheOp) → TouchesItsOwnCells (cache_begin o) (cells_end o.cache) (cache_meaning o) }
+    ensures one { (o : CacheOp) → RepliesOneItem (cache_meaning o) }
 {}
 
 /// Inside a longer program an operation does to the pairs what it does alone, and leaves all else as it was.

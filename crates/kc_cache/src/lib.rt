@@ -4,6 +4,7 @@
 mod acts;
 mod cache;
 mod laws;
+mod layout;
 mod operation;
 mod pairs;
 #[cfg(test)]

@@ -1,6 +1,7 @@
 //! The operations.
 
-ghost use Rattle.kc_cache.specs.Meaning.{cache_meaning, CacheIsFit, cache_end};
+ghost use Rattle.std.specs.Prelude.{⊤};
+ghost use Rattle.kc_cache.specs.Meaning.{cache_meaning, cache_end};
 
 use crate::acts;
 use crate::cache::Cache;
@@ -23,7 +24,7 @@ pub enum CacheAct {
     Len,
 }
 
-/// An operation on a cache. It is fit where the cache has a bucket, and its cells are below 65,536.
+/// An operation on a cache.
 #[derive(Clone, Copy, Debug, PartialEq, Eq)]
 pub struct CacheOp {
     pub cache: Cache,
@@ -33,12 +34,12 @@ pub struct CacheOp {
 impl Transact for CacheOp {
     ghost meaning = { cache_meaning };
 
-    ghost is_fit = { CacheIsFit };
+    ghost is_fit = { λ o. ⊤ };
 
     ghost end = { cache_end };
 
     fn bound(&self) -> u32 {
-        self.cache.end()
+        self.cache.base.0 + self.cache.cells()
     }
 
     fn run<P: Peek>(&self, xt: &mut Xt<P>) -> Result<Reply, Stop> {

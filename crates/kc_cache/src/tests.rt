@@ -1,5 +1,5 @@
 ghost use Rattle.std.specs.Prelude.{◌≡◌, ◌≤◌, length};
-ghost use Rattle.kc_cache.specs.Meaning.{CacheIsFit, cache_end};
+ghost use Rattle.kc_cache.specs.Meaning.{cache_end};
 
 use crate::*;
 use kc_model::{Loc, PlainStore, Reply};
@@ -12,8 +12,7 @@ fn expect<'a>(
     op: CacheOp,
     answer: Result<Reply, Stop>,
 ) -> Result<(), Fail>
-    requires fit { CacheIsFit op }
-    requires within { cache_end op ≤ length xt.old.peek }
+    requires { cache_end op ≤ length xt.old.peek }
     ensures size { length xt.new.peek ≡ length xt.old.peek }
 {
     if op.run(xt) != answer {

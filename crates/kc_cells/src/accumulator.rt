@@ -1,8 +1,12 @@
 //! A number in several cells, so that those who add to it seldom meet.
 
 ghost use Rattle.std.specs.Prelude.{◌≤◌, ◌<◌, ◌+◌};
+ghost use Rattle.kc_model.specs.declared.plain_store.TheConstants.{MOST_LOCATIONS};
 
 use kc_model::Loc;
+
+/// How many cells an accumulator may have.
+pub const MOST_CELLS: u32 = 32;
 
 /// An accumulator: its number is the sum of its cells, which wraps. It has a cell, and all are locations of a store:
 /// below 65,536.
@@ -11,7 +15,7 @@ pub struct Accumulator {
     pub(crate) base: Loc,
     pub(crate) cells: u32,
     ghost some: { 0 < cells },
-    ghost laid: { base.0 + cells ≤ 65536 },
+    ghost laid: { base.0 + cells ≤ MOST_LOCATIONS },
 }
 
 /// What is done to an accumulator.

@@ -8,16 +8,16 @@ ghost use Rattle.kc_cells.specs.Mvar.{mvar_cells_end, MvarStandsFor};
 ghost use Rattle.kc_cells.specs.OnePlace.{place_cells, place_opening, held};
 ghost use Rattle.kc_cells.specs.Promise.{promise_cells_end, PromiseStandsFor};
 
-use crate::accumulator::Accumulator;
+use crate::accumulator::{Accumulator, MOST_CELLS};
 use crate::mvar::Mvar;
 use crate::one_place;
 use crate::promise::Promise;
-use kc_model::{Loc, PlainStore};
+use kc_model::{Loc, MOST_LOCATIONS, PlainStore};
 
 impl Mvar {
     /// The variable at these cells.
     pub fn layout(base: Loc) -> Mvar
-        requires { base.0 + place_cells ≤ 65536 }
+        requires { base.0 + place_cells ≤ MOST_LOCATIONS }
         ensures { result.base ≡ base }
     {
         Mvar { base }
@@ -58,7 +58,7 @@ impl Mvar {
 impl Promise {
     /// The promise at these cells.
     pub fn layout(base: Loc) -> Promise
-        requires { base.0 + place_cells ≤ 65536 }
+        requires { base.0 + place_cells ≤ MOST_LOCATIONS }
         ensures { result.base ≡ base }
     {
         Promise { base }
@@ -100,8 +100,8 @@ impl Accumulator {
     /// The accumulator at these cells.
     pub fn layout(base: Loc, cells: u32) -> Accumulator
         requires some { 1 ≤ cells }
-        requires most { cells ≤ 32 }
-        requires cells { base.0 + cells ≤ 65536 }
+        requires most { cells ≤ MOST_CELLS }
+        requires cells { base.0 + cells ≤ MOST_LOCATIONS }
         ensures base { result.base ≡ base }
         ensures cells { result.cells ≡ cells }
     {

@@ -12,7 +12,7 @@ mod promise;
 #[cfg(test)]
 mod tests;
 
-pub use accumulator::{AccAct, AccOp, Accumulator};
+pub use accumulator::{AccAct, AccOp, Accumulator, MOST_CELLS};
 pub use laws::{
     content_is_one, keeps_well_formed, means_its_value, opens_empty, runs_inside_others,
     touches_its_own_cells,

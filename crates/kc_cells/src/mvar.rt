@@ -1,6 +1,7 @@
 //! A one-place variable, and what is done to it.
 
 ghost use Rattle.std.specs.Prelude.{◌≤◌, ◌<◌, ◌+◌};
+ghost use Rattle.kc_model.specs.declared.plain_store.TheConstants.{MOST_LOCATIONS};
 
 use kc_model::Loc;
 
@@ -9,7 +10,7 @@ use kc_model::Loc;
 #[derive(Clone, Copy, Debug, PartialEq, Eq)]
 pub struct Mvar {
     pub(crate) base: Loc,
-    ghost laid: { base.0 + 2 ≤ 65536 },
+    ghost laid: { base.0 + 2 ≤ MOST_LOCATIONS },
 }
 
 /// What is done to a one-place variable.

@@ -6,7 +6,7 @@ ghost use Rattle.kc_xt.specs.Meaning.{values};
 ghost use Rattle.kc_xt.specs.Steps.{Does};
 ghost use Rattle.kc_cells.specs.OnePlace.{place_cells, place_program, fill_program, look_program, take_program, is_full_program, held};
 
-use kc_model::{Loc, PlainStore, Reply};
+use kc_model::{Loc, MOST_LOCATIONS, PlainStore, Reply};
 use kc_xt::{Peek, Stop, Xt};
 
 /// What is done to the two cells.
@@ -24,7 +24,7 @@ pub enum PlaceAct {
 
 pub(crate) fn run<P: Peek>(base: Loc, act: PlaceAct, xt: &mut Xt<P>) -> Result<Reply, Stop>
     requires within { base.0 + place_cells ≤ P.locations xt.old.peek }
-    requires fits { base.0 + place_cells ≤ 65536 }
+    requires fits { base.0 + place_cells ≤ MOST_LOCATIONS }
     ensures goes { Does P.peek_gives (place_program base.0 act) xt.old result xt.new }
     ensures size { P.locations xt.new.peek ≡ P.locations xt.old.peek }
 {
@@ -42,7 +42,7 @@ pub(crate) const CELLS: u32 = 2;
 // Both forms: where there is a value, one waits, the other replies false.
 fn fill<P: Peek>(base: Loc, waits: bool, value: u32, xt: &mut Xt<P>) -> Result<Reply, Stop>
     requires within { base.0 + place_cells ≤ P.locations xt.old.peek }
-    requires fits { base.0 + place_cells ≤ 65536 }
+    requires fits { base.0 + place_cells ≤ MOST_LOCATIONS }
     ensures goes { Does P.peek_gives (fill_program base.0 waits value) xt.old result xt.new }
     ensures size { P.locations xt.new.peek ≡ P.locations xt.old.peek }
 {
@@ -61,7 +61,7 @@ fn fill<P: Peek>(base: Loc, waits: bool, value: u32, xt: &mut Xt<P>) -> Result<R
 // Both forms: where there is no value, one waits, the other replies Empty.
 fn look<P: Peek>(base: Loc, waits: bool, xt: &mut Xt<P>) -> Result<Reply, Stop>
     requires within { base.0 + place_cells ≤ P.locations xt.old.peek }
-    requires fits { base.0 + place_cells ≤ 65536 }
+    requires fits { base.0 + place_cells ≤ MOST_LOCATIONS }
     ensures goes { Does P.peek_gives (look_program base.0 waits) xt.old result xt.new }
     ensures size { P.locations xt.new.peek ≡ P.locations xt.old.peek }
 {
@@ -78,7 +78,7 @@ fn look<P: Peek>(base: Loc, waits: bool, xt: &mut Xt<P>) -> Result<Reply, Stop>
 
 fn take<P: Peek>(base: Loc, xt: &mut Xt<P>) -> Result<Reply, Stop>
     requires within { base.0 + place_cells ≤ P.locations xt.old.peek }
-    requires fits { base.0 + place_cells ≤ 65536 }
+    requires fits { base.0 + place_cells ≤ MOST_LOCATIONS }
     ensures goes { Does P.peek_gives (take_program base.0) xt.old result xt.new }
     ensures size { P.locations xt.new.peek ≡ P.locations xt.old.peek }
 {
@@ -103,7 +103,7 @@ fn is_full<P: Peek>(base: Loc, xt: &mut Xt<P>) -> Result<Reply, Stop>
 // The value that the cells of a store hold.
 pub(crate) fn value(base: Loc, store: &PlainStore) -> Option<u32>
     requires within { base.0 + place_cells ≤ length store.now }
-    requires fits { base.0 + place_cells ≤ 65536 }
+    requires fits { base.0 + place_cells ≤ MOST_LOCATIONS }
     ensures { result ≡ held base.0 (values (store_of store.now)) }
 {
     let flag = store.get(base)?;

@@ -75,6 +75,4 @@ op_stays o node = dllist_stays o.list (dllist_begin o) (cells_end o.list) (omega
 
 -- what does its program obeys the law
 pub dllist_law : {P : Type 0} (gives : Gives P) (o : DllistOp) {x y : Log P} (r : Result Reply Stop) → DllistIsFit o → Does gives (dllist_program o.list o.act) x r y → Obeys gives (dllist_meaning o) (dllist_end o) x r y
-dllist_law gives o {x} {y} r fit d =
-    let whole : cells_end o.list ≡ dllist_end o = omega (arith, fit) in
-    subst (λ e. Obeys gives (dllist_meaning o) e x r y) whole (stays_law (dllist_begin o) (cells_end o.list) gives (dllist_program o.list o.act) (op_stays o fit.0) (dllist_first o.list o.act replies) r d)
+dllist_law gives o r fit d = stays_law (dllist_begin o) (cells_end o.list) gives (dllist_program o.list o.act) (op_stays o fit) (dllist_first o.list o.act replies) r d

@@ -101,9 +101,9 @@ dllist_program d act.Last k = read (last_cell d) (λ l. cond (node_in d l == 0) 
 abbrev pub dllist_meaning : DllistOp → Meaning
 dllist_meaning o = meaning (dllist_program o.list o.act replies)
 
--- a number above its locations, where a number of its type is
+-- the number behind its last location
 abbrev pub dllist_end : DllistOp → ℕ
-dllist_end o = min (cells_end o.list) (2 ^ 32 - 1)
+dllist_end o = cells_end o.list
 
 -- no location of it is below this one
 abbrev pub dllist_begin : DllistOp → ℕ
@@ -116,6 +116,6 @@ NamesNode d (act.Remove i) = IsNode d i
 NamesNode d (act.MoveFront i) = IsNode d i
 NamesNode d act.Last = Unit {0}
 
--- what is named is a node, and its cells are locations of a store
+-- what is named is a node
 abbrev pub DllistIsFit : DllistOp → Type 0
-DllistIsFit o = NamesNode o.list o.act × (cells_end o.list ≤ 65536)
+DllistIsFit o = NamesNode o.list o.act

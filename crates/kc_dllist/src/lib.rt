@@ -4,6 +4,7 @@
 mod acts;
 mod dllist;
 mod laws;
+mod layout;
 mod nodes;
 mod operation;
 #[cfg(test)]

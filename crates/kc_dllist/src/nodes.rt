@@ -3,10 +3,11 @@
 ghost use Rattle.std.specs.Prelude.{◌≡◌, ◌≤◌, drop, All};
 ghost use Rattle.kc_model.specs.Store.{store_of};
 ghost use Rattle.kc_xt.specs.Meaning.{values};
-ghost use Rattle.kc_dllist.specs.Meaning.{cells_end, IsNode};
+ghost use Rattle.kc_dllist.specs.Meaning.{IsNode};
 ghost use Rattle.kc_dllist.specs.Content.{Content, StandsFor, walked, first_listed};
 
-use crate::dllist::{Dllist, node_of};
+use crate::dllist::Dllist;
+use crate::layout::node_of;
 use kc_model::{Loc, PlainStore};
 use std::marker::Model;
 
@@ -24,7 +25,6 @@ impl<'a> Model for Nodes<'a> {
     ghost use Rattle.std.specs.Coded.{coded_list};
     ghost use Rattle.kc_model.specs.Store.{store_of};
     ghost use Rattle.kc_xt.specs.Meaning.{values};
-    ghost use Rattle.kc_dllist.specs.Meaning.{cells_end};
     ghost use Rattle.kc_dllist.specs.Content.{Listed, listed_from, listed_code};
 
     ghost Value = { List Listed };
@@ -33,13 +33,12 @@ impl<'a> Model for Nodes<'a> {
 
     ghost view = { λ n. listed_from n.list (values (store_of n.store.now)) n.node n.most };
 
-    ghost invariant = { λ n. (n.node ≤ n.list.cap) × (cells_end n.list ≤ 65536) };
+    ghost invariant = { λ n. n.node ≤ n.list.cap };
 }
 
 impl Dllist {
     /// The listed nodes, the first one first. It follows the links, and sees at most as many nodes as the capacity.
     pub fn nodes<'a>(&self, store: &'a PlainStore) -> Nodes<'a>
-        requires { cells_end self.now ≤ 65536 }
         ensures walk { result ≡ walked self.now (values (store_of store.now)) }
         ensures nodes { All (λ x. IsNode self.now x.node) result }
         ensures content { (c : Content) → StandsFor self.now (values (store_of store.now)) c → result ≡ c.listed }

@@ -19,8 +19,7 @@ pub enum DllistAct {
     Last,
 }
 
-/// An operation on a list. It is fit where the number that it names, if any, is from 1 to the capacity, and the list's
-/// cells are below 65,536.
+/// An operation on a list. It is fit where the number that it names, if any, is from 1 to the capacity.
 #[derive(Clone, Copy, Debug, PartialEq, Eq)]
 pub struct DllistOp {
     pub list: Dllist,
@@ -35,7 +34,7 @@ impl Transact for DllistOp {
     ghost end = { dllist_end };
 
     fn bound(&self) -> u32 {
-        self.list.end()
+        self.list.base.0 + self.list.cells()
     }
 
     fn run<P: Peek>(&self, xt: &mut Xt<P>) -> Result<Reply, Stop> {

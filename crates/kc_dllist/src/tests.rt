@@ -14,7 +14,6 @@ fn expect<'a>(
     reply: Reply,
 ) -> Result<(), Fail>
     requires names { NamesNode list act }
-    requires fits { cells_end list ≤ 65536 }
     requires within { cells_end list ≤ length xt.old.peek }
     ensures size { length xt.new.peek ≡ length xt.old.peek }
 {

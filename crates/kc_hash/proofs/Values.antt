@@ -142,7 +142,7 @@ module _ (h : Hash) (m : ℕ → ℕ) (pairs : List (ℕ × ℕ)) (S : StandsFor
 
 -- inside any longer program it does so, and leaves all else as it was
 pub hash_inside : (o : HashOp) (pairs : List (ℕ × ℕ)) → RunsInsideOthers (StandsFor o.hash) (hash_begin o) (cells_end o.hash) (hash_program o.hash o.act) pairs (hash_value o.hash o.act pairs)
-hash_inside o pairs m S = runs_to (hash_stays o S.some) (act_goes o.hash m pairs S o.act)
+hash_inside o pairs m S = runs_to (hash_stays o) (act_goes o.hash m pairs S o.act)
 
 pub hash_means : (o : HashOp) (pairs : List (ℕ × ℕ)) → MeansItsValue (StandsFor o.hash) (hash_meaning o) pairs (hash_value o.hash o.act pairs)
 hash_means o pairs = runs_means (hash_program o.hash o.act) pairs (hash_value o.hash o.act pairs) (hash_inside o pairs)

@@ -128,17 +128,10 @@ hash_program h act.Len = length_program h
 abbrev pub hash_meaning : HashOp → Meaning
 hash_meaning o = meaning (hash_program o.hash o.act replies)
 
--- a number above its locations, where a number of its type is
+-- the number behind its last location
 abbrev pub hash_end : HashOp → ℕ
-hash_end o = min (cells_end o.hash) (2 ^ 32 - 1)
+hash_end o = cells_end o.hash
 
 -- no location of it is below this one
 abbrev pub hash_begin : HashOp → ℕ
 hash_begin o = o.hash.base.0
-
--- it has a bucket, and its cells are below 65,536
-abbrev pub IsLaid : Hash → Type 0
-IsLaid h = (1 ≤ h.buckets) × (cells_end h ≤ 65536)
-
-abbrev pub HashIsFit : HashOp → Type 0
-HashIsFit o = IsLaid o.hash

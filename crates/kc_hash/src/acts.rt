@@ -16,9 +16,7 @@ impl Hash {
     ///
     /// As `Xt::get`.
     pub fn put<P: Peek>(self, key: u32, value: u32, xt: &mut Xt<P>) -> Result<Reply, Stop>
-        requires some { 1 ≤ self.buckets }
-        requires within { cells_end self ≤ P.locations xt.old.peek }
-        requires fits { cells_end self ≤ 65536 }
+        requires { cells_end self ≤ P.locations xt.old.peek }
         ensures goes { Does P.peek_gives (put_program self key value) xt.old result xt.new }
         ensures size { P.locations xt.new.peek ≡ P.locations xt.old.peek }
     {
@@ -35,9 +33,7 @@ impl Hash {
     ///
     /// As `Xt::get`.
     pub fn find<P: Peek>(self, key: u32, xt: &mut Xt<P>) -> Result<Reply, Stop>
-        requires some { 1 ≤ self.buckets }
-        requires within { cells_end self ≤ P.locations xt.old.peek }
-        requires fits { cells_end self ≤ 65536 }
+        requires { cells_end self ≤ P.locations xt.old.peek }
         ensures goes { Does P.peek_gives (find_program self key) xt.old result xt.new }
         ensures size { P.locations xt.new.peek ≡ P.locations xt.old.peek }
     {
@@ -54,9 +50,7 @@ impl Hash {
     ///
     /// As `Xt::get`.
     pub fn del<P: Peek>(self, key: u32, xt: &mut Xt<P>) -> Result<Reply, Stop>
-        requires some { 1 ≤ self.buckets }
-        requires within { cells_end self ≤ P.locations xt.old.peek }
-        requires fits { cells_end self ≤ 65536 }
+        requires { cells_end self ≤ P.locations xt.old.peek }
         ensures goes { Does P.peek_gives (del_program self key) xt.old result xt.new }
         ensures size { P.locations xt.new.peek ≡ P.locations xt.old.peek }
     {
@@ -82,7 +76,7 @@ impl Hash {
     ///
     /// As `Xt::get`.
     pub fn length<P: Peek>(self, xt: &mut Xt<P>) -> Result<Reply, Stop>
-        requires within { cells_end self ≤ P.locations xt.old.peek }
+        requires { cells_end self ≤ P.locations xt.old.peek }
         ensures goes { Does P.peek_gives (length_program self) xt.old result xt.new }
         ensures size { P.locations xt.new.peek ≡ P.locations xt.old.peek }
     {
@@ -94,9 +88,7 @@ impl Hash {
 
 // The first free node gets the pair, and becomes the first of its chain.
 fn insert<P: Peek>(hash: Hash, key: u32, value: u32, xt: &mut Xt<P>) -> Result<Reply, Stop>
-    requires some { 1 ≤ hash.buckets }
-    requires within { cells_end hash ≤ P.locations xt.old.peek }
-    requires fits { cells_end hash ≤ 65536 }
+    requires { cells_end hash ≤ P.locations xt.old.peek }
     ensures goes { Does P.peek_gives (insert_program hash key value) xt.old result xt.new }
     ensures size { P.locations xt.new.peek ≡ P.locations xt.old.peek }
 {

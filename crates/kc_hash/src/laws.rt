@@ -5,7 +5,7 @@ ghost use Rattle.kc_model.specs.Rising.{IsRising};
 ghost use Rattle.kc_xt.specs.Structure.{MeansItsValue, KeepsWellFormed, TouchesItsOwnCells, RepliesOneItem, RunsInsideOthers, Opens, DependsOnItsCells, ContentIsOne};
 ghost use Rattle.kc_hash.specs.declared.hash.Hash.{Hash};
 ghost use Rattle.kc_hash.specs.declared.operation.HashOp.{HashOp};
-ghost use Rattle.kc_hash.specs.Meaning.{hash_meaning, hash_program, hash_cells, hash_begin, cells_end, HashIsFit};
+ghost use Rattle.kc_hash.specs.Meaning.{hash_meaning, hash_program, hash_cells, hash_begin, cells_end};
 ghost use Rattle.kc_hash.specs.Content.{StandsFor, hash_value, hash_opening, shown};
 
 /// On cells that stand for a finite map, an operation that isn't too large means what it does to the map: the same reply,
@@ -21,8 +21,8 @@ pub fn keeps_well_formed()
 
 /// An operation touches the table's own cells alone, whatever they hold, and its reply is one item.
 pub fn touches_its_own_cells()
-    ensures touches { (o : HashOp) → HashIsFit o → TouchesItsOwnCells (hash_begin o) (cells_end o.hash) (hash_meaning o) }
-    ensures one { (o : HashOp) → HashIsFit o → RepliesOneItem (hash_meaning o) }
+    ensures touches { (o : HashOp) → TouchesItsOwnCells (hash_begin o) (cells_end o.hash) (hash_meaning o) }
+    ensures one { (o : HashOp) → RepliesOneItem (hash_meaning o) }
 {}
 
 /// Inside a longer program an operation does to the map what it does alone, and leaves all else as it was.
@@ -30,9 +30,9 @@ pub fn runs_inside_others()
     ensures { (o : HashOp) (pairs : List (ℕ × ℕ)) → RunsInsideOthers (StandsFor o.hash) (hash_begin o) (cells_end o.hash) (hash_program o.hash o.act) pairs (hash_value o.hash o.act pairs) }
 {}
 
-/// Cells with their opening values stand for no pairs, where there is a bucket and a node.
+/// Cells with their opening values stand for no pairs.
 pub fn opens_empty()
-    ensures { (h : Hash) → 1 ≤ h.buckets → 1 ≤ h.cap → Opens (StandsFor h) h.base.0 (hash_cells h) (hash_opening h) [] }
+    ensures { (h : Hash) → Opens (StandsFor h) h.base.0 (hash_cells h) (hash_opening h) [] }
 {}
 
 /// What the cells of a table stand for depends on these cells alone, and is one map, the one that they show: at most as

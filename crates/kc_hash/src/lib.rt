@@ -4,6 +4,7 @@
 mod acts;
 mod hash;
 mod laws;
+mod layout;
 mod operation;
 mod shown;
 #[cfg(test)]

@@ -17,9 +17,7 @@ pub struct Place {
 
 // Sees at most as many nodes as the capacity, so that it ends where links form a circle.
 pub(crate) fn walk<P: Peek>(hash: Hash, key: u32, xt: &mut Xt<P>) -> Result<Option<Place>, Stop>
-    requires some { 1 ≤ hash.buckets }
-    requires within { cells_end hash ≤ P.locations xt.old.peek }
-    requires fits { cells_end hash ≤ 65536 }
+    requires { cells_end hash ≤ P.locations xt.old.peek }
     ensures goes { Does P.peek_gives (walk_program hash key) xt.old result xt.new }
     ensures place { IfOk result (λ found. IfSome found (λ place. IsWithin hash place)) }
     ensures size { P.locations xt.new.peek ≡ P.locations xt.old.peek }

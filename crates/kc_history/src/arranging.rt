@@ -27,13 +27,15 @@ pub struct Room {
 
 impl Model for Room {
     ghost use Rattle.std.specs.Prelude.{◌≡◌, ◌+◌, ◌*◌, ◌^◌, ◌<◌, ◌≤◌, take, vec_len};
+    ghost use Rattle.kc_model.specs.declared.footprint.TheConstants.{MOST};
+    ghost use Rattle.kc_model.specs.declared.plain_store.TheConstants.{MOST_LOCATIONS};
     ghost use Rattle.kc_history.specs.Rooms.{RoomValue};
 
     ghost Value = { RoomValue };
 
     ghost view = { λ r. record { threads = vec_len r.next; records = vec_len r.order; order = take r.placed r.order.items } };
 
-    ghost invariant = { λ r. (vec_len r.versions ≡ 65536) × (vec_len r.starts ≡ 65537) × (65537 + 64 * vec_len r.order ≤ vec_len r.left) × (vec_len r.order < 2 ^ 32) × (vec_len r.next < 2 ^ 32) × (vec_len r.tested ≡ vec_len r.next) × (r.placed ≤ vec_len r.order) };
+    ghost invariant = { λ r. (vec_len r.versions ≡ MOST_LOCATIONS) × (vec_len r.starts ≡ MOST_LOCATIONS + 1) × (MOST_LOCATIONS + 1 + MOST * vec_len r.order ≤ vec_len r.left) × (vec_len r.order < 2 ^ 32) × (vec_len r.next < 2 ^ 32) × (vec_len r.tested ≡ vec_len r.next) × (r.placed ≤ vec_len r.order) };
 }
 
 /// No record that is left is ready: the lowest thread with a record left, and that record's place in it, both from 1.

@@ -1,6 +1,7 @@
 -- What the operations on locations mean, by cells and on contents.
 use Rattle.std.specs.Prelude.{ℕ, ◌+◌, ◌-◌, ◌<◌, ◌^◌, ◌==◌, max, min, true, false, cond}
 use Rattle.kc_model.specs.declared.footprint.Loc.{Loc}
+use Rattle.kc_model.specs.declared.plain_store.TheConstants.{MOST_LOCATIONS}
 use Rattle.kc_model.specs.declared.reply.Reply.{Reply}
 use Rattle.kc_model.specs.declared.reply.Reply.TheVariants as reply
 use Rattle.kc_xt.specs.Meaning.{Outcome, replied, retried, Meaning, put}
@@ -72,7 +73,7 @@ loc_begin (op.Check l r n) = l.0
 
 -- its locations are locations of a store
 abbrev pub LocIsFit : LocOp → Type 0
-LocIsFit o = loc_last o < 65536
+LocIsFit o = loc_last o < MOST_LOCATIONS
 
 -- ---- on contents: the content of a location is its value
 

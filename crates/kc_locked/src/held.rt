@@ -10,7 +10,7 @@ ghost use Rattle.kc_locked.specs.Held.{held, Commits, IsSound};
 ghost use Rattle.kc_history.specs.Callers.{entry_of};
 
 use crate::history::History;
-use kc_model::{Answer, Footprint, ModelError, PlainStore};
+use kc_model::{Answer, Footprint, ModelError, MOST_LOCATIONS, PlainStore};
 use kc_xt::{Ended, Transact, Tried, commit};
 use std::alloc::Global;
 use std::marker::Model;
@@ -45,7 +45,7 @@ impl Held {
     pub(crate) fn open(alloc: Global, values: &[u32], spare: u32) -> Result<Held, ModelError>
         requires { spare ≤ MOST_COMMITS }
         ensures ok { IfOk result (λ h. h ≡ held values.now [] (opened values.now) spare) }
-        ensures too_many { (result ≡ Err ModelError.TooManyLocs) ↔ (65536 < length values.now) }
+        ensures too_many { (result ≡ Err ModelError.TooManyLocs) ↔ (MOST_LOCATIONS < length values.now) }
     {
         let store = PlainStore::open(alloc, values)?;
         let history = History::open(alloc, values)?;

@@ -6,14 +6,15 @@ ghost use Rattle.kc_xt.specs.Meaning.{values};
 ghost use Rattle.kc_queue.specs.Meaning.{queue_cells, queue_opening, cells_end, head_cell, count_cell, ring_cell, counted, head_in, back_of, StandsFor};
 
 use crate::queue::Queue;
-use kc_model::{Loc, PlainStore};
+use kc_model::{Loc, MOST_LOCATIONS, PlainStore};
+use kc_xt::MOST_ITEMS;
 
 impl Queue {
     /// The queue at these cells.
     pub fn layout(base: Loc, cap: u32) -> Queue
         requires some { 0 < cap }
-        requires most { cap ≤ 4096 }
-        requires cells { base.0 + 2 + cap ≤ 65536 }
+        requires most { cap ≤ MOST_ITEMS }
+        requires cells { base.0 + 2 + cap ≤ MOST_LOCATIONS }
         ensures base { result.base ≡ base }
         ensures cap { result.cap ≡ cap }
     {

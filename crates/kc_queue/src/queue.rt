@@ -1,6 +1,7 @@
 //! Where a queue lies.
 
 ghost use Rattle.std.specs.Prelude.{◌≤◌, ◌<◌, ◌+◌};
+ghost use Rattle.kc_model.specs.declared.plain_store.TheConstants.{MOST_LOCATIONS};
 
 use kc_model::Loc;
 
@@ -11,5 +12,5 @@ pub struct Queue {
     pub(crate) base: Loc,
     pub(crate) cap: u32,
     ghost some: { 0 < cap },
-    ghost laid: { base.0 + 2 + cap ≤ 65536 },
+    ghost laid: { base.0 + 2 + cap ≤ MOST_LOCATIONS },
 }

@@ -1,6 +1,7 @@
 -- What a store can run.
 use Rattle.std.specs.Prelude.{ℕ, ◌≤◌, List, All, length}
 use Rattle.kc_bundle.specs.declared.operation.Command.{Command}
+use Rattle.kc_bundle.specs.declared.bundle.TheConstants.{MOST_COMMANDS}
 use Rattle.kc_bundle.specs.Meaning.{CommandIsFit}
 use Rattle.kc_run.specs.Ask.{ask_end}
 
@@ -11,5 +12,5 @@ pub record CanRun (locations : ℕ) (c : Command) : Type 0 where
 
 -- a store of so many locations can run the thread's commands
 pub record CanRunAll (locations : ℕ) (commands : List Command) : Type 0 where
-  pub few : length commands ≤ 4096
+  pub few : length commands ≤ MOST_COMMANDS
   pub each : All (CanRun locations) commands

@@ -1,6 +1,7 @@
 //! The command of a thread.
 
 ghost use Rattle.std.specs.Prelude.{◌≡◌, ◌≤◌, ◌+◌, ◌↔◌, Err, IsTrue};
+ghost use Rattle.kc_model.specs.declared.plain_store.TheConstants.{MOST_LOCATIONS};
 ghost use Rattle.kc_xt.specs.Law.{Obeys};
 ghost use Rattle.kc_xt.specs.Program.{meaning};
 ghost use Rattle.kc_bundle.specs.Meaning.{CommandIsFit, alone_program, thread_meaning};
@@ -21,7 +22,7 @@ pub struct Ask<'a> {
 impl<'a> Transact for Ask<'a> {
     ghost meaning = { λ ask. thread_meaning ask.live.0 ask.command.now };
 
-    ghost is_fit = { λ ask. CommandIsFit ask.command.now × (ask.live.0 + 1 ≤ 65536) };
+    ghost is_fit = { λ ask. CommandIsFit ask.command.now × (ask.live.0 + 1 ≤ MOST_LOCATIONS) };
 
     ghost end = { λ ask. ask_end ask.live.0 ask.command.now };
 

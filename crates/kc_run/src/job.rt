@@ -5,7 +5,7 @@ ghost use Rattle.kc_runs.specs.Labels.{label, labels};
 ghost use Rattle.kc_run.specs.Jobs.{Rooms, paired, pass_of, list_of};
 
 use crossbeam_utils::CachePadded;
-use kc_bundle::Command;
+use kc_bundle::{Command, MOST_COMMANDS};
 use kc_history::{Mark, Record};
 use std::alloc::{AllocError, Global};
 
@@ -18,7 +18,7 @@ pub struct Job<P> {
 
 /// A record for each command of a thread, and one for its end.
 fn room_for(alloc: Global, thread: u32, commands: &[Command]) -> Result<Vec<Record>, AllocError>
-    requires { length commands.now ≤ 4096 }
+    requires { length commands.now ≤ MOST_COMMANDS }
     ensures { IfOk result (λ records. map label records.items ≡ labels thread 1 commands.now) }
 {
     let mut records = Vec::with_capacity(alloc, commands.len() + 1)?;
@@ -35,7 +35,7 @@ pub fn rooms(
     threads: &[Vec<Command>],
 ) -> Result<Vec<CachePadded<Vec<Record>>>, AllocError>
     requires few { length threads.now ≤ 64 }
-    requires commands { All (λ v. length v.items ≤ 4096) threads.now }
+    requires commands { All (λ v. length v.items ≤ MOST_COMMANDS) threads.now }
     ensures { IfOk result (λ v. Rooms 0 threads.now v.items) }
 {
     let mut all = Vec::with_capacity(alloc, threads.len())?;

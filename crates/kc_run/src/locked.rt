@@ -6,9 +6,9 @@ ghost use Rattle.kc_run.specs.Shared.{count_from};
 ghost use Rattle.kc_run.specs.Locked.{AllDealt, shares_of};
 
 use crate::shared::Shared;
-use kc_bundle::Command;
+use kc_bundle::{Command, MOST_COMMANDS};
 use kc_locked::{LockPass, LockPast, LockedStore};
-use kc_model::{Answer, Footprint, NoMemory};
+use kc_model::{Answer, Footprint, MOST_LOCATIONS, NoMemory};
 use kc_xt::Transact;
 use std::alloc::Global;
 use std::sync::Wait;
@@ -68,9 +68,9 @@ pub fn open_locked(
     values: &[u32],
     threads: &[Vec<Command>],
 ) -> Result<(LockedStore, Vec<LockPass>), NoMemory>
-    requires values { length values.now ≤ 65536 }
+    requires values { length values.now ≤ MOST_LOCATIONS }
     requires threads { (0 < length threads.now) × (length threads.now ≤ 64) }
-    requires commands { All (λ v. length v.items ≤ 4096) threads.now }
+    requires commands { All (λ v. length v.items ≤ MOST_COMMANDS) threads.now }
     ensures opening { IfOk result (λ r. r.0.opening ≡ values.now) }
     ensures callers { IfOk result (λ r. length threads.now ≡ r.0.callers) }
     ensures passes { IfOk result (λ r. AllDealt r.0 threads.now r.1.items) }
@@ -83,7 +83,7 @@ pub fn open_locked(
 }
 
 fn shares(alloc: Global, threads: &[Vec<Command>]) -> Result<Vec<u32>, NoMemory>
-    requires { All (λ v. length v.items ≤ 4096) threads.now }
+    requires { All (λ v. length v.items ≤ MOST_COMMANDS) threads.now }
     ensures { IfOk result (λ v. v.items ≡ shares_of threads.now) }
 {
     let mut shares = Vec::with_capacity(alloc, threads.len())?;

@@ -18,7 +18,7 @@ use Rattle.kc_loc.specs.declared.operation.LocOp.TheVariants as loc
 use Rattle.kc_loc.specs.Meaning.{loc_program}
 use Rattle.kc_loc.proofs.LocLaw.{loc_stays}
 use Rattle.kc_bundle.specs.declared.operation.Command.{Command}
-use Rattle.kc_bundle.specs.Script.{Names, Script, LieFrom, AreSized}
+use Rattle.kc_bundle.specs.Script.{Names, Script, LieFrom}
 use Rattle.kc_bundle.specs.On.{CommandIsOn, CommandsAreOn}
 use Rattle.kc_bundle.specs.Meaning.{command_meaning, alone_program, thread_meaning, end_meaning}
 use Rattle.kc_bundle.specs.State.{AreWellFormed, opening_contents}
@@ -70,7 +70,7 @@ answered_reply b a e = let f : Option Answer → Answer = of in ap f e where
 
 -- ---- a thread's commands, and its end
 
-module _ (names : Names) (lie : LieFrom 1 names) (sized : AreSized names) where
+module _ (names : Names) (lie : LieFrom 1 names) where
   -- a thread's command
   asked_formed : (c : Command) (s : Store) (a : Answer) → CommandIsOn names c → answer_of (run_on (thread_meaning 0 c) s).outcome ≡ Some a → AreWellFormed names (values s) → AreWellFormed names (map_after (values s) (kept a (run_on (thread_meaning 0 c) s).touches))
   asked_formed c s a on answered formed = by (run_on (command_meaning c) s) refl answered
@@ -82,7 +82,7 @@ module _ (names : Names) (lie : LieFrom 1 names) (sized : AreSized names) where
             → answer_of (else_run o ts (meaning (alone_program 0) MOST (values s) (touched_after [] ts))).outcome ≡ Some a → AreWellFormed names (map_after (values s) (kept a (else_run o ts (meaning (alone_program 0) MOST (values s) (touched_after [] ts))).touches))
         by_outcome (replied b) ts eo et given =
             let large : (run_on (command_meaning c) s).outcome ≢ too_large = λ h. cc (eo, h) in
-            let keeps : AreWellFormed names (map_after (values s) (run_on (command_meaning c) s).touches) = command_keeps names c MOST (values s) [] lie sized on formed large in
+            let keeps : AreWellFormed names (map_after (values s) (run_on (command_meaning c) s).touches) = command_keeps names c MOST (values s) [] lie on formed large in
             subst (λ (d : Answer). AreWellFormed names (map_after (values s) (kept d ts))) (answered_reply b a given) (rw et at keeps)
         by_outcome retried ts eo et given =
             let us : List Touch = (meaning (alone_program 0) MOST (values s) (touched_after [] ts)).touches in
@@ -126,6 +126,6 @@ module _ (names : Names) (lie : LieFrom 1 names) (sized : AreSized names) where
       replays_formed threads records (after r.footprint s) e ps on rest (meant_formed m s r (meant (slice_index_or threads p.thread []) (on p.thread) p.index m means) commit formed)
 
 -- the cells of all objects stand for contents at the end of a run
-pub run_formed : (script : Script) (records : List (List Record)) (order : List Place) (last : Store) → LieFrom 1 script.objects → AreSized script.objects → ((t : ℕ) → CommandsAreOn script.objects (slice_index_or script.threads t [])) → IsRun script records order last → AreWellFormed script.objects (values last)
-run_formed script records order last lie sized on run =
-    replays_formed script.objects lie sized script.threads records (opening_store script) last order on run.replays (opening_contents script.objects, script_opens _ script.objects lie sized)
+pub run_formed : (script : Script) (records : List (List Record)) (order : List Place) (last : Store) → LieFrom 1 script.objects → ((t : ℕ) → CommandsAreOn script.objects (slice_index_or script.threads t [])) → IsRun script records order last → AreWellFormed script.objects (values last)
+run_formed script records order last lie on run =
+    replays_formed script.objects lie script.threads records (opening_store script) last order on run.replays (opening_contents script.objects, script_opens _ script.objects lie)

@@ -6,7 +6,7 @@ ghost use Rattle.kc_model.specs.Legal.{IsLegal};
 ghost use Rattle.kc_model.specs.Store.{Store};
 ghost use Rattle.kc_xt.specs.Meaning.{values};
 ghost use Rattle.kc_bundle.specs.On.{CommandsAreOn};
-ghost use Rattle.kc_bundle.specs.Script.{Script, LieFrom, AreSized};
+ghost use Rattle.kc_bundle.specs.Script.{Script, LieFrom};
 ghost use Rattle.kc_bundle.specs.State.{AreWellFormed};
 ghost use Rattle.kc_history.specs.declared.record.Record.{Record};
 ghost use Rattle.kc_history.specs.declared.record.Place.{Place};
@@ -27,7 +27,7 @@ pub fn runs_are_legal()
 /// Where a script's objects lie in order and its commands are on them, the cells of all objects stand for contents at
 /// the end of a run.
 pub fn runs_stay_well_formed()
-    ensures { (script : Script) (records : List (List Record)) (order : List Place) (last : Store) → LieFrom 1 script.objects → AreSized script.objects → ((t : ℕ) → CommandsAreOn script.objects (slice_index_or script.threads t [])) → IsRun script records order last → AreWellFormed script.objects (values last) }
+    ensures { (script : Script) (records : List (List Record)) (order : List Place) (last : Store) → LieFrom 1 script.objects → ((t : ℕ) → CommandsAreOn script.objects (slice_index_or script.threads t [])) → IsRun script records order last → AreWellFormed script.objects (values last) }
 {}
 
 /// Where a legal history from the script's opening store has the records of its threads, each answered what it means,

@@ -7,14 +7,15 @@ ghost use Rattle.kc_stack.specs.Meaning.{stack_cells, cells_end, counted};
 ghost use Rattle.kc_stack.specs.Content.{stack_opening, StandsFor};
 
 use crate::stack::Stack;
-use kc_model::{Loc, PlainStore};
+use kc_model::{Loc, MOST_LOCATIONS, PlainStore};
+use kc_xt::MOST_ITEMS;
 
 impl Stack {
     /// The stack that begins at a location.
     pub fn layout(base: Loc, cap: u32) -> Stack
         requires some { 1 ≤ cap }
-        requires most { cap ≤ 4096 }
-        requires cells { base.0 + cap < 65536 }
+        requires most { cap ≤ MOST_ITEMS }
+        requires cells { base.0 + 1 + cap ≤ MOST_LOCATIONS }
         ensures base { result.base ≡ base }
         ensures cap { result.cap ≡ cap }
     {

@@ -9,7 +9,7 @@ use Rattle.kc_queue.specs.declared.operation.QueueAct.TheVariants as queue
 use Rattle.kc_queue.specs.Meaning.{queue_meaning, queue_end}
 use Rattle.kc_cache.specs.declared.operation.CacheOp.{CacheOp}
 use Rattle.kc_cache.specs.declared.operation.CacheAct.TheVariants as cache
-use Rattle.kc_cache.specs.Meaning.{cache_meaning, cache_end, CacheIsFit}
+use Rattle.kc_cache.specs.Meaning.{cache_meaning, cache_end}
 use Rattle.kc_uses.specs.declared.finish_job.FinishJob.{FinishJob}
 
 -- the result of a job is its square
@@ -33,9 +33,6 @@ kept f a None = meaning (replies a)
 
 abbrev pub finish_meaning : FinishJob → Meaning
 finish_meaning f = then_meaning (queue_meaning (next_job f)) (λ a. kept f a (number_of a))
-
-abbrev pub FinishIsFit : FinishJob → Type 0
-FinishIsFit f = CacheIsFit (kept_result f 0)
 
 abbrev pub finish_end : FinishJob → ℕ
 finish_end f = max (queue_end (next_job f)) (cache_end (kept_result f 0))

@@ -73,11 +73,19 @@ queue_placed at cap o some few e =
 
 table_placed : (at buckets cap : ℕ) (o : Object) → (1 ≤ buckets) × (buckets ≤ 1024) → 1 ≤ cap → cap ≤ 4096 → table_at at buckets cap ≡ Ok o → IsAt at o
 unfolding table_at
-table_placed at buckets cap o b some few e = let f = few_made _ _ _ _ o e in subst (IsAt at) (ok_is _ _ f.1) (refl, omega (arith, f.0), (b.0, b.1, some, few))
+table_placed at buckets cap o b some few e =
+    let i = few_made _ _ _ _ o e in
+    let g = few_made _ _ _ _ o i.1 in
+    let f = few_made _ _ _ _ o g.1 in
+    subst (IsAt at) (ok_is _ _ f.1) (refl, omega (arith, f.0), (b.0, b.1, some, few))
 
 cache_placed : (at buckets cap : ℕ) (o : Object) → (1 ≤ buckets) × (buckets ≤ 1024) → 1 ≤ cap → cap ≤ 4096 → cache_at at buckets cap ≡ Ok o → IsAt at o
 unfolding cache_at
-cache_placed at buckets cap o b some few e = let f = few_made _ _ _ _ o e in subst (IsAt at) (ok_is _ _ f.1) (refl, omega (arith, f.0), (b.0, b.1, some, few))
+cache_placed at buckets cap o b some few e =
+    let i = few_made _ _ _ _ o e in
+    let g = few_made _ _ _ _ o i.1 in
+    let f = few_made _ _ _ _ o g.1 in
+    subst (IsAt at) (ok_is _ _ f.1) (refl, omega (arith, f.0), (b.0, b.1, some, few))
 
 mvar_placed : (at : ℕ) (o : Object) → mvar_at at ≡ Ok o → IsAt at o
 unfolding mvar_at

@@ -70,8 +70,8 @@ module _ (names : Names) (at : ℕ) (args : List (List ℕ)) (name : List ℕ) (
       subst (Is kind.Loc) (ok_is _ _ f.1) (refl, refl, (number_is 4294967295 (word_at args 1) a.0 (omega arith) a.1, tt), refl)
   object_row kind.Stack e = sized 4096 1 (stack_at at) o (omega arith) e (λ n h f. let m = few_made _ _ _ _ o f in subst (Is kind.Stack) (ok_is _ _ m.1) (refl, refl, (h, tt), refl))
   object_row kind.Queue e = sized 4096 1 (queue_at at) o (omega arith) e (λ n h f. let g = few_made _ _ _ _ o f in let m = few_made _ _ _ _ o g.1 in subst (Is kind.Queue) (ok_is _ _ m.1) (refl, refl, (h, tt), refl))
-  object_row kind.Table e = sized 1024 1 (λ b. size_to 4096 (word_at args 2) >>= table_at at b) o (omega arith) e (λ b h f. sized 4096 2 (table_at at b) o (omega arith) f (λ n i g. let m = few_made _ _ _ _ o g in subst (Is kind.Table) (ok_is _ _ m.1) (refl, refl, (h, (i, tt)), refl)))
-  object_row kind.Cache e = sized 1024 1 (λ b. size_to 4096 (word_at args 2) >>= cache_at at b) o (omega arith) e (λ b h f. sized 4096 2 (cache_at at b) o (omega arith) f (λ n i g. let m = few_made _ _ _ _ o g in subst (Is kind.Cache) (ok_is _ _ m.1) (refl, refl, (h, (i, tt)), refl)))
+  object_row kind.Table e = sized 1024 1 (λ b. size_to 4096 (word_at args 2) >>= table_at at b) o (omega arith) e (λ b h f. sized 4096 2 (table_at at b) o (omega arith) f (λ n i g. let x = few_made _ _ _ _ o g in let y = few_made _ _ _ _ o x.1 in let m = few_made _ _ _ _ o y.1 in subst (Is kind.Table) (ok_is _ _ m.1) (refl, refl, (h, (i, tt)), refl)))
+  object_row kind.Cache e = sized 1024 1 (λ b. size_to 4096 (word_at args 2) >>= cache_at at b) o (omega arith) e (λ b h f. sized 4096 2 (cache_at at b) o (omega arith) f (λ n i g. let x = few_made _ _ _ _ o g in let y = few_made _ _ _ _ o x.1 in let m = few_made _ _ _ _ o y.1 in subst (Is kind.Cache) (ok_is _ _ m.1) (refl, refl, (h, (i, tt)), refl)))
   object_row kind.Mvar e = let m = few_made _ _ _ _ o e in subst (Is kind.Mvar) (ok_is _ _ m.1) (refl, refl, tt, refl)
   object_row kind.Promise e = let m = few_made _ _ _ _ o e in subst (Is kind.Promise) (ok_is _ _ m.1) (refl, refl, tt, refl)
   object_row kind.Acc e = sized 32 1 (acc_at at) o (omega arith) e (λ n h f. let g = few_made _ _ _ _ o f in let m = few_made _ _ _ _ o g.1 in subst (Is kind.Acc) (ok_is _ _ m.1) (refl, refl, (h, tt), refl))
@@ -146,13 +146,13 @@ module _ (names : Names) (args : List (List ℕ)) (at : ℕ) where
   unfolding object_at table_at
   table_back h p b n =
       let room : at + 2 + h.buckets + 3 * h.cap ≤ 65536 = omega (arith, p.1) in
-      rw (size_back 1024 (word_at args 1) h.buckets p.2.0 p.2.1 b, size_back 4096 (word_at args 2) h.cap p.2.2 p.2.3 n) (few_is _ _ _ _ room ∙ ap (λ t. given (object.Hash t)) (hash_is h at h.buckets h.cap p.0 refl refl))
+      rw (size_back 1024 (word_at args 1) h.buckets p.2.0 p.2.1 b, size_back 4096 (word_at args 2) h.cap p.2.2 p.2.3 n) (few_is _ _ _ _ p.2.0 ∙ few_is _ _ _ _ p.2.2 ∙ few_is _ _ _ _ room ∙ ap (λ t. given (object.Hash t)) (hash_is h at h.buckets h.cap p.2.0 p.2.2 room p.0 refl refl))
 
   cache_back : (c : Cache) → IsAt at (object.Cache c) → IsNumeral c.buckets (word_at args 1) → IsNumeral c.cap (word_at args 2) → object_at at kind.Cache args ≡ Ok (object.Cache c)
   unfolding object_at cache_at
   cache_back c p b n =
       let room : at + 6 + c.buckets + 7 * c.cap ≤ 65536 = omega (arith, p.1) in
-      rw (size_back 1024 (word_at args 1) c.buckets p.2.0 p.2.1 b, size_back 4096 (word_at args 2) c.cap p.2.2 p.2.3 n) (few_is _ _ _ _ room ∙ ap (λ t. given (object.Cache t)) (cache_is c at c.buckets c.cap p.0 refl refl))
+      rw (size_back 1024 (word_at args 1) c.buckets p.2.0 p.2.1 b, size_back 4096 (word_at args 2) c.cap p.2.2 p.2.3 n) (few_is _ _ _ _ p.2.0 ∙ few_is _ _ _ _ p.2.2 ∙ few_is _ _ _ _ room ∙ ap (λ t. given (object.Cache t)) (cache_is c at c.buckets c.cap p.2.0 p.2.2 room p.0 refl refl))
 
   mvar_back : (x : Mvar) → IsAt at (object.Mvar x) → object_at at kind.Mvar args ≡ Ok (object.Mvar x)
   unfolding object_at mvar_at

@@ -1,8 +1,9 @@
 -- Objects where all their cells are locations.
-use Rattle.std.proofs.Common.{◌≡◌, ℕ, ◌+◌, ◌<◌, ◌≤◌, Bool, true, false, Result, Ok, Err, refl, ap, ap₂, subst, arith}
+use Rattle.std.proofs.Common.{◌≡◌, ℕ, ◌+◌, ◌<◌, ◌≤◌, Bool, true, false, Result, Ok, Err, refl, sym, ap, ap₂, subst, ◌*◌, arith}
 use Rattle.std.specs.Prelude.{nat_le}
 use Rattle.std.proofs.lemmas.Bool.{leb-true, leb-false}
 use Rattle.std.proofs.Math.Bridge.{le_prop}
+use Rattle.kc_model.specs.declared.footprint.Loc.{Loc}
 use Rattle.kc_lines.specs.declared.fault.Why.{Why}
 use Rattle.kc_stack.specs.declared.stack.Stack.{Stack}
 use Rattle.kc_queue.specs.declared.queue.Queue.{Queue}
@@ -11,6 +12,8 @@ use Rattle.kc_cells.specs.declared.promise.Promise.{Promise}
 use Rattle.kc_cells.specs.declared.accumulator.Accumulator.{Accumulator}
 use Rattle.kc_hash.specs.declared.hash.Hash.{Hash}
 use Rattle.kc_cache.specs.declared.cache.Cache.{Cache}
+use Rattle.kc_hash.proofs.Same.{same_hash}
+use Rattle.kc_cache.proofs.Same.{same_cache, table_laid, order_laid}
 use Rattle.kc_verbs.specs.Declaring.{tested, at_most}
 
 module _ {X : Type 0} (n most : ℕ) (why : Why) (go : n ≤ most → Result X Why) where
@@ -68,12 +71,10 @@ acc_is x b n some room e f =
     let P : ℕ → ℕ → Type 0 = λ y z. (s : 0 < z) (r : y + z ≤ 65536) → (let t : Accumulator = record { base = record { 0 = y }; cells = z; some = s; laid = r } in t) ≡ x in
     subst (λ y. P y n) e (subst (λ z. P x.base.0 z) f (λ s r. ap₂ (λ u v. let t : Accumulator = record { base = x.base; cells = x.cells; some = u; laid = v } in t) (le_prop s x.some) (le_prop r x.laid))) some room
 
-pub hash_is : (h : Hash) (b m n : ℕ) → h.base.0 ≡ b → h.buckets ≡ m → h.cap ≡ n → (let t : Hash = record { base = record { 0 = b }; buckets = m; cap = n } in t) ≡ h
-hash_is h b m n e f g =
-    let P : ℕ → ℕ → ℕ → Type 0 = λ x y z. (let t : Hash = record { base = record { 0 = x }; buckets = y; cap = z } in t) ≡ h in
-    subst (λ x. P x m n) e (subst (λ y. P h.base.0 y n) f (subst (λ z. P h.base.0 h.buckets z) g refl))
+pub hash_is : (h : Hash) (b m n : ℕ) (some_buckets : 1 ≤ m) (some : 1 ≤ n) (room : b + 2 + m + 3 * n ≤ 65536) → h.base.0 ≡ b → h.buckets ≡ m → h.cap ≡ n → (let t : Hash = record { base = record { 0 = b }; buckets = m; cap = n; some_buckets = some_buckets; some = some; laid = room } in t) ≡ h
+hash_is h b m n some_buckets some room e f g =
+    same_hash (record { base = record { 0 = b }; buckets = m; cap = n; some_buckets = some_buckets; some = some; laid = room }) h (ap (λ (x : ℕ). let l : Loc = record { 0 = x } in l) (sym e)) (sym f) (sym g)
 
-pub cache_is : (c : Cache) (b m n : ℕ) → c.base.0 ≡ b → c.buckets ≡ m → c.cap ≡ n → (let t : Cache = record { base = record { 0 = b }; buckets = m; cap = n } in t) ≡ c
-cache_is c b m n e f g =
-    let P : ℕ → ℕ → ℕ → Type 0 = λ x y z. (let t : Cache = record { base = record { 0 = x }; buckets = y; cap = z } in t) ≡ c in
-    subst (λ x. P x m n) e (subst (λ y. P c.base.0 y n) f (subst (λ z. P c.base.0 c.buckets z) g refl))
+pub cache_is : (c : Cache) (b m n : ℕ) (some_buckets : 1 ≤ m) (some : 1 ≤ n) (room : b + 6 + m + 7 * n ≤ 65536) → c.base.0 ≡ b → c.buckets ≡ m → c.cap ≡ n → (let t : Cache = record { base = record { 0 = b }; buckets = m; cap = n; some_buckets = some_buckets; some = some; laid = room; table_laid = table_laid b m n room; order_laid = order_laid b m n room } in t) ≡ c
+cache_is c b m n some_buckets some room e f g =
+    same_cache (record { base = record { 0 = b }; buckets = m; cap = n; some_buckets = some_buckets; some = some; laid = room; table_laid = table_laid b m n room; order_laid = order_laid b m n room }) c (ap (λ (x : ℕ). let l : Loc = record { 0 = x } in l) (sym e)) (sym f) (sym g)

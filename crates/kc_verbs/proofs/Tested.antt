@@ -344,8 +344,8 @@ module _ (at : ℕ) (args : List (List ℕ)) where
   object_fault names kind.Loc = then_fault (number_to 4294967295 (word_at args 1)) (loc_at at) _ _ (number_fault 4294967295 (word_at args 1)) (λ n e. laid_fault _ _ _ refl)
   object_fault names kind.Stack = then_sized 4096 (word_at args 1) (stack_at at) _ (λ n v some. laid_fault _ _ _ (omega (arith, v)))
   object_fault names kind.Queue = then_sized 4096 (word_at args 1) (queue_at at) _ (λ n v some. some_fault n _ _ some (λ le. laid_fault _ _ _ (omega (arith, v))))
-  object_fault names kind.Table = then_sized 1024 (word_at args 1) _ _ (λ b u some. then_sized 4096 (word_at args 2) (table_at at b) _ (λ n v more. laid_fault _ _ _ (omega (arith, u, v))))
-  object_fault names kind.Cache = then_sized 1024 (word_at args 1) _ _ (λ b u some. then_sized 4096 (word_at args 2) (cache_at at b) _ (λ n v more. laid_fault _ _ _ (omega (arith, u, v))))
+  object_fault names kind.Table = then_sized 1024 (word_at args 1) _ _ (λ b u some. then_sized 4096 (word_at args 2) (table_at at b) _ (λ n v more. some_fault b _ _ some (λ le. some_fault n _ _ more (λ ge. laid_fault _ _ _ (omega (arith, u, v))))))
+  object_fault names kind.Cache = then_sized 1024 (word_at args 1) _ _ (λ b u some. then_sized 4096 (word_at args 2) (cache_at at b) _ (λ n v more. some_fault b _ _ some (λ le. some_fault n _ _ more (λ ge. laid_fault _ _ _ (omega (arith, u, v))))))
   object_fault names kind.Mvar = laid_fault _ _ _ refl
   object_fault names kind.Promise = laid_fault _ _ _ refl
   object_fault names kind.Acc = then_sized 32 (word_at args 1) (acc_at at) _ (λ n v some. some_fault n _ _ some (λ le. laid_fault _ _ _ (omega (arith, v))))
@@ -408,8 +408,8 @@ module _ (at : ℕ) (args : List (List ℕ)) (o : Object) where
       laid_is _ _ (Is kind.Loc) (λ le. (refl, refl)) a.2
   object_is kind.Stack e = sized_is 4096 1 (stack_at at) e (λ n v f. laid_is _ _ (Is kind.Stack) (λ le. (refl, omega (arith, v))) f)
   object_is kind.Queue e = sized_is 4096 1 (queue_at at) e (λ n v f. some_is n _ (Is kind.Queue) (λ some g. laid_is _ _ (Is kind.Queue) (λ le. (refl, omega (arith, v))) g) f)
-  object_is kind.Table e = sized_is 1024 1 _ e (λ b u f. sized_is 4096 2 (table_at at b) f (λ n v g. laid_is _ _ (Is kind.Table) (λ le. (refl, omega (arith, u, v))) g))
-  object_is kind.Cache e = sized_is 1024 1 _ e (λ b u f. sized_is 4096 2 (cache_at at b) f (λ n v g. laid_is _ _ (Is kind.Cache) (λ le. (refl, omega (arith, u, v))) g))
+  object_is kind.Table e = sized_is 1024 1 _ e (λ b u f. sized_is 4096 2 (table_at at b) f (λ n v g. some_is b _ (Is kind.Table) (λ some x. some_is n _ (Is kind.Table) (λ more y. laid_is _ _ (Is kind.Table) (λ le. (refl, omega (arith, u, v))) y) x) g))
+  object_is kind.Cache e = sized_is 1024 1 _ e (λ b u f. sized_is 4096 2 (cache_at at b) f (λ n v g. some_is b _ (Is kind.Cache) (λ some x. some_is n _ (Is kind.Cache) (λ more y. laid_is _ _ (Is kind.Cache) (λ le. (refl, omega (arith, u, v))) y) x) g))
   object_is kind.Mvar e = laid_is _ _ (Is kind.Mvar) (λ le. (refl, refl)) e
   object_is kind.Promise e = laid_is _ _ (Is kind.Promise) (λ le. (refl, refl)) e
   object_is kind.Acc e = sized_is 32 1 (acc_at at) e (λ n v f. some_is n _ (Is kind.Acc) (λ some g. laid_is _ _ (Is kind.Acc) (λ le. (refl, omega (arith, v))) g) f)

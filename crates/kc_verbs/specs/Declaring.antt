@@ -2,6 +2,10 @@
 -- `IsPlaced`; what a line declares is `Declares` of Canonical, what is wrong with it the first failing test of Fields.
 use Rattle.std.specs.Prelude.{◌≡◌, ℕ, ◌+◌, ◌*◌, ◌≤◌, Bool, true, false, List, [], ◌∷◌, length, Option, Some, Result, Ok, Err, nat_le, refl}
 use Rattle.std.proofs.lemmas.Bool.{leb-true}
+use Rattle.kc_model.specs.declared.plain_store.TheConstants.{MOST_LOCATIONS}
+use Rattle.kc_xt.specs.declared.structure.TheConstants.{MOST_ITEMS, MOST_BUCKETS}
+use Rattle.kc_cells.specs.declared.accumulator.TheConstants.{MOST_CELLS}
+use Rattle.kc_cache.proofs.Same.{table_laid, order_laid}
 use Rattle.kc_lines.specs.Tests.{◌>>=◌, wants, counted, word_at, number_to}
 use Rattle.kc_lines.specs.declared.fault.Why.{Why}
 use Rattle.kc_lines.specs.declared.fault.Why.TheVariants.{UnknownWord, BadNumber, TooMany}
@@ -39,8 +43,8 @@ unfoldable pub at_most : {X : Type 0} (n most : ℕ) → Why → (n ≤ most →
 at_most n most why go = tested n most why go (nat_le n most) refl
 
 -- an object with its last cell before this location
-abbrev pub laid : (n : ℕ) → (n ≤ 65536 → Object) → Result Object Why
-laid n make = at_most n 65536 (TooMany Locations) (λ room. Ok (make room))
+abbrev pub laid : (n : ℕ) → (n ≤ MOST_LOCATIONS → Object) → Result Object Why
+laid n make = at_most n MOST_LOCATIONS (TooMany Locations) (λ room. Ok (make room))
 
 unfoldable pub loc_at : ℕ → ℕ → Result Object Why
 loc_at at value = laid (at + 1) (λ room. object.Loc (record { 0 = at }) value)
@@ -52,10 +56,10 @@ unfoldable pub queue_at : ℕ → ℕ → Result Object Why
 queue_at at cap = at_most 1 cap BadNumber (λ some. laid (at + 2 + cap) (λ room. object.Queue (record { base = record { 0 = at }; cap = cap; some = some; laid = room })))
 
 unfoldable pub table_at : ℕ → ℕ → ℕ → Result Object Why
-table_at at buckets cap = laid (at + 2 + buckets + 3 * cap) (λ room. object.Hash (record { base = record { 0 = at }; buckets = buckets; cap = cap }))
+table_at at buckets cap = at_most 1 buckets BadNumber (λ some_buckets. at_most 1 cap BadNumber (λ some. laid (at + 2 + buckets + 3 * cap) (λ room. object.Hash (record { base = record { 0 = at }; buckets = buckets; cap = cap; some_buckets = some_buckets; some = some; laid = room }))))
 
 unfoldable pub cache_at : ℕ → ℕ → ℕ → Result Object Why
-cache_at at buckets cap = laid (at + 6 + buckets + 7 * cap) (λ room. object.Cache (record { base = record { 0 = at }; buckets = buckets; cap = cap }))
+cache_at at buckets cap = at_most 1 buckets BadNumber (λ some_buckets. at_most 1 cap BadNumber (λ some. laid (at + 6 + buckets + 7 * cap) (λ room. object.Cache (record { base = record { 0 = at }; buckets = buckets; cap = cap; some_buckets = some_buckets; some = some; laid = room; table_laid = table_laid at buckets cap room; order_laid = order_laid at buckets cap room }))))
 
 unfoldable pub mvar_at : ℕ → Result Object Why
 mvar_at at = laid (at + 2) (λ room. object.Mvar (record { base = record { 0 = at }; laid = room }))
@@ -69,17 +73,17 @@ acc_at at cells = at_most 1 cells BadNumber (λ some. laid (at + cells) (λ room
 -- the object that begins at a location, with the numbers behind its name
 unfoldable pub object_at : ℕ → Kind → List (List ℕ) → Result Object Why
 object_at at kind.Loc args = number_to 4294967295 (word_at args 1) >>= loc_at at
-object_at at kind.Stack args = size_to 4096 (word_at args 1) >>= stack_at at
-object_at at kind.Queue args = size_to 4096 (word_at args 1) >>= queue_at at
-object_at at kind.Table args = size_to 1024 (word_at args 1) >>= λ buckets. size_to 4096 (word_at args 2) >>= table_at at buckets
-object_at at kind.Cache args = size_to 1024 (word_at args 1) >>= λ buckets. size_to 4096 (word_at args 2) >>= cache_at at buckets
+object_at at kind.Stack args = size_to MOST_ITEMS (word_at args 1) >>= stack_at at
+object_at at kind.Queue args = size_to MOST_ITEMS (word_at args 1) >>= queue_at at
+object_at at kind.Table args = size_to MOST_BUCKETS (word_at args 1) >>= λ buckets. size_to MOST_ITEMS (word_at args 2) >>= table_at at buckets
+object_at at kind.Cache args = size_to MOST_BUCKETS (word_at args 1) >>= λ buckets. size_to MOST_ITEMS (word_at args 2) >>= cache_at at buckets
 object_at at kind.Mvar args = mvar_at at
 object_at at kind.Promise args = promise_at at
-object_at at kind.Acc args = size_to 32 (word_at args 1) >>= acc_at at
+object_at at kind.Acc args = size_to MOST_CELLS (word_at args 1) >>= acc_at at
 
--- it begins at a location, with its last cell below 65,536, and is sized
+-- it begins at a location, with its last cell in a store, and is sized
 abbrev pub IsAt : ℕ → Object → Type 0
-IsAt at o = (base o ≡ at) × (at + cells o ≤ 65536) × IsSized o
+IsAt at o = (base o ≡ at) × (at + cells o ≤ MOST_LOCATIONS) × IsSized o
 
 -- the first location that no object has
 abbrev pub next : Names → ℕ

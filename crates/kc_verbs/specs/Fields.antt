@@ -1,6 +1,8 @@
 -- What stands behind the first word of a line, as a table, and the tests of these words from left to right.
 use Rattle.std.specs.Prelude.{ℕ, ◌+◌, ◌*◌, Bool, true, false, ◌&&◌, ◌||◌, not, List, [], ◌∷◌, ◌++◌, length, map, codes, Option, Some, None, is_some, if◌then◌else◌}
 use Rattle.std.specs.Str.{bytes_eq}
+use Rattle.kc_xt.specs.declared.structure.TheConstants.{MOST_ITEMS, MOST_BUCKETS}
+use Rattle.kc_cells.specs.declared.accumulator.TheConstants.{MOST_CELLS}
 use Rattle.kc_lines.specs.Words.{is_name, value_on}
 use Rattle.kc_lines.specs.Tests.{count_tests, word_at, is_number}
 use Rattle.kc_lines.specs.declared.fault.Why.{Why}
@@ -47,10 +49,10 @@ abbrev pub value : Field
 value = Field.number 0 4294967295
 
 abbrev pub capacity : Field
-capacity = Field.number 1 4096
+capacity = Field.number 1 MOST_ITEMS
 
 abbrev pub buckets : Field
-buckets = Field.number 1 1024
+buckets = Field.number 1 MOST_BUCKETS
 
 -- ---- declarations
 
@@ -62,7 +64,7 @@ kind_fields kind.Table = Field.new ∷ buckets ∷ capacity ∷ []
 kind_fields kind.Cache = Field.new ∷ buckets ∷ capacity ∷ []
 kind_fields kind.Mvar = Field.new ∷ []
 kind_fields kind.Promise = Field.new ∷ []
-kind_fields kind.Acc = Field.new ∷ Field.number 1 32 ∷ []
+kind_fields kind.Acc = Field.new ∷ Field.number 1 MOST_CELLS ∷ []
 
 abbrev pub number_at : List (List ℕ) → ℕ → ℕ
 number_at args i = value_on 0 (word_at args i)

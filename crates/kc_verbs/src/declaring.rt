@@ -11,24 +11,16 @@ use crate::word::Kind;
 use indexmap::IndexMap;
 use kc_bundle::Object;
 use kc_cache::Cache;
-use kc_cells::{Accumulator, Mvar, Promise};
+use kc_cells::{Accumulator, MOST_CELLS, Mvar, Promise};
 use kc_hash::Hash;
 use kc_lines::{Limit, Why, as_name, counted, number_of, number_to, wants, word_at};
-use kc_model::Loc;
+use kc_model::{Loc, MOST_LOCATIONS};
 use kc_queue::Queue;
 use kc_stack::Stack;
+use kc_xt::{MOST_BUCKETS, MOST_ITEMS};
 
 /// The number behind the last location.
-const END: u32 = 65_536;
-
-/// For how many items or pairs a stack, a queue, a table or a cache may have room.
-const MOST_ITEMS: u32 = 4096;
-
-/// How many buckets a table or a cache may have.
-const MOST_BUCKETS: u32 = 1024;
-
-/// How many cells an accumulator may have.
-const MOST_CELLS: u32 = 32;
+const END: u32 = MOST_LOCATIONS as u32;
 
 fn fields(kind: Kind) -> usize
     ensures { result ≡ fields kind }
@@ -72,7 +64,7 @@ fn size_to(most: u32, word: &[u8]) -> Result<u32, Why>
 }
 
 fn loc_at(at: Loc, value: u32) -> Result<Object, Why>
-    requires at { at.0 ≤ 65536 }
+    requires at { at.0 ≤ MOST_LOCATIONS }
     ensures gives { result ≡ loc_at at.0 value }
     ensures placed { IfOk result (IsAt at.0) }
 {
@@ -83,9 +75,9 @@ fn loc_at(at: Loc, value: u32) -> Result<Object, Why>
 }
 
 fn stack_at(at: Loc, cap: u32) -> Result<Object, Why>
-    requires at { at.0 ≤ 65536 }
+    requires at { at.0 ≤ MOST_LOCATIONS }
     requires some { 1 ≤ cap }
-    requires most { cap ≤ 4096 }
+    requires most { cap ≤ MOST_ITEMS }
     ensures gives { result ≡ stack_at at.0 cap }
     ensures placed { IfOk result (IsAt at.0) }
 {
@@ -96,9 +88,9 @@ fn stack_at(at: Loc, cap: u32) -> Result<Object, Why>
 }
 
 fn queue_at(at: Loc, cap: u32) -> Result<Object, Why>
-    requires at { at.0 ≤ 65536 }
+    requires at { at.0 ≤ MOST_LOCATIONS }
     requires some { 1 ≤ cap }
-    requires most { cap ≤ 4096 }
+    requires most { cap ≤ MOST_ITEMS }
     ensures gives { result ≡ queue_at at.0 cap }
     ensures placed { IfOk result (IsAt at.0) }
 {
@@ -109,11 +101,11 @@ fn queue_at(at: Loc, cap: u32) -> Result<Object, Why>
 }
 
 fn table_at(at: Loc, buckets: u32, cap: u32) -> Result<Object, Why>
-    requires at { at.0 ≤ 65536 }
+    requires at { at.0 ≤ MOST_LOCATIONS }
     requires some_buckets { 1 ≤ buckets }
-    requires most_buckets { buckets ≤ 1024 }
+    requires most_buckets { buckets ≤ MOST_BUCKETS }
     requires some { 1 ≤ cap }
-    requires most { cap ≤ 4096 }
+    requires most { cap ≤ MOST_ITEMS }
     ensures gives { result ≡ table_at at.0 buckets cap }
     ensures placed { IfOk result (IsAt at.0) }
 {
@@ -124,11 +116,11 @@ fn table_at(at: Loc, buckets: u32, cap: u32) -> Result<Object, Why>
 }
 
 fn cache_at(at: Loc, buckets: u32, cap: u32) -> Result<Object, Why>
-    requires at { at.0 ≤ 65536 }
+    requires at { at.0 ≤ MOST_LOCATIONS }
     requires some_buckets { 1 ≤ buckets }
-    requires most_buckets { buckets ≤ 1024 }
+    requires most_buckets { buckets ≤ MOST_BUCKETS }
     requires some { 1 ≤ cap }
-    requires most { cap ≤ 4096 }
+    requires most { cap ≤ MOST_ITEMS }
     ensures gives { result ≡ cache_at at.0 buckets cap }
     ensures placed { IfOk result (IsAt at.0) }
 {
@@ -139,7 +131,7 @@ fn cache_at(at: Loc, buckets: u32, cap: u32) -> Result<Object, Why>
 }
 
 fn mvar_at(at: Loc) -> Result<Object, Why>
-    requires at { at.0 ≤ 65536 }
+    requires at { at.0 ≤ MOST_LOCATIONS }
     ensures gives { result ≡ mvar_at at.0 }
     ensures placed { IfOk result (IsAt at.0) }
 {
@@ -150,7 +142,7 @@ fn mvar_at(at: Loc) -> Result<Object, Why>
 }
 
 fn promise_at(at: Loc) -> Result<Object, Why>
-    requires at { at.0 ≤ 65536 }
+    requires at { at.0 ≤ MOST_LOCATIONS }
     ensures gives { result ≡ promise_at at.0 }
     ensures placed { IfOk result (IsAt at.0) }
 {
@@ -161,9 +153,9 @@ fn promise_at(at: Loc) -> Result<Object, Why>
 }
 
 fn acc_at(at: Loc, cells: u32) -> Result<Object, Why>
-    requires at { at.0 ≤ 65536 }
+    requires at { at.0 ≤ MOST_LOCATIONS }
     requires some { 1 ≤ cells }
-    requires most { cells ≤ 32 }
+    requires most { cells ≤ MOST_CELLS }
     ensures gives { result ≡ acc_at at.0 cells }
     ensures placed { IfOk result (IsAt at.0) }
 {
@@ -176,7 +168,7 @@ fn acc_at(at: Loc, cells: u32) -> Result<Object, Why>
 // The object that begins at a location, with the numbers behind its name.
 #[tactic(auto, unfolding(crate::specs::Declaring::object_at))]
 fn object_at(at: Loc, kind: Kind, args: &[&[u8]]) -> Result<Object, Why>
-    requires at { at.0 ≤ 65536 }
+    requires at { at.0 ≤ MOST_LOCATIONS }
     requires counted { length args.now ≡ fields kind }
     ensures gives { result ≡ object_at at.0 kind (map (λ word. word.now) args.now) }
     ensures placed { IfOk result (IsAt at.0) }
@@ -208,7 +200,7 @@ pub fn declare<'a>(
     args: &[&'a [u8]],
 ) -> Result<(&'a str, Object), Why>
     requires follows { next ≡ next_from 1 (names_of objects.now) }
-    requires within { next ≤ 65536 }
+    requires within { next ≤ MOST_LOCATIONS }
     ensures gives { Reads (λ entry. (entry.0.now, entry.1)) result (declare (names_of objects.now) kind (map (λ word. word.now) args.now)) }
     ensures new { IfOk result (λ entry. object_of (names_of objects.now) entry.0.now ≡ None) }
     ensures placed { IfOk result (λ entry. IsAt next entry.1) }

@@ -21,6 +21,6 @@ pub use ended::Ended;
 pub use peek::{Peek, PeekBusy};
 pub use plain_peek::PlainPeek;
 pub use stop::Stop;
-pub use structure::{counter_keeps_the_laws, keeps_to_its_cells};
+pub use structure::{MOST_BUCKETS, MOST_ITEMS, counter_keeps_the_laws, keeps_to_its_cells};
 pub use transact::Transact;
 pub use xt::{Snapshot, Xt};

@@ -7,6 +7,12 @@ ghost use Rattle.kc_xt.specs.Stays.{Stays};
 ghost use Rattle.kc_xt.specs.Structure.{IsOutside, TouchesItsOwnCells, RepliesOneItem, RunsInsideOthers, MeansItsValue, KeepsWellFormed, Opens, ContentIsOne, DependsOnItsCells};
 ghost use Rattle.kc_xt.specs.Worked.{CounterStands, counts_on, counted_on};
 
+/// For how many items or pairs a stack, a queue, a table or a cache may have room.
+pub const MOST_ITEMS: u32 = 4096;
+
+/// How many buckets a table or a cache may have.
+pub const MOST_BUCKETS: u32 = 1024;
+
 /// A program that keeps to some cells touches no others, replies one item, and leaves all else as it was.
 pub fn keeps_to_its_cells()
     ensures touches { (lo hi : ℕ) (p : Program) → Stays lo hi p → TouchesItsOwnCells lo hi (meaning p) }

@@ -3,4 +3,4 @@ use Rattle.kc_bundle.proofs.Opened.{script_opens}
 use Rattle.kc_bundle.proofs.laws.opens_well_formed.Goals as goal
 
 pub returns : goal.returns
-returns c = λ s lie sized. script_opens (length s.threads) s.objects lie sized
+returns c = λ s lie. script_opens (length s.threads) s.objects lie

@@ -9,15 +9,6 @@ use Rattle.kc_bundle.proofs.Entries.{entry_at, entry_within, adds_next, adds_all
 use Rattle.kc_bundle.proofs.Places.{cells_within}
 use Rattle.kc_bundle.proofs.start.opening.Goals as goal
 
-pub push_cells-requires : goal.push_cells-requires
-push_cells-requires c =
-    let m = c.args.bundle.now.objects in
-    let e : String Global × Object = (c.in-Some.field-0-0.now, c.in-Some.object.now) in
-    let at = entry_at named m.entries c.loop-i.i e c.in-Some.ensures.entry in
-    let lt : c.loop-i.i < length (names_of m) = omega (arith, length-map m.entries named, c.len-i-end.ensures.len) in
-    let within = rw at at (entry_within _ (names_of m) c.loop-i.i (named e) lt (cells_within (names_of m) c.requires.lies.lie)) in
-    omega (arith, within, c.requires.lies.within)
-
 pub loop-i-preserved : goal.loop-i-preserved
 loop-i-preserved c =
     let m = c.args.bundle.now.objects in

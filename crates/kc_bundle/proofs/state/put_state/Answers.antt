@@ -13,20 +13,12 @@ use Rattle.kc_bundle.proofs.state.put_state.Goals as goal
 pub loop-i-init : goal.loop-i-init
 loop-i-init g c = record { same_sink = refl; owes = owes_all _ _ }
 
-pub put_line-requires-clause-within : goal.put_line-requires-clause-within
-put_line-requires-clause-within g c =
+pub put_line-requires : goal.put_line-requires
+put_line-requires g c =
     let m = c.args.bundle.now.objects in
     let at = entry_at named m.entries c.loop-i.i (c.in-Some.name.now, c.in-Some.object.now) c.in-Some.ensures.entry in
     let lt : c.loop-i.i < length (names_of m) = omega (arith, length-map m.entries named, c.len-i-end.ensures.len) in
     rw at at (entry_within _ (names_of m) c.loop-i.i (named (c.in-Some.name.now, c.in-Some.object.now)) lt c.requires)
-
-pub put_line-requires-clause-fits : goal.put_line-requires-clause-fits
-put_line-requires-clause-fits g c =
-    let m = c.args.bundle.now.objects in
-    let at = entry_at named m.entries c.loop-i.i (c.in-Some.name.now, c.in-Some.object.now) c.in-Some.ensures.entry in
-    let lt : c.loop-i.i < length (names_of m) = omega (arith, length-map m.entries named, c.len-i-end.ensures.len) in
-    let within = rw at at (entry_within _ (names_of m) c.loop-i.i (named (c.in-Some.name.now, c.in-Some.object.now)) lt c.requires) in
-    search (rules, within)
 
 pub loop-i-preserved : goal.loop-i-preserved
 loop-i-preserved g c =

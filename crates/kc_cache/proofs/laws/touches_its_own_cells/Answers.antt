@@ -5,7 +5,7 @@ use Rattle.kc_cache.proofs.CacheLaw.{cache_stays}
 use Rattle.kc_cache.proofs.laws.touches_its_own_cells.Goals as goal
 
 pub returns-clause-touches : goal.returns-clause-touches
-returns-clause-touches c = λ o fit. stays_touches (cache_begin o) (cells_end o.cache) (cache_program o.cache o.act replies) (cache_stays o fit.0)
+returns-clause-touches c = λ o. stays_touches (cache_begin o) (cells_end o.cache) (cache_program o.cache o.act replies) (cache_stays o)
 
 pub returns-clause-one : goal.returns-clause-one
-returns-clause-one c = λ o fit. stays_one (cache_begin o) (cells_end o.cache) (cache_program o.cache o.act replies) (cache_stays o fit.0)
+returns-clause-one c = λ o. stays_one (cache_begin o) (cells_end o.cache) (cache_program o.cache o.act replies) (cache_stays o)

@@ -5,7 +5,7 @@ use Rattle.kc_hash.proofs.HashLaw.{hash_stays}
 use Rattle.kc_hash.proofs.laws.touches_its_own_cells.Goals as goal
 
 pub returns-clause-touches : goal.returns-clause-touches
-returns-clause-touches c = λ o fit. stays_touches (hash_begin o) (cells_end o.hash) (hash_program o.hash o.act replies) (hash_stays o fit.0)
+returns-clause-touches c = λ o. stays_touches (hash_begin o) (cells_end o.hash) (hash_program o.hash o.act replies) (hash_stays o)
 
 pub returns-clause-one : goal.returns-clause-one
-returns-clause-one c = λ o fit. stays_one (hash_begin o) (cells_end o.hash) (hash_program o.hash o.act replies) (hash_stays o fit.0)
+returns-clause-one c = λ o. stays_one (hash_begin o) (cells_end o.hash) (hash_program o.hash o.act replies) (hash_stays o)

@@ -2,4 +2,4 @@ use Rattle.kc_runs.proofs.Formed.{run_formed}
 use Rattle.kc_runs.proofs.laws.runs_stay_well_formed.Goals as goal
 
 pub returns : goal.returns
-returns c script records order last lie sized on run = run_formed script records order last lie sized on run
+returns c script records order last lie on run = run_formed script records order last lie on run

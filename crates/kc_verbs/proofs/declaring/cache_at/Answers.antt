@@ -8,8 +8,8 @@ use Rattle.kc_verbs.proofs.declaring.cache_at.Goals as goal
 
 pub returns-then-at-buckets-gt-END-clause-gives : goal.returns-then-at-buckets-gt-END-clause-gives
 unfolding cache_at
-returns-then-at-buckets-gt-END-clause-gives c = sym (many_is _ _ _ _ (omega arith))
+returns-then-at-buckets-gt-END-clause-gives c = sym (few_is _ _ _ _ (omega arith) ∙ few_is _ _ _ _ (omega arith) ∙ many_is _ _ _ _ (omega arith))
 
 pub returns-clause-gives : goal.returns-clause-gives
 unfolding cache_at
-returns-clause-gives c = sym (few_is _ _ _ _ (omega arith) ∙ ap (λ (x : Cache). Ok (object.Cache x)) (cache_is c.layout.result c.args.at.0 c.args.buckets c.args.cap (ap (λ (l : Loc). l.0) c.layout.ensures.base) c.layout.ensures.buckets c.layout.ensures.cap))
+returns-clause-gives c = sym (few_is _ _ _ _ (omega arith) ∙ few_is _ _ _ _ (omega arith) ∙ few_is _ _ _ _ (omega arith) ∙ ap (λ (x : Cache). Ok (object.Cache x)) (cache_is c.layout.result c.args.at.0 c.args.buckets c.args.cap (omega arith) (omega arith) (omega arith) (ap (λ (l : Loc). l.0) c.layout.ensures.base) c.layout.ensures.buckets c.layout.ensures.cap))
