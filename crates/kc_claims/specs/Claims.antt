@@ -9,6 +9,7 @@ use Rattle.kc_model.specs.declared.word.Word.{Word}
 use Rattle.kc_model.specs.declared.word.Word.TheVariants.{Plain, Ref}
 use Rattle.kc_model.specs.declared.plain_store.Cell.{Cell}
 use Rattle.kc_model.specs.Footprint.{Puts}
+use Rattle.kc_model.specs.declared.footprint.TheConstants.{MOST}
 use Rattle.kc_words.specs.declared.words.TheConstants.{LAST_GENERATION}
 use Rattle.kc_words.specs.declared.words.Handle.{Handle}
 use Rattle.kc_words.specs.declared.words.Mode.{Mode}
@@ -216,8 +217,9 @@ steps k (suc n) = Step k ∷ steps k n
 abbrev pub alone : Opening → List Event → ℕ → ℕ → State
 alone o schedule k n = run o (schedule ++ steps k n)
 
-abbrev pub bound_alone : ℕ → ℕ
-bound_alone callers = (callers + 1) * (callers + 1) * 16384
+-- of so many callers, where a commit has at most so many lines
+abbrev pub bound_alone : (callers lines : ℕ) → ℕ
+bound_alone callers lines = (callers + 1) * (callers + 1) * (4 * lines * lines)
 
 abbrev pub HasFree : State → Type 0
 HasFree m = (d : ℕ) × (d < m.descriptors) × ((m.world.control d).holds ≡ 0) × ((m.world.control d).generation < LAST_GENERATION)
@@ -225,7 +227,7 @@ HasFree m = (d : ℕ) × (d < m.descriptors) × ((m.world.control d).holds ≡ 0
 -- in an honest schedule a seat that steps alone is told within a bound, where a descriptor can be taken
 abbrev pub AloneItIsTold : Opening → List Event → Type 0
 AloneItIsTold o schedule = IsHonest o schedule → (k : ℕ) → k < o.callers → is_idle ((run o schedule).seats k).work ≡ false → HasFree (run o schedule)
-    → (n : ℕ) × (n ≤ bound_alone o.callers) × (is_some ((alone o schedule k n).seats k).told ≡ true)
+    → (n : ℕ) × (n ≤ bound_alone o.callers MOST) × (is_some ((alone o schedule k n).seats k).told ≡ true)
 
 abbrev pub compares : Access → Bool
 compares (access.Location l (CompareExchange old new)) = true
