@@ -5,3 +5,7 @@ pub mod Lowest
 pub mod OwnFalls
 pub mod SeatFalls
 pub mod Stretches
+pub mod Tallies
+pub mod Rounds
+pub mod Covers
+pub mod Calms

@@ -19,10 +19,10 @@ use Rattle.kc_passes.specs.Passed.{gone_by_step}
 
 module _ (p : Pick) (m : Mode) (xs : List Line) where
   -- none of the lines from k to before n is picked
-  abbrev Skipped : ℕ → ℕ → Type 0
+  abbrev pub Skipped : ℕ → ℕ → Type 0
   Skipped k n = (i : ℕ) (x : Line) → k ≤ i → i < n → slice_get xs i ≡ Some x → picks p m x ≡ false
 
-  abbrev Next : ℕ → Option ℕ → Type 0
+  abbrev pub Next : ℕ → Option ℕ → Type 0
   Next k None = Skipped k 64
   Next k (Some j) = Skipped k j
 

@@ -1,3 +1,4 @@
+use Rattle.kc_alone.proofs.Calms.{aid_calm}
 use Rattle.kc_alone.proofs.Stretches.{all_end}
 use Rattle.kc_alone.proofs.laws.stretches_end.Goals as goal
 
