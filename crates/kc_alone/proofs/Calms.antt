@@ -33,7 +33,7 @@ use Rattle.kc_words.specs.declared.words.Phase.{Phase}
 use Rattle.kc_words.specs.declared.words.Phase.TheVariants.{Active, Crossed, Failed, Halted, Succeeded}
 use Rattle.kc_words.specs.declared.words.Reference.{Reference}
 use Rattle.kc_words.specs.declared.words.Status.{Status}
-use Rattle.std.proofs.Common.{Bool, List, None, Option, Some, ap, arith, false, if◌then◌else◌, inl, inr, length, not, refl, subst, sym, true, ℕ, ◌&&◌, ◌+◌, ◌<◌, ◌==◌, ◌∙◌, ◌≡◌, ◌≢◌, ◌⊎◌}
+use Rattle.std.proofs.Common.{Bool, List, None, Option, Some, [], ap, arith, false, if◌then◌else◌, inl, inr, length, not, refl, subst, sym, true, ℕ, ◌&&◌, ◌+◌, ◌<◌, ◌==◌, ◌∙◌, ◌≡◌, ◌≢◌, ◌⊎◌}
 use Rattle.std.specs.Prelude.{nat_lt, slice_get, ◌||◌}
 use borrow.Author.Tests.{eq-eqb, eqb-false, eqb-true, ltb-false, ltb-true}
 use Rattle.kc_words.specs.declared.access.Access.TheVariants as access
@@ -117,7 +117,7 @@ module _ (w : World) (fit : (l g d i : ℕ) → w.word l ≡ Ref g d i → IsLas
       owner = refl;
       first = refl;
       second = refl;
-      live = λ c g e. status_cases (λ z. z ≡ status g Active → w.status c ≡ status g Active) w h p c (λ a u. u) (λ a u. u) (λ a b u. absurd (ne (ap (λ (s : Status). s.phase) u))) e;
+      live = λ c g e. status_cases (λ z. z ≡ status g Active → w.status c ≡ status g Active) w h p c (λ a u. u) (λ a b u. u) (λ a b u. absurd (ne (ap (λ (s : Status). s.phase) u))) e;
       left = λ j e. left_word w v (all_of d) y f (w.word j) (λ g c i z s. go g c i j z s (c == d) refl) e;
       pending = λ i z e. at i (f == d) refl e;
     }
@@ -134,7 +134,7 @@ module _ (w : World) (fit : (l g d i : ℕ) → w.word l ≡ Ref g d i → IsLas
             let on = subst (λ x. next_cover d (from_release m xs 0 q) x i ≡ true) (sym a) (search_covers d m xs w h t 0 i q refl (subst (λ x. IsInstalledLine w x i) a (fit j g c i z).1) (omega arith)) in
             absurd (let b : true ≡ false = sym on ∙ s.open_to in cc)
         go g c i j z s false e = record {
-          decided = status_cases (λ x. is_active x.phase ≡ false → is_active (w.status c).phase ≡ false) w h p c (λ a u. u) (λ a u. u) (λ a b u. absurd (eqb-false c d e a)) s.decided;
+          decided = status_cases (λ x. is_active x.phase ≡ false → is_active (w.status c).phase ≡ false) w h p c (λ a u. u) (λ a b u. u) (λ a b u. absurd (eqb-false c d e a)) s.decided;
           foreign = s.foreign;
           open_to = e;
         }
@@ -143,7 +143,7 @@ module _ (w : World) (fit : (l g d i : ℕ) → w.word l ≡ Ref g d i → IsLas
         at i true e u = or_right _ _ (or_left _ _ e)
         at i false e u = status_cases (λ x. (is_active x.phase || (y f i || refers_line f i (w.word (place_of w f i)))) ≡ true → is_pending w (all_of d) f i ≡ true) w h p f
             (λ a. or_mono _ _ _ _ (λ z. z) (or_mono _ _ _ _ (λ z. (search_of d m xs 0 q f i z).0) (λ z. z)))
-            (λ a. or_mono _ _ _ _ (λ z. z) (or_mono _ _ _ _ (λ z. (search_of d m xs 0 q f i z).0) (λ z. z)))
+            (λ a b. or_mono _ _ _ _ (λ z. z) (or_mono _ _ _ _ (λ z. (search_of d m xs 0 q f i z).0) (λ z. z)))
             (λ a b. absurd (eqb-false f d e a)) u
 
     release_calm : (k : ℕ) (x : Line) (new : ℕ × ℕ) (p : Phase) → k < 64 → slice_get xs k ≡ Some x → Calm w (touched w (access.Location x.seen.loc (touch.CompareExchange (word_of h k) (Plain new.0 new.1)))) (from_on d k) (next_cover d (from_release m xs (after_line k) p)) f
@@ -376,9 +376,9 @@ module _ (w : World) (fit : (l g d i : ℕ) → w.word l ≡ Ref g d i → IsLas
     aid_calm (aid.First p) y t = covers_same w.control nothing
     aid_calm (aid.Second p x) y t = covers_same w.control nothing
     aid_calm (aid.Release p x) y t = frees p x
-    aid_calm aid.Owner y t = keeps _ (loads _)
+    aid_calm aid.Owner y t = keeps _ (loads (record a { owner = w.owner c; lines = record { items = [] } }))
     aid_calm aid.LoadFirst y t = keeps _ refl
-    aid_calm (aid.LoadSecond x) y t = keeps _ (loads _)
+    aid_calm (aid.LoadSecond x) y t = keeps _ (loads (aid_copy a (aid.LoadSecond x) (found.Second (w.second c (length a.lines.items)))))
     aid_calm (aid.Pass p) y t = passes p y (t refl)
     aid_calm (aid.Leave o) y t = leaves o (t refl)
     aid_calm (aid.Drop stray o) y t = covers_same _ nothing

@@ -4,8 +4,7 @@
 use Rattle.kc_alone.proofs.Left.{is_active}
 use Rattle.kc_alone.proofs.PassFalls.{next_from}
 use Rattle.kc_alone.proofs.Rounds.{Cover, is_left, nothing}
-use Rattle.kc_effects.proofs.Tests.{both, plain_same, status_active}
-use Rattle.kc_histories.proofs.Successes.{kept}
+use Rattle.kc_effects.proofs.Tests.{both, plain_same, status_active, status_other}
 use Rattle.kc_machine.proofs.Functions.{put_else, put_here}
 use Rattle.kc_machine.specs.Machine.{World, put, put_some, touched}
 use Rattle.kc_machine.specs.Words.{status_is, word_is}
@@ -98,6 +97,10 @@ or_mono a b c d f g e = go (or_cases a b e)
     go (inl q) = or_left c d (f q)
     go (inr q) = or_right c d (g q)
 
+pub or_false : (a : Bool) → (a || (false || false)) ≡ true → a ≡ true
+or_false true e = refl
+or_false false e = absurd (cc)
+
 -- ---- what is left
 
 pub record Lefts (w : World) (x : Cover) (f g d i : ℕ) : Type 0 where
@@ -148,11 +151,11 @@ cas_cases Q w l old new j else_ kept_so changed = go (word_is (w.word l.0) old) 
     go true e true q = let z = eqb-true j l.0 q in subst Q (sym (subst (λ x. put w.word x new j ≡ new) z (put_here w.word j new))) (changed z (ap w.word z ∙ word_equal (w.word l.0) old e))
     go true e false q = let z = eqb-false j l.0 q in subst Q (sym (put_else w.word l.0 new j z)) (else_ z)
 
-pub status_cases : (Q : Status → Type 0) (w : World) (h : Handle) (p : Phase) (j : ℕ) → (j ≢ h.descriptor → Q (w.status j)) → (j ≡ h.descriptor → Q (w.status j)) → (j ≡ h.descriptor → w.status j ≡ status h.generation Active → Q (status h.generation p)) → Q ((touched w (decide_access h p)).status j)
+pub status_cases : (Q : Status → Type 0) (w : World) (h : Handle) (p : Phase) (j : ℕ) → (j ≢ h.descriptor → Q (w.status j)) → (j ≡ h.descriptor → (w.status j ≡ status h.generation Active → ⊥) → Q (w.status j)) → (j ≡ h.descriptor → w.status j ≡ status h.generation Active → Q (status h.generation p)) → Q ((touched w (decide_access h p)).status j)
 status_cases Q w h p j else_ kept_so changed = go (status_is (w.status h.descriptor) (status h.generation Active)) refl (j == h.descriptor) refl
   where
     go : (b : Bool) → status_is (w.status h.descriptor) (status h.generation Active) ≡ b → (t : Bool) → (j == h.descriptor) ≡ t → Q (put_some w.status h.descriptor (if b then Some (status h.generation p) else None) j)
-    go false e true q = kept_so (eqb-true j h.descriptor q)
+    go false e true q = let z = eqb-true j h.descriptor q in kept_so z (λ r. status_other (w.status h.descriptor) h.generation e (ap w.status (sym z) ∙ r))
     go false e false q = else_ (eqb-false j h.descriptor q)
     go true e true q = let z = eqb-true j h.descriptor q in subst Q (sym (subst (λ x. put w.status x (status h.generation p) j ≡ status h.generation p) z (put_here w.status j (status h.generation p)))) (changed z (ap w.status z ∙ status_active (w.status h.descriptor) h.generation e))
     go true e false q = let z = eqb-false j h.descriptor q in subst Q (sym (put_else w.status h.descriptor (status h.generation p) j z)) (else_ z)

@@ -9,3 +9,5 @@ pub mod Tallies
 pub mod Rounds
 pub mod Covers
 pub mod Calms
+pub mod Chains
+pub mod Frees

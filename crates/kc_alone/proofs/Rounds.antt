@@ -98,7 +98,7 @@ pub record Calm (w v : World) (x y : Cover) (f : ℕ) : Type 0 where
   pub left : (l : ℕ) → is_left v y f (v.word l) ≡ true → is_left w x f (w.word l) ≡ true
   pub pending : (t : ℕ) → in_line w f t ≡ true → is_pending v y f t ≡ true → is_pending w x f t ≡ true
 
-live_still : (w v : World) (h : Hold) → ((d g : ℕ) → v.status d ≡ status g Active → w.status d ≡ status g Active) → is_live v h ≡ true → is_live w h ≡ true
+pub live_still : (w v : World) (h : Hold) → ((d g : ℕ) → v.status d ≡ status g Active → w.status d ≡ status g Active) → is_live v h ≡ true → is_live w h ≡ true
 live_still w v NoHold f e = absurd (cc)
 live_still w v (Proper d g) f e = rw (f d g (status_active (v.status d) g e)) (same_status g)
   where
@@ -113,14 +113,14 @@ module _ (w v : World) (x y : Cover) (f : ℕ) (c : Calm w v x y f) where
   same_place : (d t : ℕ) → place_of v d t ≡ place_of w d t
   same_place d t i = (c.second i d t).loc
 
-  lines_le : (d t : ℕ) → line_left v y f d t ≤ line_left w x f d t
+  pub lines_le : (d t : ℕ) → line_left v y f d t ≤ line_left w x f d t
   lines_le d t = cond_le _ _ (λ e.
       let b = both (in_line v d t) (is_left v y f (v.word (place_of v d t))) e in
       let a : in_line w d t ≡ true = sym (same_line_in d t) ∙ b.0 in
       let z : is_left w x f (w.word (place_of w d t)) ≡ true = c.left (place_of w d t) (ap (λ l. is_left v y f (v.word l)) (sym (same_place d t)) ∙ b.1) in
       rw (a, z) refl)
 
-  life_le : (h : Hold) → life_left v y f h ≤ life_left w x f h
+  pub life_le : (h : Hold) → life_left v y f h ≤ life_left w x f h
   life_le NoHold = omega arith
   life_le (Proper d g) = go (is_live v (Proper d g)) (is_live w (Proper d g)) (live_still w v (Proper d g) c.live)
     where
@@ -137,7 +137,7 @@ module _ (w v : World) (x y : Cover) (f : ℕ) (c : Calm w v x y f) where
       let r = cond_le p q h in
       omega arith
 
-  own_le : (k t : ℕ) → own_line_left v y f k t ≤ own_line_left w x f k t
+  pub own_le : (k t : ℕ) → own_line_left v y f k t ≤ own_line_left w x f k t
   own_le k t = go (in_line v f t) (in_line w f t) refl refl (same_line_in f t)
     where
       go : (a b : Bool) → in_line v f t ≡ a → in_line w f t ≡ b → a ≡ b → cond a (weight (not (nat_lt t k)) (is_left v y f (v.word (place_of v f t))) (is_pending v y f t)) 0 ≤ cond b (weight (not (nat_lt t k)) (is_left w x f (w.word (place_of w f t))) (is_pending w x f t)) 0

@@ -32,6 +32,15 @@ cond_le true true h = omega arith
 cond_le true false h = let q = h refl in absurd (cc)
 cond_le false c h = omega arith
 
+pub cond_one : (b : Bool) → b ≡ true → 1 ≤ cond b 1 0
+cond_one true e = omega arith
+cond_one false e = absurd (cc)
+
+pub cond_lt : (b c : Bool) → (b ≡ true → ⊥) → c ≡ true → cond b 1 0 < cond c 1 0
+cond_lt true c f e = absurd (f refl)
+cond_lt false true f e = omega arith
+cond_lt false false f e = absurd (cc)
+
 pub cond_most : (b : Bool) → cond b 1 0 ≤ 1
 cond_most true = omega arith
 cond_most false = omega arith
