@@ -11,3 +11,6 @@ pub mod Covers
 pub mod Calms
 pub mod Chains
 pub mod Frees
+pub mod Modes
+pub mod ModeSteps
+pub mod StanceSteps

@@ -1,6 +1,4 @@
-use Rattle.kc_alone.proofs.Calms.{aid_calm}
-use Rattle.kc_alone.proofs.Chains.{chain_most}
-use Rattle.kc_alone.proofs.Frees.{lives_fall}
+use Rattle.kc_alone.proofs.StanceSteps.{loose_step}
 use Rattle.kc_alone.proofs.Stretches.{all_end}
 use Rattle.kc_alone.proofs.laws.stretches_end.Goals as goal
 
