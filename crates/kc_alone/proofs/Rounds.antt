@@ -106,6 +106,32 @@ live_still w v (Proper d g) f e = rw (f d g (status_active (v.status d) g e)) (s
     same_status g = rw (eq-eqb g g refl) refl
 live_still w v (Stray d g) f e = absurd (cc)
 
+-- what is left of a life, where only what the step leaves in words is known
+module _ (w v : World) (x y : Cover) (f : ℕ) (owner : v.owner ≡ w.owner) (first : v.first ≡ w.first) (second : v.second ≡ w.second) (live : (d g : ℕ) → v.status d ≡ status g Active → w.status d ≡ status g Active)
+    (left : (l : ℕ) → is_left v y f (v.word l) ≡ true → is_left w x f (w.word l) ≡ true) where
+  line_in_by : (d t : ℕ) → in_line v d t ≡ in_line w d t
+  line_in_by d t i = nat_lt t (owner i d).lines && is_installed (owner i d).mode (joined (first i d t) (second i d t))
+
+  place_by : (d t : ℕ) → place_of v d t ≡ place_of w d t
+  place_by d t i = (second i d t).loc
+
+  pub lines_by : (d t : ℕ) → line_left v y f d t ≤ line_left w x f d t
+  lines_by d t = cond_le _ _ (λ e.
+      let b = both (in_line v d t) (is_left v y f (v.word (place_of v d t))) e in
+      let a : in_line w d t ≡ true = sym (line_in_by d t) ∙ b.0 in
+      let z : is_left w x f (w.word (place_of w d t)) ≡ true = left (place_of w d t) (ap (λ l. is_left v y f (v.word l)) (sym (place_by d t)) ∙ b.1) in
+      rw (a, z) refl)
+
+  pub life_by : (h : Hold) → life_left v y f h ≤ life_left w x f h
+  life_by NoHold = omega arith
+  life_by (Proper d g) = go (is_live v (Proper d g)) (is_live w (Proper d g)) (live_still w v (Proper d g) live)
+    where
+      go : (a b : Bool) → (a ≡ true → b ≡ true) → cond a (total (line_left v y f d) 64) 0 ≤ cond b (total (line_left w x f d) 64) 0
+      go true true h = total_le (line_left v y f d) (line_left w x f d) 64 (λ t l. lines_by d t)
+      go true false h = let q = h refl in absurd (cc)
+      go false b h = omega arith
+  life_by (Stray d g) = omega arith
+
 module _ (w v : World) (x y : Cover) (f : ℕ) (c : Calm w v x y f) where
   same_line_in : (d t : ℕ) → in_line v d t ≡ in_line w d t
   same_line_in d t i = nat_lt t (c.owner i d).lines && is_installed (c.owner i d).mode (joined (c.first i d t) (c.second i d t))
@@ -114,21 +140,10 @@ module _ (w v : World) (x y : Cover) (f : ℕ) (c : Calm w v x y f) where
   same_place d t i = (c.second i d t).loc
 
   pub lines_le : (d t : ℕ) → line_left v y f d t ≤ line_left w x f d t
-  lines_le d t = cond_le _ _ (λ e.
-      let b = both (in_line v d t) (is_left v y f (v.word (place_of v d t))) e in
-      let a : in_line w d t ≡ true = sym (same_line_in d t) ∙ b.0 in
-      let z : is_left w x f (w.word (place_of w d t)) ≡ true = c.left (place_of w d t) (ap (λ l. is_left v y f (v.word l)) (sym (same_place d t)) ∙ b.1) in
-      rw (a, z) refl)
+  lines_le d t = lines_by w v x y f c.owner c.first c.second c.live c.left d t
 
   pub life_le : (h : Hold) → life_left v y f h ≤ life_left w x f h
-  life_le NoHold = omega arith
-  life_le (Proper d g) = go (is_live v (Proper d g)) (is_live w (Proper d g)) (live_still w v (Proper d g) c.live)
-    where
-      go : (a b : Bool) → (a ≡ true → b ≡ true) → cond a (total (line_left v y f d) 64) 0 ≤ cond b (total (line_left w x f d) 64) 0
-      go true true h = total_le (line_left v y f d) (line_left w x f d) 64 (λ t l. lines_le d t)
-      go true false h = let q = h refl in absurd (cc)
-      go false b h = omega arith
-  life_le (Stray d g) = omega arith
+  life_le h = life_by w v x y f c.owner c.first c.second c.live c.left h
 
   pub weight_le : (a b l m p q : Bool) → (a ≡ true → b ≡ true) → (l ≡ true → m ≡ true) → (p ≡ true → q ≡ true) → weight a l p ≤ weight b m q
   weight_le a b l m p q f g h =

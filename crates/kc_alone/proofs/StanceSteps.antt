@@ -2,29 +2,28 @@
 -- @from Rattle.kc_alone.proofs.Modes loose chained freeing leaving leads links
 -- @from Rattle.kc_alone.proofs.ModeSteps goes meets
 use Rattle.kc_alone.proofs.Calms.{aid_calm, aid_next_cover, goes_on}
-use Rattle.kc_alone.proofs.Chains.{chain_most, in_line_is}
-use Rattle.kc_alone.proofs.Covers.{aid_cover, is_left_of, word_unequal}
-use Rattle.kc_alone.proofs.Frees.{freed, life_frees, ref_frees}
+use Rattle.kc_alone.proofs.Chains.{chain_installs, chain_most, chain_shorter, in_line_is}
+use Rattle.kc_alone.proofs.Covers.{aid_cover, cas_cases, is_left_of, word_unequal}
+use Rattle.kc_alone.proofs.Frees.{freed, life_frees, lives_fall, ref_frees}
 use Rattle.kc_alone.proofs.Left.{aid_left, is_active, is_last}
-use Rattle.kc_alone.proofs.ModeSteps.{GoesBefore, InstallEnds, asks_on, checks_on, drops_on, goes, holds_on, installs_to, meets, reads_on, release_out, release_spare}
-use Rattle.kc_alone.proofs.Modes.{Behind, Frees, Ground, IsLive, Linked, Stance, StanceGoes, Stands, all_paid, chain_one, each, freeing, goes_to, is_before, is_out, is_single, leads, leaving, links, lives_paid, loose, paid, paid_calm, price_round, spare}
-use Rattle.kc_alone.proofs.Rounds.{chain, in_line, is_left, lives, nothing, place_of, rounds}
+use Rattle.kc_alone.proofs.ModeSteps.{GoesBefore, InstallEnds, asks_on, checks_on, drops_on, goes, holds_on, install_before, installs_to, meets, reads_on, release_out, release_spare}
+use Rattle.kc_alone.proofs.Modes.{Behind, Frees, Ground, IsLive, Linked, Stance, StanceGoes, Stands, all_paid, all_stand, chain_one, chained, each, freeing, goes_to, is_before, is_early, is_out, is_single, leads, leaving, links, lives_paid, loose, paid, paid_calm, price_life, price_round, spare}
+use Rattle.kc_alone.proofs.Rounds.{chain, in_line, is_left, lives, nothing, place_of, refers_line, rounds, rounds_le}
 use Rattle.kc_claims.proofs.ByPlace.{low}
 use Rattle.kc_effects.proofs.Tests.{some_line}
 use Rattle.kc_effects.specs.Holds.{Hold, Proper}
 use Rattle.kc_machine.specs.Machine.{World, found_at, put_some, touched}
 use Rattle.kc_machine.specs.Words.{gripped, word_is}
-use Rattle.kc_model.specs.Store.{stands}
 use Rattle.kc_model.specs.declared.word.Word.{Word}
 use Rattle.kc_model.specs.declared.word.Word.TheVariants.{Plain, Ref}
 use Rattle.kc_passes.proofs.Targets.{Target}
 use Rattle.kc_passes.specs.Lines.{IsInstalledLine, IsLastLife}
 use Rattle.kc_passes.specs.Phases.{StepKnows}
 use Rattle.kc_pool.specs.Started.{line_of_words}
-use Rattle.kc_seats.specs.Fits.{AidFits, IsInstalledAt}
+use Rattle.kc_seats.specs.Fits.{AidFits, IsCheckedAt, IsInstalledAt}
 use Rattle.kc_steps.specs.Aids.{after_pass, aid_access, aid_copy, aid_next, drop_or_release, load_next, owner_or_first}
 use Rattle.kc_steps.specs.Lines.{after_line, first_of, is_installed, resolved_value, resolved_version, second_of, word_of}
-use Rattle.kc_steps.specs.Passes.{decided_as, from_install, from_release, install_access, install_next, pass_access, pass_next}
+use Rattle.kc_steps.specs.Passes.{check_access, decide_access, decided_as, from_install, from_release, install_access, install_next, pass_access, pass_next, refers_to}
 use Rattle.kc_steps.specs.declared.aid.AidNext.{AidNext}
 use Rattle.kc_steps.specs.declared.aid.AidStep.{AidStep}
 use Rattle.kc_steps.specs.declared.aid.Aided.{Aided}
@@ -37,7 +36,7 @@ use Rattle.kc_words.specs.declared.words.Phase.{Phase}
 use Rattle.kc_words.specs.declared.words.Phase.TheVariants.{Active, Crossed, Failed, Halted, Succeeded}
 use Rattle.kc_words.specs.declared.words.Reference.{Reference}
 use Rattle.kc_words.specs.declared.words.Status.{Status}
-use Rattle.std.proofs.Common.{Bool, None, Option, Some, [], ap, arith, false, if◌then◌else◌, inl, inr, length, refl, subst, sym, true, ℕ, ◌*◌, ◌+◌, ◌-◌, ◌<◌, ◌==◌, ◌∙◌, ◌≡◌, ◌≤◌, ◌⊎◌}
+use Rattle.std.proofs.Common.{Bool, None, Option, Some, [], ap, arith, false, if◌then◌else◌, inl, inr, length, refl, subst, sym, true, ℕ, ◌&&◌, ◌*◌, ◌+◌, ◌-◌, ◌<◌, ◌==◌, ◌∙◌, ◌≡◌, ◌≤◌, ◌⊎◌}
 use Rattle.std.proofs.lemmas.Option.{slice_get_within}
 use Rattle.std.specs.Prelude.{nat_lt, slice_get}
 use borrow.Author.Tests.{eq-eqb, eqb-true}
@@ -339,3 +338,135 @@ module _ (n : ℕ) (at : ℕ → Hold) (f : ℕ) (w : World) (ground : Ground n 
           → (t : ℕ) × (paid n at f w nothing k ≤ t + each n at f) × (t + 6 < old + 385)
       off (inl u) d = (old, omega (arith, u), omega arith)
       off (inr u) d = let y = u.1 in let p = y.pays in let s = y.shorter in (old + 378, omega (arith, p, s), omega arith)
+
+  -- ---- a chain
+
+  course_line : (j : ℕ) (x : Line) → Course → slice_get a.lines.items j ≡ Some x → j < 64 → is_installed a.owner.mode x ≡ true → in_line w c j ≡ true
+  course_line j x t e low y =
+      let l = slice_get_within a.lines.items j x e in
+      let m = t.lines in
+      in_line_is w c j (omega (arith, l, m), low, subst (λ b. is_installed b (line_of_words w c j) ≡ true) (sym t.says) (subst (λ b. is_installed a.owner.mode b ≡ true) (sym (t.line j x e)) y))
+
+  record Keeps (v : World) (l : ℕ) : Type 0 where
+    stands : Stands n at f v l r
+    live : IsLive n at f v r
+    chain_on : chain n at v l ≤ chain n at w l
+
+  install_keeps : (j l : ℕ) → IsInstalledAt a.owner.mode a.lines.items j → Stands n at f w l r → IsLive n at f w r → Keeps (V (aid.Pass (Install j))) l
+  install_keeps j l y s live = subst (λ o. Keeps (touched w (install_access r.handle j o)) l) (sym y.1) (record {
+    stands = cas_cases (λ z. z ≡ word_of r.handle r.line) w y.0.seen.loc (Plain y.0.seen.version y.0.seen.value) (word_of r.handle j) l (λ b. s) (λ b d. s) (λ b d. let z : Plain y.0.seen.version y.0.seen.value ≡ word_of r.handle r.line = sym d ∙ s in absurd (cc));
+    live = live;
+    chain_on = chain_installs n at w l r.handle j y.0.seen.loc (Plain y.0.seen.version y.0.seen.value) y.3 (all_stand n at f w ground l r s live);
+  })
+
+  -- a reference that an aid meets isn't its own line's
+  met_other : (j p : ℕ) (q : Reference) → Stands n at f w p q → IsLive n at f w r → refers_to r.handle j q ≡ false → (w.control c).generation ≡ r.handle.generation → refers_line c j (w.word p) ≡ false
+  met_other j p q s live h g = ap (refers_line c j) s ∙ by (q.handle.descriptor == c) refl (q.line == j) refl
+    where
+      z : IsLastLife w q.handle.descriptor q.handle.generation × IsInstalledLine w q.handle.descriptor q.line × ((w.second q.handle.descriptor q.line).loc ≡ p)
+      z = ground.fit p q.handle.generation q.handle.descriptor q.line s
+
+      by : (x : Bool) → (q.handle.descriptor == c) ≡ x → (y : Bool) → (q.line == j) ≡ y → (x && y) ≡ false
+      by false e y u = refl
+      by true e false u = refl
+      by true e true u =
+          let same = eqb-true q.handle.descriptor c e in
+          let life : q.handle.generation ≡ r.handle.generation = sym z.0.0 ∙ ap (λ d. (w.control d).generation) same ∙ g in
+          let yes : refers_to r.handle j q ≡ true = rw (e, eq-eqb q.handle.generation r.handle.generation life, u) refl in
+          let no : true ≡ false = sym yes ∙ h in
+          absurd (cc)
+
+  chained_installs : (j old l : ℕ) → IsInstalledAt a.owner.mode a.lines.items j → Course → Stands n at f w l r → IsLive n at f w r → All w (aid.Pass (Install j)) + 197 * chain n at w l ≤ old + (each n at f + 575) → R (aid.Pass (Install j)) old
+  chained_installs j old l y t s live m = go (installs_to w r.handle a.owner.mode a.lines.items j y) (paid_on (aid.Pass (Install j)) y (λ e. t))
+    where
+      v : World
+      v = V (aid.Pass (Install j))
+
+      keeps : Keeps v l
+      keeps = install_keeps j l y s live
+
+      x : PassNext
+      x = install_next r.handle a.owner.mode a.lines.items j (found_at w (install_access r.handle j (slice_get a.lines.items j)))
+
+      go : InstallEnds w v r.handle a.lines.items j x → NextPaid v (aiding.Goes (after_pass x)) ≤ All w (aid.Pass (Install j)) → Stance n at f v k r (after_pass x) old
+      go (goes q e b) p = subst (λ z. Stance n at f v k r (after_pass z) old) (sym e)
+          (chained l keeps.stands keeps.live b (let z = subst (λ z. NextPaid v (aiding.Goes (after_pass z)) ≤ All w (aid.Pass (Install j))) e p in let u = keeps.chain_on in omega (arith, m, z, u)))
+      go (meets q g e u is stood h) p =
+          let z = subst (λ z. NextPaid v (aiding.Goes (after_pass z)) ≤ All w (aid.Pass (Install j))) e p in
+          let z' : All w (aid.Leave (Some q)) ≤ All w (aid.Pass (Install j)) = subst (λ b. All b (aid.Leave (Some q)) ≤ All w (aid.Pass (Install j))) u z in
+          let same = some_line (slice_get a.lines.items j) y.0 g y.1 is in
+          let mode : is_installed a.owner.mode g ≡ true = subst (λ b. is_installed a.owner.mode b ≡ true) same y.2 in
+          let o = ground.owners c r.handle.generation live in
+          let line = course_line j g t is y.3 mode in
+          let none = met_other j g.seen.loc.0 q stood live h t.control in
+          let short = chain_shorter n at w l g.seen.loc.0 c r.handle.generation j o.0 o.1 o.2 live (all_stand n at f w ground l r s live) y.3 line (ap (λ (b : Line). b.seen.loc.0) (t.line j g is)) none in
+          subst (λ z. Stance n at f v k r (after_pass z) old) (sym e) (subst (λ b. Stance n at f b k r (aid.Leave (Some q)) old) (sym u)
+          (leads q refl (record {
+            place = g.seen.loc.0;
+            stands = stood;
+            live = λ e. absurd (cc);
+            frees = linked_at j q g old t is y.3 mode stood;
+            pays = inr (live, record { place = l; stands = s; shorter = short; pays = omega (arith, m, z') });
+          })))
+
+  check_keeps : (j l : ℕ) → IsCheckedAt a.owner.mode a.lines.items j → Stands n at f w l r → IsLive n at f w r → Keeps (V (aid.Pass (Check j))) l
+  check_keeps j l y s live = subst (λ o. Keeps (touched w (check_access o)) l) (sym y.1) (record { stands = s; live = live; chain_on = omega arith })
+
+  chained_on : (p : PassStep) (old l : ℕ) → Keeps (V (aid.Pass p)) l → All w (aid.Pass p) + 197 * chain n at w l ≤ old + (each n at f + 575)
+      → (q : PassStep) → is_before q ≡ true → All (V (aid.Pass p)) (aid.Pass q) ≤ All w (aid.Pass p) → Stance n at f (V (aid.Pass p)) k r (aid.Pass q) old
+  chained_on p old l keeps m q b z = chained l keeps.stands keeps.live b (let u = keeps.chain_on in omega (arith, m, z, u))
+
+  chained_passes : (p : PassStep) (old l : ℕ) → AidFits false a (aid.Pass p) → Course → Stands n at f w l r → IsLive n at f w r → is_before p ≡ true → All w (aid.Pass p) + 197 * chain n at w l ≤ old + (each n at f + 575) → R (aid.Pass p) old
+  chained_passes (Install j) old l y t s live e m = chained_installs j old l y t s live m
+  chained_passes (Check j) old l y t s live e m = goes_before (Check j) old (checks_on w r.handle a.owner.mode a.lines.items j) (paid_on (aid.Pass (Check j)) y (λ e. t)) (chained_on (Check j) old l (check_keeps j l y s live) m)
+  chained_passes (CheckHold j q) old l y t s live e m = goes_before (CheckHold j q) old (holds_on w r.handle a.owner.mode a.lines.items j q) (paid_on (aid.Pass (CheckHold j q)) y (λ e. t)) (chained_on (CheckHold j q) old l (record { stands = s; live = live; chain_on = omega arith }) m)
+  chained_passes (CheckStatus j q) old l y t s live e m = goes_before (CheckStatus j q) old (asks_on w r.handle a.owner.mode a.lines.items j q) (paid_on (aid.Pass (CheckStatus j q)) y (λ e. t)) (chained_on (CheckStatus j q) old l (record { stands = s; live = live; chain_on = omega arith }) m)
+  chained_passes (CheckFirst j q x) old l y t s live e m = goes_before (CheckFirst j q x) old (reads_on w r.handle a.owner.mode a.lines.items j q x) (paid_on (aid.Pass (CheckFirst j q x)) y (λ e. t)) (chained_on (CheckFirst j q x) old l (record { stands = s; live = live; chain_on = omega arith }) m)
+  chained_passes (CheckDrop j q stray x) old l y t s live e m = goes_before (CheckDrop j q stray x) old (drops_on w r.handle a.owner.mode a.lines.items j q stray x y.1) (paid_on (aid.Pass (CheckDrop j q stray x)) y (λ e. t)) (chained_on (CheckDrop j q stray x) old l (record { stands = s; live = live; chain_on = omega arith }) m)
+  chained_passes (Decide x) old l y t s live e m =
+      let calm = aid_calm w ground.fit f false r a (aid.Pass (Decide x)) y (λ e. t) in
+      let v = touched w (decide_access r.handle x) in
+      let o = ground.owners c r.handle.generation live in
+      let fall = lives_fall n at w r.handle x y.0 o.0 o.1 o.2 live in
+      let less = rounds_le w v (aid_cover c (aid.Pass (Decide x))) (aid_cover c (after_pass (from_release a.owner.mode a.lines.items 0 (decided_as x (w.status c).phase)))) f calm n at k in
+      let p = price_life (each n at f) _ _ _ _ less fall in
+      let b = chain_one n at f w ground l r s live in
+      leaving (release_out a.owner.mode a.lines.items 0 (decided_as x (w.status c).phase)) (omega (arith, m, p, b))
+  chained_passes (Release j x) old l y t s live e m = absurd (cc)
+
+  chained_loads : (s : AidStep) (b : Aided) (old l : ℕ) → Stands n at f w l r → IsLive n at f w r → All w s + 197 * chain n at w l ≤ old + (each n at f + 575) → All w (load_next b) ≤ All w s → Stance n at f w k r (load_next b) old
+  chained_loads s b old l st live m = go (nat_lt (length b.lines.items) b.owner.lines)
+    where
+      go : (t : Bool) → All w (if t then aid.LoadFirst else aid.Pass (from_install b.owner.mode b.lines.items 0)) ≤ All w s → Stance n at f w k r (if t then aid.LoadFirst else aid.Pass (from_install b.owner.mode b.lines.items 0)) old
+      go true p = chained l st live refl (omega (arith, m, p))
+      go false p = chained l st live (install_before b.owner.mode b.lines.items 0) (omega (arith, m, p))
+
+  pub chained_step : (s : AidStep) (old l : ℕ) → AidFits false a s → (goes_on w ground.fit f s ≡ true → Course) → Stands n at f w l r → IsLive n at f w r → is_early s ≡ true → All w s + 197 * chain n at w l ≤ old + (each n at f + 575) → R s old
+  chained_step aid.Hold old l y t s live e m = rw (last_life l s) (chained l s live refl m)
+  chained_step aid.Status old l y t s live e m = go (w.status c).phase (ap (λ (s : Status). s.phase) live) (paid_on aid.Status y t)
+    where
+      go : (p : Phase) → p ≡ Active → All w (owner_or_first p) ≤ All w aid.Status → Stance n at f w k r (owner_or_first p) old
+      go Active q z = chained l s live refl (omega (arith, m, z))
+      go Succeeded q z = absurd (cc)
+      go (Failed j) q z = absurd (cc)
+      go (Crossed j) q z = absurd (cc)
+      go Halted q z = absurd (cc)
+  chained_step (aid.First x) old l y t s live e m = absurd (cc)
+  chained_step (aid.Second x g) old l y t s live e m = absurd (cc)
+  chained_step (aid.Release x g) old l y t s live e m = absurd (cc)
+  chained_step aid.Owner old l y t s live e m = chained_loads aid.Owner (record a { owner = w.owner c; lines = record { items = [] } }) old l s live m (paid_on aid.Owner y t)
+  chained_step aid.LoadFirst old l y t s live e m = let p = paid_on aid.LoadFirst y t in chained l s live refl (omega (arith, m, p))
+  chained_step (aid.LoadSecond g) old l y t s live e m = chained_loads (aid.LoadSecond g) (aid_copy a (aid.LoadSecond g) (found.Second (w.second c (length a.lines.items)))) old l s live m (paid_on (aid.LoadSecond g) y t)
+  chained_step (aid.Pass x) old l y t s live e m = chained_passes x old l y (t refl) s live e m
+  chained_step (aid.Leave o) old l y t s live e m = absurd (cc)
+  chained_step (aid.Drop stray o) old l y t s live e m = absurd (cc)
+
+  -- ---- all of them
+
+  pub stance_step : (s : AidStep) (old : ℕ) → AidFits false a s → (goes_on w ground.fit f s ≡ true → Course) → StepKnows w r s → Stance n at f w k r s old → R s old
+  stance_step s old y t g (chained l st live e m) = chained_step s old l y t st live e m
+  stance_step s old y t g (freeing l st d h e m) = freeing_step s old l g st d h e m
+  stance_step s old y t g (leaving e m) = leaving_step s old y t e m
+  stance_step s old y t g (leads q e x) = subst (λ s. (goes_on w ground.fit f s ≡ true → Course) → Linked n at f w k r s q old → R s old) (sym e) (λ t x. leads_step q old (t refl) x) t x
+  stance_step s old y t g (links q e x) = subst (λ s. Linked n at f w k r s q old → R s old) (sym e) (λ x. links_step q old x) x
+  stance_step s old y t g (loose m) = loose_step s old y t m
