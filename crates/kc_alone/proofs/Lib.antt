@@ -14,3 +14,4 @@ pub mod Frees
 pub mod Modes
 pub mod ModeSteps
 pub mod StanceSteps
+pub mod OwnInstalls

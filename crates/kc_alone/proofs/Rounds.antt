@@ -132,6 +132,13 @@ module _ (w v : World) (x y : Cover) (f : ℕ) (owner : v.owner ≡ w.owner) (fi
       go false b h = omega arith
   life_by (Stray d g) = omega arith
 
+pub weight_le : (a b l m p q : Bool) → (a ≡ true → b ≡ true) → (l ≡ true → m ≡ true) → (p ≡ true → q ≡ true) → weight a l p ≤ weight b m q
+weight_le a b l m p q f g h =
+    let u = cond_le a b f in
+    let z = cond_le (a && l) (b && m) (λ e. let s = both a l e in let t = f s.0 in let r = g s.1 in rw (t, r) refl) in
+    let r = cond_le p q h in
+    omega arith
+
 module _ (w v : World) (x y : Cover) (f : ℕ) (c : Calm w v x y f) where
   same_line_in : (d t : ℕ) → in_line v d t ≡ in_line w d t
   same_line_in d t i = nat_lt t (c.owner i d).lines && is_installed (c.owner i d).mode (joined (c.first i d t) (c.second i d t))
@@ -144,13 +151,6 @@ module _ (w v : World) (x y : Cover) (f : ℕ) (c : Calm w v x y f) where
 
   pub life_le : (h : Hold) → life_left v y f h ≤ life_left w x f h
   life_le h = life_by w v x y f c.owner c.first c.second c.live c.left h
-
-  pub weight_le : (a b l m p q : Bool) → (a ≡ true → b ≡ true) → (l ≡ true → m ≡ true) → (p ≡ true → q ≡ true) → weight a l p ≤ weight b m q
-  weight_le a b l m p q f g h =
-      let u = cond_le a b f in
-      let z = cond_le (a && l) (b && m) (λ e. let s = both a l e in let t = f s.0 in let r = g s.1 in rw (t, r) refl) in
-      let r = cond_le p q h in
-      omega arith
 
   pub own_le : (k t : ℕ) → own_line_left v y f k t ≤ own_line_left w x f k t
   own_le k t = go (in_line v f t) (in_line w f t) refl refl (same_line_in f t)

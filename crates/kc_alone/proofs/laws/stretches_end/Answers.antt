@@ -1,4 +1,5 @@
-use Rattle.kc_alone.proofs.StanceSteps.{loose_step}
+use Rattle.kc_alone.proofs.StanceSteps.{stance_step}
+use Rattle.kc_alone.proofs.OwnInstalls.{own_installs}
 use Rattle.kc_alone.proofs.Stretches.{all_end}
 use Rattle.kc_alone.proofs.laws.stretches_end.Goals as goal
 
