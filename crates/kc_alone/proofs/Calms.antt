@@ -52,6 +52,12 @@ false_of false b f e = refl
 turned : (a b : ℕ) → (a == b) ≡ true → (b == a) ≡ true
 turned a b e = eq-eqb b a (sym (eqb-true a b e))
 
+-- its pass runs, or has ended without its releases
+abbrev pub goes_or_leaves : AidStep → Bool
+goes_or_leaves (aid.Pass p) = true
+goes_or_leaves (aid.Leave o) = true
+goes_or_leaves _ = false
+
 module _ (w : World) (fit : (l g d i : ℕ) → w.word l ≡ Ref g d i → IsLastLife w d g × IsInstalledLine w d i × ((w.second d i).loc ≡ l)) (f : ℕ) where
   -- the words and the statuses stay
   pub covers_more : (c : ℕ → Control) (x y : Cover) → ((g d i l : ℕ) → w.word l ≡ Ref g d i → is_active (w.status d).phase ≡ false → x d i ≡ true → y d i ≡ true) → ((i : ℕ) → y f i ≡ true → is_active (w.status f).phase || x f i ≡ true) → Calm w (record w { control = c }) x y f
@@ -289,12 +295,6 @@ module _ (w : World) (fit : (l g d i : ℕ) → w.word l ≡ Ref g d i → IsLas
   aid_next_cover c (aiding.Goes s) = aid_cover c s
   aid_next_cover c (aiding.Back o) = nothing
 
-  -- its pass runs, or has ended without its releases
-  abbrev pub goes_on : AidStep → Bool
-  goes_on (aid.Pass p) = true
-  goes_on (aid.Leave o) = true
-  goes_on _ = false
-
   module _ (halted : Bool) (r : Reference) (a : Aided) where
     abbrev c : ℕ
     c = r.handle.descriptor
@@ -366,7 +366,7 @@ module _ (w : World) (fit : (l g d i : ℕ) → w.word l ≡ Ref g d i → IsLas
     passes : (p : PassStep) → StepFits halted checked.Leave a.owner.mode a.lines.items p → Target w r.handle a.owner.mode a.lines.items → AidCalms (aid.Pass p)
     passes p y t = subst (λ z. Calm w (touched w (pass_access r.handle a.lines.items p)) (pass_cover c p) z f) (sym (after_cover (pass_next r.handle a.owner.mode a.lines.items p (found_at w (pass_access r.handle a.lines.items p))))) (pass_calm r.handle a.owner.mode a.lines.items t halted checked.Leave p y)
 
-    pub aid_calm : (step : AidStep) → AidFits halted a step → (goes_on step ≡ true → Target w r.handle a.owner.mode a.lines.items) → AidCalms step
+    pub aid_calm : (step : AidStep) → AidFits halted a step → (goes_or_leaves step ≡ true → Target w r.handle a.owner.mode a.lines.items) → AidCalms step
     aid_calm aid.Hold y t = go (is_last w r.handle)
       where
         go : (b : Bool) → Calm w (touched w (access.Control c grip.Add)) nothing (aid_cover c (if b then aid.Status else aid.Drop true None)) f

@@ -15,3 +15,5 @@ pub mod Modes
 pub mod ModeSteps
 pub mod StanceSteps
 pub mod OwnInstalls
+pub mod Ranks
+pub mod Told

@@ -1,7 +1,7 @@
 -- The steps of an aid alone, by how it stands.
 -- @from Rattle.kc_alone.proofs.Modes loose chained freeing leaving leads links
 -- @from Rattle.kc_alone.proofs.ModeSteps goes meets
-use Rattle.kc_alone.proofs.Calms.{aid_calm, aid_next_cover, goes_on}
+use Rattle.kc_alone.proofs.Calms.{aid_calm, aid_next_cover, goes_or_leaves}
 use Rattle.kc_alone.proofs.Chains.{chain_installs, chain_most, chain_shorter, in_line_is}
 use Rattle.kc_alone.proofs.Covers.{aid_cover, cas_cases, is_left_of, word_unequal}
 use Rattle.kc_alone.proofs.Frees.{freed, life_frees, lives_fall, ref_frees}
@@ -52,7 +52,7 @@ phase_is_active (Failed j) e = absurd (cc)
 phase_is_active (Crossed j) e = absurd (cc)
 phase_is_active Halted e = absurd (cc)
 
-hold_most : (w : World) (r : Reference) (a : Aided) → aid_left w r a aid.Hold ≤ 581
+pub hold_most : (w : World) (r : Reference) (a : Aided) → aid_left w r a aid.Hold ≤ 581
 hold_most w r a = go (is_active (w.status r.handle.descriptor).phase)
   where
     go : (b : Bool) → (if b then 581 else 6) ≤ 581
@@ -92,7 +92,7 @@ module _ (n : ℕ) (at : ℕ → Hold) (f : ℕ) (w : World) (ground : Ground n 
   abbrev pub NextPaid : World → AidNext → ℕ
   NextPaid v x = paid n at f v (aid_next_cover w ground.fit f c x) k
 
-  paid_on : (s : AidStep) → AidFits false a s → (goes_on w ground.fit f s ≡ true → Course) → NextPaid (V s) (N s) ≤ All w s
+  paid_on : (s : AidStep) → AidFits false a s → (goes_or_leaves s ≡ true → Course) → NextPaid (V s) (N s) ≤ All w s
   paid_on s y t = paid_calm n at f w (V s) (aid_cover c s) (aid_next_cover w ground.fit f c (N s)) k (aid_calm w ground.fit f false r a s y t)
 
   -- ---- what is of no use
@@ -180,7 +180,7 @@ module _ (n : ℕ) (at : ℕ → Hold) (f : ℕ) (w : World) (ground : Ground n 
       go true p = loose (omega (arith, m, p))
       go false p = loose (omega (arith, m, p))
 
-  pub loose_step : (s : AidStep) (old : ℕ) → AidFits false a s → (goes_on w ground.fit f s ≡ true → Course) → All w s + spare s ≤ old → R s old
+  pub loose_step : (s : AidStep) (old : ℕ) → AidFits false a s → (goes_or_leaves s ≡ true → Course) → All w s + spare s ≤ old → R s old
   loose_step aid.Hold old y t m = go (is_last w r.handle) (paid_on aid.Hold y t)
     where
       v : World
@@ -223,7 +223,7 @@ module _ (n : ℕ) (at : ℕ → Hold) (f : ℕ) (w : World) (ground : Ground n 
 
   -- ---- its releases, and its way back
 
-  pub leaving_step : (s : AidStep) (old : ℕ) → AidFits false a s → (goes_on w ground.fit f s ≡ true → Course) → is_out s ≡ true → All w s ≤ old → R s old
+  pub leaving_step : (s : AidStep) (old : ℕ) → AidFits false a s → (goes_or_leaves s ≡ true → Course) → is_out s ≡ true → All w s ≤ old → R s old
   leaving_step (aid.Pass (Release j x)) old y t e m =
       let p = paid_on (aid.Pass (Release j x)) y t in
       leaving (release_out a.owner.mode a.lines.items (after_line j) x) (omega (arith, m, p))
@@ -441,7 +441,7 @@ module _ (n : ℕ) (at : ℕ → Hold) (f : ℕ) (w : World) (ground : Ground n 
       go true p = chained l st live refl (omega (arith, m, p))
       go false p = chained l st live (install_before b.owner.mode b.lines.items 0) (omega (arith, m, p))
 
-  pub chained_step : (s : AidStep) (old l : ℕ) → AidFits false a s → (goes_on w ground.fit f s ≡ true → Course) → Stands n at f w l r → IsLive n at f w r → is_early s ≡ true → All w s + 197 * chain n at w l ≤ old + (each n at f + 575) → R s old
+  pub chained_step : (s : AidStep) (old l : ℕ) → AidFits false a s → (goes_or_leaves s ≡ true → Course) → Stands n at f w l r → IsLive n at f w r → is_early s ≡ true → All w s + 197 * chain n at w l ≤ old + (each n at f + 575) → R s old
   chained_step aid.Hold old l y t s live e m = rw (last_life l s) (chained l s live refl m)
   chained_step aid.Status old l y t s live e m = go (w.status c).phase (ap (λ (s : Status). s.phase) live) (paid_on aid.Status y t)
     where
@@ -463,10 +463,10 @@ module _ (n : ℕ) (at : ℕ → Hold) (f : ℕ) (w : World) (ground : Ground n 
 
   -- ---- all of them
 
-  pub stance_step : (s : AidStep) (old : ℕ) → AidFits false a s → (goes_on w ground.fit f s ≡ true → Course) → StepKnows w r s → Stance n at f w k r s old → R s old
+  pub stance_step : (s : AidStep) (old : ℕ) → AidFits false a s → (goes_or_leaves s ≡ true → Course) → StepKnows w r s → Stance n at f w k r s old → R s old
   stance_step s old y t g (chained l st live e m) = chained_step s old l y t st live e m
   stance_step s old y t g (freeing l st d h e m) = freeing_step s old l g st d h e m
   stance_step s old y t g (leaving e m) = leaving_step s old y t e m
-  stance_step s old y t g (leads q e x) = subst (λ s. (goes_on w ground.fit f s ≡ true → Course) → Linked n at f w k r s q old → R s old) (sym e) (λ t x. leads_step q old (t refl) x) t x
+  stance_step s old y t g (leads q e x) = subst (λ s. (goes_or_leaves s ≡ true → Course) → Linked n at f w k r s q old → R s old) (sym e) (λ t x. leads_step q old (t refl) x) t x
   stance_step s old y t g (links q e x) = subst (λ s. Linked n at f w k r s q old → R s old) (sym e) (λ x. links_step q old x) x
   stance_step s old y t g (loose m) = loose_step s old y t m
