@@ -17,3 +17,5 @@ pub mod StanceSteps
 pub mod OwnInstalls
 pub mod Ranks
 pub mod Told
+pub mod Within
+pub mod Ends

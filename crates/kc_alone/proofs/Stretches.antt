@@ -74,7 +74,7 @@ none_alone o es k = ap (run o) (append-nil es)
 
 -- ---- the bound
 
-work_most : (n e callers : ℕ) (w : World) (x : Work) → n ≡ 3 * callers + 1 → e < n → ((c : Commit) → x ≡ work.Commit c → StageSearches n c.stage) → work_left n e w x ≤ 1279 + 3 * callers
+pub work_most : (n e callers : ℕ) (w : World) (x : Work) → n ≡ 3 * callers + 1 → e < n → ((c : Commit) → x ≡ work.Commit c → StageSearches n c.stage) → work_left n e w x ≤ 1279 + 3 * callers
 work_most n e callers w work.Idle q l f = omega arith
 work_most n e callers w (work.Look a) q l f = let b = look_most w a.step in omega (arith, b)
 work_most n e callers w (work.Commit c) q l f = go c.stage (f c refl)
@@ -147,7 +147,7 @@ module _ (o : Opening) (k : ℕ) (l : k < o.callers) (e : ℕ) (there : e < 3 * 
   abbrev Busy : List Event → Type 0
   Busy es = is_idle ((run o es).seats k).work ≡ false
 
-  comes_to : (es : List Event) → IsSchedule o es → Busy es → Free es → Goes (3 * o.callers + 1) e (run o (es ++ Step k ∷ [])).world ((run o (es ++ Step k ∷ [])).seats k) (Left es)
+  pub comes_to : (es : List Event) → IsSchedule o es → Busy es → Free es → Goes (3 * o.callers + 1) e (run o (es ++ Step k ∷ [])).world ((run o (es ++ Step k ∷ [])).seats k) (Left es)
   comes_to es w i free =
       let m = run o es in
       let n = (seats_stay o es k).1 in

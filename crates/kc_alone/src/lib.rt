@@ -3,4 +3,4 @@
 
 mod laws;
 
-pub use laws::{stretches_end};
+pub use laws::{alone_it_is_told, stretches_end};
