@@ -56,6 +56,7 @@ begun_in (b ∷ outer) here = length here + 1
 
 abbrev context_of : State → List ℕ → Context
 context_of s atomics = record {
+  whole = true;
   begun = s.begun;
   names = kinds_of s.objects;
   cells = next_from 0 s.objects;
@@ -211,7 +212,7 @@ module _ (begun : Bool) (objects : Names) (threads : List (List Command)) (here 
       let b = bind_ok (counted 0 args) second t a.2 in
       let d = bind_ok (wants (ltb (next_thread thread) 16) (TooMany ThreadsLimit)) last t b.2 in
       subst (λ (x : State). context_of x atomics ≡ behind_word (context begun objects threads here count atomics thread blocks) n (Some word.Thread) args) (ok_is _ _ d.2)
-      (ap (λ (x : ℕ). record { begun = begun; names = kinds_of objects; cells = next_from 0 objects; thread = Some x; commands = 0; blocks = []; count = 0 }) (same_thread thread))
+      (ap (λ (x : ℕ). record { whole = true; begun = begun; names = kinds_of objects; cells = next_from 0 objects; thread = Some x; commands = 0; blocks = []; count = 0 }) (same_thread thread))
 
   -- a new place in the thread
   new_place : (thread : Option ℕ) (blocks : List OpenBlock) (w : Option Word) (args : List (List ℕ)) (r : Result Place Why) → placed (from thread blocks) r ≡ Ok t → ((p : Place) → r ≡ Ok p → context_of (record (from thread blocks) { place = p }) (atomics_behind atomics n w) ≡ behind_word (context begun objects threads here count atomics thread blocks) n w args) → Comes thread blocks w args
@@ -257,7 +258,7 @@ module _ (begun : Bool) (objects : Names) (threads : List (List Command)) (here 
 
   -- a block has ended
   end_place : (thread : Option ℕ) (b : OpenBlock) (outer : List OpenBlock) (args : List (List ℕ)) (x : Tree Op) → context_of (record (from thread (b ∷ outer)) { place = with_block (from thread (b ∷ outer)).place outer x }) (drop 1 atomics) ≡ behind_word (context begun objects threads here count atomics thread (b ∷ outer)) n (Some word.End) args
-  end_place thread b [] args x = ap (λ (m : ℕ). record { begun = begun; names = kinds_of objects; cells = next_from 0 objects; thread = thread; commands = m; blocks = []; count = 0 }) (length-append here (command.Block x ∷ []))
+  end_place thread b [] args x = ap (λ (m : ℕ). record { whole = true; begun = begun; names = kinds_of objects; cells = next_from 0 objects; thread = thread; commands = m; blocks = []; count = 0 }) (length-append here (command.Block x ∷ []))
   end_place thread b (o ∷ outer) args x = refl
 
   end_comes : (thread : Option ℕ) (blocks : List OpenBlock) (args : List (List ℕ)) → placed (from thread blocks) (end_at (from thread blocks).place blocks args) ≡ Ok t → Comes thread blocks (Some word.End) args
@@ -271,7 +272,7 @@ module _ (begun : Bool) (objects : Names) (threads : List (List Command)) (here 
 
   -- an operation is said
   said_place : (thread : Option ℕ) (blocks : List OpenBlock) (v : Verb) (args : List (List ℕ)) (o : Op) (m : ℕ) → (one_more (context begun objects threads here count atomics thread blocks)).count ≡ m → context_of (record (from thread blocks) { place = with_op (from thread blocks).place blocks m o }) atomics ≡ behind_word (context begun objects threads here count atomics thread blocks) n (Some (word.Say v)) args
-  said_place thread [] v args o m e = rw (sym e) (ap (λ (x : ℕ). record { begun = begun; names = kinds_of objects; cells = next_from 0 objects; thread = thread; commands = x; blocks = []; count = 0 }) (length-append here (command.One o ∷ [])))
+  said_place thread [] v args o m e = rw (sym e) (ap (λ (x : ℕ). record { whole = true; begun = begun; names = kinds_of objects; cells = next_from 0 objects; thread = thread; commands = x; blocks = []; count = 0 }) (length-append here (command.One o ∷ [])))
   said_place thread (b ∷ outer) v args o m e = rw (sym e) refl
 
   said_comes : (thread : Option ℕ) (blocks : List OpenBlock) (v : Verb) (args : List (List ℕ)) → said_line (from thread blocks) v args ≡ Ok t → Comes thread blocks (Some (word.Say v)) args
@@ -296,8 +297,8 @@ module _ (begun : Bool) (objects : Names) (threads : List (List Command)) (here 
       let sum = next_from_more 0 objects a.0 ∙ ap (λ size. next_from 0 objects + size) is.2 in
       let names = kinds_more objects a.0 (word_at args 0) k is.0 is.1 in
       subst (λ (x : State). context_of x atomics ≡ behind_word (context begun objects threads here count atomics None blocks) n (Some (word.Declare k)) args) (ok_is _ _ a.2)
-      (ap (λ (x : Kinds). record { begun = begun; names = x; cells = next_from 0 (objects ++ a.0 ∷ []); thread = None; commands = begun_in blocks here; blocks = opened blocks atomics; count = count }) names
-      ∙ ap (λ (x : ℕ). record { begun = begun; names = kinds_of objects ++ (word_at args 0, k) ∷ []; cells = x; thread = None; commands = begun_in blocks here; blocks = opened blocks atomics; count = count }) sum)
+      (ap (λ (x : Kinds). record { whole = true; begun = begun; names = x; cells = next_from 0 (objects ++ a.0 ∷ []); thread = None; commands = begun_in blocks here; blocks = opened blocks atomics; count = count }) names
+      ∙ ap (λ (x : ℕ). record { whole = true; begun = begun; names = kinds_of objects ++ (word_at args 0, k) ∷ []; cells = x; thread = None; commands = begun_in blocks here; blocks = opened blocks atomics; count = count }) sum)
 
   word_comes : (thread : Option ℕ) (blocks : List OpenBlock) (w : Option Word) (args : List (List ℕ)) → worded_line (from thread blocks) w args ≡ Ok t → Comes thread blocks w args
   unfolding worded_line
@@ -350,7 +351,7 @@ more_lines c = by (is_open c.blocks) where
 
 word_lines : (c : Context) (atomics : List ℕ) (n : ℕ) (w : Option Word) (args : List (List ℕ)) → first_failing (word_tests c w args) ≡ None → lines_in c.blocks ≡ atomics → lines_in (behind_word c n w args).blocks ≡ atomics_behind atomics n w
 word_lines c atomics n None args e h = h
-word_lines c atomics n (Some word.Thread) args e h = none_open c.blocks atomics (first_true _ UnclosedBlock (args_tests c.names [] args ++ limit_tests c word.Thread args) e) h
+word_lines c atomics n (Some word.Thread) args e h = none_open c.blocks atomics (first_true _ UnclosedBlock ((c.whole, StrayWord) ∷ (args_tests c.names [] args ++ limit_tests c word.Thread args)) e) h
 word_lines c atomics n (Some word.Atomic) args e h = ap (λ (rest : List ℕ). n ∷ rest) h
 word_lines c atomics n (Some word.Or) args e h = deeper_lines c.blocks ∙ h
 word_lines c atomics n (Some word.End) args e h = ended_lines c c.blocks refl ∙ ap (drop 1) h
