@@ -2,6 +2,7 @@
 #![tactic(auto)]
 
 mod command_line;
+mod reading;
 mod run;
 mod served;
 mod settling;
@@ -11,6 +12,7 @@ mod tests;
 mod threads;
 mod top;
 
+pub use command_line::Command;
 pub use served::Served;
 pub use status::{LONGEST_LINE, Status};
 pub use top::kcas_main;
