@@ -6,6 +6,7 @@ ghost use Rattle.kc_script.specs.Parts.{SpellsParts, PartsRefused};
 
 use crate::parser::MOST_BYTES;
 use crate::part_error::PartError;
+use crate::reading::read_parts;
 use kc_bundle::Bundle;
 use std::alloc::Global;
 
@@ -18,5 +19,5 @@ pub fn parse_parts(alloc: Global, setup: &[u8], files: &[Vec<u8>]) -> Result<Bun
     ensures spells { IfOk result (λ bundle. SpellsParts setup.now (map (λ file. file.items) files.now) (script_of bundle)) }
     ensures refused { IfErr result (PartsRefused setup.now (map (λ file. file.items) files.now)) }
 {
-    Err(PartError::NoMemory)
+    read_parts(alloc, setup, files)
 }
