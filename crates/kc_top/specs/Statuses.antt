@@ -75,8 +75,3 @@ module _ {S F K : Type 0} (left : S → Option (List ℕ)) (source_faults : S �
   abbrev pub Says : S → S → F → F → K → K → Served → Status → Type 0
   Says s s' f f' k k' served status.Usage = (command_of words ≡ None) × (s' ≡ s) × (f' ≡ f) × (k' ≡ k) × (served ≡ serving.Nothing)
   Says s s' f f' k k' served status = (command : Command) × (command_of words ≡ Some command) × SaysOf command s s' f f' k k' served status
-
-  -- a call that ran a command said this, or ended before it was served anything
-  abbrev pub Ends : Command → S → S → F → F → K → K → Result (Status × Served) Status → Type 0
-  Ends command s s' f f' k k' (Ok r) = SaysOf command s s' f f' k k' r.1 r.0
-  Ends command s s' f f' k k' (Err e) = SaysOf command s s' f f' k k' serving.Nothing e

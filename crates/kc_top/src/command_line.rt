@@ -1,8 +1,9 @@
 //! What the words of the command line ask for.
 
-ghost use Rattle.std.specs.Prelude.{◌≡◌, ◌≤◌, length, map};
+ghost use Rattle.std.specs.Prelude.{◌≡◌, ◌≤◌, ◌<◌, ◌+◌, ◌&&◌, ◌==◌, true, length, drop, map, codes};
+ghost use Rattle.std.specs.List.{list_all};
 ghost use Rattle.std.specs.String.{string_bytes};
-ghost use Rattle.kc_top.specs.Words.{are_names, command_of, is_name, option_words};
+ghost use Rattle.kc_top.specs.Words.{are_names, command_of, is_name, is_word, option_words};
 
 /// The most files that a command may name beside the setup: one for each thread.
 const MOST_FILES: usize = 16;
@@ -23,32 +24,49 @@ pub enum Command {
 pub fn command_of(words: &[String]) -> Option<Command>
     ensures { result ≡ command_of (map string_bytes words.now) }
 {
-    if words.len() < 2 {
-        return None;
+    let setup = 2 + option_words(words);
+    if is_run(words, setup) {
+        Some(Command::Run)
+    } else if is_files(words, setup) {
+        Some(Command::Files { setup })
+    } else {
+        None
     }
-    let setup = 2 + option_words(&words[2..]);
-    let name = words[1].as_str();
-    if name == "run" && words.len() == setup {
-        return Some(Command::Run);
-    }
-    if name == "files" && are_names(&words[setup..]) {
-        return Some(Command::Files { setup });
-    }
-    None
 }
 
-// How many words the store option takes that may stand at their front.
+// Whether they are `run`, and nothing stands behind its option.
+fn is_run(words: &[String], end: usize) -> bool
+    ensures { result ≡ (is_word (map string_bytes words.now) 1 (codes "run") && (length words.now == end)) }
+{
+    is_word(words, 1, "run") && words.len() == end
+}
+
+// Whether they are `files`, and behind its option stand names.
+fn is_files(words: &[String], setup: usize) -> bool
+    requires { 2 ≤ length words.now → setup ≤ length words.now }
+    ensures { result ≡ (is_word (map string_bytes words.now) 1 (codes "files") && are_names (drop setup (map string_bytes words.now))) }
+{
+    is_word(words, 1, "files") && are_names(&words[setup..])
+}
+
+// Whether the word at a place is this.
+fn is_word(words: &[String], place: usize, text: &str) -> bool
+    ensures is { result ≡ is_word (map string_bytes words.now) place text.now }
+    ensures inside { result ≡ true → place < length words.now }
+{
+    place < words.len() && words[place].as_str() == text
+}
+
+// How many words behind the command's name are a store option.
 fn option_words(words: &[String]) -> usize
     ensures count { result ≡ option_words (map string_bytes words.now) }
-    ensures within { result ≤ length words.now }
+    ensures within { 2 ≤ length words.now → 2 + result ≤ length words.now }
+    ensures few { result ≤ 2 }
 {
-    if words.is_empty() {
-        return 0;
-    }
-    if words[0].as_str() == "--store=lock" {
+    if is_word(words, 2, "--store=lock") {
         return 1;
     }
-    if words.len() > 1 && words[0].as_str() == "--store" && words[1].as_str() == "lock" {
+    if is_word(words, 2, "--store") && is_word(words, 3, "lock") {
         return 2;
     }
     0
@@ -58,7 +76,18 @@ fn option_words(words: &[String]) -> usize
 fn are_names(words: &[String]) -> bool
     ensures { result ≡ are_names (map string_bytes words.now) }
 {
-    words.len() >= 2 && words.len() <= 1 + MOST_FILES && words.iter().all(|word| is_name(word.as_str()))
+    2 <= words.len() && words.len() <= 1 + MOST_FILES && all_are_names(words)
+}
+
+fn all_are_names(words: &[String]) -> bool
+    ensures { result ≡ list_all is_name (map string_bytes words.now) }
+{
+    for word in words {
+        if !is_name(word.as_str()) {
+            return false;
+        }
+    }
+    true
 }
 
 fn is_name(word: &str) -> bool

@@ -1,16 +1,19 @@
 //! From the words and the bytes to the text.
 
-ghost use Rattle.std.specs.Prelude.{◌≡◌, Some, map};
+ghost use Rattle.std.specs.Prelude.{◌≡◌, Some, map, IfOk, IfErr};
 ghost use Rattle.std.specs.String.{string_bytes};
+ghost use Rattle.kc_bundle.specs.Script.{script_of};
 ghost use Rattle.kc_top.specs.Words.{command_of};
-ghost use Rattle.kc_top.specs.Statuses.{Says, Ends};
+ghost use Rattle.kc_top.specs.Reading.{Reads, Refuses};
+ghost use Rattle.kc_top.specs.Statuses.{Says, SaysOf};
 
 use crate::command_line::{Command, command_of};
 use crate::reading::{from_files, from_source};
 use crate::run::perform;
 use crate::served::Served;
 use crate::status::Status;
-use kc_model::{Failed, Shelf, Sink, Source};
+use kc_bundle::Bundle;
+use kc_model::{Failed, NoMemory, Shelf, Sink, Source};
 use kc_run::Gate;
 use std::alloc::Global;
 use std::sync::Wait;
@@ -34,10 +37,7 @@ pub fn kcas_main<S: Source, F: Shelf, K: Sink, G: Gate, R: Threads + Wait + Sync
     let Some(command) = command_of(words) else {
         return (Status::Usage, Served::Nothing);
     };
-    match run(rt, alloc, words, command, source, shelf, sink, gate) {
-        Ok(ended) => ended,
-        Err(status) => (status, Served::Nothing),
-    }
+    run(rt, alloc, words, command, source, shelf, sink, gate)
 }
 
 fn run<S: Source, F: Shelf, K: Sink, G: Gate, R: Threads + Wait + Sync>(
@@ -49,16 +49,34 @@ fn run<S: Source, F: Shelf, K: Sink, G: Gate, R: Threads + Wait + Sync>(
     shelf: &mut F,
     sink: &mut K,
     gate: &G,
-) -> Result<(Status, Served), Status>
+) -> (Status, Served)
     requires { command_of (map string_bytes words.now) ≡ Some command }
-    ensures { Ends S.left S.faults S.read_gives F.files F.faults F.sure F.fetch_gives K.written K.faults K.write_gives (map string_bytes words.now) command source.old source.new shelf.old shelf.new sink.old sink.new result }
+    ensures { SaysOf S.left S.faults S.read_gives F.files F.faults F.sure F.fetch_gives K.written K.faults K.write_gives (map string_bytes words.now) command source.old source.new shelf.old shelf.new sink.old sink.new result.1 result.0 }
 {
-    let bundle = match command {
-        Command::Run => from_source(alloc, source)?,
-        Command::Files { setup } => from_files(alloc, shelf, &words[setup..])?,
+    let bundle = match read_bundle(alloc, words, command, source, shelf) {
+        Ok(bundle) => bundle,
+        Err(status) => return (status, Served::Nothing),
     };
-    match perform(rt, alloc, &bundle, sink, gate)? {
-        (Ok(()), served) => Ok((Status::Done, served)),
-        (Err(Failed), served) => Ok((Status::WriteFault, served)),
+    match perform(rt, alloc, &bundle, sink, gate) {
+        Ok((Ok(()), served)) => (Status::Done, served),
+        Ok((Err(Failed), served)) => (Status::WriteFault, served),
+        Err(NoMemory) => (Status::NoMemory, Served::Nothing),
+    }
+}
+
+fn read_bundle<S: Source, F: Shelf>(
+    alloc: Global,
+    words: &[String],
+    command: Command,
+    source: &mut S,
+    shelf: &mut F,
+) -> Result<Bundle, Status>
+    requires { command_of (map string_bytes words.now) ≡ Some command }
+    ensures reads { IfOk result (λ bundle. Reads S.left S.faults S.read_gives F.files F.faults F.sure F.fetch_gives (map string_bytes words.now) command source.old source.new shelf.old shelf.new (script_of bundle)) }
+    ensures refuses { IfErr result (Refuses S.left S.faults S.read_gives F.files F.faults F.sure F.fetch_gives (map string_bytes words.now) command source.old source.new shelf.old shelf.new) }
+{
+    match command {
+        Command::Run => from_source(alloc, source),
+        Command::Files { setup } => from_files(alloc, shelf, &words[setup..]),
     }
 }
