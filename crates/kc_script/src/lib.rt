@@ -27,4 +27,8 @@ pub use parts::parse_parts;
 pub use printer::print;
 
 #[cfg(test)]
+mod part_tests;
+#[cfg(test)]
+mod print_tests;
+#[cfg(test)]
 mod tests;

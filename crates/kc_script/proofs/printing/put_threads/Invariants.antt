@@ -1,5 +1,4 @@
 use Rattle.std.proofs.Common.{◌≡◌, drop}
-use Rattle.std.specs.Prelude.{map}
 use Rattle.std.specs.List.{flat_map}
 use Rattle.kc_model.specs.Pen.{Owes, sheet}
 use Rattle.kc_bundle.specs.Script.{names_of}
