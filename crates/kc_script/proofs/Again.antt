@@ -23,7 +23,7 @@ use Rattle.kc_script.proofs.Spelled.{spelled_lies, spelled_sized}
 
 -- ---- names
 
-some_cells : (o : Object) → IsSized o → 1 ≤ cells o
+pub some_cells : (o : Object) → IsSized o → 1 ≤ cells o
 some_cells (object.Loc at opens) h = omega arith
 some_cells (object.Stack s) h = omega arith
 some_cells (object.Queue q) h = omega arith

@@ -2,8 +2,6 @@
 use Rattle.std.proofs.Common.{◌≡◌, ℕ, ◌+◌, ◌≤◌, Bool, true, false, cond, List, [], ◌∷◌, ◌++◌, length, Option, Some, None, Result, Ok, Err, refl, sym, ap, ◌∙◌}
 use Rattle.std.specs.Prelude.{IfOk, IfErr}
 use Rattle.std.specs.Option.{option_or}
-use Rattle.kc_lines.specs.declared.fault.Why.{Why}
-use Rattle.kc_lines.specs.Tests.{◌>>=◌}
 use Rattle.kc_lines.specs.Words.{lines, words, is_skipped}
 use Rattle.kc_lines.proofs.Given.{given, bind_ok, ok_is}
 use Rattle.kc_bundle.specs.declared.bundle.Bundle.{Bundle}

@@ -1,5 +1,5 @@
 -- What the reader reads of parts, the grammar has them spell, and the other way round.
-use Rattle.std.proofs.Common.{◌≡◌, ℕ, ◌+◌, ◌≤◌, ◌<◌, false, List, [], ◌∷◌, ◌++◌, length, Result, Ok, Err, refl, sym, ap, subst, ◌∙◌, append_assoc, arith}
+use Rattle.std.proofs.Common.{◌≡◌, ℕ, ◌+◌, ◌≤◌, false, List, [], ◌∷◌, ◌++◌, length, Result, Ok, Err, refl, sym, ap, subst, ◌∙◌, append_assoc, arith}
 use Rattle.std.proofs.lemmas.List.{append-nil}
 use Rattle.kc_lines.specs.Words.{lines}
 use Rattle.kc_bundle.specs.declared.operation.Command.{Command}
@@ -178,11 +178,18 @@ joined_count (file ∷ files) = (thread_counts.0, all_join (contents file) (join
 -- one text with all their lines spells what the parts spell
 pub parts_whole : (setup : List ℕ) (files : List (List ℕ)) (s : Script) → SpellsParts setup files s → (bytes : List ℕ) × Spells bytes s
 parts_whole setup files s p =
-    let cs = contents setup ++ joined files in
-    (text_of_lines cs, record {
-      declaring = p.declaring;
-      threading = joined files;
-      lines = contents_back cs (all_join (contents setup) (joined files) (contents_count setup) (joined_count files)) ∙ ap (λ (ls : List Line). ls ++ joined files) p.lines;
-      declares = p.declares;
-      threads = files_threads s.objects 0 files s.threads p.threads;
-    })
+    let cs = contents setup ++ joined files in (
+      text_of_lines cs,
+      record {
+        declaring = p.declaring;
+        threading = joined files;
+        lines = contents_back cs (all_join (contents setup) (joined files) (contents_count setup) (joined_count files)) ∙ ap (λ (ls : List Line). ls ++ joined files) p.lines;
+        declares = p.declares;
+        threads = files_threads s.objects 0 files s.threads p.threads;
+      },
+    )
+
+-- a thread for each file
+pub files_each : (names : Names) (thread : ℕ) (files : List (List ℕ)) (threads : List (List Command)) → Files names thread files threads → length threads ≡ length files
+files_each names thread files threads Files.none = refl
+files_each names thread _ _ (Files.one {files = files} {threads = threads} lt said few rest) = omega (arith, files_each names (thread + 1) files threads rest)

@@ -1,11 +1,15 @@
 //! What holds of the grammar.
 
-ghost use Rattle.std.specs.Prelude.{◌≡◌, ◌≤◌, ℕ, List, ◌∷◌, length, true, Some, None, Ok};
-ghost use Rattle.kc_bundle.specs.Script.{Script, LiesInOrder, AreSized};
+ghost use Rattle.std.specs.Prelude.{◌≡◌, ◌≤◌, ℕ, List, ◌∷◌, length, true, Some, None, Result, Ok, IfOk, IfErr};
+ghost use Rattle.kc_lines.specs.declared.fault.ScriptError.{ScriptError};
+ghost use Rattle.kc_lines.specs.declared.fault.ScriptError.TheVariants.{NoMemory};
+ghost use Rattle.kc_bundle.specs.declared.bundle.Bundle.{Bundle};
+ghost use Rattle.kc_bundle.specs.Script.{Script, script_of, LiesInOrder, AreSized};
 ghost use Rattle.kc_script.specs.Spells.{Spells};
 ghost use Rattle.kc_script.specs.Canonical.{canonical_text};
 ghost use Rattle.kc_script.specs.FirstFault.{Fault, first_fault};
-ghost use Rattle.kc_script.specs.Refused.{SpellNone};
+ghost use Rattle.kc_script.specs.Refused.{SpellNone, Refused};
+ghost use Rattle.kc_script.specs.Parts.{SpellsParts, PartFault, first_fault_in_parts, PartsSpellNone};
 ghost use Rattle.kc_script.specs.Threads.{AreThreads};
 ghost use Rattle.kc_script.specs.Blocks.{OpenBlock, block_of};
 ghost use Rattle.kc_script.specs.Reading.{State, opening, all_lines};
@@ -41,4 +45,33 @@ pub fn blocks_are_made()
 /// The canonical text of a bundle that bytes spell spells it too.
 pub fn canonical_text_spells()
     ensures { (bytes : List ℕ) (s : Script) → Spells bytes s → Spells (canonical_text s) s }
+{}
+
+/// Whatever `parse` answers on the canonical text of a bundle that bytes spell, which `print` writes, it is that bundle, or
+/// there was no memory.
+pub fn printed_is_parsed_again()
+    ensures bundle { (bytes : List ℕ) (s : Script) (result : Result Bundle ScriptError) → Spells bytes s → IfOk result (λ bundle. Spells (canonical_text s) (script_of bundle)) → IfOk result (λ bundle. script_of bundle ≡ s) }
+    ensures memory { (bytes : List ℕ) (s : Script) (result : Result Bundle ScriptError) → Spells bytes s → IfErr result (Refused (canonical_text s)) → IfErr result (λ error. error ≡ NoMemory) }
+{}
+
+/// Parts spell at most one bundle.
+pub fn parts_spell_one()
+    ensures { (setup : List ℕ) (files : List (List ℕ)) (s t : Script) → SpellsParts setup files s → SpellsParts setup files t → s ≡ t }
+{}
+
+/// Parts have a first fault exactly where they spell no bundle.
+pub fn faults_of_parts_are_exact()
+    ensures spells { (setup : List ℕ) (files : List (List ℕ)) → length files ≤ 16 → first_fault_in_parts setup files ≡ None → (s : Script) × SpellsParts setup files s }
+    ensures none { (setup : List ℕ) (files : List (List ℕ)) (fault : PartFault) → first_fault_in_parts setup files ≡ Some fault → PartsSpellNone setup files }
+{}
+
+/// The objects of a bundle that parts spell lie one behind another and have their sizes. It has a thread for each file, at most
+/// 16, and each has at most 4,096 commands, all on the bundle's objects. Its canonical text spells it as a whole.
+pub fn parts_are_in_order()
+    ensures lies { (setup : List ℕ) (files : List (List ℕ)) (s : Script) → SpellsParts setup files s → LiesInOrder s }
+    ensures sized { (setup : List ℕ) (files : List (List ℕ)) (s : Script) → SpellsParts setup files s → AreSized s.objects }
+    ensures few { (setup : List ℕ) (files : List (List ℕ)) (s : Script) → SpellsParts setup files s → length s.threads ≤ 16 }
+    ensures each { (setup : List ℕ) (files : List (List ℕ)) (s : Script) → SpellsParts setup files s → length s.threads ≡ length files }
+    ensures threads { (setup : List ℕ) (files : List (List ℕ)) (s : Script) → SpellsParts setup files s → AreThreads s.objects s.threads }
+    ensures whole { (setup : List ℕ) (files : List (List ℕ)) (s : Script) → SpellsParts setup files s → Spells (canonical_text s) s }
 {}

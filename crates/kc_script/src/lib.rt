@@ -2,20 +2,33 @@
 #![tactic(auto)]
 
 mod blocks;
+mod declared;
 mod laws;
+mod naming;
 mod parser;
 mod part_error;
 mod parts;
+mod printer;
+mod printing;
 mod reader;
 mod reading;
+mod said;
+mod shapes;
 pub mod worked;
 
 pub use laws::{
-    blocks_are_made, bytes_spell_one, canonical_text_spells, faults_are_exact, spelled_is_in_order,
+    blocks_are_made, bytes_spell_one, canonical_text_spells, faults_are_exact,
+    faults_of_parts_are_exact, parts_are_in_order, parts_spell_one, printed_is_parsed_again,
+    spelled_is_in_order,
 };
 pub use parser::{MOST_BYTES, parse};
 pub use part_error::PartError;
 pub use parts::parse_parts;
+pub use printer::print;
 
+#[cfg(test)]
+mod part_tests;
+#[cfg(test)]
+mod print_tests;
 #[cfg(test)]
 mod tests;

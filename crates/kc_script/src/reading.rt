@@ -10,8 +10,8 @@ ghost use Rattle.kc_script.specs.Blocks.{in_block};
 ghost use Rattle.kc_script.specs.Reading.{state_of, opening, with_object, closed, begun_thread, next_thread, no_block, placed, declared_line, said_line, begun_block, thread_line, worded_line, header_line, content_line, any_line, ended, script_at, atomics_behind, atomics_after, atomics_next, nearest, at_line, read_from, part_read, spelled, files_read, parts_read, spelled_parts, of_part, in_a_part, complained, Comes, Ends, Spelled, PartComes, PartsSpelled};
 
 use crate::blocks::{atomic_line, begin_thread, end_line, in_block, op_line, or_line};
-use crate::part_error::PartError;
 use crate::parser::MOST_BYTES;
+use crate::part_error::PartError;
 use crate::reader::Reader;
 use indexmap::IndexMap;
 use kc_bundle::{Bundle, Object, cells};

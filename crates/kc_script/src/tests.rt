@@ -14,7 +14,7 @@ use kc_stack::{Stack, StackAct, StackOp};
 use kc_term::{Node, Term};
 
 /// Declarations of each kind, and a thread that begins.
-const KINDS: &str =
+pub const KINDS: &str =
     "kcas 1\nloc x 5\nloc y 6\nstack s 3\nqueue q 4\ntable t 2 3\nmvar m\npromise p\nacc a 2\nthread\n";
 
 const X: Loc = Loc(1);
@@ -27,7 +27,8 @@ const TABLE: Hash = Hash {
     cap: 3,
 };
 
-fn read(rt: &HostRuntime, text: &str) -> Result<Bundle, ScriptError>
+/// What is read of a text.
+pub fn read(rt: &HostRuntime, text: &str) -> Result<Bundle, ScriptError>
     ensures { IfOk result (λ bundle. Spells text.now (script_of bundle)) }
 {
     let bytes = text.as_bytes();

@@ -1,4 +1,4 @@
-use Rattle.std.proofs.Common.{ap, ◌+◌, ◌∙◌, arith}
+use Rattle.std.proofs.Common.{ap, ◌∙◌, arith}
 use Rattle.std.proofs.lemmas.Result.{err_from_is_err_and}
 use Rattle.kc_script.specs.Reading.{state_of}
 use Rattle.kc_script.proofs.Files.{goes_on, ends, is_done}

@@ -1,0 +1,25 @@
+//! Printing a bundle.
+
+ghost use Rattle.std.specs.Prelude.{ℕ, List};
+ghost use Rattle.kc_model.specs.Pen.{Prints};
+ghost use Rattle.kc_bundle.specs.Script.{script_of};
+ghost use Rattle.kc_script.specs.Spells.{Spells};
+ghost use Rattle.kc_script.specs.Canonical.{canonical_text};
+
+use crate::declared::put_declarations;
+use crate::printing::put_threads;
+use kc_bundle::Bundle;
+use kc_model::{Failed, Pen, Sink};
+
+/// Writes the canonical text of a bundle that some bytes spell: one space between words, no line that is skipped, numbers
+/// without leading zeros. It spells the bundle too. After a failed write no further one is made.
+pub fn print<K: Sink>(bundle: &Bundle, sink: &mut K) -> Result<(), Failed>
+    requires { (bytes : List ℕ) × Spells bytes (script_of bundle.now) }
+    ensures { Prints K.written K.faults K.write_gives sink.old sink.new result (canonical_text (script_of bundle.now)) }
+{
+    let mut pen = Pen::new(sink);
+    pen.put(b"kcas 1\n");
+    put_declarations(&mut pen, &bundle.objects);
+    put_threads(&mut pen, &bundle.objects, &bundle.threads);
+    pen.end()
+}
