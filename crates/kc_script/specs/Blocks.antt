@@ -1,5 +1,6 @@
 -- The lines of blocks, as the parser reads them; private to this crate. The block that is open innermost stands first.
 use Rattle.std.specs.Prelude.{ℕ, ◌+◌, Bool, true, false, List, [], ◌∷◌, ◌++◌, length, Result, Ok, Err, nat_le, nat_lt}
+use Rattle.kc_bundle.specs.declared.bundle.TheConstants.{MOST_COMMANDS}
 use Rattle.kc_lines.specs.declared.fault.Why.{Why}
 use Rattle.kc_lines.specs.declared.fault.Why.TheVariants.{StrayWord, TooMany}
 use Rattle.kc_lines.specs.declared.fault.Limit.TheVariants.{Commands as CommandsLimit, Block as BlockLimit, Depth}
@@ -61,7 +62,7 @@ in_block (b ∷ outer) = true
 -- behind its beginning.
 unfoldable pub counted_up : Place → List OpenBlock → Result ℕ Why
 counted_up p [] = do
-  room ← wants (nat_lt (length p.here) 4096) (TooMany CommandsLimit)
+  room ← wants (nat_lt (length p.here) MOST_COMMANDS) (TooMany CommandsLimit)
   Ok 0
 counted_up p (b ∷ outer) = do
   room ← wants (nat_lt p.count 16) (TooMany BlockLimit)

@@ -2,6 +2,7 @@
 use Rattle.std.specs.Prelude.{ℕ, ◌+◌, Bool, true, false, not, ◌&&◌, List, [], ◌∷◌, ◌++◌, codes, Option, Some, None, is_some, nat_le, nat_lt, if◌then◌else◌}
 use Rattle.std.specs.Option.{option_or, option_map}
 use Rattle.std.specs.Str.{bytes_eq}
+use Rattle.kc_bundle.specs.declared.bundle.TheConstants.{MOST_COMMANDS}
 use Rattle.kc_lines.specs.declared.fault.Why.{Why}
 use Rattle.kc_lines.specs.declared.fault.Why.TheVariants.{Header, UnknownWord, StrayWord, UnclosedBlock, TooMany}
 use Rattle.kc_lines.specs.declared.fault.Limit.TheVariants.{Locations, Threads as ThreadsLimit, Commands as CommandsLimit, Block as BlockLimit, Depth}
@@ -100,7 +101,7 @@ fields_of (word.Say v) = verb_fields v
 
 -- there is room for one more command or block: in the thread, or in the outermost block that is open
 abbrev pub room_tests : Context → List (Bool × Why)
-room_tests c = if in_block c then (nat_lt c.count 16, TooMany BlockLimit) ∷ [] else (nat_lt c.commands 4096, TooMany CommandsLimit) ∷ []
+room_tests c = if in_block c then (nat_lt c.count 16, TooMany BlockLimit) ∷ [] else (nat_lt c.commands MOST_COMMANDS, TooMany CommandsLimit) ∷ []
 
 -- the limits are kept
 abbrev pub limit_tests : Context → Word → List (List ℕ) → List (Bool × Why)

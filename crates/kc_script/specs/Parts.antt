@@ -1,6 +1,7 @@
 -- A script in parts: a setup, which declares its objects, and for each thread a file of its commands.
 use Rattle.std.specs.Prelude.{◌≡◌, ℕ, ◌+◌, ◌≤◌, ◌<◌, false, List, [], ◌∷◌, length, Option, Some, None, if◌then◌else◌}
 use Rattle.std.specs.Option.{option_or, option_map}
+use Rattle.kc_bundle.specs.declared.bundle.TheConstants.{MOST_COMMANDS}
 use Rattle.kc_lines.specs.Words.{lines, words, is_skipped}
 use Rattle.kc_bundle.specs.declared.operation.Command.{Command}
 use Rattle.kc_bundle.specs.Script.{Names, Script}
@@ -13,7 +14,7 @@ use Rattle.kc_script.specs.FirstFault.{Fault, Context, start, next, first_fault_
 pub data Files (names : Names) : ℕ → List (List ℕ) → List (List Command) → Type 0 where
   none : {thread : ℕ} → Files names thread [] []
   one : {thread : ℕ} {file : List ℕ} {files : List (List ℕ)} {commands : List Command} {threads : List (List Command)} →
-      thread < 16 → Say thread names (contents file) commands → length commands ≤ 4096 →
+      thread < 16 → Say thread names (contents file) commands → length commands ≤ MOST_COMMANDS →
       Files names (thread + 1) files threads → Files names thread (file ∷ files) (commands ∷ threads)
 
 -- the parts spell the script: the setup is a header and declarations, and each file is a thread

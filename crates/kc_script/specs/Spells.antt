@@ -1,5 +1,6 @@
 -- The grammar of bundles: which script bytes spell.
 use Rattle.std.specs.Prelude.{◌≡◌, ℕ, ◌+◌, ◌≤◌, ◌<◌, not, List, [], ◌∷◌, ◌++◌, length, filter, map, codes}
+use Rattle.kc_bundle.specs.declared.bundle.TheConstants.{MOST_COMMANDS}
 use Rattle.kc_lines.specs.Words.{lines, words, is_skipped}
 use Rattle.kc_term.specs.Tree.{Tree, op, seq, first, trees}
 use Rattle.kc_bundle.specs.declared.object.Object.{Object}
@@ -71,7 +72,7 @@ pub data Say (thread : ℕ) (names : Names) : List Line → List Command → Typ
 pub data Threads (names : Names) : ℕ → List Line → List (List Command) → Type 0 where
   none : {thread : ℕ} → Threads names thread [] []
   one : {thread : ℕ} {lines more : List Line} {commands : List Command} {threads : List (List Command)} →
-      thread < 16 → Say thread names lines commands → length commands ≤ 4096 →
+      thread < 16 → Say thread names lines commands → length commands ≤ MOST_COMMANDS →
       Threads names (thread + 1) more threads → Threads names thread (thread_line ∷ (lines ++ more)) (commands ∷ threads)
 
 -- the bytes spell the script: a header, declarations, and threads

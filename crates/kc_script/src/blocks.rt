@@ -7,14 +7,11 @@ ghost use Rattle.kc_script.specs.Blocks.{good, sequence, either, nest, block_of,
 ghost use Rattle.kc_script.specs.Reading.{lists, open_of, place_of, nowhere};
 
 use crate::reader::{Open, Thread};
-use kc_bundle::{Command, Op};
+use kc_bundle::{Command, MOST_COMMANDS, Op};
 use kc_lines::{Complaint, Limit, Why, counted, wants};
 use kc_term::{Term, TermError};
 use std::alloc::{AllocError, Global};
 use std::mem;
-
-/// How many commands a thread may have.
-const MOST_COMMANDS: usize = 4096;
 
 /// How many commands and inner blocks a block may have.
 const MOST_IN_BLOCK: u32 = 16;

@@ -1,5 +1,6 @@
 ghost use Rattle.std.specs.Prelude.{◌≡◌, ◌≤◌, ◌<◌, IfSome};
 ghost use Rattle.std.proofs.Props.{props};
+ghost use Rattle.kc_model.specs.declared.plain_store.TheConstants.{MOST_LOCATIONS};
 ghost use Rattle.kc_bundle.specs.Script.{next_from, names_of};
 
 use indexmap::IndexMap;
@@ -47,6 +48,6 @@ pub struct Reader {
     pub thread: Option<u32>,
     pub place: Thread,
     ghost follows: { next ≡ next_from 1 (names_of objects) },
-    ghost within: { next ≤ 65536 },
+    ghost within: { next ≤ MOST_LOCATIONS },
     ghost numbered: { IfSome thread (λ n. n < 16) } by { Prim.hlevel props },
 }

@@ -21,12 +21,6 @@ const X: Loc = Loc(1);
 
 const Y: Loc = Loc(2);
 
-const TABLE: Hash = Hash {
-    base: Loc(13),
-    buckets: 2,
-    cap: 3,
-};
-
 /// What is read of a text.
 pub fn read(rt: &HostRuntime, text: &str) -> Result<Bundle, ScriptError>
     ensures { IfOk result (λ bundle. Spells text.now (script_of bundle)) }
@@ -115,7 +109,8 @@ fn commands_on_tables_and_cells_are_read(rt: HostRuntime) {
     let mvar = Mvar::layout(Loc(26));
     let promise = Promise::layout(Loc(28));
     let acc = Accumulator::layout(Loc(30), 2);
-    let tabled = |act| Op::Hash(HashOp { hash: TABLE, act });
+    let table = Hash::layout(Loc(13), 2, 3);
+    let tabled = |act| Op::Hash(HashOp { hash: table, act });
     let held = |act| Op::Mvar(MvarOp { mvar, act });
     let promised = |act| Op::Promise(PromiseOp { promise, act });
     let summed = |act| Op::Acc(AccOp { acc, act });

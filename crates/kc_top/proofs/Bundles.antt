@@ -31,7 +31,7 @@ use Rattle.kc_script.specs.Spells.{Spells}
 use Rattle.kc_script.specs.Parts.{SpellsParts}
 use Rattle.kc_script.proofs.PartLines.{parts_whole}
 use Rattle.kc_script.specs.Threads.{AreThreads as AreOn}
-use Rattle.kc_script.proofs.Spelled.{spelled_lies, spelled_sized, spelled_threads, spelled_threads_few, on_at}
+use Rattle.kc_script.proofs.Spelled.{spelled_lies, spelled_threads, spelled_threads_few, on_at}
 use Rattle.kc_top.specs.Runnable.{IsRunnable}
 use Rattle.kc_top.proofs.Asks.{ask_fit, ask_within}
 
@@ -45,7 +45,7 @@ store_length script cells e = ap length e ∙ opened_length (opening_values scri
 
 -- a script that bytes spell can be run
 pub runnable : {bytes : List ℕ} {s : Script} → Spells bytes s → IsRunnable s
-runnable spells = record { lies = spelled_lies spells; sized = spelled_sized spells; few = spelled_threads_few spells; threads = spelled_threads spells }
+runnable spells = record { lies = spelled_lies spells; few = spelled_threads_few spells; threads = spelled_threads spells }
 
 -- so can one that parts spell
 pub runnable_parts : {setup : List ℕ} {files : List (List ℕ)} {s : Script} → SpellsParts setup files s → IsRunnable s
@@ -72,7 +72,7 @@ all_can_run s n can size (v ∷ vs) h zero d lt =
       few = h.0;
       each = λ i e it.
           let on = on_at s.objects v.items i e h.1 it in
-          record { fit = ask_fit n s.objects can.lies.lie can.sized room (get_or v.items i e) on le; within = ask_within n s.objects can.lies.lie can.sized room (get_or v.items i e) on some };
+          record { fit = ask_fit n s.objects can.lies.lie room (get_or v.items i e) on le; within = ask_within n s.objects can.lies.lie room (get_or v.items i e) on some };
     }
 all_can_run s n can size (v ∷ vs) h (suc k) d lt = all_can_run s n can size vs h.2 k d (omega (arith, lt))
 

@@ -34,7 +34,7 @@ module _ (script : Script) (ran : Ran) (can : IsRunnable script) (has : HasRun s
   shown_named = replays_named script.threads (lists_of ran.records.items) (opening_store script) (store_of ran.store) ran.room.order has.run.replays
 
   pub shown_formed : AreWellFormed script.objects (values (store_of ran.store))
-  shown_formed = run_formed script (lists_of ran.records.items) ran.room.order (store_of ran.store) can.lies.lie can.sized (λ t. (thread_at script.objects script.threads t can.threads).1) has.run
+  shown_formed = run_formed script (lists_of ran.records.items) ran.room.order (store_of ran.store) can.lies.lie (λ t. (thread_at script.objects script.threads t can.threads).1) has.run
 
   -- the text of the run, where its objects hold these contents
   pub shown_text : (contents : List Content) → AllStand script.objects (values (store_of ran.store)) contents → IsText script (lists_of ran.records.items) (run_text script (lists_of ran.records.items) ran.room.order contents)

@@ -1,11 +1,10 @@
 -- Which scripts can be run.
 use Rattle.std.specs.Prelude.{◌≤◌, length}
-use Rattle.kc_bundle.specs.Script.{Script, LiesInOrder, AreSized}
+use Rattle.kc_bundle.specs.Script.{Script, LiesInOrder}
 use Rattle.kc_script.specs.Threads.{AreThreads}
 
 -- a script that threads can run
 pub record IsRunnable (s : Script) : Type 0 where
   pub lies : LiesInOrder s
-  pub sized : AreSized s.objects
   pub few : length s.threads ≤ 16
   pub threads : AreThreads s.objects s.threads

@@ -18,7 +18,7 @@ use crate::settling::{room_for, settle};
 use crate::threads::run_locked;
 use kc_bundle::{Bundle, opening, put_state};
 use kc_history::{Record, Room, put_text};
-use kc_model::{Failed, ModelError, NoMemory, Pen, PlainStore, Sink};
+use kc_model::{Failed, MOST_LOCATIONS, ModelError, NoMemory, Pen, PlainStore, Sink};
 use kc_run::Gate;
 use std::alloc::Global;
 use std::sync::Wait;
@@ -81,13 +81,13 @@ fn run_bundle<G: Gate, R: Threads + Wait + Sync>(
 }
 
 fn open_store(alloc: Global, values: &[u32]) -> Result<PlainStore, NoMemory>
-    requires { length values.now ≤ 65536 }
+    requires { length values.now ≤ MOST_LOCATIONS }
     ensures { IfOk result (λ store. store ≡ opened values.now) }
 {
     match PlainStore::open(alloc, values) {
         Ok(store) => Ok(store),
         Err(ModelError::NoMemory) => Err(NoMemory),
-        Err(ModelError::TooManyLocs) => unreachable!("there are at most 65,536 values"),
+        Err(ModelError::TooManyLocs) => unreachable!("there is room for the values"),
     }
 }
 

@@ -8,15 +8,15 @@ ghost use Rattle.kc_history.specs.Ends.{AllCanStandIn};
 ghost use Rattle.kc_history.specs.Order.{IsCanonical, Legal};
 ghost use Rattle.kc_history.specs.Records.{footprint_at, lists_of};
 
-use kc_bundle::Command;
+use kc_bundle::{Command, MOST_COMMANDS};
 use kc_history::{Record, Room, arrange, replay};
-use kc_model::{NoMemory, PlainStore};
+use kc_model::{MOST_LOCATIONS, NoMemory, PlainStore};
 use std::alloc::Global;
 
 /// Room for the order of these threads' records: one for each command and for each end.
 pub fn room_for(alloc: Global, threads: &[Vec<Command>]) -> Result<Room, NoMemory>
     requires threads { length threads.now ≤ 16 }
-    requires commands { All (λ v. length v.items ≤ 4096) threads.now }
+    requires commands { All (λ v. length v.items ≤ MOST_COMMANDS) threads.now }
     ensures threads { IfOk result (λ room. room.threads ≡ length threads.now) }
     ensures records { IfOk result (λ room. room.records ≡ sum_by (λ v. length v.items + 1) threads.now) }
     ensures order { IfOk result (λ room. room.order ≡ []) }
@@ -39,7 +39,7 @@ pub fn settle(records: &[Vec<Record>], room: &mut Room, store: &mut PlainStore)
     ensures legal { Legal (footprint_at (lists_of records.now)) (λ (_ : ℕ). 0) (store_of store.old) room.new.order (store_of store.new) }
     ensures size { length store.new ≡ length store.old }
 {
-    prove!(store.len() <= 65536);
+    prove!(store.len() <= MOST_LOCATIONS);
     if arrange(records, room).is_err() {
         unreachable!("the records have a legal list");
     }

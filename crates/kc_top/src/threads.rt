@@ -9,7 +9,7 @@ ghost use Rattle.kc_runs.specs.Threads.{AreRun};
 use kc_bundle::Command;
 use kc_history::Record;
 use kc_locked::LockPast;
-use kc_model::NoMemory;
+use kc_model::{MOST_LOCATIONS, NoMemory};
 use kc_run::{Gate, open_locked, run_threads};
 use std::alloc::Global;
 use std::sync::Wait;
@@ -23,7 +23,7 @@ pub fn run_locked<G: Gate, R: Threads + Wait + Sync>(
     threads: &[Vec<Command>],
     gate: &G,
 ) -> Result<(Vec<Vec<Record>>, LockPast), NoMemory>
-    requires values { (0 < length values.now) × (length values.now ≤ 65536) }
+    requires values { (0 < length values.now) × (length values.now ≤ MOST_LOCATIONS) }
     requires threads { (0 < length threads.now) × (length threads.now ≤ 64) }
     requires commands { All (λ v. CanRunAll (length values.now) v.items) threads.now }
     ensures opening { IfOk result (λ r. r.1.opening ≡ values.now) }
