@@ -6,7 +6,6 @@ use Rattle.kc_alone.proofs.Rounds.{Calm, Cover, is_left, is_pending, nothing, pl
 use Rattle.kc_claims.proofs.ByPlace.{low}
 use Rattle.kc_effects.proofs.Tests.{both}
 use Rattle.kc_machine.specs.Machine.{World, found_at, touched}
-use Rattle.kc_machine.specs.Words.{control}
 use Rattle.kc_model.specs.declared.footprint.Loc.{Loc}
 use Rattle.kc_model.specs.declared.word.Word.{Word}
 use Rattle.kc_model.specs.declared.word.Word.TheVariants.{Plain, Ref}
@@ -111,7 +110,7 @@ module _ (w : World) (fit : (l g d i : ℕ) → w.word l ≡ Ref g d i → IsLas
       live = λ c g e. e;
       left = λ j e. cas_cases (λ z. is_left w (all_of d) f z ≡ true → is_left w (all_of d) f (w.word j) ≡ true) w l old (word_of h k) j (λ a u. u) (λ a b u. u) (λ a b u. let z = (left_of w (all_of d) f h.generation d k u).open_to in absurd (let s = eq-eqb d d refl in let b : true ≡ false = sym s ∙ z in cc)) e;
       pending = λ i q e. cas_cases (λ z. (is_active (w.status f).phase || ((f == d) || refers_line f i z)) ≡ true → is_pending w (all_of d) f i ≡ true) w l old (word_of h k) (place_of w f i) (λ a u. u) (λ a b u. u)
-        (λ a b u. or_mono _ _ _ _ (λ z. z) (λ z. or_left _ _ (by i (or_cases _ _ z))) u) e;
+          (λ a b u. or_mono _ _ _ _ (λ z. z) (λ z. or_left _ _ (by i (or_cases _ _ z))) u) e;
     }
       where
         by : (i : ℕ) → ((f == d) ≡ true) ⊎ (refers_line f i (word_of h k) ≡ true) → (f == d) ≡ true
@@ -159,9 +158,9 @@ module _ (w : World) (fit : (l g d i : ℕ) → w.word l ≡ Ref g d i → IsLas
       second = refl;
       live = λ c g e. e;
       left = λ j e. cas_cases (λ z. is_left w y f z ≡ true → is_left w (from_on d k) f (w.word j) ≡ true) w x.seen.loc (word_of h k) (Plain new.0 new.1) j
-        (λ a. left_word w w (from_on d k) y f (w.word j) (λ g c i q s. go g c i j q s (λ z u. a u)))
-        (λ a b. left_word w w (from_on d k) y f (w.word j) (λ g c i q s. go g c i j q s (λ z u. b z)))
-        (λ a b u. absurd (cc)) e;
+          (λ a. left_word w w (from_on d k) y f (w.word j) (λ g c i q s. go g c i j q s (λ z u. a u)))
+          (λ a b. left_word w w (from_on d k) y f (w.word j) (λ g c i q s. go g c i j q s (λ z u. b z)))
+          (λ a b u. absurd (cc)) e;
       pending = λ i q e. cas_cases (λ z. (is_active (w.status f).phase || (y f i || refers_line f i z)) ≡ true → is_pending w (from_on d k) f i ≡ true) w x.seen.loc (word_of h k) (Plain new.0 new.1) (place_of w f i) (λ a. still i) (λ a b. still i) (λ a b. lost i) e;
     }
       where

@@ -1,6 +1,4 @@
 -- Which references a pass is about to release, step by step.
--- @from Rattle.kc_passes.proofs.Gone Next next_skips
--- @from Rattle.kc_passes.proofs.Owing named
 use Rattle.kc_alone.proofs.Left.{is_active}
 use Rattle.kc_alone.proofs.PassFalls.{next_from}
 use Rattle.kc_alone.proofs.Rounds.{Cover, is_left, nothing}

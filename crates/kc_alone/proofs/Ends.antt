@@ -1,6 +1,4 @@
 -- A seat alone is told within the bound.
--- @from Rattle.kc_claims.specs.Claims alone bound_alone AloneItIsTold
--- @from Rattle.kc_alone.proofs.SeatFalls tells begins falls
 use Rattle.kc_alone.proofs.Left.{work_left}
 use Rattle.kc_alone.proofs.Modes.{price}
 use Rattle.kc_alone.proofs.Ranks.{top}
@@ -135,7 +133,7 @@ top_below n l =
     omega (arith, a, x, y, z)
 
 pub alone_told : (o : Opening) (es : List Event) → IsSchedule o es → AloneItIsTold o es
-alone_told o es w honest k l i free =
+alone_told o es w k l i free =
     let m = run o es in
     let c = run_shape o es in
     let n : m.descriptors ≡ 3 * o.callers + 1 = c.1 in

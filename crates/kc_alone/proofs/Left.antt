@@ -28,6 +28,7 @@ use Rattle.kc_machine.specs.declared.hang.LeaveStep.TheVariants as leave
 use Rattle.kc_steps.specs.declared.look.LookStep.TheVariants as look
 use Rattle.kc_commits.specs.declared.commit.OwnStep.TheVariants as own
 use Rattle.kc_machine.specs.Works as work
+
 -- from descriptor d to descriptor e of n, round
 
 abbrev pub is_active : Phase → Bool

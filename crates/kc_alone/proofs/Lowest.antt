@@ -1,5 +1,4 @@
 -- To drop the lowest bit of a number leaves its next one the lowest.
--- @from Rattle.std.proofs.lemmas.Nat.Bits bit_at_lowest bit_at-suc bit_at-zero
 use Rattle.kc_steps.specs.Passes.{fits}
 use Rattle.std.proofs.Common.{Bool, ap, arith, false, refl, suc, sym, true, zero, ℕ, ◌%◌, ◌-◌, ◌/◌, ◌<◌, ◌∙◌, ◌≡◌, ◌≢◌, ◌≤◌}
 use Rattle.std.proofs.lemmas.Nat.{and_le_l}

@@ -1,6 +1,4 @@
 -- How an aid stands alone, and what it has to pay for the rounds that are left.
--- @from Rattle.std.proofs.Math.Nat mul-le-mul_left
--- @from Rattle.std.proofs.Common mul-suc
 use Rattle.kc_alone.proofs.Chains.{Rises, chain_some, live_is, stands_all}
 use Rattle.kc_alone.proofs.Covers.{aid_cover}
 use Rattle.kc_alone.proofs.Frees.{freed}
@@ -10,7 +8,6 @@ use Rattle.kc_alone.proofs.Tallies.{cond_one, every}
 use Rattle.kc_effects.proofs.Sums.{total_part}
 use Rattle.kc_effects.specs.Holds.{Hold, Proper}
 use Rattle.kc_machine.specs.Machine.{World}
-use Rattle.kc_machine.specs.Words.{control}
 use Rattle.kc_model.specs.declared.word.Word.TheVariants.{Plain, Ref}
 use Rattle.kc_passes.specs.Lines.{IsInstalledLine, IsLastLife}
 use Rattle.kc_steps.specs.Lines.{word_of}

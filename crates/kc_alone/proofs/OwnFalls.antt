@@ -1,5 +1,4 @@
 -- Each step of a commit leaves fewer, tells, or begins an aid.
--- @from Rattle.kc_steps.specs.declared.line.Pick.TheVariants Put
 use Rattle.kc_alone.proofs.AidFalls.{AidGoes, IsBounded, aid_falls}
 use Rattle.kc_alone.proofs.Left.{aid_left, own_left, pass_left}
 use Rattle.kc_alone.proofs.Lowest.{lowest_rises}

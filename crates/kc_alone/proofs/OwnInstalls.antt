@@ -1,6 +1,4 @@
 -- An own pass alone, at an install.
--- @from Rattle.kc_passes.proofs.Gone Next next_skips
--- @from Rattle.kc_passes.proofs.Owing named
 use Rattle.kc_alone.proofs.Chains.{chain_most, in_line_is, in_line_of}
 use Rattle.kc_alone.proofs.Covers.{is_left_of, left_of, or_mono}
 use Rattle.kc_alone.proofs.Frees.{freed, own_frees, ref_frees}
@@ -13,7 +11,7 @@ use Rattle.kc_effects.proofs.Tests.{both, some_line}
 use Rattle.kc_effects.specs.Holds.{Hold}
 use Rattle.kc_machine.proofs.Functions.{put_cases}
 use Rattle.kc_machine.specs.Machine.{World, found_at, put, put_some, touched}
-use Rattle.kc_machine.specs.Words.{control, stored_word}
+use Rattle.kc_machine.specs.Words.{stored_word}
 use Rattle.kc_model.specs.declared.word.Word.{Word}
 use Rattle.kc_model.specs.declared.word.Word.TheVariants.{Plain, Ref}
 use Rattle.kc_passes.proofs.Gone.{Next, next_skips}
@@ -132,9 +130,9 @@ module _ (n : ℕ) (at : ℕ → Hold) (w : World) (h : Handle) (ground : Ground
       go (Some j) e s =
           let l = next_from Installed m xs (after_line k) j e in
           own_paid g words j (omega (arith, l, one)) (λ i a b low z.
-              let x = named w h m xs i t (in_line_of w f i low z) in
-              let u = s i x.0 (omega (arith, a, one)) b x.1 in
-              let r = x.2 in absurd (let q : true ≡ false = sym r ∙ u in cc))
+          let x = named w h m xs i t (in_line_of w f i low z) in
+          let u = s i x.0 (omega (arith, a, one)) b x.1 in
+          let r = x.2 in absurd (let q : true ≡ false = sym r ∙ u in cc))
 
   pub own_installs : OwnEnds n at w (touched w (install_access h k (slice_get xs k))) h xs k (install_next h m xs k (found_at w (install_access h k (slice_get xs k))))
   own_installs = by (slice_get xs k) y.1 refl

@@ -1,7 +1,4 @@
 -- What a commit alone has to pay, and that each step leaves less to pay and to do.
--- @from Rattle.kc_alone.proofs.ModeSteps goes meets
--- @from Rattle.kc_alone.proofs.OwnInstalls passes stops
--- @from Rattle.kc_steps.specs.declared.line.Pick.TheVariants Put
 use Rattle.kc_alone.proofs.AidFalls.{AidGoes, IsBounded, aid_falls}
 use Rattle.kc_alone.proofs.Calms.{goes_or_leaves}
 use Rattle.kc_alone.proofs.Left.{aid_left, is_last, own_left}

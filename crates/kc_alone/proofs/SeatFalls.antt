@@ -1,10 +1,4 @@
 -- Each step of a seat leaves fewer, tells, or begins an aid.
--- @from Rattle.kc_steps.specs.Looks look_access look_next looks_on told_by look_after
--- @from Rattle.std.proofs.Math.Nat pow-le-pow_right
--- @from Rattle.kc_machine.specs.declared.hang.HangNext.TheVariants hanging
--- @from Rattle.kc_machine.specs.Waits Hang Leave
--- @from Rattle.kc_steps.specs.declared.look.Look Look
--- @from Rattle.kc_steps.specs.Looks looks
 use Rattle.kc_alone.proofs.AidFalls.{IsBounded}
 use Rattle.kc_alone.proofs.Left.{free_left, hang_left, is_last, look_left, own_left, round, stage_left, takes, work_left}
 use Rattle.kc_alone.proofs.Lowest.{lowest_low}

@@ -1,6 +1,4 @@
 -- The steps of an aid alone, by how it stands.
--- @from Rattle.kc_alone.proofs.Modes loose chained freeing leaving leads links
--- @from Rattle.kc_alone.proofs.ModeSteps goes meets
 use Rattle.kc_alone.proofs.Calms.{aid_calm, aid_next_cover, goes_or_leaves}
 use Rattle.kc_alone.proofs.Chains.{chain_installs, chain_most, chain_shorter, in_line_is}
 use Rattle.kc_alone.proofs.Covers.{aid_cover, cas_cases, is_left_of, word_unequal}

@@ -1,9 +1,4 @@
 -- A seat alone is told or begins an aid.
--- @from Rattle.kc_alone.proofs.SeatFalls tells begins falls
--- @from Rattle.std.proofs.Common append_assoc
--- @from Rattle.kc_claims.specs.Claims alone
--- @from Rattle.kc_passes.proofs.Always references_fit
--- @from Rattle.kc_machine.specs.Works Work
 use Rattle.kc_alone.proofs.Left.{aid_left, free_left, hang_left, is_active, own_left, stage_left, takes, work_left}
 use Rattle.kc_alone.proofs.PassFalls.{pass_most}
 use Rattle.kc_alone.proofs.SeatFalls.{Goes, IsFree, Knows, begins, falls, look_most, round_below, searches, seat_falls, tells}
@@ -15,13 +10,11 @@ use Rattle.kc_commits.specs.declared.commit.Stage.{Stage}
 use Rattle.kc_commits.specs.declared.commit.Stage.TheVariants.{Own, Scan, Take}
 use Rattle.kc_machine.specs.Machine.{Opening, World, run}
 use Rattle.kc_machine.specs.Schedules.{BeginsWellMade, IsSchedule}
-use Rattle.kc_machine.specs.Seats.{fresh, is_idle}
+use Rattle.kc_machine.specs.Seats.{is_idle}
 use Rattle.kc_machine.specs.Works.{Work}
 use Rattle.kc_machine.specs.declared.hang.HangStep.{HangStep}
 use Rattle.kc_machine.specs.declared.hang.LeaveStep.{LeaveStep}
-use Rattle.kc_model.specs.Store.{stands}
 use Rattle.kc_passes.proofs.Always.{references_fit}
-use Rattle.kc_pool.proofs.Phases.{reads}
 use Rattle.kc_ranges.proofs.Runs.{seats_in, steps_happen}
 use Rattle.kc_ranges.specs.Possible.{one_step}
 use Rattle.kc_seats.proofs.FitSeats.{fit_always}
@@ -29,7 +22,6 @@ use Rattle.kc_seats.proofs.FormedSteps.{formed_always}
 use Rattle.kc_seats.proofs.MadeSteps.{hangs_stand, intents_made, reads_made}
 use Rattle.kc_seats.proofs.SeatedSteps.{searches_in_range, seats_stay}
 use Rattle.kc_seats.specs.Seated.{StageSearches, WorkSearches}
-use Rattle.kc_steps.specs.Passes.{fits}
 use Rattle.kc_steps.specs.declared.aid.AidStep.{AidStep}
 use Rattle.kc_steps.specs.declared.task.Event.{Event}
 use Rattle.kc_steps.specs.declared.task.Event.TheVariants.{Step}

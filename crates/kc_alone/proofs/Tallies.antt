@@ -1,5 +1,4 @@
 -- Sums of what is left, and tests of all numbers below another.
--- @from Rattle.std.proofs.Common mul-suc
 use Rattle.kc_effects.proofs.Tests.{both}
 use Rattle.kc_effects.specs.Holds.{total}
 use Rattle.std.proofs.Common.{Bool, ap, arith, cond, false, mul-suc, refl, subst, suc, true, zero, ℕ, ◌&&◌, ◌*◌, ◌+◌, ◌<◌, ◌==◌, ◌∙◌, ◌≡◌, ◌≤◌}

@@ -1,8 +1,4 @@
 -- A seat alone is told within the bound.
--- @from Rattle.kc_steps.specs.Looks look_access look_next looks_on told_by
--- @from Rattle.kc_machine.specs.Waits Hang Leave
--- @from Rattle.kc_steps.specs.declared.look.Look Look
--- @from Rattle.kc_machine.specs.declared.hang.HangNext.TheVariants hanging
 use Rattle.kc_alone.proofs.AidFalls.{IsBounded}
 use Rattle.kc_alone.proofs.Left.{free_left, hang_left, look_left, own_left, round, stage_left, takes, work_left}
 use Rattle.kc_alone.proofs.Modes.{Ground}

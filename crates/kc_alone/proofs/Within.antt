@@ -1,17 +1,9 @@
 -- From any state, step by step.
--- @from Rattle.kc_steps.specs.Looks look_access look_next looks_on told_by
--- @from Rattle.kc_machine.specs.Waits Hang Leave
--- @from Rattle.kc_steps.specs.declared.look.Look Look
--- @from Rattle.kc_machine.specs.declared.hang.HangNext.TheVariants hanging
--- @from Rattle.kc_alone.proofs.Modes loose
--- @from Rattle.kc_effects.specs.Stands aids owns commits hangs works stand resting Waits Stand
--- @from Rattle.kc_passes.proofs.Always references_fit installed_prefix line_known
 use Rattle.kc_alone.proofs.Covers.{aid_cover}
 use Rattle.kc_alone.proofs.Modes.{Ground, loose, spare}
 use Rattle.kc_alone.proofs.Ranks.{AidRank, Builds, InstallRank, PassRank, StageRank, paid_most, top}
 use Rattle.kc_alone.proofs.Rounds.{nothing}
 use Rattle.kc_alone.proofs.Told.{StageBuilds, WorkBuilds, WorkRank}
-use Rattle.kc_answers.proofs.Crossed.{before}
 use Rattle.kc_answers.proofs.Puts.{lower}
 use Rattle.kc_claims.specs.Worked.{seen}
 use Rattle.kc_commits.specs.Commits.{gone_on, loaded, onward_by, stage_next, tells_or_goes}
@@ -22,11 +14,10 @@ use Rattle.kc_commits.specs.declared.commit.Stage.{Stage}
 use Rattle.kc_commits.specs.declared.commit.Stage.TheVariants.{Own, Scan, Take}
 use Rattle.kc_effects.specs.Holds.{Hold, NoHold, Proper, own_hold}
 use Rattle.kc_effects.specs.Stands.{Stand, Waits, aids, commits, hangs, owns, resting, stand, works}
-use Rattle.kc_histories.proofs.Places.{rises}
 use Rattle.kc_machine.specs.Hangs.{hang_step, hangs_on, leaves_on, next_read, onward_of, unblocks_or_tells}
 use Rattle.kc_machine.specs.Machine.{Opening, World, run}
 use Rattle.kc_machine.specs.Schedules.{IsSchedule}
-use Rattle.kc_machine.specs.Seats.{after, answer_by, answer_of, halted}
+use Rattle.kc_machine.specs.Seats.{after, answer_by, answer_of}
 use Rattle.kc_machine.specs.Waits.{Hang, Leave}
 use Rattle.kc_machine.specs.Works.{Work}
 use Rattle.kc_machine.specs.declared.hang.HangNext.{HangNext}

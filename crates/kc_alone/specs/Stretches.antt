@@ -7,7 +7,7 @@ use Rattle.kc_steps.specs.declared.aid.AidStep.TheVariants as aid
 use Rattle.kc_commits.specs.declared.commit.OwnStep.{OwnStep}
 use Rattle.kc_commits.specs.declared.commit.OwnStep.TheVariants as own
 use Rattle.kc_commits.specs.declared.commit.Stage.{Stage}
-use Rattle.kc_commits.specs.declared.commit.Stage.TheVariants.{Scan, Take, Own}
+use Rattle.kc_commits.specs.declared.commit.Stage.TheVariants.{Own}
 use Rattle.kc_machine.specs.declared.seat.Seat.{Seat}
 use Rattle.kc_machine.specs.Works.{Work}
 use Rattle.kc_machine.specs.Works as work

@@ -2,5 +2,6 @@
 #![tactic(auto)]
 
 mod laws;
+pub mod worked;
 
 pub use laws::{alone_it_is_told, stretches_end};

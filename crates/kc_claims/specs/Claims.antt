@@ -224,9 +224,9 @@ bound_alone callers lines = (callers + 1) * (callers + 1) * (4 * lines * lines)
 abbrev pub HasFree : State → Type 0
 HasFree m = (d : ℕ) × (d < m.descriptors) × ((m.world.control d).holds ≡ 0) × ((m.world.control d).generation < LAST_GENERATION)
 
--- in an honest schedule a seat that steps alone is told within a bound, where a descriptor can be taken
+-- a seat that steps alone is told within a bound, where a descriptor can be taken
 abbrev pub AloneItIsTold : Opening → List Event → Type 0
-AloneItIsTold o schedule = IsHonest o schedule → (k : ℕ) → k < o.callers → is_idle ((run o schedule).seats k).work ≡ false → HasFree (run o schedule)
+AloneItIsTold o schedule = (k : ℕ) → k < o.callers → is_idle ((run o schedule).seats k).work ≡ false → HasFree (run o schedule)
     → (n : ℕ) × (n ≤ bound_alone o.callers MOST) × (is_some ((alone o schedule k n).seats k).told ≡ true)
 
 abbrev pub compares : Access → Bool

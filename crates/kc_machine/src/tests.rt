@@ -150,6 +150,28 @@ fn a_stopped_owner_is_helped(rt: HostRuntime) -> Result<(), Fail> {
     Ok(())
 }
 
+// Owner n of sixteen stands behind its first install, at location n; the next one holds the location that it installs then.
+#[test]
+fn a_chain_of_sixteen_stopped_owners_is_gone_through(rt: HostRuntime) -> Result<(), Fail> {
+    let mut machine = open(&rt, &[5; 18], 17)?;
+    for n in 1..17u32 {
+        let owner = commit(
+            Mode::All,
+            &[(n, 0, 5), (n + 1, 0, 5)],
+            &[(n, 0, 6), (n + 1, 0, 6)],
+        );
+        begin(&mut machine, n, owner);
+        step(&mut machine, n, 9);
+    }
+    let last = commit(Mode::All, &[(1, 0, 5)], &[(1, 0, 9)]);
+    begin(&mut machine, 0, last);
+    let count = finish(&mut machine, 0);
+    assert_eq!(rt; told(&machine, 0), WON);
+    assert_eq!(rt; count, 1555);
+    assert!(rt; count <= 18 * 18 * 16_384);
+    Ok(())
+}
+
 #[test]
 fn a_held_descriptor_is_not_taken(rt: HostRuntime) -> Result<(), Fail> {
     let mut machine = open(&rt, &[5, 6], 2)?;
