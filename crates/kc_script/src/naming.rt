@@ -18,8 +18,8 @@ fn base_of(object: Object) -> u32
         Object::Mvar(mvar) => mvar.base().0,
         Object::Promise(promise) => promise.base().0,
         Object::Acc(acc) => acc.base().0,
-        Object::Hash(hash) => hash.base.0,
-        Object::Cache(cache) => cache.base.0,
+        Object::Hash(hash) => hash.base().0,
+        Object::Cache(cache) => cache.base().0,
     }
 }
 

@@ -111,7 +111,7 @@ fn put_table<K: Sink>(pen: &mut Pen<K>, objects: &IndexMap<String, Object>, oper
     requires sized { AreSized (names_of objects.now) }
     ensures { Puts K.written K.faults K.write_gives pen.old pen.new (line_text (line_of (names_of objects.now) (table_words operation.hash operation.act))) }
 {
-    let name = name_at(objects, operation.hash.base.0);
+    let name = name_at(objects, operation.hash.base().0);
     match operation.act {
         HashAct::Put(key, value) => put_numbers(pen, b"put", name, key, value),
         HashAct::Find(key) => put_number(pen, b"find", name, key),
@@ -163,7 +163,7 @@ fn put_cache<K: Sink>(pen: &mut Pen<K>, objects: &IndexMap<String, Object>, oper
     requires sized { AreSized (names_of objects.now) }
     ensures { Puts K.written K.faults K.write_gives pen.old pen.new (line_text (line_of (names_of objects.now) (cache_words operation.cache operation.act))) }
 {
-    let name = name_at(objects, operation.cache.base.0);
+    let name = name_at(objects, operation.cache.base().0);
     match operation.act {
         CacheAct::CPut(key, value) => put_numbers(pen, b"cput", name, key, value),
         CacheAct::CPutWait(key, value) => put_numbers(pen, b"cputw", name, key, value),
