@@ -1,0 +1,5 @@
+pub mod Adding
+pub mod Left
+pub mod Ordered
+pub mod Drawn
+pub mod Lying

@@ -1,0 +1,8 @@
+//! Storms: a large script from a number, and the summary of its run.
+#![tactic(auto)]
+
+mod laws;
+
+pub use laws::{
+    runs_come_to_one_state, states_are_sums, storms_are_in_order, summaries_are_one,
+};
