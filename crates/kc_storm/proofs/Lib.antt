@@ -3,3 +3,4 @@ pub mod Left
 pub mod Ordered
 pub mod Drawn
 pub mod Lying
+pub mod Making

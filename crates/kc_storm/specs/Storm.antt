@@ -21,7 +21,7 @@ use Rattle.kc_bundle.specs.Script.{Names, Script}
 abbrev pub place : ℕ → Loc
 place i = record { 0 = i + 1 }
 
-abbrev zero_at : ℕ → Object
+abbrev pub zero_at : ℕ → Object
 zero_at i = object.Loc (place i) 0
 
 -- four cells behind them

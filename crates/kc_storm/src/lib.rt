@@ -2,7 +2,11 @@
 #![tactic(auto)]
 
 mod laws;
+mod script;
+mod summary;
 
 pub use laws::{
     runs_come_to_one_state, states_are_sums, storms_are_in_order, summaries_are_one,
 };
+pub use script::{COMMANDS, THREADS, storm};
+pub use summary::{commits, ok_commands, put_summary, write_summary};

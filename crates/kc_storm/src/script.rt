@@ -2,7 +2,7 @@
 
 ghost use Rattle.std.specs.Prelude.{◌≡◌, ◌≤◌, ◌<◌, ◌++◌, ◌∷◌, [], IfOk, OnOk};
 ghost use Rattle.kc_bundle.specs.Script.{script_of, names_of};
-ghost use Rattle.kc_storm.specs.Storm.{accumulator, storm_objects, next_draw, place, high, first_place, other_place, amount, kind, modify, bump, transfer, command_of, drawn_command, drawn_commands, storm_thread, storm_script};
+ghost use Rattle.kc_storm.specs.Storm.{accumulator, storm_objects, zero_at, next_draw, kind, modify, bump, transfer, command_of, drawn_commands, storm_script};
 
 use indexmap::IndexMap;
 use kc_bundle::{Bundle, Command, Object, Op};
@@ -44,12 +44,26 @@ fn objects(alloc: Global) -> Result<IndexMap<String, Object>, NoMemory>
     ensures { IfOk result (λ objects. names_of objects ≡ storm_objects) }
 {
     let mut objects = IndexMap::new(alloc);
-    for i in 0..8 {
-        let at = Loc(i + 1);
-        add(alloc, &mut objects, name(i), Object::Loc { at, value: 0 })?;
-    }
+    add(alloc, &mut objects, "l0", zero_at(0))?;
+    add(alloc, &mut objects, "l1", zero_at(1))?;
+    add(alloc, &mut objects, "l2", zero_at(2))?;
+    add(alloc, &mut objects, "l3", zero_at(3))?;
+    add(alloc, &mut objects, "l4", zero_at(4))?;
+    add(alloc, &mut objects, "l5", zero_at(5))?;
+    add(alloc, &mut objects, "l6", zero_at(6))?;
+    add(alloc, &mut objects, "l7", zero_at(7))?;
     add(alloc, &mut objects, "a", Object::Acc(accumulator()))?;
     Ok(objects)
+}
+
+fn zero_at(place: u32) -> Object
+    requires { place < 8 }
+    ensures { result ≡ zero_at place }
+{
+    Object::Loc {
+        at: Loc(place + 1),
+        value: 0,
+    }
 }
 
 fn next_draw(draw: u32) -> u32
@@ -59,7 +73,7 @@ fn next_draw(draw: u32) -> u32
 }
 
 fn commands(alloc: Global, thread: u32, start: u32) -> Result<Vec<Command>, NoMemory>
-    requires { (1 ≤ thread) × (thread ≤ 4) }
+    requires { 1 ≤ thread }
     ensures { IfOk result (λ commands. commands.items ≡ drawn_commands thread COMMANDS start) }
 {
     let mut commands = Vec::new(alloc);
@@ -73,7 +87,7 @@ fn commands(alloc: Global, thread: u32, start: u32) -> Result<Vec<Command>, NoMe
 
 // The command that the high half of a draw says.
 fn command(alloc: Global, thread: u32, drawn: u32) -> Result<Command, NoMemory>
-    requires thread { (1 ≤ thread) × (thread ≤ 4) }
+    requires thread { 1 ≤ thread }
     requires half { drawn < 65536 }
     ensures { IfOk result (λ c. c ≡ command_of thread drawn (kind drawn)) }
 {
