@@ -4,3 +4,4 @@ pub mod Ordered
 pub mod Drawn
 pub mod Lying
 pub mod Making
+pub mod Counting

@@ -46,7 +46,7 @@ ok_commands records = sum_by (count_by is_ok_command) records
 
 -- the storm's number, how many commits were made and how many commands are all `ok`, and the state lines
 abbrev pub summary_lines : ℕ → ℕ → ℕ → List ℕ → List ℕ
-summary_lines n commits oks state = codes "storm " ++ decimal n ++ codes "\n" ++ codes "commits " ++ decimal commits ++ codes "\n" ++ codes "ok " ++ decimal oks ++ codes "\n" ++ state
+summary_lines n commits oks state = codes "storm " ++ decimal n ++ codes "\ncommits " ++ decimal commits ++ codes "\nok " ++ decimal oks ++ codes "\n" ++ state
 
 -- the records are a run of the storm, and this is its summary
 pub record IsSummary (n : ℕ) (records : List (List Record)) (text : List ℕ) : Type 0 where

@@ -116,9 +116,18 @@ fn are_ok(items: &Items) -> bool
     ensures { result ≡ list_all is_ok_item items.now }
 {
     for i in 0..items.len() {
-        if items.get(i) != Item::Unit {
+        if !is_ok_item(items.get(i)) {
             return false;
         }
     }
     true
+}
+
+fn is_ok_item(item: Item) -> bool
+    ensures { result ≡ is_ok_item item }
+{
+    match item {
+        Item::Unit => true,
+        _ => false,
+    }
 }
