@@ -4,6 +4,7 @@
 mod laws;
 mod script;
 mod summary;
+pub mod worked;
 
 pub use laws::{
     runs_come_to_one_state, states_are_sums, storms_are_in_order, summaries_are_one,
