@@ -1,3 +1,4 @@
 pub mod Asks
 pub mod Bundles
 pub mod Shown
+pub mod Stormed

@@ -4,3 +4,4 @@ pub mod Ran
 pub mod Statuses
 pub mod Numbers
 pub mod Lines
+pub mod Storms

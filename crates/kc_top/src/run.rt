@@ -12,6 +12,7 @@ ghost use Rattle.kc_runs.specs.Run.{run_text};
 ghost use Rattle.kc_top.specs.Ran.{HasRun};
 ghost use Rattle.kc_top.specs.Runnable.{IsRunnable};
 ghost use Rattle.kc_top.specs.Statuses.{Shows};
+ghost use Rattle.kc_top.specs.Storms.{SumsUp};
 
 use crate::served::Served;
 use crate::settling::{room_for, settle};
@@ -20,6 +21,7 @@ use kc_bundle::{Bundle, opening, put_state};
 use kc_history::{Record, Room, put_text};
 use kc_model::{Failed, ModelError, NoMemory, Pen, PlainStore, Sink};
 use kc_run::Gate;
+use kc_storm::{storm, write_summary};
 use std::alloc::Global;
 use std::sync::Wait;
 use std::thread::Threads;
@@ -48,6 +50,23 @@ pub fn perform<K: Sink, G: Gate, R: Threads + Wait + Sync>(
     let ran = run_bundle(rt, alloc, bundle, gate)?;
     let shown = write_run(bundle, &ran, sink);
     Ok((shown, ran.served))
+}
+
+/// Runs the storm of this number, and writes its summary. All memory is taken before the first command.
+pub fn perform_storm<K: Sink, G: Gate, R: Threads + Wait + Sync>(
+    rt: &R,
+    alloc: Global,
+    number: u32,
+    sink: &mut K,
+    gate: &G,
+) -> Result<(Result<(), Failed>, Served), NoMemory>
+    ensures shows { IfOk result (λ r. SumsUp K.written K.faults K.write_gives number r.1 sink.old sink.new r.0) }
+    ensures untouched { OnErr result (sink.new ≡ sink.old) }
+{
+    let bundle = storm(alloc, number)?;
+    let ran = run_bundle(rt, alloc, &bundle, gate)?;
+    let summed = write_summary(number, &bundle, &ran.records, &ran.store, sink);
+    Ok((summed, ran.served))
 }
 
 fn run_bundle<G: Gate, R: Threads + Wait + Sync>(
