@@ -1,7 +1,5 @@
 -- The commands of a storm only add.
 use Rattle.std.proofs.Common.{◌≡◌, ℕ, zero, suc, ◌+◌, ◌-◌, ◌*◌, ◌^◌, ◌<◌, ◌≤◌, List, [], ◌∷◌, length, map, sum_by, refl, sym, ap, ◌∙◌, arith, lit<}
-use Rattle.std.proofs.Math.Path.{fun_ext}
-use Rattle.std.proofs.Math.Nat.{mod-add-mod}
 use Rattle.std.proofs.lemmas.Bool.Decides.{nat_tests}
 use Rattle.std.proofs.lemmas.List.Sums.{sum_by-cons}
 use Rattle.kc_model.specs.Store.{Store, store_of, opened}
@@ -9,12 +7,12 @@ use Rattle.kc_xt.specs.Meaning.{values}
 use Rattle.kc_xt.specs.Program.{wrapped}
 use Rattle.kc_bundle.specs.declared.operation.Command.{Command}
 use Rattle.kc_bundle.specs.Meaning.{thread_meaning}
-use Rattle.kc_bundle.specs.State.{AllStand, Content, state_lines, state_text, opening_values}
+use Rattle.kc_bundle.specs.State.{state_lines, state_text, opening_values}
 use Rattle.kc_bundle.proofs.Standing.{all_show}
 use Rattle.kc_history.specs.declared.record.Record.{Record}
 use Rattle.kc_history.specs.declared.record.Place.{Place}
 use Rattle.kc_runs.specs.Run.{IsRun, opening_store}
-use Rattle.kc_storm.specs.Storm.{accumulator, first_place, other_place, amount, kind, high, next_draw, command_of, drawn_command, drawn_commands, storm_thread, storm_script, storm_objects}
+use Rattle.kc_storm.specs.Storm.{accumulator, first_place, other_place, amount, kind, high, next_draw, command_of, drawn_commands, storm_thread, storm_script, storm_objects}
 use Rattle.kc_storm.specs.State.{at_cell, command_adds, all_adds, storm_state}
 use Rattle.kc_storm.specs.Summary.{commits, ok_commands, summary_lines, summary_text, IsSummary}
 use Rattle.kc_storm.proofs.Adding.{Small, Adds, modify_adds, incr_adds, bump_adds, both_adds}

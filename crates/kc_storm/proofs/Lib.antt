@@ -5,3 +5,4 @@ pub mod Drawn
 pub mod Lying
 pub mod Making
 pub mod Counting
+pub mod Spelled

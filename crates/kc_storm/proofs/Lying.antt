@@ -1,10 +1,10 @@
 -- Where the objects of a storm lie, and that its commands are on them.
-use Rattle.std.proofs.Common.{◌≡◌, ℕ, zero, suc, ◌+◌, ◌%◌, ◌<◌, ◌≤◌, ◌⊎◌, inl, inr, List, [], ◌∷◌, length, slice_index_or, refl, arith, lit<, lit≤}
+use Rattle.std.proofs.Common.{◌≡◌, ℕ, zero, suc, ◌%◌, ◌<◌, inl, inr, [], length, slice_index_or, refl, arith, lit<, lit≤}
 use Rattle.std.proofs.Math.Nat.{mod-lt}
 use Rattle.kc_bundle.specs.declared.object.Object.TheVariants as object
 use Rattle.kc_bundle.specs.Script.{LieFrom, next_from, LiesInOrder, AreSized, HasObject}
 use Rattle.kc_bundle.specs.On.{IsLocation, CommandIsOn, CommandsAreOn}
-use Rattle.kc_storm.specs.Storm.{accumulator, place, first_place, other_place, amount, kind, high, next_draw, command_of, drawn_commands, storm_thread, storm_script, storm_objects}
+use Rattle.kc_storm.specs.Storm.{accumulator, place, kind, high, next_draw, command_of, drawn_commands, storm_script, storm_objects}
 use Rattle.kc_storm.proofs.Drawn.{length-commands}
 
 pub storm_lies : (n : ℕ) → LiesInOrder (storm_script n)

@@ -1,9 +1,8 @@
 -- A thread's commands, one after another, and the threads.
-use Rattle.std.proofs.Common.{◌≡◌, ℕ, zero, suc, ◌+◌, ◌-◌, ◌<◌, ◌≤◌, ◌^◌, ◌%◌, List, [], ◌∷◌, ◌++◌, take, map, refl, sym, ap, ◌∙◌, append_assoc, arith}
+use Rattle.std.proofs.Common.{◌≡◌, ℕ, zero, suc, ◌+◌, ◌-◌, ◌<◌, ◌≤◌, List, [], ◌∷◌, ◌++◌, take, map, refl, sym, ap, ◌∙◌, append_assoc, arith}
 use Rattle.std.specs.Global.{Vec}
 use Rattle.std.proofs.lemmas.List.{append-nil, map-append, take_all}
 use Rattle.kc_bundle.specs.declared.operation.Command.{Command}
-use Rattle.kc_bundle.specs.Script.{Script}
 use Rattle.kc_storm.specs.Storm.{next_draw, drawn_command, drawn_commands, storm_thread, storm_script}
 
 -- one more command was added

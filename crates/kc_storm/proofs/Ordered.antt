@@ -1,17 +1,16 @@
 -- In every run of a script whose commands only add, all replies are `ok`, and the last store has the sums.
-use Rattle.std.proofs.Common.{◌≡◌, ◌≢◌, ◌⊎◌, inl, inr, ℕ, zero, suc, ◌+◌, ◌<◌, ◌≤◌, ◌==◌, ◌^◌, ◌&&◌, Bool, true, false, cond, List, [], ◌∷◌, ◌++◌, Some, map, length, slice_index_or, refl, sym, ap, ap₂, subst, ◌∙◌, arith, lit<, lit≤}
+use Rattle.std.proofs.Common.{◌≡◌, ◌≢◌, ◌⊎◌, inl, inr, ℕ, zero, suc, ◌+◌, ◌<◌, ◌≤◌, ◌^◌, true, cond, List, [], ◌∷◌, ◌++◌, Some, map, length, slice_index_or, refl, sym, ap, ap₂, subst, ◌∙◌, arith}
 use Rattle.std.specs.Prelude.{slice_get, count_by, sum_by}
 use Rattle.std.specs.Option.{option_map}
 use Rattle.std.proofs.Math.Nat.{mod-add-mod, mod-eq_of_lt}
 use Rattle.std.proofs.Math.Path.{fun_ext}
 use Rattle.std.proofs.lemmas.List.Sums.{sum_by-cons}
 use Rattle.kc_model.specs.Store.{Store, after}
-use Rattle.kc_model.specs.declared.footprint.TheConstants.{MOST}
 use Rattle.kc_model.specs.declared.reply.Answer.{Answer}
 use Rattle.kc_model.specs.declared.reply.Answer.TheVariants as answer
-use Rattle.kc_xt.specs.Meaning.{Meaning, Outcome, Touch, map_after, values}
+use Rattle.kc_xt.specs.Meaning.{Meaning, map_after, values}
 use Rattle.kc_xt.specs.Program.{wrapped}
-use Rattle.kc_xt.specs.Commit.{answer_of, kept, run_on}
+use Rattle.kc_xt.specs.Commit.{kept, run_on}
 use Rattle.kc_bundle.specs.declared.operation.Command.{Command}
 use Rattle.kc_bundle.specs.Script.{Script}
 use Rattle.kc_bundle.specs.Meaning.{thread_meaning, end_meaning}
@@ -27,7 +26,7 @@ use Rattle.kc_runs.specs.Run.{IsCommit, IsRun, Replays, meaning_at, opening_stor
 use Rattle.kc_runs.specs.Threads.{meanings}
 use Rattle.kc_runs.proofs.Formed.{left_by, answered_reply}
 use Rattle.kc_runs.proofs.Legals.{run_legal}
-use Rattle.kc_storm.specs.State.{at_cell, command_adds, all_adds, made_by, made_by_all, thread_after_thread}
+use Rattle.kc_storm.specs.State.{at_cell, command_adds, made_by, made_by_all, thread_after_thread}
 use Rattle.kc_storm.specs.Summary.{all_ok, is_ok_command, commits, ok_commands}
 use Rattle.kc_storm.proofs.Adding.{Small, Adds, end_adds, small_wrapped}
 use Rattle.kc_storm.proofs.Left.{left, left_step, left_none, left_all}

@@ -1,7 +1,6 @@
 -- What a storm leaves: the values behind its threads, one after another on a plain store, and what its commands add.
-use Rattle.std.specs.Prelude.{ℕ, ◌+◌, ◌%◌, ◌==◌, cond, List, [], ◌∷◌, sum_by}
+use Rattle.std.specs.Prelude.{ℕ, ◌==◌, cond, List, [], ◌∷◌, sum_by}
 use Rattle.kc_model.specs.declared.footprint.TheConstants.{MOST}
-use Rattle.kc_loc.specs.declared.kinds.Fun.{Fun}
 use Rattle.kc_loc.specs.declared.kinds.Fun.TheVariants as fun
 use Rattle.kc_loc.specs.declared.operation.LocOp.{LocOp}
 use Rattle.kc_loc.specs.declared.operation.LocOp.TheVariants as loc

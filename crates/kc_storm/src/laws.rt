@@ -9,6 +9,8 @@ ghost use Rattle.kc_bundle.specs.On.{CommandsAreOn};
 ghost use Rattle.kc_history.specs.declared.record.Record.{Record};
 ghost use Rattle.kc_history.specs.declared.record.Place.{Place};
 ghost use Rattle.kc_runs.specs.Run.{IsRun};
+ghost use Rattle.kc_script.specs.Canonical.{canonical_text};
+ghost use Rattle.kc_script.specs.Spells.{Spells};
 ghost use Rattle.kc_storm.specs.Storm.{storm_script};
 ghost use Rattle.kc_storm.specs.State.{storm_state, all_adds};
 ghost use Rattle.kc_storm.specs.Summary.{commits, ok_commands, IsSummary, summary_text};
@@ -39,4 +41,9 @@ pub fn storms_are_in_order()
     ensures four { (n : ℕ) → length (storm_script n).threads ≡ 4 }
     ensures commands { (n t : ℕ) → t < 4 → length (slice_index_or (storm_script n).threads t []) ≡ 2000 }
     ensures on { (n t : ℕ) → CommandsAreOn (storm_script n).objects (slice_index_or (storm_script n).threads t []) }
+{}
+
+/// The canonical text of a storm spells it, so that it can be printed and read again.
+pub fn storms_can_be_spelled()
+    ensures { (n : ℕ) → Spells (canonical_text (storm_script n)) (storm_script n) }
 {}

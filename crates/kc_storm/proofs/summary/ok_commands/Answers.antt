@@ -1,4 +1,4 @@
-use Rattle.std.proofs.Common.{length, arith}
+use Rattle.std.proofs.Common.{arith}
 use Rattle.std.specs.Prelude.{count_by}
 use Rattle.kc_history.specs.Records.{lists_of}
 use Rattle.kc_storm.specs.Summary.{is_ok_command}
