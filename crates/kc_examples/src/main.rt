@@ -1,7 +1,7 @@
-//! Runs each script of `examples/`, of which `data/` is the copy that the gate lets a program read, and says whether its text and its exit number are those that stand beside it; and each script of `faults/`, whether its line on standard error is that.
+//! Runs each script of `examples/`, of which `data/` is the copy that the gate lets a program read, and says whether its text and its exit number are those that stand beside it; each script of `faults/`, whether its line on standard error is that; and the script in parts of `files/`, whether its text is that.
 #![tactic(auto)]
 
-use kc_model::{FrailSink, FrailSource};
+use kc_model::{FrailSink, FrailSource, MemShelf};
 use kc_run::OpenGate;
 use kc_top::{Status, kcas_main};
 use std::alloc::Global;
@@ -51,6 +51,13 @@ const FAULTS: [&str; 16] = [
     "depth",
 ];
 
+// The parts of `files/`, the setup first. Beside them stands their text.
+const PARTS: [&str; 3] = [
+    "files/setup.kcas",
+    "files/first.kcas",
+    "files/second.kcas",
+];
+
 // The exit number of a script with a fault.
 const FAULT: u8 = 3;
 
@@ -71,6 +78,13 @@ fn main(rt: HostRuntime) -> io::Result<()> {
         let verdict = verdict(has_its_line(&rt, alloc, script, &line)?);
         println!(rt; "faults/{name}: {verdict}")?;
     }
+    let mut parts = Vec::new(alloc);
+    for name in PARTS {
+        parts.push((String::from_str(alloc, name)?, fs::read(&rt, name)?))?;
+    }
+    let text = fs::read(&rt, "files/text.txt")?;
+    let verdict = verdict(parts_are_as_expected(&rt, alloc, parts, &text)?);
+    println!(rt; "files: {verdict}")?;
     Ok(())
 }
 
@@ -88,6 +102,25 @@ fn is_as_expected<R: Threads + Wait + Sync>(
     let mut sink = sink(alloc)?;
     let status = run(rt, alloc, script, &mut sink)?;
     Ok(status.number() == number && sink.bytes() == text)
+}
+
+fn parts_are_as_expected<R: Threads + Wait + Sync>(
+    rt: &R,
+    alloc: Global,
+    parts: Vec<(String, Vec<u8>)>,
+    text: &[u8],
+) -> io::Result<bool> {
+    let mut words = words(alloc, "files")?;
+    for name in PARTS {
+        words.push(String::from_str(alloc, name)?)?;
+    }
+    let mut source = FrailSource::new(Vec::new(alloc), Vec::new(alloc));
+    let mut shelf = MemShelf::new(parts, Vec::new(alloc));
+    let mut sink = sink(alloc)?;
+    let (status, _) = kcas_main(
+        rt, alloc, &words, &mut source, &mut shelf, &mut sink, &OpenGate,
+    );
+    Ok(status == Status::Done && sink.bytes() == text)
 }
 
 // Whether the script is refused with this line, which ends with a newline, and nothing is written.
@@ -120,10 +153,17 @@ fn run<R: Threads + Wait + Sync>(
     script: Vec<u8>,
     sink: &mut FrailSink,
 ) -> io::Result<Status> {
+    let words = words(alloc, "run")?;
+    let mut source = FrailSource::new(script, Vec::new(alloc));
+    let mut shelf = MemShelf::new(Vec::new(alloc), Vec::new(alloc));
+    let (status, _) = kcas_main(rt, alloc, &words, &mut source, &mut shelf, sink, &OpenGate);
+    Ok(status)
+}
+
+// The program's name, and the command's.
+fn words(alloc: Global, command: &str) -> io::Result<Vec<String>> {
     let mut words = Vec::new(alloc);
     words.push(String::from_str(alloc, "kcas")?)?;
-    words.push(String::from_str(alloc, "run")?)?;
-    let mut source = FrailSource::new(script, Vec::new(alloc));
-    let (status, _) = kcas_main(rt, alloc, &words, &mut source, sink, &OpenGate);
-    Ok(status)
+    words.push(String::from_str(alloc, command)?)?;
+    Ok(words)
 }

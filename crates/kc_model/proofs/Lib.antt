@@ -1,6 +1,8 @@
 pub mod Bytes
 pub mod Writes
 pub mod ReadCalls
+pub mod Fetches
+pub mod Named
 pub mod Pens
 pub mod Stores
 pub mod Footprints

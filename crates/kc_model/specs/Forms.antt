@@ -1,7 +1,10 @@
 -- What the forms in memory do.
-use Rattle.std.specs.Prelude.{◌≡◌, ℕ, ◌+◌, ◌-◌, ◌^◌, ◌≤◌, ◌<◌, ◌↔◌, min, List, ◌++◌, length, take, Bool, ◌&&◌, ◌⊎◌, nat_le, Contains, Result, Ok, MatchResult, IsErr, IfOk, OnErr}
+use Rattle.std.specs.Prelude.{◌≡◌, ℕ, ◌+◌, ◌-◌, ◌^◌, ◌≤◌, ◌<◌, ◌↔◌, min, List, ◌++◌, length, take, Bool, ◌&&◌, ◌⊎◌, nat_le, nat_eq, Contains, Some, None, IfSome, Result, Ok, MatchResult, IsErr, IsErrOf, IfOk, OnErr}
 use Rattle.std.specs.List.{list_all}
 use Rattle.kc_model.specs.declared.outside.Failed.{Failed}
+use Rattle.kc_model.specs.declared.outside.ShelfError.{ShelfError}
+use Rattle.kc_model.specs.declared.outside.ShelfError.TheVariants as error
+use Rattle.kc_model.specs.Shelves.{file_of, IsLonger}
 
 -- a count after one more, which stays at its last number
 abbrev pub next_count : ℕ → ℕ
@@ -55,3 +58,25 @@ pub record FrailWrites (s : Taker) (buf : List ℕ) (r : Result ℕ Failed) (t :
   pub fails : IsErr r ↔ (Contains s.failing t.calls ⊎ ((0 < length buf) × (s.room ≤ length s.written)))
   pub failed : OnErr r ((t.written ≡ s.written) × (t.faults ≡ next_count s.faults))
   pub took : IfOk r (λ n. (t.faults ≡ s.faults) × (n ≡ min (min (length buf) 16) (s.room - length s.written)) × (t.written ≡ s.written ++ take n buf))
+
+-- the files, the numbers of the calls that fail, and how many calls and faults there were
+pub record Keeper : Type 0 where
+  pub files : List (List ℕ × List ℕ)
+  pub failing : List ℕ
+  pub calls : ℕ
+  pub faults : ℕ
+
+-- whether none of its calls fails
+abbrev pub is_sure : Keeper → Bool
+is_sure s = nat_eq (length s.failing) 0
+
+-- a shelf that fails at the listed calls and at a name that it lacks
+pub record MemFetches (s : Keeper) (name : List ℕ) (limit : ℕ) (r : Result (List ℕ) ShelfError) (t : Keeper) : Type 0 where
+  pub calls : t.calls ≡ next_count s.calls
+  pub same : (t.files ≡ s.files) × (t.failing ≡ s.failing)
+  pub fails : IsErrOf r error.Failed ↔ (Contains s.failing t.calls ⊎ (file_of s.files name ≡ None))
+  pub failed : IsErrOf r error.Failed → t.faults ≡ next_count s.faults
+  pub faultless : (IsErrOf r error.Failed → ⊥) → t.faults ≡ s.faults
+  pub gave : IfOk r (λ bytes. (file_of s.files name ≡ Some bytes) × (length bytes ≤ limit))
+  pub too_long : IsErrOf r error.TooLong → IsLonger (Some s.files) name limit
+  pub starves : IsErrOf r error.NoMemory → IfSome (file_of s.files name) (λ bytes. length bytes ≤ limit)

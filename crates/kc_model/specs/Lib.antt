@@ -5,6 +5,7 @@ pub mod Cells
 pub mod Store
 pub mod Legal
 pub mod Outside
+pub mod Shelves
 pub mod Forms
 pub mod Pen
 pub mod Word

@@ -2,6 +2,7 @@
 #![tactic(auto)]
 
 mod errors;
+mod fetching;
 mod footprint;
 mod frail;
 mod items;
@@ -10,6 +11,7 @@ mod pen;
 mod plain_store;
 mod reading;
 mod reply;
+mod shelf;
 mod sure;
 #[cfg(test)]
 mod tests;
@@ -18,14 +20,16 @@ mod word;
 mod writing;
 
 pub use errors::{ModelError, NoMemory, OpenError};
+pub use fetching::fetch_all;
 pub use footprint::{Entry, Footprint, LAST_VERSION, Loc, MOST, Put, Seen};
 pub use frail::{FrailSink, FrailSource};
 pub use items::Items;
-pub use outside::{Failed, Sink, Source};
+pub use outside::{Failed, Shelf, ShelfError, Sink, Source};
 pub use pen::Pen;
 pub use plain_store::{MOST_LOCATIONS, PlainStore, Stale};
 pub use reading::{ReadError, read_to_end};
 pub use reply::{Answer, Item, Reply};
+pub use shelf::MemShelf;
 pub use sure::{SureSink, SureSource};
 pub use word::Word;
 pub use writing::write_all;

@@ -33,14 +33,14 @@ use Rattle.kc_verbs.specs.Fields.{Kinds, object_kind, kinds_of, kind_fields, siz
 use Rattle.kc_verbs.proofs.Tested.{say_fault, declare_fault, declare_is}
 use Rattle.kc_script.specs.Spells.{Line}
 use Rattle.kc_script.specs.Blocks.{OpenBlock, Place, block_of, in_block, counted_up, with_op, with_block, op_line, level_here, atomic_line, or_at, end_at}
-use Rattle.kc_script.specs.Reading.{State, opening, closed, next_thread, no_block, with_object, placed, declared_line, said_line, begun_block, thread_line, worded_line, header_line, content_line, any_line, all_lines, ended, atomics_behind, atomics_after, nearest, place_of_fault, at_line, then_read, read_from, spelled, Spelled}
-use Rattle.kc_script.specs.FirstFault.{Fault, OpenAt, Context, is_open, level_below, innermost, thread_after, is_header, room_tests, limit_tests, word_tests, tests, end_tests, one_more, deeper, ended_block, behind_word, next, line_of, fault_in, first_fault_from, first_fault}
+use Rattle.kc_script.specs.Reading.{State, opening, begun_thread, next_thread, no_block, with_object, placed, declared_line, said_line, begun_block, thread_line, worded_line, header_line, content_line, any_line, all_lines, ended, script_at, atomics_behind, atomics_after, nearest, place_of_fault, at_line, then_read, read_from, part_read, spelled, Spelled}
+use Rattle.kc_script.specs.FirstFault.{Fault, OpenAt, Context, start, is_open, level_below, innermost, thread_after, is_header, room_tests, limit_tests, word_tests, tests, end_tests, one_more, deeper, ended_block, behind_word, next, line_of, fault_in, first_fault_from, first_fault}
 use Rattle.kc_script.proofs.Objects.{next_from_more}
 use Rattle.kc_script.specs.Spells.{Spells}
 use Rattle.kc_script.specs.Refused.{SpellNone, Refused}
 use Rattle.kc_script.proofs.ReadLines.{header_read, spelled_spells}
 use Rattle.kc_script.proofs.Agree.{spells_spelled}
-use Rattle.kc_script.proofs.Kept.{is_made}
+use Rattle.kc_script.proofs.Kept.{MakesBlocks, opening_makes}
 
 -- ---- the context of a state
 
@@ -54,8 +54,9 @@ abbrev begun_in : List OpenBlock → List Command → ℕ
 begun_in [] here = length here
 begun_in (b ∷ outer) here = length here + 1
 
-abbrev context_of : State → List ℕ → Context
+abbrev pub context_of : State → List ℕ → Context
 context_of s atomics = record {
+  whole = s.whole;
   begun = s.begun;
   names = kinds_of s.objects;
   cells = next_from 0 s.objects;
@@ -79,17 +80,17 @@ same_thread (Some n) = refl
 
 -- ---- a line's tests
 
-abbrev state : Bool → Names → List (List Command) → Option ℕ → List Command → List OpenBlock → ℕ → State
-state begun objects threads thread here blocks count = record { begun = begun; objects = objects; threads = threads; thread = thread; place = record { here = here; open_blocks = blocks; count = count } }
+abbrev state : Bool → Bool → Names → List (List Command) → Option ℕ → List Command → List OpenBlock → ℕ → State
+state whole begun objects threads thread here blocks count = record { whole = whole; begun = begun; objects = objects; threads = threads; thread = thread; place = record { here = here; open_blocks = blocks; count = count } }
 
 -- a block that is open can be made
 abbrev Made : List OpenBlock → Type 0
 Made [] = Unit {0}
 Made (b ∷ outer) = (t : Tree Op) × (block_of b ≡ Ok t)
 
-module _ (begun : Bool) (objects : Names) (threads : List (List Command)) (here : List Command) (count : ℕ) (atomics : List ℕ) where
+module _ (whole begun : Bool) (objects : Names) (threads : List (List Command)) (here : List Command) (count : ℕ) (atomics : List ℕ) where
   abbrev now : Option ℕ → List OpenBlock → State
-  now thread blocks = state begun objects threads thread here blocks count
+  now thread blocks = state whole begun objects threads thread here blocks count
 
   abbrev context : Option ℕ → List OpenBlock → Context
   context thread blocks = context_of (now thread blocks) atomics
@@ -101,8 +102,8 @@ module _ (begun : Bool) (objects : Names) (threads : List (List Command)) (here 
 
   thread_fault : (thread : Option ℕ) (blocks : List OpenBlock) (args : List (List ℕ)) → Tested (thread_line (now thread blocks) args) (word_tests (context thread blocks) (Some word.Thread) args)
   unfolding thread_line
-  thread_fault None [] args = record { same = (then_fault (counted 0 args) (λ all. wants (ltb 0 16) (TooMany ThreadsLimit) >>= λ room. Ok (record (closed (now None [])) { thread = Some 0 })) _ ((ltb 0 16, TooMany ThreadsLimit) ∷ []) (counted_fault 0 args) (λ all e. made_fault (wants (ltb 0 16) (TooMany ThreadsLimit)) (λ room. record (closed (now None [])) { thread = Some 0 }) _ (wants_fault _ _))).same }
-  thread_fault (Some n) [] args = record { same = (then_fault (counted 0 args) (λ all. wants (ltb (n + 1) 16) (TooMany ThreadsLimit) >>= λ room. Ok (record (closed (now (Some n) [])) { thread = Some (n + 1) })) _ ((ltb (n + 1) 16, TooMany ThreadsLimit) ∷ []) (counted_fault 0 args) (λ all e. made_fault (wants (ltb (n + 1) 16) (TooMany ThreadsLimit)) (λ room. record (closed (now (Some n) [])) { thread = Some (n + 1) }) _ (wants_fault _ _))).same }
+  thread_fault None [] args = record { same = (then_fault (wants whole StrayWord) (λ here. counted 0 args >>= λ all. wants (ltb 0 16) (TooMany ThreadsLimit) >>= λ room. Ok (begun_thread (now None []) 0)) ((whole, StrayWord) ∷ []) (count_tests 0 args ++ (ltb 0 16, TooMany ThreadsLimit) ∷ []) (wants_fault _ _) (λ here f. then_fault (counted 0 args) (λ all. wants (ltb 0 16) (TooMany ThreadsLimit) >>= λ room. Ok (begun_thread (now None []) 0)) _ ((ltb 0 16, TooMany ThreadsLimit) ∷ []) (counted_fault 0 args) (λ all e. made_fault (wants (ltb 0 16) (TooMany ThreadsLimit)) (λ room. begun_thread (now None []) 0) _ (wants_fault _ _)))).same }
+  thread_fault (Some n) [] args = record { same = (then_fault (wants whole StrayWord) (λ here. counted 0 args >>= λ all. wants (ltb (n + 1) 16) (TooMany ThreadsLimit) >>= λ room. Ok (begun_thread (now (Some n) []) (n + 1))) ((whole, StrayWord) ∷ []) (count_tests 0 args ++ (ltb (n + 1) 16, TooMany ThreadsLimit) ∷ []) (wants_fault _ _) (λ here f. then_fault (counted 0 args) (λ all. wants (ltb (n + 1) 16) (TooMany ThreadsLimit) >>= λ room. Ok (begun_thread (now (Some n) []) (n + 1))) _ ((ltb (n + 1) 16, TooMany ThreadsLimit) ∷ []) (counted_fault 0 args) (λ all e. made_fault (wants (ltb (n + 1) 16) (TooMany ThreadsLimit)) (λ room. begun_thread (now (Some n) []) (n + 1)) _ (wants_fault _ _)))).same }
   thread_fault thread (b ∷ outer) args = record { same = refl }
 
   -- the block that begins
@@ -136,9 +137,9 @@ module _ (begun : Bool) (objects : Names) (threads : List (List Command)) (here 
   end_fault : (thread : Option ℕ) (blocks : List OpenBlock) (args : List (List ℕ)) → Made blocks → Tested (placed (now thread blocks) (end_at (now thread blocks).place blocks args)) (word_tests (context thread blocks) (Some word.End) args)
   unfolding end_at
   end_fault thread [] args made = record { same = refl }
-  end_fault thread (b ∷ outer) args made = record { same = (made_fault (end_at (now thread (b ∷ outer)).place (b ∷ outer) args) _ _ (then_fault (counted 0 args) _ _ [] (counted_fault 0 args) (λ all e. whole))).same } where
-    whole : Tested (block_of b >>= λ t. Ok (with_block (now thread (b ∷ outer)).place outer t)) []
-    whole = rw made.1 (record { same = refl })
+  end_fault thread (b ∷ outer) args made = record { same = (made_fault (end_at (now thread (b ∷ outer)).place (b ∷ outer) args) _ _ (then_fault (counted 0 args) _ _ [] (counted_fault 0 args) (λ all e. made_whole))).same } where
+    made_whole : Tested (block_of b >>= λ t. Ok (with_block (now thread (b ∷ outer)).place outer t)) []
+    made_whole = rw made.1 (record { same = refl })
 
   said_fault : (thread : Option ℕ) (blocks : List OpenBlock) (v : Verb) (args : List (List ℕ)) → Tested (said_line (now thread blocks) v args) (word_tests (context thread blocks) (Some (word.Say v)) args)
   unfolding said_line op_line
@@ -181,7 +182,7 @@ unfolding content_line
 line_fault s atomics [] made = record { same = refl }
 line_fault s atomics (first ∷ args) made = by s.begun where
   by : (b : Bool) → Tested (cond b (worded_line s (word_of first) args) (header_line s (first ∷ args))) (cond b (word_tests (context_of s atomics) (word_of first) args) ((is_header (first ∷ args), Header) ∷ []))
-  by true = word_fault s.begun s.objects s.threads s.place.here s.place.count atomics s.thread s.place.open_blocks (word_of first) args made
+  by true = word_fault s.whole s.begun s.objects s.threads s.place.here s.place.count atomics s.thread s.place.open_blocks (word_of first) args made
   by false = header_fault s (first ∷ args)
 
 -- ---- what a line adds
@@ -193,34 +194,36 @@ kinds_more names entry word k e f =
     ∙ ap (λ (w : List ℕ). kinds_of names ++ (w, object_kind entry.1) ∷ []) e
     ∙ ap (λ (j : Kind). kinds_of names ++ (word, j) ∷ []) f
 
-module _ (begun : Bool) (objects : Names) (threads : List (List Command)) (here : List Command) (count : ℕ) (atomics : List ℕ) (n : ℕ) (t : State) where
+module _ (whole begun : Bool) (objects : Names) (threads : List (List Command)) (here : List Command) (count : ℕ) (atomics : List ℕ) (n : ℕ) (t : State) where
   -- in this context, a line with this first word has come to the state
   abbrev Comes : Option ℕ → List OpenBlock → Option Word → List (List ℕ) → Type 0
-  Comes thread blocks w args = context_of t (atomics_behind atomics n w) ≡ behind_word (context begun objects threads here count atomics thread blocks) n w args
+  Comes thread blocks w args = context_of t (atomics_behind atomics n w) ≡ behind_word (context whole begun objects threads here count atomics thread blocks) n w args
 
   abbrev from : Option ℕ → List OpenBlock → State
-  from thread blocks = state begun objects threads thread here blocks count
+  from thread blocks = state whole begun objects threads thread here blocks count
 
   thread_comes : (thread : Option ℕ) (blocks : List OpenBlock) (args : List (List ℕ)) → thread_line (from thread blocks) args ≡ Ok t → Comes thread blocks (Some word.Thread) args
   unfolding thread_line
   thread_comes thread blocks args e =
       let s = from thread blocks in
-      let last = λ (room : Unit {0}). given (record (closed s) { thread = Some (next_thread thread) }) in
+      let last = λ (room : Unit {0}). given (begun_thread s (next_thread thread)) in
       let second = λ (all : Unit {0}). wants (ltb (next_thread thread) 16) (TooMany ThreadsLimit) >>= last in
-      let a = bind_ok (no_block s) (λ ended. counted 0 args >>= second) t e in
-      let b = bind_ok (counted 0 args) second t a.2 in
+      let middle = λ (here : Unit {0}). counted 0 args >>= second in
+      let a = bind_ok (no_block s) (λ (ended : Unit {0}). wants whole StrayWord >>= middle) t e in
+      let w = bind_ok (wants whole StrayWord) middle t a.2 in
+      let b = bind_ok (counted 0 args) second t w.2 in
       let d = bind_ok (wants (ltb (next_thread thread) 16) (TooMany ThreadsLimit)) last t b.2 in
-      subst (λ (x : State). context_of x atomics ≡ behind_word (context begun objects threads here count atomics thread blocks) n (Some word.Thread) args) (ok_is _ _ d.2)
-      (ap (λ (x : ℕ). record { begun = begun; names = kinds_of objects; cells = next_from 0 objects; thread = Some x; commands = 0; blocks = []; count = 0 }) (same_thread thread))
+      subst (λ (x : State). context_of x atomics ≡ behind_word (context whole begun objects threads here count atomics thread blocks) n (Some word.Thread) args) (ok_is _ _ d.2)
+      (ap (λ (x : ℕ). record { whole = whole; begun = begun; names = kinds_of objects; cells = next_from 0 objects; thread = Some x; commands = 0; blocks = []; count = 0 }) (same_thread thread))
 
   -- a new place in the thread
-  new_place : (thread : Option ℕ) (blocks : List OpenBlock) (w : Option Word) (args : List (List ℕ)) (r : Result Place Why) → placed (from thread blocks) r ≡ Ok t → ((p : Place) → r ≡ Ok p → context_of (record (from thread blocks) { place = p }) (atomics_behind atomics n w) ≡ behind_word (context begun objects threads here count atomics thread blocks) n w args) → Comes thread blocks w args
+  new_place : (thread : Option ℕ) (blocks : List OpenBlock) (w : Option Word) (args : List (List ℕ)) (r : Result Place Why) → placed (from thread blocks) r ≡ Ok t → ((p : Place) → r ≡ Ok p → context_of (record (from thread blocks) { place = p }) (atomics_behind atomics n w) ≡ behind_word (context whole begun objects threads here count atomics thread blocks) n w args) → Comes thread blocks w args
   new_place thread blocks w args r e more =
       let a = bind_ok r (λ (p : Place). given (record (from thread blocks) { place = p })) t e in
-      subst (λ (x : State). context_of x (atomics_behind atomics n w) ≡ behind_word (context begun objects threads here count atomics thread blocks) n w args) (ok_is _ _ a.2) (more a.0 a.1)
+      subst (λ (x : State). context_of x (atomics_behind atomics n w) ≡ behind_word (context whole begun objects threads here count atomics thread blocks) n w args) (ok_is _ _ a.2) (more a.0 a.1)
 
   -- how many the outermost block then has
-  counted_is : (thread : Option ℕ) (blocks : List OpenBlock) (m : ℕ) → counted_up (from thread blocks).place blocks ≡ Ok m → (one_more (context begun objects threads here count atomics thread blocks)).count ≡ m
+  counted_is : (thread : Option ℕ) (blocks : List OpenBlock) (m : ℕ) → counted_up (from thread blocks).place blocks ≡ Ok m → (one_more (context whole begun objects threads here count atomics thread blocks)).count ≡ m
   unfolding counted_up
   counted_is thread [] m e =
       let a = bind_ok (wants (ltb (length here) 4096) (TooMany CommandsLimit)) (λ room. given 0) m e in
@@ -230,7 +233,7 @@ module _ (begun : Bool) (objects : Names) (threads : List (List Command)) (here 
       ok_is _ _ a.2
 
   -- a block begins
-  atomic_place : (thread : Option ℕ) (blocks : List OpenBlock) (args : List (List ℕ)) (m : ℕ) → (one_more (context begun objects threads here count atomics thread blocks)).count ≡ m → context_of (record (from thread blocks) { place = record { here = here; open_blocks = record { level = level_here blocks; done = []; parts = [] } ∷ blocks; count = m } }) (n ∷ atomics) ≡ behind_word (context begun objects threads here count atomics thread blocks) n (Some word.Atomic) args
+  atomic_place : (thread : Option ℕ) (blocks : List OpenBlock) (args : List (List ℕ)) (m : ℕ) → (one_more (context whole begun objects threads here count atomics thread blocks)).count ≡ m → context_of (record (from thread blocks) { place = record { here = here; open_blocks = record { level = level_here blocks; done = []; parts = [] } ∷ blocks; count = m } }) (n ∷ atomics) ≡ behind_word (context whole begun objects threads here count atomics thread blocks) n (Some word.Atomic) args
   atomic_place thread [] args m e = rw (sym e) refl
   atomic_place thread (b ∷ outer) args m e = rw (sym e) refl
 
@@ -238,12 +241,12 @@ module _ (begun : Bool) (objects : Names) (threads : List (List Command)) (here 
   unfolding begun_block atomic_line
   atomic_comes None blocks args e = absurd cc
   atomic_comes (Some i) blocks args e = new_place (Some i) blocks (Some word.Atomic) args (atomic_line (from (Some i) blocks).place args) e (λ p f.
-      let made = λ (m : ℕ). begun_at begun objects threads here count atomics blocks m in
+      let made = λ (m : ℕ). begun_at whole begun objects threads here count atomics blocks m in
       let last = λ (m : ℕ). wants (leb (level_here blocks) 8) (TooMany Depth) >>= λ shallow. given (made m) in
       let a = bind_ok (counted 0 args) (λ all. counted_up (from (Some i) blocks).place blocks >>= last) p f in
       let b = bind_ok (counted_up (from (Some i) blocks).place blocks) last p a.2 in
       let d = bind_ok (wants (leb (level_here blocks) 8) (TooMany Depth)) (λ shallow. given (made b.0)) p b.2 in
-      subst (λ (x : Place). context_of (record (from (Some i) blocks) { place = x }) (n ∷ atomics) ≡ behind_word (context begun objects threads here count atomics (Some i) blocks) n (Some word.Atomic) args) (ok_is _ _ d.2) (atomic_place (Some i) blocks args b.0 (counted_is (Some i) blocks b.0 b.1)))
+      subst (λ (x : Place). context_of (record (from (Some i) blocks) { place = x }) (n ∷ atomics) ≡ behind_word (context whole begun objects threads here count atomics (Some i) blocks) n (Some word.Atomic) args) (ok_is _ _ d.2) (atomic_place (Some i) blocks args b.0 (counted_is (Some i) blocks b.0 b.1)))
 
   or_comes : (thread : Option ℕ) (blocks : List OpenBlock) (args : List (List ℕ)) → placed (from thread blocks) (or_at (from thread blocks).place blocks args) ≡ Ok t → Comes thread blocks (Some word.Or) args
   unfolding or_at
@@ -253,11 +256,11 @@ module _ (begun : Bool) (objects : Names) (threads : List (List Command)) (here 
       let last = λ (shallow : Unit {0}). given made in
       let a = bind_ok (counted 0 args) (λ all. wants (ltb b.level 8) (TooMany Depth) >>= last) p f in
       let d = bind_ok (wants (ltb b.level 8) (TooMany Depth)) last p a.2 in
-      subst (λ (x : Place). context_of (record (from thread (b ∷ outer)) { place = x }) atomics ≡ behind_word (context begun objects threads here count atomics thread (b ∷ outer)) n (Some word.Or) args) (ok_is made p d.2) refl)
+      subst (λ (x : Place). context_of (record (from thread (b ∷ outer)) { place = x }) atomics ≡ behind_word (context whole begun objects threads here count atomics thread (b ∷ outer)) n (Some word.Or) args) (ok_is made p d.2) refl)
 
   -- a block has ended
-  end_place : (thread : Option ℕ) (b : OpenBlock) (outer : List OpenBlock) (args : List (List ℕ)) (x : Tree Op) → context_of (record (from thread (b ∷ outer)) { place = with_block (from thread (b ∷ outer)).place outer x }) (drop 1 atomics) ≡ behind_word (context begun objects threads here count atomics thread (b ∷ outer)) n (Some word.End) args
-  end_place thread b [] args x = ap (λ (m : ℕ). record { begun = begun; names = kinds_of objects; cells = next_from 0 objects; thread = thread; commands = m; blocks = []; count = 0 }) (length-append here (command.Block x ∷ []))
+  end_place : (thread : Option ℕ) (b : OpenBlock) (outer : List OpenBlock) (args : List (List ℕ)) (x : Tree Op) → context_of (record (from thread (b ∷ outer)) { place = with_block (from thread (b ∷ outer)).place outer x }) (drop 1 atomics) ≡ behind_word (context whole begun objects threads here count atomics thread (b ∷ outer)) n (Some word.End) args
+  end_place thread b [] args x = ap (λ (m : ℕ). record { whole = whole; begun = begun; names = kinds_of objects; cells = next_from 0 objects; thread = thread; commands = m; blocks = []; count = 0 }) (length-append here (command.Block x ∷ []))
   end_place thread b (o ∷ outer) args x = refl
 
   end_comes : (thread : Option ℕ) (blocks : List OpenBlock) (args : List (List ℕ)) → placed (from thread blocks) (end_at (from thread blocks).place blocks args) ≡ Ok t → Comes thread blocks (Some word.End) args
@@ -267,11 +270,11 @@ module _ (begun : Bool) (objects : Names) (threads : List (List Command)) (here 
       let last = λ (x : Tree Op). given (with_block (from thread (b ∷ outer)).place outer x) in
       let a = bind_ok (counted 0 args) (λ all. block_of b >>= last) p f in
       let d = bind_ok (block_of b) last p a.2 in
-      subst (λ (x : Place). context_of (record (from thread (b ∷ outer)) { place = x }) (drop 1 atomics) ≡ behind_word (context begun objects threads here count atomics thread (b ∷ outer)) n (Some word.End) args) (ok_is _ _ d.2) (end_place thread b outer args d.0))
+      subst (λ (x : Place). context_of (record (from thread (b ∷ outer)) { place = x }) (drop 1 atomics) ≡ behind_word (context whole begun objects threads here count atomics thread (b ∷ outer)) n (Some word.End) args) (ok_is _ _ d.2) (end_place thread b outer args d.0))
 
   -- an operation is said
-  said_place : (thread : Option ℕ) (blocks : List OpenBlock) (v : Verb) (args : List (List ℕ)) (o : Op) (m : ℕ) → (one_more (context begun objects threads here count atomics thread blocks)).count ≡ m → context_of (record (from thread blocks) { place = with_op (from thread blocks).place blocks m o }) atomics ≡ behind_word (context begun objects threads here count atomics thread blocks) n (Some (word.Say v)) args
-  said_place thread [] v args o m e = rw (sym e) (ap (λ (x : ℕ). record { begun = begun; names = kinds_of objects; cells = next_from 0 objects; thread = thread; commands = x; blocks = []; count = 0 }) (length-append here (command.One o ∷ [])))
+  said_place : (thread : Option ℕ) (blocks : List OpenBlock) (v : Verb) (args : List (List ℕ)) (o : Op) (m : ℕ) → (one_more (context whole begun objects threads here count atomics thread blocks)).count ≡ m → context_of (record (from thread blocks) { place = with_op (from thread blocks).place blocks m o }) atomics ≡ behind_word (context whole begun objects threads here count atomics thread blocks) n (Some (word.Say v)) args
+  said_place thread [] v args o m e = rw (sym e) (ap (λ (x : ℕ). record { whole = whole; begun = begun; names = kinds_of objects; cells = next_from 0 objects; thread = thread; commands = x; blocks = []; count = 0 }) (length-append here (command.One o ∷ [])))
   said_place thread (b ∷ outer) v args o m e = rw (sym e) refl
 
   said_comes : (thread : Option ℕ) (blocks : List OpenBlock) (v : Verb) (args : List (List ℕ)) → said_line (from thread blocks) v args ≡ Ok t → Comes thread blocks (Some (word.Say v)) args
@@ -283,7 +286,7 @@ module _ (begun : Bool) (objects : Names) (threads : List (List Command)) (here 
       new_place (Some i) blocks (Some (word.Say v)) args (op_line s.place a.0) a.2 (λ p f.
       let last = λ (m : ℕ). given (with_op s.place blocks m a.0) in
       let b = bind_ok (counted_up s.place blocks) last p f in
-      subst (λ (x : Place). context_of (record s { place = x }) atomics ≡ behind_word (context begun objects threads here count atomics (Some i) blocks) n (Some (word.Say v)) args) (ok_is _ _ b.2) (said_place (Some i) blocks v args a.0 b.0 (counted_is (Some i) blocks b.0 b.1)))
+      subst (λ (x : Place). context_of (record s { place = x }) atomics ≡ behind_word (context whole begun objects threads here count atomics (Some i) blocks) n (Some (word.Say v)) args) (ok_is _ _ b.2) (said_place (Some i) blocks v args a.0 b.0 (counted_is (Some i) blocks b.0 b.1)))
 
   declared_comes : (thread : Option ℕ) (blocks : List OpenBlock) (k : Kind) (args : List (List ℕ)) → declared_line (from thread blocks) k args ≡ Ok t → Comes thread blocks (Some (word.Declare k)) args
   unfolding declared_line
@@ -295,9 +298,9 @@ module _ (begun : Bool) (objects : Names) (threads : List (List Command)) (here 
       let is = declare_is objects k args a.0 a.1 in
       let sum = next_from_more 0 objects a.0 ∙ ap (λ size. next_from 0 objects + size) is.2 in
       let names = kinds_more objects a.0 (word_at args 0) k is.0 is.1 in
-      subst (λ (x : State). context_of x atomics ≡ behind_word (context begun objects threads here count atomics None blocks) n (Some (word.Declare k)) args) (ok_is _ _ a.2)
-      (ap (λ (x : Kinds). record { begun = begun; names = x; cells = next_from 0 (objects ++ a.0 ∷ []); thread = None; commands = begun_in blocks here; blocks = opened blocks atomics; count = count }) names
-      ∙ ap (λ (x : ℕ). record { begun = begun; names = kinds_of objects ++ (word_at args 0, k) ∷ []; cells = x; thread = None; commands = begun_in blocks here; blocks = opened blocks atomics; count = count }) sum)
+      subst (λ (x : State). context_of x atomics ≡ behind_word (context whole begun objects threads here count atomics None blocks) n (Some (word.Declare k)) args) (ok_is _ _ a.2)
+      (ap (λ (x : Kinds). record { whole = whole; begun = begun; names = x; cells = next_from 0 (objects ++ a.0 ∷ []); thread = None; commands = begun_in blocks here; blocks = opened blocks atomics; count = count }) names
+      ∙ ap (λ (x : ℕ). record { whole = whole; begun = begun; names = kinds_of objects ++ (word_at args 0, k) ∷ []; cells = x; thread = None; commands = begun_in blocks here; blocks = opened blocks atomics; count = count }) sum)
 
   word_comes : (thread : Option ℕ) (blocks : List OpenBlock) (w : Option Word) (args : List (List ℕ)) → worded_line (from thread blocks) w args ≡ Ok t → Comes thread blocks w args
   unfolding worded_line
@@ -314,7 +317,7 @@ unfolding content_line header_line
 line_comes s t atomics n [] e = absurd cc
 line_comes s t atomics n (first ∷ args) e = by s.begun e where
   by : (b : Bool) → cond b (worded_line s (word_of first) args) (header_line s (first ∷ args)) ≡ Ok t → context_of t (cond b (atomics_behind atomics n (word_of first)) atomics) ≡ cond b (behind_word (context_of s atomics) n (word_of first) args) (record (context_of s atomics) { begun = true })
-  by true e = word_comes s.begun s.objects s.threads s.place.here s.place.count atomics n t s.thread s.place.open_blocks (word_of first) args e
+  by true e = word_comes s.whole s.begun s.objects s.threads s.place.here s.place.count atomics n t s.thread s.place.open_blocks (word_of first) args e
   by false e =
       let h = header_read s t (first ∷ args) e in
       subst (λ (x : State). context_of x atomics ≡ record (context_of s atomics) { begun = true }) h.1 refl
@@ -350,7 +353,7 @@ more_lines c = by (is_open c.blocks) where
 
 word_lines : (c : Context) (atomics : List ℕ) (n : ℕ) (w : Option Word) (args : List (List ℕ)) → first_failing (word_tests c w args) ≡ None → lines_in c.blocks ≡ atomics → lines_in (behind_word c n w args).blocks ≡ atomics_behind atomics n w
 word_lines c atomics n None args e h = h
-word_lines c atomics n (Some word.Thread) args e h = none_open c.blocks atomics (first_true _ UnclosedBlock (args_tests c.names [] args ++ limit_tests c word.Thread args) e) h
+word_lines c atomics n (Some word.Thread) args e h = none_open c.blocks atomics (first_true _ UnclosedBlock ((c.whole, StrayWord) ∷ (args_tests c.names [] args ++ limit_tests c word.Thread args)) e) h
 word_lines c atomics n (Some word.Atomic) args e h = ap (λ (rest : List ℕ). n ∷ rest) h
 word_lines c atomics n (Some word.Or) args e h = deeper_lines c.blocks ∙ h
 word_lines c atomics n (Some word.End) args e h = ended_lines c c.blocks refl ∙ ap (drop 1) h
@@ -384,7 +387,7 @@ place_is c atomics n UnclosedBlock h = ap nearest (sym h) ∙ nearest_is c.block
 place_is c atomics n StrayWord h = refl
 place_is c atomics n (TooMany limit) h = refl
 
-abbrev fault_at : {A : Type 0} → Result A Fault → Option Fault
+abbrev pub fault_at : {A E : Type 0} → Result A E → Option E
 fault_at (Ok x) = None
 fault_at (Err fault) = Some fault
 
@@ -402,18 +405,18 @@ reach_more (x ∷ front) text first s t e f =
     let a = bind_ok (any_line first (words x)) (λ next. all_lines next front) s e in
     rw a.1 (reach_more front text a.0 s t a.2 f)
 
-made_of : (front : List (List ℕ)) (s : State) → all_lines opening front ≡ Ok s → (blocks : List OpenBlock) → s.place.open_blocks ≡ blocks → Made blocks
-made_of front s e [] o = tt
-made_of front s e (b ∷ outer) o = (_, is_made front s b outer e o)
+made_of : (first : State) → MakesBlocks first → (front : List (List ℕ)) (s : State) → all_lines first front ≡ Ok s → (blocks : List OpenBlock) → s.place.open_blocks ≡ blocks → Made blocks
+made_of first makes front s e [] o = tt
+made_of first makes front s e (b ∷ outer) o = (_, makes front s b outer e o)
 
 -- the end of the lines
 end_fault_is : (s : State) (atomics : List ℕ) → Tested (ended s) (end_tests (context_of s atomics))
 unfolding ended
-end_fault_is s atomics = record { same = by s.begun s.place.open_blocks (record { objects = s.objects; threads = (closed s).threads }) } where
-  by : (b : Bool) (blocks : List OpenBlock) (whole : Script) → fault_of (wants b Header >>= λ begun. wants (not (in_block blocks)) UnclosedBlock >>= λ ended. given whole) ≡ first_failing ((b, Header) ∷ (not (is_open (opened blocks atomics)), UnclosedBlock) ∷ [])
-  by true [] whole = refl
-  by true (b ∷ outer) whole = refl
-  by false blocks whole = refl
+end_fault_is s atomics = record { same = by s.begun s.place.open_blocks s } where
+  by : (b : Bool) (blocks : List OpenBlock) (last : State) → fault_of (wants b Header >>= λ begun. wants (not (in_block blocks)) UnclosedBlock >>= λ none. given last) ≡ first_failing ((b, Header) ∷ (not (is_open (opened blocks atomics)), UnclosedBlock) ∷ [])
+  by true [] last = refl
+  by true (b ∷ outer) last = refl
+  by false blocks last = refl
 
 -- what is stated of the rest of the lines
 abbrev Stop : List (List ℕ) → State → List ℕ → ℕ → Type 0
@@ -442,16 +445,28 @@ module _ (texts : List (List ℕ)) (s : State) (atomics : List ℕ) (n : ℕ) (w
   any_stop false k skip g = counts_stop (content_line s ws) k refl g
 
 -- the reader stops where these lines have their first fault
-lines_stop : (texts : List (List ℕ)) (front : List (List ℕ)) (s : State) (atomics : List ℕ) (n : ℕ) → all_lines opening front ≡ Ok s → lines_in (context_of s atomics).blocks ≡ atomics → Stop texts s atomics n
+lines_stop : (first : State) → MakesBlocks first → (texts : List (List ℕ)) (front : List (List ℕ)) (s : State) (atomics : List ℕ) (n : ℕ) → all_lines first front ≡ Ok s → lines_in (context_of s atomics).blocks ≡ atomics → Stop texts s atomics n
 unfolding read_from first_fault_from any_line
-lines_stop [] front s atomics n e h = fault_is (context_of s atomics) atomics 1 (ended s) (end_tests (context_of s atomics)) (end_fault_is s atomics) h
-lines_stop (text ∷ texts) front s atomics n e h =
-    any_stop texts s atomics n (words text) h (λ t after f lined. lines_stop texts (front ++ text ∷ []) t after (n + 1) (reach_more front text opening s t e f) lined) (is_skipped (words text)) refl (lines_stop texts front s atomics (n + 1) e h) (line_fault s atomics (words text) (made_of front s e s.place.open_blocks refl))
+lines_stop first makes [] front s atomics n e h = fault_is (context_of s atomics) atomics 1 (ended s) (end_tests (context_of s atomics)) (end_fault_is s atomics) h
+lines_stop first makes (text ∷ texts) front s atomics n e h =
+    any_stop texts s atomics n (words text) h (λ t after f lined. lines_stop first makes texts (front ++ text ∷ []) t after (n + 1) (reach_more front text first s t e f) lined) (is_skipped (words text)) refl (lines_stop first makes texts front s atomics (n + 1) e h) (line_fault s atomics (words text) (made_of first makes front s e s.place.open_blocks refl))
+
+-- the first fault of a part is where the reader stops
+pub part_first : (first : State) → MakesBlocks first → lines_in (context_of first []).blocks ≡ [] → (bytes : List ℕ) → fault_at (part_read first bytes) ≡ first_fault_from (context_of first []) 1 (lines bytes)
+unfolding part_read all_lines
+part_first first makes none bytes = lines_stop first makes (lines bytes) [] first [] 1 refl none
+
+pub opening_first : (whole : Bool) (bytes : List ℕ) → fault_at (part_read (opening whole) bytes) ≡ first_fault_from (start whole) 1 (lines bytes)
+unfolding next_from
+opening_first whole bytes = part_first (opening whole) (opening_makes whole) refl bytes
 
 -- the first fault of bytes is where the reader stops
 first_is : (bytes : List ℕ) → fault_at (spelled bytes) ≡ first_fault bytes
-unfolding spelled first_fault all_lines next_from
-first_is bytes = lines_stop (lines bytes) [] opening [] 1 refl refl
+unfolding spelled first_fault
+first_is bytes = by (part_read (opening true) bytes) (opening_first true bytes) where
+  by : (r : Result State Fault) → fault_at r ≡ first_fault_from (start true) 1 (lines bytes) → fault_at (then_read r (λ s. Ok (script_at s))) ≡ first_fault_from (start true) 1 (lines bytes)
+  by (Ok s) e = e
+  by (Err fault) e = e
 
 pub stops_first : (bytes : List ℕ) (fault : Fault) → spelled bytes ≡ Err fault → first_fault bytes ≡ Some fault
 stops_first bytes fault e = sym (first_is bytes) ∙ ap fault_at e

@@ -1,5 +1,5 @@
 -- The blocks that the reader has open are within the limits of terms, so that each is made where it ends.
-use Rattle.std.proofs.Common.{◌≡◌, ℕ, ◌+◌, ◌-◌, ◌≤◌, ◌<◌, max, List, [], ◌∷◌, ◌++◌, length, Ok, refl, sym, ap, subst, ◌∙◌, arith, length-append, inl, inr}
+use Rattle.std.proofs.Common.{◌≡◌, ℕ, Bool, false, ◌+◌, ◌-◌, ◌≤◌, ◌<◌, max, List, [], ◌∷◌, ◌++◌, length, Ok, refl, sym, ap, subst, ◌∙◌, arith, length-append, inl, inr}
 use Rattle.std.specs.Prelude.{map}
 use Rattle.kc_lines.specs.Words.{words}
 use Rattle.kc_lines.proofs.Given.{bind_ok, ok_is}
@@ -10,7 +10,7 @@ use Rattle.kc_bundle.specs.declared.operation.Command.TheVariants as command
 use Rattle.kc_bundle.specs.Script.{Names}
 use Rattle.kc_script.specs.Spells.{Line}
 use Rattle.kc_script.specs.Blocks.{OpenBlock, block_of, level_here, with_block}
-use Rattle.kc_script.specs.Reading.{State, opening, content_line, all_lines}
+use Rattle.kc_script.specs.Reading.{State, opening, nowhere, content_line, all_lines}
 use Rattle.kc_script.proofs.Trees.{nested, nest_ok, IsSmall}
 use Rattle.kc_script.proofs.Spelled.{operations_more, nesting_more}
 use Rattle.kc_script.proofs.Took.{outside, at, inside, all_contents, counting, skipping, thread_took, one_took, block_took, part_took, inner_took, other_took, ends_took, out_took, in_took}
@@ -133,53 +133,60 @@ end_kept b o outer count k =
 abbrev IsKept : State → Type 0
 IsKept s = Kept s.place.open_blocks s.place.count
 
-thread_kept : (ls : List Line) (names : Names) (threads : List (List Command)) (thread : ℕ) (here : List Command) (blocks : List OpenBlock) (count : ℕ) (t : State) → Kept blocks count → all_contents (inside names threads thread (at here blocks count)) ls ≡ Ok t → IsKept t
+thread_kept : (ls : List Line) (whole : Bool) (names : Names) (threads : List (List Command)) (thread : ℕ) (here : List Command) (blocks : List OpenBlock) (count : ℕ) (t : State) → Kept blocks count → all_contents (inside whole names threads thread (at here blocks count)) ls ≡ Ok t → IsKept t
 unfolding content_line
-thread_kept [] names threads thread here blocks count t k e = subst IsKept (ok_is _ _ e) k
-thread_kept ([] ∷ ls) names threads thread here blocks count t k e = absurd cc
-thread_kept ((head ∷ args) ∷ ls) names threads thread here [] count t k e =
-    let a = bind_ok (content_line (inside names threads thread (at here [] count)) (head ∷ args)) (λ next. all_contents next ls) t e in
-    elim (out_took names threads thread here count head args a.0 a.1) as (λ _. IsKept t) [
-      | thread_took is lt same ↦ thread_kept ls names (threads ++ here ∷ []) (thread + 1) [] [] 0 t none_kept (subst (λ (s : State). all_contents s ls ≡ Ok t) (sym same) a.2)
-      | one_took o said lt same ↦ thread_kept ls names threads thread (here ++ command.One o ∷ []) [] 0 t none_kept (subst (λ (s : State). all_contents s ls ≡ Ok t) (sym same) a.2)
-      | block_took is lt same ↦ thread_kept ls names threads thread here (record { level = 0; done = []; parts = [] } ∷ []) 0 t (begin_kept [] 0 0 tt (omega arith) (omega arith) (omega arith) (omega arith)) (subst (λ (s : State). all_contents s ls ≡ Ok t) (sym same) a.2)
+thread_kept [] whole names threads thread here blocks count t k e = subst IsKept (ok_is _ _ e) k
+thread_kept ([] ∷ ls) whole names threads thread here blocks count t k e = absurd cc
+thread_kept ((head ∷ args) ∷ ls) whole names threads thread here [] count t k e =
+    let a = bind_ok (content_line (inside whole names threads thread (at here [] count)) (head ∷ args)) (λ next. all_contents next ls) t e in
+    elim (out_took whole names threads thread here count head args a.0 a.1) as (λ _. IsKept t) [
+      | thread_took is_whole is lt same ↦ thread_kept ls whole names (threads ++ here ∷ []) (thread + 1) [] [] 0 t none_kept (subst (λ (s : State). all_contents s ls ≡ Ok t) (sym same) a.2)
+      | one_took o said lt same ↦ thread_kept ls whole names threads thread (here ++ command.One o ∷ []) [] 0 t none_kept (subst (λ (s : State). all_contents s ls ≡ Ok t) (sym same) a.2)
+      | block_took is lt same ↦ thread_kept ls whole names threads thread here (record { level = 0; done = []; parts = [] } ∷ []) 0 t (begin_kept [] 0 0 tt (omega arith) (omega arith) (omega arith) (omega arith)) (subst (λ (s : State). all_contents s ls ≡ Ok t) (sym same) a.2)
     ]
-thread_kept ((head ∷ args) ∷ ls) names threads thread here (b ∷ outer) count t k e =
-    let a = bind_ok (content_line (inside names threads thread (at here (b ∷ outer) count)) (head ∷ args)) (λ next. all_contents next ls) t e in
-    elim (in_took names threads thread here b outer count head args a.0 a.1) as (λ _. IsKept t) [
-      | part_took o said lt same ↦ thread_kept ls names threads thread here (record b { parts = b.parts ++ op o ∷ [] } ∷ outer) (count + 1) t (part_kept b outer count (count + 1) (op o) k (omega arith) (omega arith) (omega (arith, lt))) (subst (λ (s : State). all_contents s ls ≡ Ok t) (sym same) a.2)
-      | inner_took is lt shallow same ↦ thread_kept ls names threads thread here (record { level = b.level + 1; done = []; parts = [] } ∷ b ∷ outer) (count + 1) t (begin_kept (b ∷ outer) count (count + 1) k.levels (omega (arith, shallow)) k.counted (omega arith) (omega (arith, lt))) (subst (λ (s : State). all_contents s ls ≡ Ok t) (sym same) a.2)
-      | other_took is shallow same ↦ thread_kept ls names threads thread here (record { level = b.level + 1; done = b.done ++ b.parts ∷ []; parts = [] } ∷ outer) count t (other_kept b outer count shallow k) (subst (λ (s : State). all_contents s ls ≡ Ok t) (sym same) a.2)
-      | ends_took is same ↦ behind outer k (λ blocks n c kept p. thread_kept ls names threads thread n blocks c t kept p) (subst (λ (s : State). all_contents s ls ≡ Ok t) (sym same) a.2)
+thread_kept ((head ∷ args) ∷ ls) whole names threads thread here (b ∷ outer) count t k e =
+    let a = bind_ok (content_line (inside whole names threads thread (at here (b ∷ outer) count)) (head ∷ args)) (λ next. all_contents next ls) t e in
+    elim (in_took whole names threads thread here b outer count head args a.0 a.1) as (λ _. IsKept t) [
+      | part_took o said lt same ↦ thread_kept ls whole names threads thread here (record b { parts = b.parts ++ op o ∷ [] } ∷ outer) (count + 1) t (part_kept b outer count (count + 1) (op o) k (omega arith) (omega arith) (omega (arith, lt))) (subst (λ (s : State). all_contents s ls ≡ Ok t) (sym same) a.2)
+      | inner_took is lt shallow same ↦ thread_kept ls whole names threads thread here (record { level = b.level + 1; done = []; parts = [] } ∷ b ∷ outer) (count + 1) t (begin_kept (b ∷ outer) count (count + 1) k.levels (omega (arith, shallow)) k.counted (omega arith) (omega (arith, lt))) (subst (λ (s : State). all_contents s ls ≡ Ok t) (sym same) a.2)
+      | other_took is shallow same ↦ thread_kept ls whole names threads thread here (record { level = b.level + 1; done = b.done ++ b.parts ∷ []; parts = [] } ∷ outer) count t (other_kept b outer count shallow k) (subst (λ (s : State). all_contents s ls ≡ Ok t) (sym same) a.2)
+      | ends_took is same ↦ behind outer k (λ blocks n c kept p. thread_kept ls whole names threads thread n blocks c t kept p) (subst (λ (s : State). all_contents s ls ≡ Ok t) (sym same) a.2)
     ]
   where
-    behind : (outer : List OpenBlock) → Kept (b ∷ outer) count → ((blocks : List OpenBlock) (n : List Command) (c : ℕ) → Kept blocks c → all_contents (inside names threads thread (at n blocks c)) ls ≡ Ok t → IsKept t) → all_contents (inside names threads thread (with_block (at here (b ∷ outer) count) outer (nested b.done (seq (trees b.parts))))) ls ≡ Ok t → IsKept t
+    behind : (outer : List OpenBlock) → Kept (b ∷ outer) count → ((blocks : List OpenBlock) (n : List Command) (c : ℕ) → Kept blocks c → all_contents (inside whole names threads thread (at n blocks c)) ls ≡ Ok t → IsKept t) → all_contents (inside whole names threads thread (with_block (at here (b ∷ outer) count) outer (nested b.done (seq (trees b.parts))))) ls ≡ Ok t → IsKept t
     behind [] k read p = read [] (here ++ command.Block (nested b.done (seq (trees b.parts))) ∷ []) 0 none_kept p
     behind (o ∷ more) k read p = read (record o { parts = o.parts ++ nested b.done (seq (trees b.parts)) ∷ [] } ∷ more) here count (end_kept b o more count k) p
 
-outside_kept : (ls : List Line) (names : Names) (t : State) → all_contents (outside names) ls ≡ Ok t → IsKept t
+outside_kept : (ls : List Line) (whole : Bool) (names : Names) (t : State) → all_contents (outside whole names) ls ≡ Ok t → IsKept t
 unfolding content_line
-outside_kept [] names t e = subst IsKept (ok_is _ _ e) none_kept
-outside_kept ([] ∷ ls) names t e = absurd cc
-outside_kept ((head ∷ args) ∷ ls) names t e =
-    let a = bind_ok (content_line (outside names) (head ∷ args)) (λ next. all_contents next ls) t e in
-    elim (outside_took names head args a.0 a.1) as (λ _. IsKept t) [
-      | inl p ↦ thread_kept ls names [] 0 [] [] 0 t none_kept (subst (λ (s : State). all_contents s ls ≡ Ok t) (sym p.1) a.2)
-      | inr p ↦ outside_kept ls (names ++ p.0 ∷ []) t (subst (λ (s : State). all_contents s ls ≡ Ok t) (sym p.2) a.2)
+outside_kept [] whole names t e = subst IsKept (ok_is _ _ e) none_kept
+outside_kept ([] ∷ ls) whole names t e = absurd cc
+outside_kept ((head ∷ args) ∷ ls) whole names t e =
+    let a = bind_ok (content_line (outside whole names) (head ∷ args)) (λ next. all_contents next ls) t e in
+    elim (outside_took whole names head args a.0 a.1) as (λ _. IsKept t) [
+      | inl p ↦ thread_kept ls whole names [] 0 [] [] 0 t none_kept (subst (λ (s : State). all_contents s ls ≡ Ok t) (sym p.2) a.2)
+      | inr p ↦ outside_kept ls whole (names ++ p.0 ∷ []) t (subst (λ (s : State). all_contents s ls ≡ Ok t) (sym p.2) a.2)
     ]
 
-opening_kept : (ls : List Line) (t : State) → all_contents opening ls ≡ Ok t → IsKept t
+opening_kept : (ls : List Line) (whole : Bool) (t : State) → all_contents (opening whole) ls ≡ Ok t → IsKept t
 unfolding content_line
-opening_kept [] t e = subst IsKept (ok_is _ _ e) none_kept
-opening_kept ([] ∷ ls) t e = absurd cc
-opening_kept ((head ∷ args) ∷ ls) t e =
-    let a = bind_ok (content_line opening (head ∷ args)) (λ next. all_contents next ls) t e in
-    let h = header_read opening a.0 (head ∷ args) a.1 in
-    outside_kept ls [] t (subst (λ (x : State). all_contents x ls ≡ Ok t) (sym h.1) a.2)
+opening_kept [] whole t e = subst IsKept (ok_is _ _ e) none_kept
+opening_kept ([] ∷ ls) whole t e = absurd cc
+opening_kept ((head ∷ args) ∷ ls) whole t e =
+    let a = bind_ok (content_line (opening whole) (head ∷ args)) (λ next. all_contents next ls) t e in
+    let h = header_read (opening whole) a.0 (head ∷ args) a.1 in
+    outside_kept ls whole [] t (subst (λ (x : State). all_contents x ls ≡ Ok t) (sym h.1) a.2)
 
--- a block that is open behind some lines is made where it ends
-pub is_made : (texts : List (List ℕ)) (t : State) (b : OpenBlock) (outer : List OpenBlock) → all_lines opening texts ≡ Ok t → t.place.open_blocks ≡ b ∷ outer → block_of b ≡ Ok (nested b.done (seq (trees b.parts)))
-is_made texts t b outer e o =
-    let k = opening_kept (counting (map words texts)) t (sym (skipping texts opening) ∙ e) in
-    let small = kept_small b outer t.place.count (subst (λ blocks. Kept blocks t.place.count) o k) in
-    nest_ok b.done b.parts small
+-- whatever lines are read behind these, a block that is then open is made where it ends
+abbrev pub MakesBlocks : State → Type 0
+MakesBlocks s = (texts : List (List ℕ)) (t : State) (b : OpenBlock) (outer : List OpenBlock) → all_lines s texts ≡ Ok t → t.place.open_blocks ≡ b ∷ outer → block_of b ≡ Ok (nested b.done (seq (trees b.parts)))
+
+kept_made : (t : State) (b : OpenBlock) (outer : List OpenBlock) → IsKept t → t.place.open_blocks ≡ b ∷ outer → block_of b ≡ Ok (nested b.done (seq (trees b.parts)))
+kept_made t b outer k o = nest_ok b.done b.parts (kept_small b outer t.place.count (subst (λ blocks. Kept blocks t.place.count) o k))
+
+pub opening_makes : (whole : Bool) → MakesBlocks (opening whole)
+opening_makes whole texts t b outer e o = kept_made t b outer (opening_kept (counting (map words texts)) whole t (sym (skipping texts (opening whole)) ∙ e)) o
+
+pub file_makes : (names : Names) (threads : List (List Command)) (thread : ℕ) → MakesBlocks (inside false names threads thread nowhere)
+file_makes names threads thread texts t b outer e o =
+    kept_made t b outer (thread_kept (counting (map words texts)) false names threads thread [] [] 0 t none_kept (sym (skipping texts (inside false names threads thread nowhere)) ∙ e)) o

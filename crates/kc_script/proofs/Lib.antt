@@ -1,5 +1,6 @@
 pub mod Objects
 pub mod Lines
+pub mod Files
 pub mod Numbered
 pub mod LineWords
 pub mod Trees
@@ -10,4 +11,6 @@ pub mod Spelled
 pub mod Kept
 pub mod FirstFaults
 pub mod TextLines
+pub mod PartLines
+pub mod PartFaults
 pub mod Again

@@ -5,15 +5,14 @@ use Rattle.std.proofs.lemmas.List.{drop_more, drop_all}
 use Rattle.kc_lines.specs.Words.{words}
 use Rattle.kc_lines.specs.declared.fault.ScriptError.{ScriptError}
 use Rattle.kc_lines.specs.declared.fault.ScriptError.TheVariants as error
-use Rattle.kc_bundle.specs.Script.{Script}
 use Rattle.kc_script.specs.FirstFault.{Fault}
 use Rattle.kc_script.specs.Reading.{State, any_line, ended, nearest, atomics_next, at_line, then_read, read_from, Stops}
 
-module _ {X : Type 0} (seen : X → List ℕ) (texts : List X) (i n : ℕ) (d : X) (s : State) (atomics : List ℕ) (total : Result Script Fault) (so_far : read_from s atomics n (map seen (drop i texts)) ≡ total) where
+module _ {X : Type 0} (seen : X → List ℕ) (texts : List X) (i n : ℕ) (d : X) (s : State) (atomics : List ℕ) (total : Result State Fault) (so_far : read_from s atomics n (map seen (drop i texts)) ≡ total) where
   abbrev line : List (List ℕ)
   line = words (seen (get_or texts i d))
 
-  abbrev later : State → Result Script Fault
+  abbrev later : State → Result State Fault
   later next = read_from next (atomics_next s.begun atomics n line) (n + 1) (map seen (drop (i + 1) texts))
 
   -- the line at the index, and the rest

@@ -1,11 +1,23 @@
 -- Numbers of lines make no difference to what is read.
-use Rattle.std.proofs.Common.{◌≡◌, ℕ, ◌+◌, List, [], ◌∷◌, Result, Ok, Err, refl, sym, ap, ◌∙◌}
+use Rattle.std.proofs.Common.{◌≡◌, ℕ, ◌+◌, Bool, true, false, not, List, [], ◌∷◌, Result, Ok, Err, refl, sym, ap, subst, ◌∙◌}
 use Rattle.kc_lines.specs.declared.fault.Why.{Why}
-use Rattle.kc_lines.specs.Tests.{◌>>=◌}
+use Rattle.kc_lines.specs.declared.fault.Why.TheVariants.{Header, UnclosedBlock}
+use Rattle.kc_lines.specs.Tests.{◌>>=◌, wants}
+use Rattle.kc_lines.proofs.Given.{given, bind_ok, wants_ok, ok_is}
 use Rattle.kc_lines.specs.Words.{lines, words}
-use Rattle.kc_bundle.specs.Script.{Script}
 use Rattle.kc_script.specs.FirstFault.{Fault}
-use Rattle.kc_script.specs.Reading.{State, opening, any_line, all_lines, ended, at_line, then_read, nearest, atomics_next, read_from, spelled}
+use Rattle.kc_script.specs.Reading.{State, any_line, all_lines, no_block, ended, at_line, then_read, nearest, atomics_next, read_from, part_read}
+use Rattle.kc_script.specs.Blocks.{in_block}
+
+-- what was read, and what followed
+pub then_ok : {A B E : Type 0} (r : Result A E) (f : A → Result B E) (y : B) → then_read r f ≡ Ok y → (x : A) × (r ≡ Ok x) × (f x ≡ Ok y)
+then_ok (Ok x) f y e = (x, refl, e)
+then_ok (Err fault) f y e = absurd cc
+
+-- what was read, and what was made of it
+pub then_made : {A B E : Type 0} (r : Result A E) (f : A → B) (y : B) → then_read r (λ x. Ok (f x)) ≡ Ok y → (x : A) × (r ≡ Ok x) × (f x ≡ y)
+then_made (Ok x) f y e = (x, refl, cc)
+then_made (Err fault) f y e = absurd cc
 
 -- what was read, without the line of a fault
 abbrev without : {A : Type 0} → Result A Fault → Result A Why
@@ -24,18 +36,49 @@ unnumbered (text ∷ texts) s atomics n = by (any_line s (words text)) (λ next.
   by (Ok next) more = more next
   by (Err why) more = refl
 
--- the script of all lines
-abbrev pub plain : List ℕ → Result Script Why
-plain bytes = all_lines opening (lines bytes) >>= ended
+-- what a part comes to, without numbers
+abbrev plain : State → List ℕ → Result State Why
+plain s bytes = all_lines s (lines bytes) >>= ended
 
-pub spelled_plain : (bytes : List ℕ) (s : Script) → spelled bytes ≡ Ok s → plain bytes ≡ Ok s
-unfolding spelled
-spelled_plain bytes s e = sym (unnumbered (lines bytes) opening [] 1) ∙ ap without e
+-- a part was read to its end, where no block is open
+pub record IsRead (s : State) (bytes : List ℕ) (t : State) : Type 0 where
+  pub all : all_lines s (lines bytes) ≡ Ok t
+  pub begun : t.begun ≡ true
+  pub shut : in_block t.place.open_blocks ≡ false
+
+not_true : (b : Bool) → not b ≡ true → b ≡ false
+not_true true e = absurd cc
+not_true false e = refl
+
+record IsEnded (s t : State) : Type 0 where
+  same : s ≡ t
+  begun : s.begun ≡ true
+  shut : in_block s.place.open_blocks ≡ false
+
+ended_shut : (s t : State) → ended s ≡ Ok t → IsEnded s t
+unfolding ended
+ended_shut s t e =
+    let last = λ (x : Unit {0}). given s in
+    let a = bind_ok (wants s.begun Header) (λ (x : Unit {0}). no_block s >>= last) t e in
+    let b = bind_ok (no_block s) last t a.2 in
+    record {
+      same = ok_is _ _ b.2;
+      begun = wants_ok s.begun Header a.0 a.1;
+      shut = not_true (in_block s.place.open_blocks) (wants_ok (not (in_block s.place.open_blocks)) UnclosedBlock b.0 b.1);
+    }
+
+pub part_is : (s : State) (bytes : List ℕ) (t : State) → part_read s bytes ≡ Ok t → IsRead s bytes t
+unfolding part_read
+part_is s bytes t e =
+    let p : plain s bytes ≡ Ok t = sym (unnumbered (lines bytes) s [] 1) ∙ ap without e in
+    let a = bind_ok (all_lines s (lines bytes)) ended t p in
+    let b = ended_shut a.0 t a.2 in
+    subst (IsRead s bytes) b.same (record { all = a.1; begun = b.begun; shut = b.shut })
 
 ok_with : {A : Type 0} (r : Result A Fault) (x : A) → without r ≡ Ok x → r ≡ Ok x
 ok_with (Ok y) x e = let same : y ≡ x = cc in ap (λ z. Ok z) same
 ok_with (Err fault) x e = absurd cc
 
-pub plain_spelled : (bytes : List ℕ) (s : Script) → plain bytes ≡ Ok s → spelled bytes ≡ Ok s
-unfolding spelled
-plain_spelled bytes s e = ok_with (read_from opening [] 1 (lines bytes)) s (unnumbered (lines bytes) opening [] 1 ∙ e)
+pub is_part : (s : State) (bytes : List ℕ) (t : State) → all_lines s (lines bytes) ≡ Ok t → ended t ≡ Ok t → part_read s bytes ≡ Ok t
+unfolding part_read
+is_part s bytes t e f = ok_with (read_from s [] 1 (lines bytes)) t (unnumbered (lines bytes) s [] 1 ∙ ap (λ (r : Result State Why). r >>= ended) e ∙ f)

@@ -1,11 +1,11 @@
 -- What the reader reads, line by line, the grammar has the bytes spell.
-use Rattle.std.proofs.Common.{◌≡◌, ℕ, ◌+◌, ◌≤◌, ◌<◌, Bool, true, false, not, eqb, List, [], ◌∷◌, ◌++◌, length, Option, Some, None, Ok, refl, sym, ap, subst, ◌∙◌, append_assoc, arith, length-append, inl, inr}
+use Rattle.std.proofs.Common.{◌≡◌, ℕ, ◌+◌, ◌≤◌, ◌<◌, Bool, true, false, eqb, List, [], ◌∷◌, ◌++◌, length, Option, Some, None, Ok, refl, sym, ap, subst, ◌∙◌, append_assoc, arith, length-append, inl, inr}
 use Rattle.std.specs.Prelude.{◌⊎◌, codes}
 use Rattle.std.specs.Str.{bytes_eq}
 use Rattle.std.proofs.lemmas.List.{append-nil}
 use Rattle.std.proofs.lemmas.Bool.{eqb-true}
 use Rattle.std.proofs.lemmas.Slice.Eq.{bytes_eq-Decides}
-use Rattle.kc_lines.specs.declared.fault.Why.TheVariants.{Header, UnclosedBlock}
+use Rattle.kc_lines.specs.declared.fault.Why.TheVariants.{Header, StrayWord}
 use Rattle.kc_lines.specs.Words.{lines}
 use Rattle.kc_lines.specs.Tests.{◌>>=◌, wants, counted, word_at}
 use Rattle.kc_lines.proofs.Given.{given, bind_ok, wants_ok, ok_is, none_counted}
@@ -24,17 +24,23 @@ use Rattle.kc_verbs.proofs.Rows.{said_says}
 use Rattle.kc_verbs.proofs.ObjectRows.{declared_declares}
 use Rattle.kc_script.specs.Spells.{Line, contents, header, thread_line, atomic_line, or_line, end_line, Declare, Block, Say, Threads, Spells}
 use Rattle.kc_script.specs.Blocks.{OpenBlock, in_block, with_block, or_at, end_at}
-use Rattle.kc_script.specs.Reading.{State, opening, nowhere, closed, no_block, declared_line, said_line, begun_block, worded_line, header_line, content_line, all_lines, ended, spelled}
+use Rattle.kc_script.specs.Reading.{State, opening, nowhere, declared_line, said_line, begun_block, worded_line, header_line, content_line, script_at, part_read, spelled}
 use Rattle.kc_script.specs.Reading.{thread_line as opened_thread}
-use Rattle.kc_script.proofs.Numbered.{spelled_plain}
+use Rattle.kc_script.proofs.Numbered.{then_made, part_is}
 use Rattle.kc_script.proofs.Trees.{nested, nested_push}
 use Rattle.kc_script.proofs.LineWords.{lone, thread_word}
 use Rattle.kc_script.proofs.Took.{outside, at, inside, all_contents, skipping, thread_took, one_took, block_took, part_took, inner_took, other_took, ends_took, out_took, in_took}
 
 -- ---- the lines that were read from a place in a thread
 
+-- no thread begins behind this one, with which the lines end
+pub record IsAlone (whole : Bool) (names : Names) (threads : List (List Command)) (thread : ℕ) (commands : List Command) (more : List Line) (t : State) : Type 0 where
+  pub none : more ≡ []
+  pub count : ℕ
+  pub is : inside whole names threads thread (at commands [] count) ≡ t
+
 -- outside blocks
-pub record ThreadRead (names : Names) (threads : List (List Command)) (thread : ℕ) (here : List Command) (ls : List Line) (t : State) : Type 0 where
+pub record ThreadRead (whole : Bool) (names : Names) (threads : List (List Command)) (thread : ℕ) (here : List Command) (ls : List Line) (t : State) : Type 0 where
   pub saying : List Line
   pub more : List Line
   pub commands : List Command
@@ -43,7 +49,8 @@ pub record ThreadRead (names : Names) (threads : List (List Command)) (thread : 
   pub said : Say thread names saying commands
   pub few : length (here ++ commands) ≤ 4096
   pub follow : Threads names (thread + 1) more later
-  pub ends : ended t ≡ Ok (record { objects = names; threads = threads ++ (here ++ commands) ∷ later })
+  pub ends : script_at t ≡ record { objects = names; threads = threads ++ (here ++ commands) ∷ later }
+  pub alone : whole ≡ false → IsAlone whole names threads thread (here ++ commands) more t
 
 -- in a block, with what was read behind its end
 pub record BlockRead (names : Names) (thread level : ℕ) (parts : List (Tree Op)) (count : ℕ) (ls : List Line) (Rest : Tree Op → ℕ → List Line → Type 0) : Type 0 where
@@ -56,24 +63,24 @@ pub record BlockRead (names : Names) (thread level : ℕ) (parts : List (Tree Op
   pub follow : Rest tree total more
 
 -- behind the end of a block with these alternatives done, in these blocks
-abbrev pub Rest : Names → List (List Command) → ℕ → List Command → State → List (List (Tree Op)) → List OpenBlock → Tree Op → ℕ → List Line → Type 0
-Rest names threads thread here t done [] tree total more = ThreadRead names threads thread (here ++ command.Block (nested done tree) ∷ []) more t
-Rest names threads thread here t done (b ∷ outer) tree total more = BlockRead names thread b.level (b.parts ++ nested done tree ∷ []) total more (Rest names threads thread here t b.done outer)
+abbrev pub Rest : Bool → Names → List (List Command) → ℕ → List Command → State → List (List (Tree Op)) → List OpenBlock → Tree Op → ℕ → List Line → Type 0
+Rest whole names threads thread here t done [] tree total more = ThreadRead whole names threads thread (here ++ command.Block (nested done tree) ∷ []) more t
+Rest whole names threads thread here t done (b ∷ outer) tree total more = BlockRead names thread b.level (b.parts ++ nested done tree ∷ []) total more (Rest whole names threads thread here t b.done outer)
 
-abbrev pub PlaceRead : Names → List (List Command) → ℕ → List Command → State → List OpenBlock → ℕ → List Line → Type 0
-PlaceRead names threads thread here t [] count ls = ThreadRead names threads thread here ls t
-PlaceRead names threads thread here t (b ∷ outer) count ls = BlockRead names thread b.level b.parts count ls (Rest names threads thread here t b.done outer)
+abbrev pub PlaceRead : Bool → Names → List (List Command) → ℕ → List Command → State → List OpenBlock → ℕ → List Line → Type 0
+PlaceRead whole names threads thread here t [] count ls = ThreadRead whole names threads thread here ls t
+PlaceRead whole names threads thread here t (b ∷ outer) count ls = BlockRead names thread b.level b.parts count ls (Rest whole names threads thread here t b.done outer)
 
 -- there is room for a block that is open
 abbrev pub HasRoom : List Command → List OpenBlock → Type 0
 HasRoom here [] = length here ≤ 4096
 HasRoom here (b ∷ outer) = length here < 4096
 
-module _ (names : Names) (threads : List (List Command)) (thread : ℕ) (here : List Command) (t : State) where
+module _ (whole : Bool) (names : Names) (threads : List (List Command)) (thread : ℕ) (here : List Command) (t : State) where
   -- the next line says an operation
-  one_read : (line : Line) (o : Op) (ls : List Line) → said thread names line ≡ Ok o → ThreadRead names threads thread (here ++ command.One o ∷ []) ls t → ThreadRead names threads thread here (line ∷ ls) t
+  one_read : (line : Line) (o : Op) (ls : List Line) → said thread names line ≡ Ok o → ThreadRead whole names threads thread (here ++ command.One o ∷ []) ls t → ThreadRead whole names threads thread here (line ∷ ls) t
   one_read line o ls e r =
-      let whole = append_assoc here (command.One o ∷ []) r.commands in
+      let joined = append_assoc here (command.One o ∷ []) r.commands in
       record {
         saying = line ∷ r.saying;
         more = r.more;
@@ -81,16 +88,17 @@ module _ (names : Names) (threads : List (List Command)) (thread : ℕ) (here : 
         later = r.later;
         parts = ap (λ (rest : List Line). line ∷ rest) r.parts;
         said = Say.one line o (said_says thread names line o e) r.said;
-        few = subst (λ (cs : List Command). length cs ≤ 4096) whole r.few;
+        few = subst (λ (cs : List Command). length cs ≤ 4096) joined r.few;
         follow = r.follow;
-        ends = subst (λ (cs : List Command). ended t ≡ Ok (record { objects = names; threads = threads ++ cs ∷ r.later })) whole r.ends;
+        ends = subst (λ (cs : List Command). script_at t ≡ record { objects = names; threads = threads ++ cs ∷ r.later }) joined r.ends;
+        alone = subst (λ (cs : List Command). whole ≡ false → IsAlone whole names threads thread cs r.more t) joined r.alone;
       }
 
   -- the next line begins a block
-  block_read : (line : Line) (ls : List Line) → line ≡ atomic_line → BlockRead names thread 0 [] 0 ls (Rest names threads thread here t [] []) → ThreadRead names threads thread here (line ∷ ls) t
+  block_read : (line : Line) (ls : List Line) → line ≡ atomic_line → BlockRead names thread 0 [] 0 ls (Rest whole names threads thread here t [] []) → ThreadRead whole names threads thread here (line ∷ ls) t
   block_read line ls e r =
       let f = r.follow in
-      let whole = append_assoc here (command.Block r.tree ∷ []) f.commands in
+      let joined = append_assoc here (command.Block r.tree ∷ []) f.commands in
       let split : ls ≡ (r.within ++ end_line ∷ f.saying) ++ f.more = r.split ∙ ap (λ (rest : List Line). r.within ++ end_line ∷ rest) f.parts ∙ sym (append_assoc r.within (end_line ∷ f.saying) f.more) in
       record {
         saying = atomic_line ∷ (r.within ++ end_line ∷ f.saying);
@@ -99,15 +107,19 @@ module _ (names : Names) (threads : List (List Command)) (thread : ℕ) (here : 
         later = f.later;
         parts = ap (λ (x : Line). x ∷ ls) e ∙ ap (λ (rest : List Line). atomic_line ∷ rest) split;
         said = Say.block r.block f.said;
-        few = subst (λ (cs : List Command). length cs ≤ 4096) whole f.few;
+        few = subst (λ (cs : List Command). length cs ≤ 4096) joined f.few;
         follow = f.follow;
-        ends = subst (λ (cs : List Command). ended t ≡ Ok (record { objects = names; threads = threads ++ cs ∷ f.later })) whole f.ends;
+        ends = subst (λ (cs : List Command). script_at t ≡ record { objects = names; threads = threads ++ cs ∷ f.later }) joined f.ends;
+        alone = subst (λ (cs : List Command). whole ≡ false → IsAlone whole names threads thread cs f.more t) joined f.alone;
       }
 
+  never : whole ≡ true → whole ≡ false → ⊥
+  never is_whole is_part = cc
+
   -- the next line begins a thread
-  thread_read : (line : Line) (ls : List Line) → line ≡ thread_line → thread + 1 < 16 → length here ≤ 4096 → ThreadRead names (threads ++ here ∷ []) (thread + 1) [] ls t → ThreadRead names threads thread here (line ∷ ls) t
-  thread_read line ls e lt few r =
-      let whole = append_assoc threads (here ∷ []) (r.commands ∷ r.later) in
+  thread_read : (line : Line) (ls : List Line) → whole ≡ true → line ≡ thread_line → thread + 1 < 16 → length here ≤ 4096 → ThreadRead whole names (threads ++ here ∷ []) (thread + 1) [] ls t → ThreadRead whole names threads thread here (line ∷ ls) t
+  thread_read line ls is_whole e lt few r =
+      let joined = append_assoc threads (here ∷ []) (r.commands ∷ r.later) in
       record {
         saying = [];
         more = thread_line ∷ (r.saying ++ r.more);
@@ -117,12 +129,12 @@ module _ (names : Names) (threads : List (List Command)) (thread : ℕ) (here : 
         said = Say.none;
         few = rw append-nil few;
         follow = Threads.one lt r.said r.few r.follow;
-        ends = rw append-nil (r.ends ∙ ap (λ (x : List (List Command)). Ok (record { objects = names; threads = x })) whole);
+        ends = rw append-nil (r.ends ∙ ap (λ (x : List (List Command)). record { objects = names; threads = x }) joined);
+        alone = λ part. absurd (never is_whole part);
       }
 
   -- the lines have ended
-  last_read : (count : ℕ) → length here ≤ 4096 → inside names threads thread (at here [] count) ≡ t → ThreadRead names threads thread here [] t
-  unfolding ended
+  last_read : (count : ℕ) → length here ≤ 4096 → inside whole names threads thread (at here [] count) ≡ t → ThreadRead whole names threads thread here [] t
   last_read count few e = record {
     saying = [];
     more = [];
@@ -132,12 +144,13 @@ module _ (names : Names) (threads : List (List Command)) (thread : ℕ) (here : 
     said = Say.none;
     few = rw append-nil few;
     follow = Threads.none;
-    ends = rw append-nil (ap ended (sym e));
+    ends = rw append-nil (ap script_at (sym e));
+    alone = λ part. record { none = refl; count = count; is = rw append-nil e };
   }
 
   -- in a block, the next line says an operation
-  part_read : (level : ℕ) (parts : List (Tree Op)) (count : ℕ) (Rest : Tree Op → ℕ → List Line → Type 0) (line : Line) (o : Op) (ls : List Line) → said thread names line ≡ Ok o → count < 16 → BlockRead names thread level (parts ++ op o ∷ []) (count + 1) ls Rest → BlockRead names thread level parts count (line ∷ ls) Rest
-  part_read level parts count Rest line o ls e lt r = record {
+  said_read : (level : ℕ) (parts : List (Tree Op)) (count : ℕ) (Rest : Tree Op → ℕ → List Line → Type 0) (line : Line) (o : Op) (ls : List Line) → said thread names line ≡ Ok o → count < 16 → BlockRead names thread level (parts ++ op o ∷ []) (count + 1) ls Rest → BlockRead names thread level parts count (line ∷ ls) Rest
+  said_read level parts count Rest line o ls e lt r = record {
     within = line ∷ r.within;
     more = r.more;
     tree = r.tree;
@@ -148,7 +161,7 @@ module _ (names : Names) (threads : List (List Command)) (thread : ℕ) (here : 
   }
 
   -- in a block, the next line begins one
-  inner_read : (b : OpenBlock) (outer : List OpenBlock) (count : ℕ) (line : Line) (ls : List Line) → line ≡ atomic_line → count < 16 → b.level < 8 → BlockRead names thread (b.level + 1) [] (count + 1) ls (Rest names threads thread here t [] (b ∷ outer)) → BlockRead names thread b.level b.parts count (line ∷ ls) (Rest names threads thread here t b.done outer)
+  inner_read : (b : OpenBlock) (outer : List OpenBlock) (count : ℕ) (line : Line) (ls : List Line) → line ≡ atomic_line → count < 16 → b.level < 8 → BlockRead names thread (b.level + 1) [] (count + 1) ls (Rest whole names threads thread here t [] (b ∷ outer)) → BlockRead names thread b.level b.parts count (line ∷ ls) (Rest whole names threads thread here t b.done outer)
   inner_read b outer count line ls e lt shallow r =
       let f = r.follow in
       let split : ls ≡ (r.within ++ end_line ∷ f.within) ++ end_line ∷ f.more = r.split ∙ ap (λ (rest : List Line). r.within ++ end_line ∷ rest) f.split ∙ sym (append_assoc r.within (end_line ∷ f.within) (end_line ∷ f.more)) in
@@ -163,12 +176,12 @@ module _ (names : Names) (threads : List (List Command)) (thread : ℕ) (here : 
       }
 
   -- what follows the end of a block, with its last alternatives taken together
-  rest_push : (done : List (List (Tree Op))) (parts : List (Tree Op)) (outer : List OpenBlock) (tree : Tree Op) (total : ℕ) (more : List Line) → Rest names threads thread here t (done ++ parts ∷ []) outer tree total more → Rest names threads thread here t done outer (first (seq (trees parts)) tree) total more
-  rest_push done parts [] tree total more r = subst (λ (x : Tree Op). ThreadRead names threads thread (here ++ command.Block x ∷ []) more t) (nested_push done parts tree) r
-  rest_push done parts (o ∷ outer) tree total more r = subst (λ (x : Tree Op). BlockRead names thread o.level (o.parts ++ x ∷ []) total more (Rest names threads thread here t o.done outer)) (nested_push done parts tree) r
+  rest_push : (done : List (List (Tree Op))) (parts : List (Tree Op)) (outer : List OpenBlock) (tree : Tree Op) (total : ℕ) (more : List Line) → Rest whole names threads thread here t (done ++ parts ∷ []) outer tree total more → Rest whole names threads thread here t done outer (first (seq (trees parts)) tree) total more
+  rest_push done parts [] tree total more r = subst (λ (x : Tree Op). ThreadRead whole names threads thread (here ++ command.Block x ∷ []) more t) (nested_push done parts tree) r
+  rest_push done parts (o ∷ outer) tree total more r = subst (λ (x : Tree Op). BlockRead names thread o.level (o.parts ++ x ∷ []) total more (Rest whole names threads thread here t o.done outer)) (nested_push done parts tree) r
 
   -- in a block, the next line begins another alternative
-  other_read : (b : OpenBlock) (outer : List OpenBlock) (count : ℕ) (line : Line) (ls : List Line) → line ≡ or_line → b.level < 8 → BlockRead names thread (b.level + 1) [] count ls (Rest names threads thread here t (b.done ++ b.parts ∷ []) outer) → BlockRead names thread b.level b.parts count (line ∷ ls) (Rest names threads thread here t b.done outer)
+  other_read : (b : OpenBlock) (outer : List OpenBlock) (count : ℕ) (line : Line) (ls : List Line) → line ≡ or_line → b.level < 8 → BlockRead names thread (b.level + 1) [] count ls (Rest whole names threads thread here t (b.done ++ b.parts ∷ []) outer) → BlockRead names thread b.level b.parts count (line ∷ ls) (Rest whole names threads thread here t b.done outer)
   other_read b outer count line ls e shallow r = record {
     within = or_line ∷ r.within;
     more = r.more;
@@ -180,7 +193,7 @@ module _ (names : Names) (threads : List (List Command)) (thread : ℕ) (here : 
   }
 
   -- the next line ends the block
-  end_read : (b : OpenBlock) (outer : List OpenBlock) (count : ℕ) (line : Line) (ls : List Line) → line ≡ end_line → Rest names threads thread here t b.done outer (seq (trees b.parts)) count ls → BlockRead names thread b.level b.parts count (line ∷ ls) (Rest names threads thread here t b.done outer)
+  end_read : (b : OpenBlock) (outer : List OpenBlock) (count : ℕ) (line : Line) (ls : List Line) → line ≡ end_line → Rest whole names threads thread here t b.done outer (seq (trees b.parts)) count ls → BlockRead names thread b.level b.parts count (line ∷ ls) (Rest whole names threads thread here t b.done outer)
   end_read b outer count line ls e r = record {
     within = [];
     more = ls;
@@ -192,57 +205,59 @@ module _ (names : Names) (threads : List (List Command)) (thread : ℕ) (here : 
   }
 
 -- lines that were read from a place in a thread, up to where no block is open
-pub place_read : (ls : List Line) (names : Names) (threads : List (List Command)) (thread : ℕ) (here : List Command) (blocks : List OpenBlock) (count : ℕ) (t : State) → HasRoom here blocks → in_block t.place.open_blocks ≡ false → all_contents (inside names threads thread (at here blocks count)) ls ≡ Ok t → PlaceRead names threads thread here t blocks count ls
+pub place_read : (ls : List Line) (whole : Bool) (names : Names) (threads : List (List Command)) (thread : ℕ) (here : List Command) (blocks : List OpenBlock) (count : ℕ) (t : State) → HasRoom here blocks → in_block t.place.open_blocks ≡ false → all_contents (inside whole names threads thread (at here blocks count)) ls ≡ Ok t → PlaceRead whole names threads thread here t blocks count ls
 unfolding content_line
-place_read [] names threads thread here [] count t room shut e = last_read names threads thread here t count room (ok_is _ _ e)
-place_read [] names threads thread here (b ∷ outer) count t room shut e = absurd (open_still (ok_is _ _ e)) where
-  open_still : inside names threads thread (at here (b ∷ outer) count) ≡ t → ⊥
+place_read [] whole names threads thread here [] count t room shut e = last_read whole names threads thread here t count room (ok_is _ _ e)
+place_read [] whole names threads thread here (b ∷ outer) count t room shut e = absurd (open_still (ok_is _ _ e)) where
+  open_still : inside whole names threads thread (at here (b ∷ outer) count) ≡ t → ⊥
   open_still same = let h : in_block (b ∷ outer) ≡ false = ap (λ (s : State). in_block s.place.open_blocks) same ∙ shut in cc
-place_read ([] ∷ ls) names threads thread here blocks count t room shut e = absurd cc
-place_read ((head ∷ args) ∷ ls) names threads thread here [] count t room shut e =
-    let a = bind_ok (content_line (inside names threads thread (at here [] count)) (head ∷ args)) (λ next. all_contents next ls) t e in
-    elim (out_took names threads thread here count head args a.0 a.1) as (λ _. ThreadRead names threads thread here ((head ∷ args) ∷ ls) t) [
-      | thread_took is lt same ↦ thread_read names threads thread here t (head ∷ args) ls is lt room (place_read ls names (threads ++ here ∷ []) (thread + 1) [] [] 0 t (omega arith) shut (subst (λ (s : State). all_contents s ls ≡ Ok t) (sym same) a.2))
-      | one_took o said lt same ↦ one_read names threads thread here t (head ∷ args) o ls said (place_read ls names threads thread (here ++ command.One o ∷ []) [] 0 t (omega (arith, length-append here (command.One o ∷ []), lt)) shut (subst (λ (s : State). all_contents s ls ≡ Ok t) (sym same) a.2))
-      | block_took is lt same ↦ block_read names threads thread here t (head ∷ args) ls is (place_read ls names threads thread here (record { level = 0; done = []; parts = [] } ∷ []) 0 t lt shut (subst (λ (s : State). all_contents s ls ≡ Ok t) (sym same) a.2))
+place_read ([] ∷ ls) whole names threads thread here blocks count t room shut e = absurd cc
+place_read ((head ∷ args) ∷ ls) whole names threads thread here [] count t room shut e =
+    let a = bind_ok (content_line (inside whole names threads thread (at here [] count)) (head ∷ args)) (λ next. all_contents next ls) t e in
+    elim (out_took whole names threads thread here count head args a.0 a.1) as (λ _. ThreadRead whole names threads thread here ((head ∷ args) ∷ ls) t) [
+      | thread_took is_whole is lt same ↦ thread_read whole names threads thread here t (head ∷ args) ls is_whole is lt room (place_read ls whole names (threads ++ here ∷ []) (thread + 1) [] [] 0 t (omega arith) shut (subst (λ (s : State). all_contents s ls ≡ Ok t) (sym same) a.2))
+      | one_took o said lt same ↦ one_read whole names threads thread here t (head ∷ args) o ls said (place_read ls whole names threads thread (here ++ command.One o ∷ []) [] 0 t (omega (arith, length-append here (command.One o ∷ []), lt)) shut (subst (λ (s : State). all_contents s ls ≡ Ok t) (sym same) a.2))
+      | block_took is lt same ↦ block_read whole names threads thread here t (head ∷ args) ls is (place_read ls whole names threads thread here (record { level = 0; done = []; parts = [] } ∷ []) 0 t lt shut (subst (λ (s : State). all_contents s ls ≡ Ok t) (sym same) a.2))
     ]
-place_read ((head ∷ args) ∷ ls) names threads thread here (b ∷ outer) count t room shut e =
-    let a = bind_ok (content_line (inside names threads thread (at here (b ∷ outer) count)) (head ∷ args)) (λ next. all_contents next ls) t e in
-    let R = Rest names threads thread here t b.done outer in
-    elim (in_took names threads thread here b outer count head args a.0 a.1) as (λ _. BlockRead names thread b.level b.parts count ((head ∷ args) ∷ ls) R) [
-      | part_took o said lt same ↦ part_read names threads thread here t b.level b.parts count R (head ∷ args) o ls said lt (place_read ls names threads thread here (record b { parts = b.parts ++ op o ∷ [] } ∷ outer) (count + 1) t room shut (subst (λ (s : State). all_contents s ls ≡ Ok t) (sym same) a.2))
-      | inner_took is lt shallow same ↦ inner_read names threads thread here t b outer count (head ∷ args) ls is lt shallow (place_read ls names threads thread here (record { level = b.level + 1; done = []; parts = [] } ∷ b ∷ outer) (count + 1) t room shut (subst (λ (s : State). all_contents s ls ≡ Ok t) (sym same) a.2))
-      | other_took is shallow same ↦ other_read names threads thread here t b outer count (head ∷ args) ls is shallow (place_read ls names threads thread here (record { level = b.level + 1; done = b.done ++ b.parts ∷ []; parts = [] } ∷ outer) count t room shut (subst (λ (s : State). all_contents s ls ≡ Ok t) (sym same) a.2))
-      | ends_took is same ↦ end_read names threads thread here t b outer count (head ∷ args) ls is (behind outer (λ blocks n c fits p. place_read ls names threads thread n blocks c t fits shut p) (subst (λ (s : State). all_contents s ls ≡ Ok t) (sym same) a.2))
+place_read ((head ∷ args) ∷ ls) whole names threads thread here (b ∷ outer) count t room shut e =
+    let a = bind_ok (content_line (inside whole names threads thread (at here (b ∷ outer) count)) (head ∷ args)) (λ next. all_contents next ls) t e in
+    let R = Rest whole names threads thread here t b.done outer in
+    elim (in_took whole names threads thread here b outer count head args a.0 a.1) as (λ _. BlockRead names thread b.level b.parts count ((head ∷ args) ∷ ls) R) [
+      | part_took o said lt same ↦ said_read whole names threads thread here t b.level b.parts count R (head ∷ args) o ls said lt (place_read ls whole names threads thread here (record b { parts = b.parts ++ op o ∷ [] } ∷ outer) (count + 1) t room shut (subst (λ (s : State). all_contents s ls ≡ Ok t) (sym same) a.2))
+      | inner_took is lt shallow same ↦ inner_read whole names threads thread here t b outer count (head ∷ args) ls is lt shallow (place_read ls whole names threads thread here (record { level = b.level + 1; done = []; parts = [] } ∷ b ∷ outer) (count + 1) t room shut (subst (λ (s : State). all_contents s ls ≡ Ok t) (sym same) a.2))
+      | other_took is shallow same ↦ other_read whole names threads thread here t b outer count (head ∷ args) ls is shallow (place_read ls whole names threads thread here (record { level = b.level + 1; done = b.done ++ b.parts ∷ []; parts = [] } ∷ outer) count t room shut (subst (λ (s : State). all_contents s ls ≡ Ok t) (sym same) a.2))
+      | ends_took is same ↦ end_read whole names threads thread here t b outer count (head ∷ args) ls is (behind outer (λ blocks n c fits p. place_read ls whole names threads thread n blocks c t fits shut p) (subst (λ (s : State). all_contents s ls ≡ Ok t) (sym same) a.2))
     ]
   where
-    behind : (outer : List OpenBlock) → ((blocks : List OpenBlock) (n : List Command) (c : ℕ) → HasRoom n blocks → all_contents (inside names threads thread (at n blocks c)) ls ≡ Ok t → PlaceRead names threads thread n t blocks c ls) → all_contents (inside names threads thread (with_block (at here (b ∷ outer) count) outer (nested b.done (seq (trees b.parts))))) ls ≡ Ok t → Rest names threads thread here t b.done outer (seq (trees b.parts)) count ls
+    behind : (outer : List OpenBlock) → ((blocks : List OpenBlock) (n : List Command) (c : ℕ) → HasRoom n blocks → all_contents (inside whole names threads thread (at n blocks c)) ls ≡ Ok t → PlaceRead whole names threads thread n t blocks c ls) → all_contents (inside whole names threads thread (with_block (at here (b ∷ outer) count) outer (nested b.done (seq (trees b.parts))))) ls ≡ Ok t → Rest whole names threads thread here t b.done outer (seq (trees b.parts)) count ls
     behind [] read p = read [] (here ++ command.Block (nested b.done (seq (trees b.parts))) ∷ []) 0 (omega (arith, length-append here (command.Block (nested b.done (seq (trees b.parts))) ∷ []), room)) p
     behind (o ∷ more) read p = read (record o { parts = o.parts ++ nested b.done (seq (trees b.parts)) ∷ [] } ∷ more) here count room p
 
 -- ---- lines that were read outside threads
 
 -- what a line did before any thread
-abbrev pub OutsideTook : Names → Line → State → Type 0
-OutsideTook names line next = ((line ≡ thread_line) × (inside names [] 0 nowhere ≡ next)) ⊎ ((entry : List ℕ × Object) × (declared names line ≡ Ok entry) × (outside (names ++ entry ∷ []) ≡ next))
+abbrev pub OutsideTook : Bool → Names → Line → State → Type 0
+OutsideTook whole names line next = ((whole ≡ true) × (line ≡ thread_line) × (inside whole names [] 0 nowhere ≡ next)) ⊎ ((entry : List ℕ × Object) × (declared names line ≡ Ok entry) × (outside whole (names ++ entry ∷ []) ≡ next))
 
-pub outside_took : (names : Names) (head : List ℕ) (args : List (List ℕ)) (next : State) → content_line (outside names) (head ∷ args) ≡ Ok next → OutsideTook names (head ∷ args) next
+pub outside_took : (whole : Bool) (names : Names) (head : List ℕ) (args : List (List ℕ)) (next : State) → content_line (outside whole names) (head ∷ args) ≡ Ok next → OutsideTook whole names (head ∷ args) next
 unfolding content_line worded_line opened_thread said_line begun_block declared_line or_at end_at
-outside_took names head args next e = by (word_of head) refl e where
-  by : (w : Option Word) → word_of head ≡ w → worded_line (outside names) w args ≡ Ok next → OutsideTook names (head ∷ args) next
+outside_took whole names head args next e = by (word_of head) refl e where
+  by : (w : Option Word) → word_of head ≡ w → worded_line (outside whole names) w args ≡ Ok next → OutsideTook whole names (head ∷ args) next
   by None h e = absurd cc
   by (Some word.Thread) h e =
-      let a = bind_ok (counted 0 args) (λ all. given (inside names [] 0 nowhere)) next e in
-      inl (lone head (codes "thread") args (thread_word head h) (none_counted args a.0 a.1), ok_is _ _ a.2)
+      let last = λ (all : Unit {0}). given (inside whole names [] 0 nowhere) in
+      let w = bind_ok (wants whole StrayWord) (λ (here : Unit {0}). counted 0 args >>= last) next e in
+      let a = bind_ok (counted 0 args) last next w.2 in
+      inl (wants_ok whole StrayWord w.0 w.1, lone head (codes "thread") args (thread_word head h) (none_counted args a.0 a.1), ok_is _ _ a.2)
   by (Some word.Atomic) h e = absurd cc
   by (Some word.Or) h e = absurd cc
   by (Some word.End) h e = absurd cc
   by (Some (word.Declare k)) h e =
-      let a = bind_ok (declare names k args) (λ entry. given (outside (names ++ entry ∷ []))) next e in
+      let a = bind_ok (declare names k args) (λ entry. given (outside whole (names ++ entry ∷ []))) next e in
       inr (a.0, ap (λ w. declared_by names w args) h ∙ a.1, ok_is _ _ a.2)
   by (Some (word.Say v)) h e = absurd cc
 
-record OutsideRead (names : Names) (ls : List Line) (t : State) : Type 0 where
+record OutsideRead (whole : Bool) (names : Names) (ls : List Line) (t : State) : Type 0 where
   declaring : List Line
   threading : List Line
   all : Names
@@ -250,10 +265,11 @@ record OutsideRead (names : Names) (ls : List Line) (t : State) : Type 0 where
   parts : ls ≡ declaring ++ threading
   declares : Declare names declaring all
   follow : Threads all 0 threading later
-  ends : ended t ≡ Ok (record { objects = all; threads = later })
+  ends : script_at t ≡ record { objects = all; threads = later }
+  alone : whole ≡ false → (threading ≡ []) × (outside whole all ≡ t)
 
-outside_thread : (names : Names) (line : Line) (ls : List Line) (t : State) → line ≡ thread_line → ThreadRead names [] 0 [] ls t → OutsideRead names (line ∷ ls) t
-outside_thread names line ls t e r = record {
+outside_thread : (whole : Bool) (names : Names) (line : Line) (ls : List Line) (t : State) → whole ≡ true → line ≡ thread_line → ThreadRead whole names [] 0 [] ls t → OutsideRead whole names (line ∷ ls) t
+outside_thread whole names line ls t is_whole e r = record {
   declaring = [];
   threading = thread_line ∷ (r.saying ++ r.more);
   all = names;
@@ -262,10 +278,11 @@ outside_thread names line ls t e r = record {
   declares = Declare.none;
   follow = Threads.one (omega arith) r.said r.few r.follow;
   ends = r.ends;
+  alone = λ part. absurd (never whole names [] 0 [] t is_whole part);
 }
 
-outside_declared : (names : Names) (line : Line) (entry : List ℕ × Object) (ls : List Line) (t : State) → declared names line ≡ Ok entry → OutsideRead (names ++ entry ∷ []) ls t → OutsideRead names (line ∷ ls) t
-outside_declared names line entry ls t e r = record {
+outside_declared : (whole : Bool) (names : Names) (line : Line) (entry : List ℕ × Object) (ls : List Line) (t : State) → declared names line ≡ Ok entry → OutsideRead whole (names ++ entry ∷ []) ls t → OutsideRead whole names (line ∷ ls) t
+outside_declared whole names line entry ls t e r = record {
   declaring = line ∷ r.declaring;
   threading = r.threading;
   all = r.all;
@@ -274,21 +291,21 @@ outside_declared names line entry ls t e r = record {
   declares = Declare.one line entry (declared_declares names line entry e) r.declares;
   follow = r.follow;
   ends = r.ends;
+  alone = r.alone;
 }
 
-outside_last : (names : Names) (t : State) → outside names ≡ t → OutsideRead names [] t
-unfolding ended
-outside_last names t e = record { declaring = []; threading = []; all = names; later = []; parts = refl; declares = Declare.none; follow = Threads.none; ends = ap ended (sym e) }
+outside_last : (whole : Bool) (names : Names) (t : State) → outside whole names ≡ t → OutsideRead whole names [] t
+outside_last whole names t e = record { declaring = []; threading = []; all = names; later = []; parts = refl; declares = Declare.none; follow = Threads.none; ends = ap script_at (sym e); alone = λ part. (refl, e) }
 
-outside_read : (ls : List Line) (names : Names) (t : State) → in_block t.place.open_blocks ≡ false → all_contents (outside names) ls ≡ Ok t → OutsideRead names ls t
+outside_read : (ls : List Line) (whole : Bool) (names : Names) (t : State) → in_block t.place.open_blocks ≡ false → all_contents (outside whole names) ls ≡ Ok t → OutsideRead whole names ls t
 unfolding content_line
-outside_read [] names t shut e = outside_last names t (ok_is _ _ e)
-outside_read ([] ∷ ls) names t shut e = absurd cc
-outside_read ((head ∷ args) ∷ ls) names t shut e =
-    let a = bind_ok (content_line (outside names) (head ∷ args)) (λ next. all_contents next ls) t e in
-    elim (outside_took names head args a.0 a.1) as (λ _. OutsideRead names ((head ∷ args) ∷ ls) t) [
-      | inl p ↦ outside_thread names (head ∷ args) ls t p.0 (place_read ls names [] 0 [] [] 0 t (omega arith) shut (subst (λ (s : State). all_contents s ls ≡ Ok t) (sym p.1) a.2))
-      | inr p ↦ outside_declared names (head ∷ args) p.0 ls t p.1 (outside_read ls (names ++ p.0 ∷ []) t shut (subst (λ (s : State). all_contents s ls ≡ Ok t) (sym p.2) a.2))
+outside_read [] whole names t shut e = outside_last whole names t (ok_is _ _ e)
+outside_read ([] ∷ ls) whole names t shut e = absurd cc
+outside_read ((head ∷ args) ∷ ls) whole names t shut e =
+    let a = bind_ok (content_line (outside whole names) (head ∷ args)) (λ next. all_contents next ls) t e in
+    elim (outside_took whole names head args a.0 a.1) as (λ _. OutsideRead whole names ((head ∷ args) ∷ ls) t) [
+      | inl p ↦ outside_thread whole names (head ∷ args) ls t p.0 p.1 (place_read ls whole names [] 0 [] [] 0 t (omega arith) shut (subst (λ (s : State). all_contents s ls ≡ Ok t) (sym p.2) a.2))
+      | inr p ↦ outside_declared whole names (head ∷ args) p.0 ls t p.1 (outside_read ls whole (names ++ p.0 ∷ []) t shut (subst (λ (s : State). all_contents s ls ≡ Ok t) (sym p.2) a.2))
     ]
 
 -- ---- the header
@@ -312,51 +329,51 @@ header_read s t ws e =
     let d = bind_ok (wants (bytes_eq (word_at ws 1) (codes "1")) Header) last t b.2 in
     (two ws (codes "kcas") (codes "1") (eqb-true _ _ (wants_ok _ Header a.0 a.1)) (wants_ok _ Header b.0 b.1) (wants_ok _ Header d.0 d.1), ok_is _ _ d.2)
 
--- the lines that count spell a script
-record Reads (cs : List Line) (s : Script) : Type 0 where
-  declaring : List Line
-  threading : List Line
-  parts : cs ≡ header ∷ (declaring ++ threading)
-  declares : Declare [] declaring s.objects
-  follow : Threads s.objects 0 threading s.threads
-
-not_true : (b : Bool) → not b ≡ true → b ≡ false
-not_true true e = absurd cc
-not_true false e = refl
-
--- no block is open at the end
-shut_at : (t : State) (s : Script) → ended t ≡ Ok s → in_block t.place.open_blocks ≡ false
-unfolding ended
-shut_at t s e =
-    let last = λ (x : Unit {0}). given (record { objects = t.objects; threads = (closed t).threads }) in
-    let second = λ (x : Unit {0}). no_block t >>= last in
-    let a = bind_ok (wants t.begun Header) second s e in
-    let b = bind_ok (no_block t) last s a.2 in
-    not_true (in_block t.place.open_blocks) (wants_ok (not (in_block t.place.open_blocks)) UnclosedBlock b.0 b.1)
-
 -- lines that were read from the beginning
-opening_read : (cs : List Line) (t : State) (s : Script) → all_contents opening cs ≡ Ok t → ended t ≡ Ok s → Reads cs s
-unfolding content_line ended
-opening_read [] t s e f = absurd (never (subst (λ (x : State). ended x ≡ Ok s) (sym (ok_is _ _ e)) f)) where
-  never : ended opening ≡ Ok s → ⊥
-  never h = cc
-opening_read ([] ∷ cs) t s e f = absurd cc
-opening_read ((head ∷ args) ∷ cs) t s e f =
-    let a = bind_ok (content_line opening (head ∷ args)) (λ next. all_contents next cs) t e in
-    let h = header_read opening a.0 (head ∷ args) a.1 in
-    let r = outside_read cs [] t (shut_at t s f) (subst (λ (x : State). all_contents x cs ≡ Ok t) (sym h.1) a.2) in
-    let same : record { objects = r.all; threads = r.later } ≡ s = ok_is _ _ (sym r.ends ∙ f) in
-    subst (Reads ((head ∷ args) ∷ cs)) same (record {
+pub record OpeningRead (whole : Bool) (cs : List Line) (t : State) : Type 0 where
+  pub declaring : List Line
+  pub threading : List Line
+  pub all : Names
+  pub later : List (List Command)
+  pub parts : cs ≡ header ∷ (declaring ++ threading)
+  pub declares : Declare [] declaring all
+  pub follow : Threads all 0 threading later
+  pub ends : script_at t ≡ record { objects = all; threads = later }
+  pub alone : whole ≡ false → (threading ≡ []) × (outside whole all ≡ t)
+
+opening_read : (whole : Bool) (cs : List Line) (t : State) → all_contents (opening whole) cs ≡ Ok t → t.begun ≡ true → in_block t.place.open_blocks ≡ false → OpeningRead whole cs t
+unfolding content_line
+opening_read whole [] t e begun shut = absurd (never_begun (ap (λ (x : State). x.begun) (ok_is _ _ e) ∙ begun)) where
+  never_begun : false ≡ true → ⊥
+  never_begun h = cc
+opening_read whole ([] ∷ cs) t e begun shut = absurd cc
+opening_read whole ((head ∷ args) ∷ cs) t e begun shut =
+    let a = bind_ok (content_line (opening whole) (head ∷ args)) (λ next. all_contents next cs) t e in
+    let h = header_read (opening whole) a.0 (head ∷ args) a.1 in
+    let r = outside_read cs whole [] t shut (subst (λ (x : State). all_contents x cs ≡ Ok t) (sym h.1) a.2) in
+    record {
       declaring = r.declaring;
       threading = r.threading;
+      all = r.all;
+      later = r.later;
       parts = ap (λ (line : Line). line ∷ cs) h.0 ∙ ap (λ (rest : List Line). header ∷ rest) r.parts;
       declares = r.declares;
       follow = r.follow;
-    })
+      ends = r.ends;
+      alone = r.alone;
+    }
+
+-- a whole script or a setup was read
+pub opening_part : (whole : Bool) (bytes : List ℕ) (t : State) → part_read (opening whole) bytes ≡ Ok t → OpeningRead whole (contents bytes) t
+opening_part whole bytes t e =
+    let r = part_is (opening whole) bytes t e in
+    opening_read whole (contents bytes) t (sym (skipping (lines bytes) (opening whole)) ∙ r.all) r.begun r.shut
 
 -- what is read is spelled
 pub spelled_spells : (bytes : List ℕ) (s : Script) → spelled bytes ≡ Ok s → Spells bytes s
+unfolding spelled
 spelled_spells bytes s e =
-    let a = bind_ok (all_lines opening (lines bytes)) ended s (spelled_plain bytes s e) in
-    let r = opening_read (contents bytes) a.0 s (sym (skipping (lines bytes) opening) ∙ a.1) a.2 in
-    record { declaring = r.declaring; threading = r.threading; lines = r.parts; declares = r.declares; threads = r.follow }
+    let a = then_made (part_read (opening true) bytes) script_at s e in
+    let r = opening_part true bytes a.0 a.1 in
+    let same : record { objects = r.all; threads = r.later } ≡ s = sym r.ends ∙ a.2 in
+    subst (Spells bytes) same (record { declaring = r.declaring; threading = r.threading; lines = r.parts; declares = r.declares; threads = r.follow })

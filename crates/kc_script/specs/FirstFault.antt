@@ -24,6 +24,8 @@ pub record OpenAt : Type 0 where
 
 -- what the lines so far were
 pub record Context : Type 0 where
+  -- a whole script is read, in which threads may begin; a part of one has none that do
+  pub whole : Bool
   -- the header was read
   pub begun : Bool
   pub names : Kinds
@@ -38,8 +40,8 @@ pub record Context : Type 0 where
   -- how many commands and blocks the outermost of them has; 0 where none is open
   pub count : ℕ
 
-abbrev pub start : Context
-start = record { begun = false; names = []; cells = 0; thread = None; commands = 0; blocks = []; count = 0 }
+abbrev pub start : Bool → Context
+start whole = record { whole = whole; begun = false; names = []; cells = 0; thread = None; commands = 0; blocks = []; count = 0 }
 
 abbrev pub in_thread : Context → Bool
 in_thread c = is_some c.thread
@@ -80,7 +82,7 @@ is_header _ = false
 
 -- the word can stand here
 abbrev pub place_tests : Context → Word → List (Bool × Why)
-place_tests c word.Thread = (not (in_block c), UnclosedBlock) ∷ []
+place_tests c word.Thread = (not (in_block c), UnclosedBlock) ∷ (c.whole, StrayWord) ∷ []
 place_tests c word.Atomic = (in_thread c, StrayWord) ∷ []
 place_tests c word.Or = (in_block c, StrayWord) ∷ []
 place_tests c word.End = (in_block c, StrayWord) ∷ []
@@ -172,4 +174,4 @@ first_fault_from c n (text ∷ texts) =
     else option_or (fault_in c n (tests c (words text))) (first_fault_from (next c n (words text)) (n + 1) texts)
 
 unfoldable pub first_fault : List ℕ → Option Fault
-first_fault bytes = first_fault_from start 1 (lines bytes)
+first_fault bytes = first_fault_from (start true) 1 (lines bytes)

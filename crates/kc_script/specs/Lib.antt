@@ -1,5 +1,6 @@
 pub mod Spells
 pub mod FirstFault
+pub mod Parts
 pub mod Refused
 pub mod Threads
 pub mod Blocks

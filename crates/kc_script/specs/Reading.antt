@@ -24,6 +24,9 @@ use Rattle.kc_verbs.specs.Words.{word_of}
 use Rattle.kc_verbs.specs.Declaring.{declare}
 use Rattle.kc_verbs.specs.Saying.{say}
 use Rattle.kc_script.specs.FirstFault.{Fault}
+use Rattle.kc_script.specs.Parts.{PartFault}
+use Rattle.kc_script.specs.declared.part_error.PartError.{PartError}
+use Rattle.kc_script.specs.declared.part_error.PartError.TheVariants as part_error
 use Rattle.kc_script.specs.declared.reader.Open.{Open}
 use Rattle.kc_script.specs.declared.reader.Thread.{Thread}
 use Rattle.kc_script.specs.declared.reader.Reader.{Reader}
@@ -32,6 +35,8 @@ use Rattle.kc_script.specs.Blocks.{OpenBlock, Place, in_block, op_line, atomic_l
 -- ---- what the lines so far have declared and said
 
 pub record State : Type 0 where
+  -- a whole script is read, in which threads begin
+  pub whole : Bool
   pub begun : Bool
   pub objects : Names
   -- the threads before the one that is open
@@ -51,6 +56,7 @@ place_of t = record { here = t.here.items; open_blocks = reverse (map open_of t.
 
 abbrev pub state_of : Reader → State
 state_of r = record {
+  whole = r.whole;
   begun = r.begun;
   objects = names_of r.objects;
   threads = map (λ commands. commands.items) r.threads.items;
@@ -61,8 +67,8 @@ state_of r = record {
 abbrev pub nowhere : Place
 nowhere = record { here = []; open_blocks = []; count = 0 }
 
-abbrev pub opening : State
-opening = record { begun = false; objects = []; threads = []; thread = None; place = nowhere }
+abbrev pub opening : Bool → State
+opening whole = record { whole = whole; begun = false; objects = []; threads = []; thread = None; place = nowhere }
 
 -- ---- lines
 
@@ -94,6 +100,10 @@ begun_block s args = do
 abbrev pub closed : State → State
 closed s = record s { threads = if is_some s.thread then s.threads ++ s.place.here ∷ [] else s.threads; place = nowhere }
 
+-- the thread of this number has begun
+abbrev pub begun_thread : State → ℕ → State
+begun_thread s thread = record (closed s) { thread = Some thread }
+
 -- the number of the thread that begins next
 abbrev pub next_thread : Option ℕ → ℕ
 next_thread None = 0
@@ -106,9 +116,10 @@ no_block s = wants (not (in_block s.place.open_blocks)) UnclosedBlock
 unfoldable pub thread_line : State → List (List ℕ) → Result State Why
 thread_line s args = do
   ended ← no_block s
+  here ← wants s.whole StrayWord
   all ← counted 0 args
   room ← wants (nat_lt (next_thread s.thread) 16) (TooMany Threads)
-  Ok (record (closed s) { thread = Some (next_thread s.thread) })
+  Ok (begun_thread s (next_thread s.thread))
 
 unfoldable pub worded_line : State → Option Word → List (List ℕ) → Result State Why
 worded_line s None args = Err UnknownWord
@@ -139,12 +150,16 @@ unfoldable pub all_lines : State → List (List ℕ) → Result State Why
 all_lines s [] = Ok s
 all_lines s (text ∷ texts) = any_line s (words text) >>= λ next. all_lines next texts
 
--- the script that the lines were, at their end
-unfoldable pub ended : State → Result Script Why
+-- the lines may end here
+unfoldable pub ended : State → Result State Why
 ended s = do
   begun ← wants s.begun Header
-  ended ← no_block s
-  Ok (record { objects = s.objects; threads = (closed s).threads })
+  none ← no_block s
+  Ok s
+
+-- the script that was read
+abbrev pub script_at : State → Script
+script_at s = record { objects = s.objects; threads = (closed s).threads }
 
 -- ---- with the numbers of lines
 
@@ -176,17 +191,39 @@ abbrev pub at_line : {A : Type 0} → ℕ → ℕ → Result A Why → Result A 
 at_line near n (Ok x) = Ok x
 at_line near n (Err why) = Err (place_of_fault near n why, why)
 
-abbrev pub then_read : Result State Fault → (State → Result Script Fault) → Result Script Fault
-then_read (Ok s) f = f s
+abbrev pub then_read : {A B E : Type 0} → Result A E → (A → Result B E) → Result B E
+then_read (Ok x) f = f x
 then_read (Err fault) f = Err fault
 
--- the script that the lines are from this one on, with this number, where blocks of these lines are open
-unfoldable pub read_from : State → List ℕ → ℕ → List (List ℕ) → Result Script Fault
+-- what the lines come to from this one on, with this number, where blocks of these lines are open
+unfoldable pub read_from : State → List ℕ → ℕ → List (List ℕ) → Result State Fault
 read_from s atomics n [] = at_line (nearest atomics) 1 (ended s)
 read_from s atomics n (text ∷ texts) = then_read (at_line (nearest atomics) n (any_line s (words text))) (λ next. read_from next (atomics_next s.begun atomics n (words text)) (n + 1) texts)
 
+-- what a part comes to
+unfoldable pub part_read : State → List ℕ → Result State Fault
+part_read s bytes = read_from s [] 1 (lines bytes)
+
 unfoldable pub spelled : List ℕ → Result Script Fault
-spelled bytes = read_from opening [] 1 (lines bytes)
+spelled bytes = then_read (part_read (opening true) bytes) (λ s. Ok (script_at s))
+
+-- ---- parts
+
+abbrev pub of_part : {A : Type 0} → ℕ → Result A Fault → Result A PartFault
+of_part part (Ok x) = Ok x
+of_part part (Err fault) = Err (part, fault)
+
+-- what the files come to, from this thread's on
+unfoldable pub files_read : State → ℕ → List (List ℕ) → Result State PartFault
+files_read s thread [] = Ok s
+files_read s thread (file ∷ files) = then_read (of_part (thread + 1) (part_read (begun_thread s thread) file)) (λ next. files_read next (thread + 1) files)
+
+-- a setup, and then files
+unfoldable pub parts_read : List ℕ → List (List ℕ) → Result State PartFault
+parts_read setup files = then_read (of_part 0 (part_read (opening false) setup)) (λ s. files_read s 0 files)
+
+unfoldable pub spelled_parts : List ℕ → List (List ℕ) → Result Script PartFault
+spelled_parts setup files = then_read (parts_read setup files) (λ s. Ok (script_at s))
 
 -- ---- what was returned
 
@@ -211,6 +248,26 @@ Spelled view (Ok x) read = read ≡ Ok (view x)
 Spelled view (Err e) read = Stops e read
 
 -- the lines were read up to their end, which is still to be read, or it stopped
-abbrev pub Ends : {X : Type 0} → State → List ℕ → Result X ScriptError → Result Script Fault → Type 0
+abbrev pub Ends : {X : Type 0} → State → List ℕ → Result X ScriptError → Result State Fault → Type 0
 Ends new atomics (Ok x) read = read ≡ at_line (nearest atomics) 1 (ended new)
 Ends new atomics (Err e) read = Stops e read
+
+-- a complaint in this part
+abbrev pub in_a_part : ℕ → ScriptError → PartError
+in_a_part part (error.Fault line why) = part_error.Fault part line why
+in_a_part part error.NoMemory = part_error.NoMemory
+
+-- parts stopped at this fault, or for want of memory
+abbrev pub PartStops : {A : Type 0} → PartError → Result A PartFault → Type 0
+PartStops (part_error.Fault part line why) read = read ≡ Err (part, (line, why))
+PartStops part_error.NoMemory read = Unit {0}
+
+-- parts came to this, or stopped
+abbrev pub PartComes : {X A : Type 0} → A → Result X PartError → Result A PartFault → Type 0
+PartComes new (Ok x) read = read ≡ Ok new
+PartComes new (Err e) read = PartStops e read
+
+-- what parts gave, seen by view
+abbrev pub PartsSpelled : {X A : Type 0} → (X → A) → Result X PartError → Result A PartFault → Type 0
+PartsSpelled view (Ok x) read = read ≡ Ok (view x)
+PartsSpelled view (Err e) read = PartStops e read

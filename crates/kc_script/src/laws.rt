@@ -1,6 +1,6 @@
 //! What holds of the grammar.
 
-ghost use Rattle.std.specs.Prelude.{◌≡◌, ◌≤◌, ℕ, List, ◌∷◌, length, Some, None, Ok};
+ghost use Rattle.std.specs.Prelude.{◌≡◌, ◌≤◌, ℕ, List, ◌∷◌, length, true, Some, None, Ok};
 ghost use Rattle.kc_bundle.specs.Script.{Script, LiesInOrder, AreSized};
 ghost use Rattle.kc_script.specs.Spells.{Spells};
 ghost use Rattle.kc_script.specs.Canonical.{canonical_text};
@@ -35,7 +35,7 @@ pub fn spelled_is_in_order()
 /// A block that is open behind some lines is made where it ends: what is too much in a block was refused before, at the
 /// line where it was too much.
 pub fn blocks_are_made()
-    ensures { (texts : List (List ℕ)) (s : State) (b : OpenBlock) (outer : List OpenBlock) → all_lines opening texts ≡ Ok s → s.place.open_blocks ≡ b ∷ outer → (t : Tree Op) × (block_of b ≡ Ok t) }
+    ensures { (texts : List (List ℕ)) (s : State) (b : OpenBlock) (outer : List OpenBlock) → all_lines (opening true) texts ≡ Ok s → s.place.open_blocks ≡ b ∷ outer → (t : Tree Op) × (block_of b ≡ Ok t) }
 {}
 
 /// The canonical text of a bundle that bytes spell spells it too.

@@ -4,13 +4,18 @@
 mod blocks;
 mod laws;
 mod parser;
+mod part_error;
+mod parts;
 mod reader;
 mod reading;
+pub mod worked;
 
 pub use laws::{
     blocks_are_made, bytes_spell_one, canonical_text_spells, faults_are_exact, spelled_is_in_order,
 };
 pub use parser::{MOST_BYTES, parse};
+pub use part_error::PartError;
+pub use parts::parse_parts;
 
 #[cfg(test)]
 mod tests;

@@ -34,6 +34,8 @@ pub struct Thread {
 #[derive(Drop)]
 pub struct Reader {
     pub alloc: Global,
+    /// Whether a whole script is read, in which threads begin.
+    pub whole: bool,
     /// Whether the header was read.
     pub begun: bool,
     pub objects: IndexMap<String, Object>,

@@ -1,15 +1,16 @@
 //! Reading line by line.
 
-ghost use Rattle.std.specs.Prelude.{◌≡◌, ◌≤◌, ◌+◌, length, map, reverse, None, OnOk};
+ghost use Rattle.std.specs.Prelude.{◌≡◌, ◌≤◌, ◌<◌, ◌+◌, length, map, reverse, All, None, IfOk, OnOk};
 ghost use Rattle.kc_bundle.specs.Script.{script_of, names_of};
 ghost use Rattle.kc_lines.specs.Words.{words};
-ghost use Rattle.kc_lines.specs.Gives.{Gives, Arrives, Reaches};
+ghost use Rattle.kc_lines.specs.Gives.{Arrives, Reaches};
 ghost use Rattle.kc_verbs.specs.Objects.{object_of};
 ghost use Rattle.kc_verbs.specs.Declaring.{IsAt};
 ghost use Rattle.kc_script.specs.Blocks.{in_block};
-ghost use Rattle.kc_script.specs.Reading.{state_of, opening, with_object, closed, next_thread, no_block, placed, declared_line, said_line, begun_block, thread_line, worded_line, header_line, content_line, any_line, ended, atomics_behind, atomics_after, atomics_next, nearest, at_line, read_from, spelled, complained, Comes, Ends, Spelled};
+ghost use Rattle.kc_script.specs.Reading.{state_of, opening, with_object, closed, begun_thread, next_thread, no_block, placed, declared_line, said_line, begun_block, thread_line, worded_line, header_line, content_line, any_line, ended, script_at, atomics_behind, atomics_after, atomics_next, nearest, at_line, read_from, part_read, spelled, files_read, parts_read, spelled_parts, of_part, in_a_part, complained, Comes, Ends, Spelled, PartComes, PartsSpelled};
 
 use crate::blocks::{atomic_line, begin_thread, end_line, in_block, op_line, or_line};
+use crate::part_error::PartError;
 use crate::parser::MOST_BYTES;
 use crate::reader::Reader;
 use indexmap::IndexMap;
@@ -25,11 +26,12 @@ use std::mem;
 const MOST_THREADS: u32 = 16;
 
 #[tactic(auto, unfolding(kc_bundle::specs::Script::next_from))]
-fn open(alloc: Global) -> Reader
-    ensures { state_of result ≡ opening }
+fn open(alloc: Global, whole: bool) -> Reader
+    ensures { state_of result ≡ opening whole }
 {
     Reader {
         alloc,
+        whole,
         begun: false,
         objects: IndexMap::new(alloc),
         next: 1,
@@ -91,6 +93,16 @@ fn close_thread(reader: &mut Reader) -> Result<(), AllocError>
     Ok(())
 }
 
+// Begins the thread of this number.
+fn begun_thread(reader: &mut Reader, thread: u32) -> Result<(), AllocError>
+    requires { thread < 16 }
+    ensures { OnOk result (state_of reader.new ≡ begun_thread (state_of reader.old) thread) }
+{
+    close_thread(reader)?;
+    reader.thread = Some(thread);
+    Ok(())
+}
+
 fn no_block(reader: &Reader) -> Result<(), Why>
     ensures { result ≡ no_block (state_of reader.now) }
 {
@@ -112,11 +124,11 @@ fn thread_line(reader: &mut Reader, args: &[&[u8]]) -> Result<(), Complaint>
     ensures { Reaches (state_of reader.new) result (thread_line (state_of reader.old) (map (λ word. word.now) args.now)) }
 {
     no_block(reader)?;
+    wants(reader.whole, Why::StrayWord)?;
     counted(0, args)?;
     let thread = next_thread(reader);
     wants(thread < MOST_THREADS, Why::TooMany(Limit::Threads))?;
-    close_thread(reader)?;
-    reader.thread = Some(thread);
+    begun_thread(reader, thread)?;
     Ok(())
 }
 
@@ -256,12 +268,34 @@ fn all_lines(
     Ok(())
 }
 
+// The lines have ended.
 #[tactic(auto, unfolding(crate::specs::Reading::ended))]
-fn ended(mut reader: Reader) -> Result<Bundle, Complaint>
-    ensures { Gives script_of result (ended (state_of reader)) }
+fn ended(reader: &Reader) -> Result<(), Why>
+    ensures { Arrives (state_of reader.now) result (ended (state_of reader.now)) }
 {
     wants(reader.begun, Why::Header)?;
-    no_block(&reader)?;
+    no_block(reader)
+}
+
+// Reads a part to its end.
+#[tactic(auto, unfolding(crate::specs::Reading::part_read))]
+fn read_part(reader: &mut Reader, bytes: &[u8]) -> Result<(), ScriptError>
+    requires { length bytes.now ≤ MOST_BYTES }
+    ensures { Comes (state_of reader.new) result (part_read (state_of reader.old) bytes.now) }
+{
+    let mut atomics = Vec::new(reader.alloc);
+    let texts = lines_of(reader.alloc, bytes)?;
+    all_lines(reader, &mut atomics, &texts)?;
+    match ended(reader) {
+        Ok(()) => Ok(()),
+        Err(why) => Err(complained(nearest(&atomics), 1, Complaint::Here(why))),
+    }
+}
+
+// The bundle that was read.
+fn bundle_of(mut reader: Reader) -> Result<Bundle, AllocError>
+    ensures { IfOk result (λ bundle. script_of bundle ≡ script_at (state_of reader)) }
+{
     close_thread(&mut reader)?;
     Ok(Bundle {
         objects: reader.objects,
@@ -275,13 +309,56 @@ pub fn read(alloc: Global, bytes: &[u8]) -> Result<Bundle, ScriptError>
     requires { length bytes.now ≤ MOST_BYTES }
     ensures { Spelled script_of result (spelled bytes.now) }
 {
-    let mut reader = open(alloc);
-    let mut atomics = Vec::new(alloc);
-    let texts = lines_of(alloc, bytes)?;
-    all_lines(&mut reader, &mut atomics, &texts)?;
-    let nearest = nearest(&atomics);
-    match ended(reader) {
-        Ok(bundle) => Ok(bundle),
-        Err(complaint) => Err(complained(nearest, 1, complaint)),
+    let mut reader = open(alloc, true);
+    read_part(&mut reader, bytes)?;
+    Ok(bundle_of(reader)?)
+}
+
+fn in_a_part(part: u32, error: ScriptError) -> PartError
+    ensures { result ≡ in_a_part part error }
+{
+    match error {
+        ScriptError::Fault { line, why } => PartError::Fault { part, line, why },
+        ScriptError::NoMemory => PartError::NoMemory,
     }
+}
+
+// Reads the part of this number.
+fn read_numbered(reader: &mut Reader, part: u32, bytes: &[u8]) -> Result<(), PartError>
+    requires { length bytes.now ≤ MOST_BYTES }
+    ensures { PartComes (state_of reader.new) result (of_part part (part_read (state_of reader.old) bytes.now)) }
+{
+    match read_part(reader, bytes) {
+        Ok(()) => Ok(()),
+        Err(error) => Err(in_a_part(part, error)),
+    }
+}
+
+// Reads the files in turn, a thread each.
+fn all_files(reader: &mut Reader, files: &[Vec<u8>]) -> Result<(), PartError>
+    requires files { All (λ file. length file.items ≤ MOST_BYTES) files.now }
+    requires few { length files.now ≤ 16 }
+    ensures { PartComes (state_of reader.new) result (files_read (state_of reader.old) 0 (map (λ file. file.items) files.now)) }
+{
+    let mut thread = 0;
+    for file in files {
+        begun_thread(reader, thread)?;
+        thread += 1;
+        read_numbered(reader, thread, file)?;
+    }
+    Ok(())
+}
+
+/// The bundle that a setup and files spell, or what is wrong with them.
+#[tactic(auto, unfolding(crate::specs::Reading::parts_read, crate::specs::Reading::spelled_parts))]
+pub fn read_parts(alloc: Global, setup: &[u8], files: &[Vec<u8>]) -> Result<Bundle, PartError>
+    requires setup { length setup.now ≤ MOST_BYTES }
+    requires files { All (λ file. length file.items ≤ MOST_BYTES) files.now }
+    requires few { length files.now ≤ 16 }
+    ensures { PartsSpelled script_of result (spelled_parts setup.now (map (λ file. file.items) files.now)) }
+{
+    let mut reader = open(alloc, false);
+    read_numbered(&mut reader, 0, setup)?;
+    all_files(&mut reader, files)?;
+    Ok(bundle_of(reader)?)
 }

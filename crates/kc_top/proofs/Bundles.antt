@@ -28,6 +28,8 @@ use Rattle.kc_run.specs.Run.{CanRunAll}
 use Rattle.kc_run.proofs.Threads.{room_length}
 use Rattle.kc_runs.specs.Labels.{AreThreads}
 use Rattle.kc_script.specs.Spells.{Spells}
+use Rattle.kc_script.specs.Parts.{SpellsParts}
+use Rattle.kc_script.proofs.PartLines.{parts_whole}
 use Rattle.kc_script.specs.Threads.{AreThreads as AreOn}
 use Rattle.kc_script.proofs.Spelled.{spelled_lies, spelled_sized, spelled_threads, spelled_threads_few, on_at}
 use Rattle.kc_top.specs.Runnable.{IsRunnable}
@@ -44,6 +46,10 @@ store_length script cells e = ap length e ∙ opened_length (opening_values scri
 -- a script that bytes spell can be run
 pub runnable : {bytes : List ℕ} {s : Script} → Spells bytes s → IsRunnable s
 runnable spells = record { lies = spelled_lies spells; sized = spelled_sized spells; few = spelled_threads_few spells; threads = spelled_threads spells }
+
+-- so can one that parts spell
+pub runnable_parts : {setup : List ℕ} {files : List (List ℕ)} {s : Script} → SpellsParts setup files s → IsRunnable s
+runnable_parts {setup} {files} {s} spells = runnable (parts_whole setup files s spells).1
 
 -- ---- its threads
 

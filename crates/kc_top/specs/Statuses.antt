@@ -1,49 +1,34 @@
 -- What each status of the top call says.
-use Rattle.std.specs.Prelude.{◌≡◌, ℕ, ◌≤◌, ◌⊎◌, Bool, true, false, List, [], ◌∷◌, length, codes, Option, Result, Ok, Err}
-use Rattle.std.specs.Str.{bytes_eq}
+use Rattle.std.specs.Prelude.{◌≡◌, ℕ, Bool, List, Option, Some, None, Result, Ok, Err}
 use Rattle.kc_model.specs.declared.outside.Failed.{Failed}
-use Rattle.kc_model.specs.Outside.{Took, TookFront, CameWhole, CamePast, CameSome, CameFront}
-use Rattle.kc_lines.specs.declared.fault.ScriptError.TheVariants as error
-use Rattle.kc_script.specs.declared.parser.TheConstants.{MOST_BYTES}
+use Rattle.kc_model.specs.declared.outside.ShelfError.{ShelfError}
+use Rattle.kc_model.specs.Outside.{Took, TookFront}
 use Rattle.kc_bundle.specs.Script.{Script}
-use Rattle.kc_script.specs.Spells.{Spells}
-use Rattle.kc_script.specs.Refused.{Refused}
-use Rattle.kc_top.specs.declared.status.Status.{Status}
-use Rattle.kc_top.specs.declared.status.Status.TheVariants as status
 use Rattle.kc_history.specs.declared.record.Record.{Record}
 use Rattle.kc_runs.specs.Run.{IsText}
+use Rattle.kc_storm.specs.Storm.{storm_script}
+use Rattle.kc_storm.specs.Summary.{IsSummary}
+use Rattle.kc_top.specs.declared.command_line.Command.{Command}
+use Rattle.kc_top.specs.declared.command_line.Command.TheVariants as command
 use Rattle.kc_top.specs.declared.served.Served.{Served}
 use Rattle.kc_top.specs.declared.served.Served.TheVariants as serving
+use Rattle.kc_top.specs.declared.status.Status.{Status}
+use Rattle.kc_top.specs.declared.status.Status.TheVariants as status
 use Rattle.kc_top.specs.Served.{IsServed}
+use Rattle.kc_top.specs.Words.{command_of}
+use Rattle.kc_top.specs.Reading.{Reads, Refuses}
 
--- `run` stands behind the program's name, and nothing else
-abbrev pub is_run : List (List ℕ) → Bool
-is_run [] = false
-is_run (name ∷ []) = false
-is_run (name ∷ word ∷ []) = bytes_eq word (codes "run")
-is_run (name ∷ word ∷ more ∷ words) = false
+-- a storm's script is that of its number
+abbrev pub IsItsScript : Command → Script → Type 0
+IsItsScript command.Run script = Unit {0}
+IsItsScript (command.Files setup) script = Unit {0}
+IsItsScript (command.Storm n) script = script ≡ storm_script n
 
-module _ {S : Type 0} (left : S → Option (List ℕ)) (faults : S → ℕ) (gives : S → List ℕ → Result ℕ Failed → List ℕ → S → Type 0) where
-  -- the source was read to its end, and these bytes came, no more than a script may have
-  pub record ReadsAll (s : S) (bytes : List ℕ) (s' : S) : Type 0 where
-    pub came : CameWhole left faults gives s bytes s'
-    pub within : length bytes ≤ MOST_BYTES
-
-  -- what came spells this script
-  pub record Reads (s s' : S) (script : Script) : Type 0 where
-    pub bytes : List ℕ
-    pub all : ReadsAll s bytes s'
-    pub spells : Spells bytes script
-
-  -- what came spells no script
-  pub record ReadsNone (s s' : S) (line : ℕ) (why : _) : Type 0 where
-    pub bytes : List ℕ
-    pub all : ReadsAll s bytes s'
-    pub refused : Refused bytes (error.Fault line why)
-
-  -- some bytes came, or all, and no call failed
-  abbrev pub ReadsOn : S → S → Type 0
-  ReadsOn s s' = CameSome left faults gives MOST_BYTES s s' ⊎ ((bytes : List ℕ) × ReadsAll s bytes s')
+-- what is written of a run of the script: of a storm its summary, and else its text
+abbrev pub IsShown : Command → Script → List (List Record) → List ℕ → Type 0
+IsShown command.Run script records text = IsText script records text
+IsShown (command.Files setup) script records text = IsText script records text
+IsShown (command.Storm n) script records text = IsSummary n records text
 
 module _ {K : Type 0} (written : K → Option (List ℕ)) (faults : K → ℕ) (gives : K → List ℕ → Result ℕ Failed → K → Type 0) where
   -- the sink took such a text, all of it, and no call failed
@@ -58,36 +43,50 @@ module _ {K : Type 0} (written : K → Option (List ℕ)) (faults : K → ℕ) (
     pub such : IsSuch text
     pub front : TookFront written faults gives k text k'
 
-  -- the sink took the text of a run of the script, and what was served is this run's
-  pub record ShowsRun (script : Script) (served : Served) (k k' : K) : Type 0 where
+  -- the sink took what is written of a run of the script, and what was served is this run's
+  pub record ShowsRun (command : Command) (script : Script) (served : Served) (k k' : K) : Type 0 where
     pub records : List (List Record)
     pub serves : IsServed script records served
-    pub shows : Writes (IsText script records) k k'
+    pub shows : Writes (IsShown command script records) k k'
 
-  -- the sink took a front of the text of a run of the script, and what was served is this run's
-  pub record ShowsPart (script : Script) (served : Served) (k k' : K) : Type 0 where
+  -- the sink took a front of what is written of a run of the script, and what was served is this run's
+  pub record ShowsPart (command : Command) (script : Script) (served : Served) (k k' : K) : Type 0 where
     pub records : List (List Record)
     pub serves : IsServed script records served
-    pub shows : WritesPart (IsText script records) k k'
+    pub shows : WritesPart (IsShown command script records) k k'
 
   -- what comes of a run that is shown, or whose showing fails
-  abbrev pub Shows : Script → Served → K → K → Result (Unit {0}) Failed → Type 0
-  Shows script served k k' (Ok u) = ShowsRun script served k k'
-  Shows script served k k' (Err e) = ShowsPart script served k k'
+  abbrev pub Shows : Command → Script → Served → K → K → Result (Unit {0}) Failed → Type 0
+  Shows command script served k k' (Ok u) = ShowsRun command script served k k'
+  Shows command script served k k' (Err e) = ShowsPart command script served k k'
 
-module _ {S K : Type 0} (left : S → Option (List ℕ)) (source_faults : S → ℕ) (read_gives : S → List ℕ → Result ℕ Failed → List ℕ → S → Type 0)
-    (written : K → Option (List ℕ)) (sink_faults : K → ℕ) (write_gives : K → List ℕ → Result ℕ Failed → K → Type 0) where
-  -- what a status says of the words, of the source and the sink before and after the call, and of what was served
-  abbrev pub Says : Bool → S → S → K → K → Served → Status → Type 0
-  Says run s s' k k' served status.Usage = (run ≡ false) × (s' ≡ s) × (k' ≡ k) × (served ≡ serving.Nothing)
-  Says run s s' k k' served status.ReadFault = (run ≡ true) × CameFront left source_faults read_gives MOST_BYTES s s' × (k' ≡ k) × (served ≡ serving.Nothing)
-  Says run s s' k k' served status.TooLong = (run ≡ true) × CamePast left source_faults read_gives MOST_BYTES s s' × (k' ≡ k) × (served ≡ serving.Nothing)
-  Says run s s' k k' served status.NoMemory = (run ≡ true) × ReadsOn left source_faults read_gives s s' × (k' ≡ k) × (served ≡ serving.Nothing)
-  Says run s s' k k' served (status.Script part line why) = (run ≡ true) × (part ≡ 0) × ReadsNone left source_faults read_gives s s' line why × (k' ≡ k) × (served ≡ serving.Nothing)
-  Says run s s' k k' served status.WriteFault = (run ≡ true) × ((script : Script) × Reads left source_faults read_gives s s' script × ShowsPart written sink_faults write_gives script served k k')
-  Says run s s' k k' served status.Done = (run ≡ true) × ((script : Script) × Reads left source_faults read_gives s s' script × ShowsRun written sink_faults write_gives script served k k')
+module _ {S F K : Type 0} (left : S → Option (List ℕ)) (source_faults : S → ℕ) (read_gives : S → List ℕ → Result ℕ Failed → List ℕ → S → Type 0)
+    (files : F → Option (List (List ℕ × List ℕ))) (shelf_faults : F → ℕ) (sure : F → Bool) (fetch_gives : F → List ℕ → ℕ → Result (List ℕ) ShelfError → F → Type 0)
+    (written : K → Option (List ℕ)) (sink_faults : K → ℕ) (write_gives : K → List ℕ → Result ℕ Failed → K → Type 0) (words : List (List ℕ)) where
+  -- a command read a script, and ran it
+  pub record Ran (Shown : Command → Script → Served → K → K → Type 0) (command : Command) (s s' : S) (f f' : F) (k k' : K) (served : Served) : Type 0 where
+    pub script : Script
+    pub reads : Reads left source_faults read_gives files shelf_faults sure fetch_gives words command s s' f f' script
+    pub shows : Shown command script served k k'
 
-  -- a call that ran a command said this, or ended before it was served anything
-  abbrev pub Ends : S → S → K → K → Result (Status × Served) Status → Type 0
-  Ends s s' k k' (Ok r) = Says true s s' k k' r.1 r.0
-  Ends s s' k k' (Err e) = Says true s s' k k' serving.Nothing e
+  -- a command read no script, or found no memory to run it; nothing was written, and nothing served
+  pub record RanNone (command : Command) (s s' : S) (f f' : F) (k k' : K) (served : Served) (status : Status) : Type 0 where
+    pub refuses : Refuses left source_faults read_gives files shelf_faults sure fetch_gives words command s s' f f' status
+    pub unwritten : k' ≡ k
+    pub nothing : served ≡ serving.Nothing
+
+  -- what a status says of a command
+  abbrev pub SaysOf : Command → S → S → F → F → K → K → Served → Status → Type 0
+  SaysOf command s s' f f' k k' served status.Done = Ran (ShowsRun written sink_faults write_gives) command s s' f f' k k' served
+  SaysOf command s s' f f' k k' served status.WriteFault = Ran (ShowsPart written sink_faults write_gives) command s s' f f' k k' served
+  SaysOf command s s' f f' k k' served status.ReadFault = RanNone command s s' f f' k k' served status.ReadFault
+  SaysOf command s s' f f' k k' served status.TooLong = RanNone command s s' f f' k k' served status.TooLong
+  SaysOf command s s' f f' k k' served status.NoMemory = RanNone command s s' f f' k k' served status.NoMemory
+  SaysOf command s s' f f' k k' served (status.Script part line why) = RanNone command s s' f f' k k' served (status.Script part line why)
+  SaysOf command s s' f f' k k' served status.Usage = ⊥
+
+  -- What a status says of the words, of the source, the shelf and the sink before and behind the call, and of what was served.
+  -- It is Usage exactly where the words are no command, and then all is as it was.
+  abbrev pub Says : S → S → F → F → K → K → Served → Status → Type 0
+  Says s s' f f' k k' served status.Usage = (command_of words ≡ None) × (s' ≡ s) × (f' ≡ f) × (k' ≡ k) × (served ≡ serving.Nothing)
+  Says s s' f f' k k' served status = (command : Command) × (command_of words ≡ Some command) × SaysOf command s s' f f' k k' served status

@@ -1,13 +1,113 @@
-ghost use Rattle.std.specs.Prelude.{◌≡◌, map};
-ghost use Rattle.std.specs.String.{string_bytes};
-ghost use Rattle.kc_top.specs.Statuses.{is_run};
+//! What the words of the command line ask for.
 
-/// Whether the words, the program's name first, are the command `run`.
-pub fn is_run(words: &[String]) -> bool
-    ensures { result ≡ is_run (map string_bytes words.now) }
+ghost use Rattle.std.specs.Prelude.{◌≡◌, ◌≤◌, ◌<◌, ◌+◌, ◌&&◌, ◌==◌, true, length, drop, map, codes};
+ghost use Rattle.std.specs.List.{list_all};
+ghost use Rattle.std.specs.String.{string_bytes};
+ghost use Rattle.kc_top.specs.Words.{are_names, command_of, is_name, is_word, option_words, storm_at};
+
+use kc_lines::number_of;
+
+/// The most files that a command may name beside the setup: one for each thread.
+const MOST_FILES: usize = 16;
+
+/// What the program is asked to do.
+#[derive(Clone, Copy, Debug, PartialEq, Eq)]
+pub enum Command {
+    /// To run the script that the source spells.
+    Run,
+    /// To run a script in files: the word at this place names its setup, and each word behind it a file of a thread's
+    /// commands.
+    Files { setup: usize },
+    /// To run the storm of this number.
+    Storm { number: u32 },
+}
+
+/// What the words ask for, the program's name first. Behind it stands `run`, or `files` and the names of a setup and of 1
+/// to 16 files, or `storm` and a number. Directly behind the command's name may stand one store option, `--store lock`
+/// or `--store=lock`. No other word begins with `-`, and none is empty.
+pub fn command_of(words: &[String]) -> Option<Command>
+    ensures { result ≡ command_of (map string_bytes words.now) }
 {
-    if words.len() != 2 {
-        return false;
+    let setup = 2 + option_words(words);
+    if is_run(words, setup) {
+        Some(Command::Run)
+    } else if is_files(words, setup) {
+        Some(Command::Files { setup })
+    } else {
+        storm_at(words, setup)
     }
-    words[1].as_str() == "run"
+}
+
+// Whether they are `run`, and nothing stands behind its option.
+fn is_run(words: &[String], end: usize) -> bool
+    ensures { result ≡ (is_word (map string_bytes words.now) 1 (codes "run") && (length words.now == end)) }
+{
+    is_word(words, 1, "run") && words.len() == end
+}
+
+// Whether they are `files`, and behind its option stand names.
+fn is_files(words: &[String], setup: usize) -> bool
+    requires { 2 ≤ length words.now → setup ≤ length words.now }
+    ensures { result ≡ (is_word (map string_bytes words.now) 1 (codes "files") && are_names (drop setup (map string_bytes words.now))) }
+{
+    is_word(words, 1, "files") && are_names(&words[setup..])
+}
+
+// The storm of the number that the word at a place spells, where it is the last word.
+fn storm_at(words: &[String], place: usize) -> Option<Command>
+    requires { place ≤ 4 }
+    ensures { result ≡ storm_at (map string_bytes words.now) place }
+{
+    if !is_word(words, 1, "storm") || words.len() != place + 1 {
+        return None;
+    }
+    let number = number_of(words[place].as_str().as_bytes(), u32::MAX)?;
+    Some(Command::Storm { number })
+}
+
+// Whether the word at a place is this.
+fn is_word(words: &[String], place: usize, text: &str) -> bool
+    ensures is { result ≡ is_word (map string_bytes words.now) place text.now }
+    ensures inside { result ≡ true → place < length words.now }
+{
+    place < words.len() && words[place].as_str() == text
+}
+
+// How many words behind the command's name are a store option.
+fn option_words(words: &[String]) -> usize
+    ensures count { result ≡ option_words (map string_bytes words.now) }
+    ensures within { 2 ≤ length words.now → 2 + result ≤ length words.now }
+    ensures few { result ≤ 2 }
+{
+    if is_word(words, 2, "--store=lock") {
+        return 1;
+    }
+    if is_word(words, 2, "--store") && is_word(words, 3, "lock") {
+        return 2;
+    }
+    0
+}
+
+// Whether they are the names of a setup and of files.
+fn are_names(words: &[String]) -> bool
+    ensures { result ≡ are_names (map string_bytes words.now) }
+{
+    2 <= words.len() && words.len() <= 1 + MOST_FILES && all_are_names(words)
+}
+
+fn all_are_names(words: &[String]) -> bool
+    ensures { result ≡ list_all is_name (map string_bytes words.now) }
+{
+    for word in words {
+        if !is_name(word.as_str()) {
+            return false;
+        }
+    }
+    true
+}
+
+fn is_name(word: &str) -> bool
+    ensures { result ≡ is_name word.now }
+{
+    matches!(word.as_bytes().first(), Some(byte) if *byte != b'-')
 }

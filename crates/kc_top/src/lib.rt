@@ -2,6 +2,8 @@
 #![tactic(auto)]
 
 mod command_line;
+mod laws;
+mod reading;
 mod run;
 mod served;
 mod settling;
@@ -11,6 +13,8 @@ mod tests;
 mod threads;
 mod top;
 
+pub use command_line::Command;
+pub use laws::{reading_fails_for_a_cause, storms_write_their_summary};
 pub use served::Served;
 pub use status::{LONGEST_LINE, Status};
 pub use top::kcas_main;

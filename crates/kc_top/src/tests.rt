@@ -1,10 +1,12 @@
 ghost use Rattle.std.specs.Prelude.{◌≤◌, None};
 
+mod files;
+mod storms;
 mod threads;
 
 use crate::{Status, kcas_main};
 use kc_lines::{Limit, Why};
-use kc_model::{Failed, FrailSink, FrailSource, Sink, SureSource};
+use kc_model::{Failed, FrailSink, FrailSource, MemShelf, Sink, SureSource};
 use kc_run::{Gate, OpenGate};
 use std::alloc::Global;
 use std::fmt::Write;
@@ -18,6 +20,11 @@ const ROOM: usize = 4096;
 const FIRST: &str = "kcas 1\nloc x 5\nthread\nget x\nset x 7\nadd x 1\n";
 
 const FIRST_TEXT: &str = "1.1 5\n1.2 ok\n1.3 7\norder\n1.1\n1.2\n1.3\n1.end\nstate\nx 8\n";
+
+// A shelf without files.
+fn no_files(alloc: Global) -> MemShelf {
+    MemShelf::new(Vec::new(alloc), Vec::new(alloc))
+}
 
 fn words(alloc: Global, second: &str) -> Result<Vec<String>, Fail> {
     let mut words = Vec::new(alloc);
@@ -45,7 +52,8 @@ fn run_behind<R: Threads + Wait + Sync, G: Gate>(
     let words = words(alloc, "run")?;
     let mut source = FrailSource::new(script.to_vec(alloc)?, Vec::new(alloc));
     let mut sink = FrailSink::new(alloc, ROOM, Vec::new(alloc))?;
-    let (status, _) = kcas_main(rt, alloc, &words, &mut source, &mut sink, gate);
+    let mut shelf = no_files(alloc);
+    let (status, _) = kcas_main(rt, alloc, &words, &mut source, &mut shelf, &mut sink, gate);
     Ok((status, sink.bytes().to_vec(alloc)?))
 }
 
@@ -254,7 +262,16 @@ fn other_words_are_usage(rt: HostRuntime) -> Result<(), Fail> {
         let words = words(alloc, second)?;
         let mut source = FrailSource::new(FIRST.as_bytes().to_vec(alloc)?, Vec::new(alloc));
         let mut sink = FrailSink::new(alloc, 100, Vec::new(alloc))?;
-        let (status, _) = kcas_main(&rt, alloc, &words, &mut source, &mut sink, &OpenGate);
+        let mut shelf = no_files(alloc);
+        let (status, _) = kcas_main(
+            &rt,
+            alloc,
+            &words,
+            &mut source,
+            &mut shelf,
+            &mut sink,
+            &OpenGate,
+        );
         assert_eq!(rt; status, Status::Usage, "{second}");
         assert!(rt; sink.bytes().is_empty());
     }
@@ -276,7 +293,16 @@ fn run_failing<R: Threads + Wait + Sync>(
     let script = script.as_bytes().to_vec(alloc)?;
     let mut source = FrailSource::new(script, vec![in alloc; failing_read]?);
     let mut sink = FrailSink::new(alloc, 4096, vec![in alloc; failing_write]?)?;
-    let (status, _) = kcas_main(rt, alloc, &words, &mut source, &mut sink, &OpenGate);
+    let mut shelf = no_files(alloc);
+    let (status, _) = kcas_main(
+        rt,
+        alloc,
+        &words,
+        &mut source,
+        &mut shelf,
+        &mut sink,
+        &OpenGate,
+    );
     Ok((status, sink.bytes().to_vec(alloc)?))
 }
 
@@ -348,12 +374,30 @@ fn as_many_commands_as_may_be_are_run_and_written_by_the_page(rt: HostRuntime) -
     let words = words(alloc, "run")?;
     let mut source = SureSource::new(script.as_bytes().to_vec(alloc)?);
     let mut sink = FrailSink::new(alloc, 100_000, Vec::new(alloc))?;
-    let (status, _) = kcas_main(&rt, alloc, &words, &mut source, &mut sink, &OpenGate);
+    let mut shelf = no_files(alloc);
+    let (status, _) = kcas_main(
+        &rt,
+        alloc,
+        &words,
+        &mut source,
+        &mut shelf,
+        &mut sink,
+        &OpenGate,
+    );
     assert_eq!(rt; status, Status::Done);
     assert_eq!(rt; sink.bytes(), text.as_bytes());
     let mut source = SureSource::new(script.as_bytes().to_vec(alloc)?);
     let mut counting = CountingSink { calls: 0, bytes: 0 };
-    let (status, _) = kcas_main(&rt, alloc, &words, &mut source, &mut counting, &OpenGate);
+    let mut shelf = no_files(alloc);
+    let (status, _) = kcas_main(
+        &rt,
+        alloc,
+        &words,
+        &mut source,
+        &mut shelf,
+        &mut counting,
+        &OpenGate,
+    );
     assert_eq!(rt; status, Status::Done);
     assert_eq!(rt; counting.bytes, text.len());
     assert!(rt;
@@ -377,7 +421,16 @@ fn as_many_locations_as_may_be_are_opened(rt: HostRuntime) -> Result<(), Fail> {
     let words = words(alloc, "run")?;
     let mut source = SureSource::new(script.as_bytes().to_vec(alloc)?);
     let mut sink = FrailSink::new(alloc, 1_000_000, Vec::new(alloc))?;
-    let (status, _) = kcas_main(&rt, alloc, &words, &mut source, &mut sink, &OpenGate);
+    let mut shelf = no_files(alloc);
+    let (status, _) = kcas_main(
+        &rt,
+        alloc,
+        &words,
+        &mut source,
+        &mut shelf,
+        &mut sink,
+        &OpenGate,
+    );
     assert_eq!(rt; status, Status::Done);
     assert_eq!(rt; sink.bytes(), text.as_bytes());
     Ok(())

@@ -1,65 +1,85 @@
 //! From the words and the bytes to the text.
 
-ghost use Rattle.std.specs.Prelude.{map};
+ghost use Rattle.std.specs.Prelude.{◌≡◌, Some, map, IfOk, IfErr};
 ghost use Rattle.std.specs.String.{string_bytes};
-ghost use Rattle.kc_top.specs.Statuses.{is_run, Says, Ends};
+ghost use Rattle.kc_bundle.specs.Script.{script_of};
+ghost use Rattle.kc_top.specs.Words.{command_of};
+ghost use Rattle.kc_top.specs.Reading.{Reads, Refuses};
+ghost use Rattle.kc_top.specs.Statuses.{Says, SaysOf};
 
-use crate::command_line::is_run;
+use crate::command_line::{Command, command_of};
+use crate::reading::{from_files, from_source};
 use crate::run::perform;
 use crate::served::Served;
 use crate::status::Status;
-use kc_lines::ScriptError;
-use kc_model::{Failed, ReadError, Sink, Source, read_to_end};
+use kc_bundle::Bundle;
+use kc_model::{Failed, NoMemory, Shelf, Sink, Source};
 use kc_run::Gate;
-use kc_script::{MOST_BYTES, parse};
+use kc_storm::storm;
 use std::alloc::Global;
 use std::sync::Wait;
 use std::thread::Threads;
 
-/// Runs the script that the source spells, and writes its text to the sink. The words have the program's name first,
-/// and then `run`. Each thread of the script runs in a thread of its own, behind the gate, on one store; a thread's
-/// command may wait for another's, and nothing is promised of when it ends.
-pub fn kcas_main<S: Source, K: Sink, G: Gate, R: Threads + Wait + Sync>(
+/// Runs the script that the words name, and writes its text to the sink. The words have the program's name first, and
+/// then a command: `run` reads the script from the source, `files SETUP FILE..` from the shelf, a file for each thread;
+/// `storm N` runs the storm of that number, and writes its summary in place of a text.
+/// All is read before it is parsed. Each thread of the script runs in a thread of its own, behind the gate, on one
+/// store; a thread's command may wait for another's, and nothing is promised of when it ends.
+pub fn kcas_main<S: Source, F: Shelf, K: Sink, G: Gate, R: Threads + Wait + Sync>(
     rt: &R,
     alloc: Global,
     words: &[String],
     source: &mut S,
+    shelf: &mut F,
     sink: &mut K,
     gate: &G,
 ) -> (Status, Served)
-    ensures { Says S.left S.faults S.read_gives K.written K.faults K.write_gives (is_run (map string_bytes words.now)) source.old source.new sink.old sink.new result.1 result.0 }
+    ensures { Says S.left S.faults S.read_gives F.files F.faults F.sure F.fetch_gives K.written K.faults K.write_gives (map string_bytes words.now) source.old source.new shelf.old shelf.new sink.old sink.new result.1 result.0 }
 {
-    if !is_run(words) {
+    let Some(command) = command_of(words) else {
         return (Status::Usage, Served::Nothing);
-    }
-    match run(rt, alloc, source, sink, gate) {
-        Ok(ended) => ended,
-        Err(status) => (status, Served::Nothing),
+    };
+    run(rt, alloc, words, command, source, shelf, sink, gate)
+}
+
+fn run<S: Source, F: Shelf, K: Sink, G: Gate, R: Threads + Wait + Sync>(
+    rt: &R,
+    alloc: Global,
+    words: &[String],
+    command: Command,
+    source: &mut S,
+    shelf: &mut F,
+    sink: &mut K,
+    gate: &G,
+) -> (Status, Served)
+    requires { command_of (map string_bytes words.now) ≡ Some command }
+    ensures { SaysOf S.left S.faults S.read_gives F.files F.faults F.sure F.fetch_gives K.written K.faults K.write_gives (map string_bytes words.now) command source.old source.new shelf.old shelf.new sink.old sink.new result.1 result.0 }
+{
+    let bundle = match read_bundle(alloc, words, command, source, shelf) {
+        Ok(bundle) => bundle,
+        Err(status) => return (status, Served::Nothing),
+    };
+    match perform(rt, alloc, command, &bundle, sink, gate) {
+        Ok((Ok(()), served)) => (Status::Done, served),
+        Ok((Err(Failed), served)) => (Status::WriteFault, served),
+        Err(NoMemory) => (Status::NoMemory, Served::Nothing),
     }
 }
 
-fn run<S: Source, K: Sink, G: Gate, R: Threads + Wait + Sync>(
-    rt: &R,
+fn read_bundle<S: Source, F: Shelf>(
     alloc: Global,
+    words: &[String],
+    command: Command,
     source: &mut S,
-    sink: &mut K,
-    gate: &G,
-) -> Result<(Status, Served), Status>
-    ensures { Ends S.left S.faults S.read_gives K.written K.faults K.write_gives source.old source.new sink.old sink.new result }
+    shelf: &mut F,
+) -> Result<Bundle, Status>
+    requires { command_of (map string_bytes words.now) ≡ Some command }
+    ensures reads { IfOk result (λ bundle. Reads S.left S.faults S.read_gives F.files F.faults F.sure F.fetch_gives (map string_bytes words.now) command source.old source.new shelf.old shelf.new (script_of bundle)) }
+    ensures refuses { IfErr result (Refuses S.left S.faults S.read_gives F.files F.faults F.sure F.fetch_gives (map string_bytes words.now) command source.old source.new shelf.old shelf.new) }
 {
-    let bytes = match read_to_end(alloc, source, MOST_BYTES) {
-        Ok(bytes) => bytes,
-        Err(ReadError::Failed) => return Err(Status::ReadFault),
-        Err(ReadError::TooLong) => return Err(Status::TooLong),
-        Err(ReadError::NoMemory) => return Err(Status::NoMemory),
-    };
-    let bundle = match parse(alloc, &bytes) {
-        Ok(bundle) => bundle,
-        Err(ScriptError::Fault { line, why }) => return Err(Status::Script { part: 0, line, why }),
-        Err(ScriptError::NoMemory) => return Err(Status::NoMemory),
-    };
-    match perform(rt, alloc, &bundle, sink, gate)? {
-        (Ok(()), served) => Ok((Status::Done, served)),
-        (Err(Failed), served) => Ok((Status::WriteFault, served)),
+    match command {
+        Command::Run => from_source(alloc, source),
+        Command::Files { setup } => from_files(alloc, shelf, &words[setup..]),
+        Command::Storm { number } => Ok(storm(alloc, number)?),
     }
 }

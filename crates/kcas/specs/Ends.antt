@@ -1,12 +1,15 @@
--- What calls of standard input and standard output do, and what a run over them says.
-use Rattle.std.specs.Prelude.{ℕ, Bool, List, Option, None, Result}
+-- What calls of standard input, of standard output and of the host's files do, and what a run over them says.
+use Rattle.std.specs.Prelude.{◌≡◌, ℕ, ◌+◌, ◌-◌, ◌^◌, min, Bool, false, List, Option, None, Result, Ok, Err}
 use Rattle.std.specs.Io.KnownBytes.{ReadConsumes, WriteAppends}
 use Rattle.kc_model.specs.declared.outside.Failed.{Failed}
+use Rattle.kc_model.specs.declared.outside.ShelfError.{ShelfError}
+use Rattle.kc_model.specs.declared.outside.ShelfError.TheVariants as error
 use Rattle.kc_top.specs.declared.served.Served.{Served}
 use Rattle.kc_top.specs.declared.status.Status.{Status}
 use Rattle.kc_top.specs.Statuses.{Says}
 use Rattle.kcas.specs.declared.ends.StdinSource.{StdinSource}
 use Rattle.kcas.specs.declared.ends.StdoutSink.{StdoutSink}
+use Rattle.kcas.specs.declared.dir_shelf.DirShelf.{DirShelf}
 
 -- a call of read is passed on to the reader
 abbrev pub PassesRead : {R : Type 0} → (R → Option (List ℕ)) → StdinSource R → List ℕ → Result ℕ Failed → List ℕ → StdinSource R → Type 0
@@ -16,8 +19,15 @@ PassesRead remaining before room result buf after = ReadConsumes (remaining befo
 abbrev pub PassesWrite : {W : Type 0} → (W → Option (List ℕ)) → StdoutSink W → List ℕ → Result ℕ Failed → StdoutSink W → Type 0
 PassesWrite contents before buf result after = WriteAppends (contents before.output) (contents after.output) result buf
 
--- the status is what the top call says of these words, and of a source and a sink over the reader and the writer
-abbrev pub RunsOn : {R W : Type 0} → (R → Option (List ℕ)) → (W → Option (List ℕ)) → Bool → R → W → Status → Type 0
-RunsOn {R} {W} remaining contents run input output status = (source : StdinSource R) × (sink : StdoutSink W) × (served : Served)
-    × Says (λ (s : StdinSource R). None) (λ (s : StdinSource R). s.faults) (PassesRead remaining) (λ (k : StdoutSink W). None) (λ (k : StdoutSink W). k.faults) (PassesWrite contents)
-    run (record { input = input; faults = 0 }) source (record { output = output; faults = 0 }) sink served status
+-- a call of fetch leaves the host, and counts one fault where it failed
+abbrev pub CountsFault : {H : Type 0} → DirShelf H → List ℕ → ℕ → Result (List ℕ) ShelfError → DirShelf H → Type 0
+CountsFault before name limit (Err error.Failed) after = after ≡ record before { faults = min (before.faults + 1) (2 ^ 64 - 1) }
+CountsFault before name limit (Err error.TooLong) after = after ≡ before
+CountsFault before name limit (Err error.NoMemory) after = after ≡ before
+CountsFault before name limit (Ok bytes) after = after ≡ before
+
+-- the status is what the top call says of these words, and of a source, a shelf and a sink over the reader, the host and the writer
+abbrev pub RunsOn : {R H W : Type 0} → (R → Option (List ℕ)) → (W → Option (List ℕ)) → List (List ℕ) → R → H → W → Status → Type 0
+RunsOn {R} {H} {W} remaining contents words input host output status = (source : StdinSource R) × (shelf : DirShelf H) × (sink : StdoutSink W) × (served : Served)
+    × Says (λ (s : StdinSource R). None) (λ (s : StdinSource R). s.faults) (PassesRead remaining) (λ (f : DirShelf H). None) (λ (f : DirShelf H). f.faults) (λ (f : DirShelf H). false) CountsFault (λ (k : StdoutSink W). None) (λ (k : StdoutSink W). k.faults) (PassesWrite contents)
+    words (record { input = input; faults = 0 }) source (record { host = host; faults = 0 }) shelf (record { output = output; faults = 0 }) sink served status

@@ -1,17 +1,19 @@
-//! The program: `kcas run` reads a script from standard input and writes its text to standard output.
+//! The program: `kcas run` reads a script from standard input, `kcas files SETUP FILE..` from files, and it writes the
+//! script's text to standard output.
 #![tactic(auto)]
 
 ghost use Rattle.std.specs.Prelude.{map};
 ghost use Rattle.std.specs.String.{string_bytes};
-ghost use Rattle.kc_top.specs.Statuses.{is_run};
 ghost use Rattle.kcas.specs.Ends.{RunsOn};
 
+mod dir_shelf;
 mod ends;
 mod line;
 #[cfg(test)]
 mod tests;
 mod words;
 
+use dir_shelf::DirShelf;
 use ends::{StdinSource, StdoutSink};
 use kc_run::OpenGate;
 use kc_top::{Status, kcas_main};
@@ -19,6 +21,7 @@ use line::report;
 use std::alloc::Global;
 use std::io::{Read, Write};
 use std::process::ExitCode;
+use std::rt::Files;
 use std::sync::Wait;
 use std::thread::Threads;
 use std::{env, io};
@@ -27,24 +30,26 @@ use words::words_of;
 fn main(rt: HostRuntime) -> ExitCode {
     let alloc = rt.alloc();
     let status = match words_of(alloc, env::args(&rt)) {
-        Ok(words) => run_on(&rt, alloc, &words, rt.reader(), io::writer(&rt)),
+        Ok(words) => run_on(&rt, alloc, &words, rt.reader(), &rt, io::writer(&rt)),
         Err(status) => status,
     };
     report(&rt, status)
 }
 
-// Runs the words over a reader and a writer.
-fn run_on<I: Read + Drop, O: Write + Drop, R: Threads + Wait + Sync>(
+// Runs the words over a reader, the files of a host, and a writer.
+fn run_on<I: Read + Drop, H: Files + Drop, O: Write + Drop, R: Threads + Wait + Sync>(
     rt: &R,
     alloc: Global,
     words: &[String],
     input: I,
+    host: H,
     output: O,
 ) -> Status
-    ensures { RunsOn I.remaining O.contents (is_run (map string_bytes words.now)) input output result }
+    ensures { RunsOn I.remaining O.contents (map string_bytes words.now) input host output result }
 {
     let mut source = StdinSource::new(input);
+    let mut shelf = DirShelf::new(host);
     let mut sink = StdoutSink::new(output);
-    let (status, _) = kcas_main(rt, alloc, words, &mut source, &mut sink, &OpenGate);
+    let (status, _) = kcas_main(rt, alloc, words, &mut source, &mut shelf, &mut sink, &OpenGate);
     status
 }

@@ -1,6 +1,6 @@
 //! Scripts of several threads.
 
-use super::{run, run_behind, run_failing, words};
+use super::{no_files, run, run_behind, run_failing, words};
 use crate::{Status, kcas_main};
 use kc_model::{FrailSink, SureSource};
 use kc_run::{Gate, OpenGate};
@@ -52,7 +52,16 @@ fn text_of<R: Threads + Wait + Sync>(
     let words = words(alloc, "run")?;
     let mut source = SureSource::new(script.as_bytes().to_vec(alloc)?);
     let mut sink = FrailSink::new(alloc, 2_000_000, Vec::new(alloc))?;
-    let (status, _) = kcas_main(rt, alloc, &words, &mut source, &mut sink, &OpenGate);
+    let mut shelf = no_files(alloc);
+    let (status, _) = kcas_main(
+        rt,
+        alloc,
+        &words,
+        &mut source,
+        &mut shelf,
+        &mut sink,
+        &OpenGate,
+    );
     Ok((status, sink.bytes().to_vec(alloc)?))
 }
 

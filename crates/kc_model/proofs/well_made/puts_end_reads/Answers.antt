@@ -1,4 +1,4 @@
-use Rattle.std.proofs.Common.{◌≡◌, ◌<◌, All, length, subst, take_all, refl, arith}
+use Rattle.std.proofs.Common.{◌<◌, All, subst, take_all, refl, arith}
 use Rattle.std.proofs.lemmas.List.Elements.{All-more}
 use Rattle.kc_model.specs.declared.footprint.TheConstants.{LAST_VERSION}
 use Rattle.kc_model.specs.declared.footprint.Put.{Put}

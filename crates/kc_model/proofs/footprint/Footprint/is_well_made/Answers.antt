@@ -1,4 +1,3 @@
-use Rattle.std.proofs.Common.{refl}
 use Rattle.kc_model.proofs.Rises.{made_by_tests, fit_of_made, ends_of_made}
 use Rattle.kc_model.proofs.footprint.Footprint.is_well_made.Goals as goal
 

@@ -1,0 +1,32 @@
+-- Why reading failed.
+use Rattle.std.proofs.Common.{◌≡◌, ℕ, zero, suc, ◌≤◌, ◌<◌, true, Bool, List, [], ◌∷◌, drop, Contains, slice_get, Option, Some, None, Result, refl, sym, subst, ◌∙◌, arith}
+use Rattle.kc_model.specs.declared.outside.Failed.{Failed}
+use Rattle.kc_model.specs.declared.outside.ShelfError.{ShelfError}
+use Rattle.kc_model.specs.Outside.{CameFront, Rises}
+use Rattle.kc_model.specs.Shelves.{FetchedUntil, FetchFails, FetchPasses, IsLonger, Lacks}
+use Rattle.kc_top.specs.declared.command_line.Command.{Command}
+use Rattle.kc_top.specs.Words.{command_of}
+
+-- words ask for one command
+pub one_command : (words : List (List ℕ)) {one other : Command} → command_of words ≡ Some one → command_of words ≡ Some other → one ≡ other
+one_command words a b = cc (a, b)
+
+-- what stands at a place is contained
+got_contained : {X : Type 0} (xs : List X) (i : ℕ) (x : X) → slice_get xs i ≡ Some x → Contains xs x
+got_contained [] i x e = absurd (cc e)
+got_contained (y ∷ ys) zero x e = (0, omega arith, cc e)
+got_contained (y ∷ ys) (suc i) x e = let (k, lt, is) = got_contained ys i x e in (suc k, omega (arith, lt), is)
+
+module _ {S : Type 0} {left : S → Option (List ℕ)} {faults : S → ℕ} {gives : S → List ℕ → Result ℕ Failed → List ℕ → S → Type 0} where
+  pub front_rises : {limit : ℕ} {s s' : S} → CameFront left faults gives limit s s' → Rises (faults s) (faults s')
+  front_rises {limit} {s} {s'} c = subst (λ (n : ℕ). Rises n (faults s')) c.came.faultless c.fails.cause
+
+module _ {F : Type 0} {told : F → Option (List (List ℕ × List ℕ))} {faults : F → ℕ} {sure : F → Bool} {gives : F → List ℕ → ℕ → Result (List ℕ) ShelfError → F → Type 0} {limit : ℕ} {f f' : F} {names : List (List ℕ)} where
+  pub fails_rises : FetchedUntil told faults sure gives limit (FetchFails told faults sure gives limit) f names f' → Rises (faults f) (faults f')
+  fails_rises u = subst (λ (n : ℕ). Rises n (faults f')) u.fetched.faultless u.ends.cause
+
+  pub fails_lacking : FetchedUntil told faults sure gives limit (FetchFails told faults sure gives limit) f names f' → sure f ≡ true → (name : List ℕ) × Contains names name × Lacks (told f) name
+  fails_lacking u is = (u.name, got_contained names u.count u.name u.next, subst (λ t. Lacks t u.name) u.fetched.kept (u.ends.lacks (u.fetched.same ∙ is)))
+
+  pub passes_longer : FetchedUntil told faults sure gives limit (FetchPasses told faults sure gives limit) f names f' → (name : List ℕ) × Contains names name × IsLonger (told f) name limit
+  passes_longer u = (u.name, got_contained names u.count u.name u.next, subst (λ t. IsLonger t u.name limit) u.fetched.kept u.ends.longer)

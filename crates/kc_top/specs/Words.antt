@@ -1,0 +1,42 @@
+-- What the words of the command line ask for. The first is the program's name, the second the command's.
+use Rattle.std.specs.Prelude.{ℕ, ◌+◌, Bool, true, false, not, ◌&&◌, ◌==◌, nat_le, List, [], ◌∷◌, length, drop, slice_get, slice_index_or, codes, Option, Some, None, if◌then◌else◌}
+use Rattle.std.specs.List.{list_all}
+use Rattle.std.specs.Str.{bytes_eq}
+use Rattle.std.specs.Option.{option_map}
+use Rattle.kc_lines.specs.Words.{number}
+use Rattle.kc_top.specs.declared.command_line.Command.{Command}
+use Rattle.kc_top.specs.declared.command_line.Command.TheVariants as command
+
+-- whether the word at a place, counted from 0, is this
+abbrev pub is_word : List (List ℕ) → ℕ → List ℕ → Bool
+is_word words place text = is_text (slice_get words place) where
+  is_text : Option (List ℕ) → Bool
+  is_text None = false
+  is_text (Some word) = bytes_eq word text
+
+-- how many words behind the command's name are a store option: `--store=lock`, or `--store` and `lock`
+abbrev pub option_words : List (List ℕ) → ℕ
+option_words words =
+    if is_word words 2 (codes "--store=lock") then 1
+    else if is_word words 2 (codes "--store") && is_word words 3 (codes "lock") then 2
+    else 0
+
+-- a file's name isn't empty, and doesn't begin with `-`
+abbrev pub is_name : List ℕ → Bool
+is_name [] = false
+is_name (byte ∷ bytes) = not (byte == 45)
+
+-- a setup and 1 to 16 files
+abbrev pub are_names : List (List ℕ) → Bool
+are_names words = nat_le 2 (length words) && nat_le (length words) 17 && list_all is_name words
+
+-- the storm of the number that the word at this place spells, where it is the last one
+abbrev pub storm_at : List (List ℕ) → ℕ → Option Command
+storm_at words place = if is_word words 1 (codes "storm") && (length words == place + 1) then option_map command.Storm (number 4294967295 (slice_index_or words place [])) else None
+
+-- what the words ask for; words that are no command ask for nothing
+abbrev pub command_of : List (List ℕ) → Option Command
+command_of words =
+    if is_word words 1 (codes "run") && (length words == 2 + option_words words) then Some command.Run
+    else if is_word words 1 (codes "files") && are_names (drop (2 + option_words words) words) then Some (command.Files (2 + option_words words))
+    else storm_at words (2 + option_words words)

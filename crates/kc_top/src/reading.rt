@@ -1,0 +1,55 @@
+//! From what a command reads to a bundle.
+
+ghost use Rattle.std.specs.Prelude.{◌≤◌, length, map, IfOk, IfErr};
+ghost use Rattle.std.specs.String.{string_bytes};
+ghost use Rattle.kc_bundle.specs.Script.{script_of};
+ghost use Rattle.kc_top.specs.Reading.{SourceSpells, SourceRefuses, FilesSpell, FilesRefuse};
+
+use crate::status::Status;
+use kc_bundle::Bundle;
+use kc_lines::ScriptError;
+use kc_model::{ReadError, Shelf, ShelfError, Source, fetch_all, read_to_end};
+use kc_script::{MOST_BYTES, PartError, parse, parse_parts};
+use std::alloc::Global;
+
+/// The bundle that the source spells, read to its end.
+pub fn from_source<S: Source>(alloc: Global, source: &mut S) -> Result<Bundle, Status>
+    ensures spells { IfOk result (λ bundle. SourceSpells S.left S.faults S.read_gives source.old source.new (script_of bundle)) }
+    ensures refuses { IfErr result (SourceRefuses S.left S.faults S.read_gives source.old source.new) }
+{
+    let bytes = match read_to_end(alloc, source, MOST_BYTES) {
+        Ok(bytes) => bytes,
+        Err(ReadError::Failed) => return Err(Status::ReadFault),
+        Err(ReadError::TooLong) => return Err(Status::TooLong),
+        Err(ReadError::NoMemory) => return Err(Status::NoMemory),
+    };
+    match parse(alloc, &bytes) {
+        Ok(bundle) => Ok(bundle),
+        Err(ScriptError::Fault { line, why }) => Err(Status::Script { part: 0, line, why }),
+        Err(ScriptError::NoMemory) => Err(Status::NoMemory),
+    }
+}
+
+/// The bundle that the files of these names spell, all of them read before any is parsed. The first is the setup.
+pub fn from_files<F: Shelf>(
+    alloc: Global,
+    shelf: &mut F,
+    names: &[String],
+) -> Result<Bundle, Status>
+    requires some { 2 ≤ length names.now }
+    requires few { length names.now ≤ 17 }
+    ensures spells { IfOk result (λ bundle. FilesSpell F.files F.faults F.sure F.fetch_gives (map string_bytes names.now) shelf.old shelf.new (script_of bundle)) }
+    ensures refuses { IfErr result (FilesRefuse F.files F.faults F.sure F.fetch_gives (map string_bytes names.now) shelf.old shelf.new) }
+{
+    let files = match fetch_all(alloc, shelf, names, MOST_BYTES) {
+        Ok(files) => files,
+        Err(ShelfError::Failed) => return Err(Status::ReadFault),
+        Err(ShelfError::TooLong) => return Err(Status::TooLong),
+        Err(ShelfError::NoMemory) => return Err(Status::NoMemory),
+    };
+    match parse_parts(alloc, &files[0], &files[1..]) {
+        Ok(bundle) => Ok(bundle),
+        Err(PartError::Fault { part, line, why }) => Err(Status::Script { part, line, why }),
+        Err(PartError::NoMemory) => Err(Status::NoMemory),
+    }
+}
