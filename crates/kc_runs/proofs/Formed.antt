@@ -39,7 +39,7 @@ one_left s l None = refl
 one_left s l (Some v) = refl
 
 -- the values that its touches leave
-left_by : (m : Meaning) (s : Store) (r : Record) → IsCommit m s r → values (after r.footprint s) ≡ map_after (values s) (kept r.answer (run_on m s).touches)
+pub left_by : (m : Meaning) (s : Store) (r : Record) → IsCommit m s r → values (after r.footprint s) ≡ map_after (values s) (kept r.answer (run_on m s).touches)
 left_by m s r commit = fun_ext (λ l.
     let ts : List Touch = kept r.answer (run_on m s).touches in
     ap (λ (p : Option Put). (cell_after p (s l)).value) ((commit.answers.makes s commit.finds).puts l) ∙ one_left s l (last_written ts l) ∙ sym (map_after-at (values s) ts l))
@@ -62,7 +62,7 @@ answered_large a e = let f : Option Answer → Answer = of in ap f e where
   of (Some b) = b
   of None = answer.TooLarge
 
-answered_reply : (b : _) (a : Answer) → answer_of (replied b) ≡ Some a → answer.Reply b ≡ a
+pub answered_reply : (b : _) (a : Answer) → answer_of (replied b) ≡ Some a → answer.Reply b ≡ a
 answered_reply b a e = let f : Option Answer → Answer = of in ap f e where
   of : Option Answer → Answer
   of (Some c) = c

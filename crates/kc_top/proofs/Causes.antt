@@ -8,8 +8,8 @@ use Rattle.kc_top.specs.declared.command_line.Command.{Command}
 use Rattle.kc_top.specs.Words.{command_of}
 
 -- words ask for one command
-pub one_command : {words : List (List ℕ)} {one other : Command} → command_of words ≡ Some one → command_of words ≡ Some other → one ≡ other
-one_command a b = cc (a, b)
+pub one_command : (words : List (List ℕ)) {one other : Command} → command_of words ≡ Some one → command_of words ≡ Some other → one ≡ other
+one_command words a b = cc (a, b)
 
 -- what stands at a place is contained
 got_contained : {X : Type 0} (xs : List X) (i : ℕ) (x : X) → slice_get xs i ≡ Some x → Contains xs x

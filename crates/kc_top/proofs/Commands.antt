@@ -1,26 +1,40 @@
 -- What follows of words that ask for files, and of what reading them answers.
 use Rattle.std.proofs.Common.{◌≡◌, ℕ, ◌+◌, ◌≤◌, Bool, true, false, ◌&&◌, nat_le, ◌-◌, List, length, map, take, drop, Result, Ok, Err, IfOk, IfErr, string_bytes, ap, sym, ◌∙◌, Option, Some, None, if◌then◌else◌, refl, subst, arith}
 use Rattle.std.proofs.lemmas.Bool.Decides.{nat_tests}
-use Rattle.std.specs.Prelude.{◌==◌, codes}
+use Rattle.std.specs.Prelude.{◌==◌, codes, slice_index_or, []}
 use Rattle.std.specs.List.{list_all, drop-map}
 use Rattle.std.specs.Prelude.{String}
 use Rattle.std.specs.Global.{Global}
 use Rattle.kc_top.proofs.Parts.{slice_on}
 use Rattle.kc_top.specs.declared.command_line.Command.{Command}
 use Rattle.kc_top.specs.declared.command_line.Command.TheVariants as command
-use Rattle.kc_top.specs.Words.{command_of, are_names, is_name, is_word, option_words}
+use Rattle.std.specs.Option.{option_map}
+use Rattle.kc_lines.specs.Words.{number}
+use Rattle.kc_top.specs.Words.{storm_at, command_of, are_names, is_name, is_word, option_words}
 
 same_setup : (j k : ℕ) → Some (command.Files j) ≡ Some (command.Files k) → j ≡ k
 same_setup j k e = cc e
 
-picked : (b : Bool) (n : ℕ → Bool) (j k : ℕ) → n j ≡ b → (if b then Some (command.Files j) else None) ≡ Some (command.Files k) → n k ≡ true
-picked true n j k is e = subst (λ (i : ℕ). n i ≡ true) (same_setup j k e) is
-picked false n j k is e = absurd (cc e)
+-- a storm asks for no files
+no_files : (o : Option ℕ) (k : ℕ) → option_map command.Storm o ≡ Some (command.Files k) → ⊥
+no_files None k e = cc e
+no_files (Some n) k e = cc e
 
-chosen : (a b : Bool) (n : ℕ → Bool) (j k : ℕ) → (if a then Some command.Run else if b && n j then Some (command.Files j) else None) ≡ Some (command.Files k) → n k ≡ true
-chosen true b n j k e = absurd (cc e)
-chosen false true n j k e = picked (n j) n j k refl e
-chosen false false n j k e = absurd (cc e)
+no_storm : (words : List (List ℕ)) (place k : ℕ) → storm_at words place ≡ Some (command.Files k) → ⊥
+no_storm words place k e = by (is_word words 1 (codes "storm") && (length words == place + 1)) e
+  where
+    by : (b : Bool) → (if b then option_map command.Storm (number 4294967295 (slice_index_or words place [])) else None) ≡ Some (command.Files k) → ⊥
+    by true h = no_files (number 4294967295 (slice_index_or words place [])) k h
+    by false h = cc h
+
+picked : (b : Bool) (n : ℕ → Bool) (j k : ℕ) (rest : Option Command) → (rest ≡ Some (command.Files k) → ⊥) → n j ≡ b → (if b then Some (command.Files j) else rest) ≡ Some (command.Files k) → n k ≡ true
+picked true n j k rest other is e = subst (λ (i : ℕ). n i ≡ true) (same_setup j k e) is
+picked false n j k rest other is e = absurd (other e)
+
+chosen : (a b : Bool) (n : ℕ → Bool) (j k : ℕ) (rest : Option Command) → (rest ≡ Some (command.Files k) → ⊥) → (if a then Some command.Run else if b && n j then Some (command.Files j) else rest) ≡ Some (command.Files k) → n k ≡ true
+chosen true b n j k rest other e = absurd (cc e)
+chosen false true n j k rest other e = picked (n j) n j k rest other refl e
+chosen false false n j k rest other e = absurd (other e)
 
 few : (n : ℕ) (b : Bool) → (nat_le 2 n && nat_le n 17 && b) ≡ true → (2 ≤ n) × (n ≤ 17)
 few n true e = (grind (arith, nat_tests), grind (arith, nat_tests))
@@ -30,7 +44,7 @@ few n false e = (grind (arith, nat_tests), grind (arith, nat_tests))
 pub files_named : (words : List (List ℕ)) (setup : ℕ) → command_of words ≡ Some (command.Files setup) → (2 ≤ length (drop setup words)) × (length (drop setup words) ≤ 17)
 files_named words setup e =
     few (length (drop setup words)) (list_all is_name (drop setup words))
-    (chosen (is_word words 1 (codes "run") && (length words == 2 + option_words words)) (is_word words 1 (codes "files")) (λ (i : ℕ). are_names (drop i words)) (2 + option_words words) setup e)
+    (chosen (is_word words 1 (codes "run") && (length words == 2 + option_words words)) (is_word words 1 (codes "files")) (λ (i : ℕ). are_names (drop i words)) (2 + option_words words) setup (storm_at words (2 + option_words words)) (no_storm words (2 + option_words words) setup) e)
 
 -- what follows of each value follows of what is answered
 pub for_ok : {T E : Type 0} {P Q : T → Type 0} (r : Result T E) → ((x : T) → P x → Q x) → IfOk r P → IfOk r Q

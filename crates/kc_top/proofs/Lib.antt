@@ -5,3 +5,4 @@ pub mod Shown
 pub mod Commands
 pub mod Parts
 pub mod Refusing
+pub mod Stormed

@@ -15,8 +15,9 @@ use Rattle.kc_top.specs.declared.status.Status.{Status}
 use Rattle.kc_top.specs.declared.status.Status.TheVariants as status
 use Rattle.kc_top.specs.Reading.{Reads, Refuses}
 use Rattle.kc_top.specs.Runnable.{IsRunnable}
-use Rattle.kc_top.specs.Statuses.{Says, SaysOf}
+use Rattle.kc_top.specs.Statuses.{IsItsScript, Says, SaysOf}
 use Rattle.kc_top.proofs.Bundles.{runnable, runnable_parts}
+use Rattle.kc_top.proofs.Stormed.{storm_runnable}
 
 module _ {S F : Type 0} (left : S → Option (List ℕ)) (source_faults : S → ℕ) (read_gives : S → List ℕ → Result ℕ Failed → List ℕ → S → Type 0)
     (files : F → Option (List (List ℕ × List ℕ))) (shelf_faults : F → ℕ) (sure : F → Bool) (fetch_gives : F → List ℕ → ℕ → Result (List ℕ) ShelfError → F → Type 0) (words : List (List ℕ)) (s s' : S) (f f' : F) where
@@ -24,16 +25,27 @@ module _ {S F : Type 0} (left : S → Option (List ℕ)) (source_faults : S → 
   pub read_runnable : (command : Command) (script : Script) → Reads left source_faults read_gives files shelf_faults sure fetch_gives words command s s' f f' script → IsRunnable script
   read_runnable command.Run script r = runnable r.0.spells
   read_runnable (command.Files setup) script r = runnable_parts r.0.spells
+  read_runnable (command.Storm n) script r = subst IsRunnable (sym r.0) (storm_runnable n)
+
+  -- a storm's script is that of its number
+  pub read_own : (command : Command) (script : Script) → Reads left source_faults read_gives files shelf_faults sure fetch_gives words command s s' f f' script → IsItsScript command script
+  read_own command.Run script r = tt
+  read_own (command.Files setup) script r = tt
+  read_own (command.Storm n) script r = r.0
 
   -- memory may run out behind it
   pub read_starved : (command : Command) (script : Script) → Reads left source_faults read_gives files shelf_faults sure fetch_gives words command s s' f f' script → Refuses left source_faults read_gives files shelf_faults sure fetch_gives words command s s' f f' status.NoMemory
+  read_starved (command.Storm n) script r = (refl, r.1, r.2)
   read_starved command.Run script r = (inr (r.0.bytes, r.0.all), r.1)
-  read_starved (command.Files setup) script r = (inl (record {
+  read_starved (command.Files setup) script r = (
+    inl (record {
       count = length (drop setup words);
       within = omega arith;
       files = r.0.setup ∷ r.0.rest;
       fetched = subst (λ (names : List (List ℕ)). Fetched files shelf_faults sure fetch_gives MOST_BYTES f names (r.0.setup ∷ r.0.rest) f') (sym (take_all (length (drop setup words)) (drop setup words) (omega arith))) r.0.all;
-    }), r.1)
+    }),
+    r.1,
+  )
 
   -- where no script was read, nothing is written or served
   pub refused_ends : {K : Type 0} (written : K → Option (List ℕ)) (sink_faults : K → ℕ) (write_gives : K → List ℕ → Result ℕ Failed → K → Type 0) (k k' : K) → k' ≡ k → (command : Command) (e : Status)
@@ -45,10 +57,13 @@ module _ {S F : Type 0} (left : S → Option (List ℕ)) (source_faults : S → 
   refused_ends written sink_faults write_gives k k' same command (status.Script part line why) r = record { refuses = r; unwritten = same; nothing = refl }
   refused_ends written sink_faults write_gives k k' same command.Run status.Usage r = absurd r.0
   refused_ends written sink_faults write_gives k k' same (command.Files setup) status.Usage r = absurd r.0
+  refused_ends written sink_faults write_gives k k' same (command.Storm n) status.Usage r = absurd (cc (r.0))
   refused_ends written sink_faults write_gives k k' same command.Run status.Done r = absurd r.0
   refused_ends written sink_faults write_gives k k' same (command.Files setup) status.Done r = absurd r.0
+  refused_ends written sink_faults write_gives k k' same (command.Storm n) status.Done r = absurd (cc (r.0))
   refused_ends written sink_faults write_gives k k' same command.Run status.WriteFault r = absurd r.0
   refused_ends written sink_faults write_gives k k' same (command.Files setup) status.WriteFault r = absurd r.0
+  refused_ends written sink_faults write_gives k k' same (command.Storm n) status.WriteFault r = absurd (cc (r.0))
 
   -- what a status says of a command, it says of words that ask for it
   pub says_of : {K : Type 0} (written : K → Option (List ℕ)) (sink_faults : K → ℕ) (write_gives : K → List ℕ → Result ℕ Failed → K → Type 0) (k k' : K) (served : Served) (command : Command) (e : Status) → command_of words ≡ Some command

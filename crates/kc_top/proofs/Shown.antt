@@ -9,9 +9,10 @@ use Rattle.kc_history.specs.declared.record.Record.{Record}
 use Rattle.kc_model.specs.declared.outside.Failed.{Failed}
 use Rattle.kc_model.specs.Pen.{Prints}
 use Rattle.kc_runs.specs.Run.{IsText, opening_store, run_text}
+use Rattle.kc_top.specs.declared.command_line.Command.{Command}
 use Rattle.kc_top.specs.declared.served.Served.{Served}
 use Rattle.kc_top.specs.Served.{IsServed}
-use Rattle.kc_top.specs.Statuses.{Shows}
+use Rattle.kc_top.specs.Statuses.{IsShown, Shows}
 use Rattle.kc_runs.proofs.Formed.{run_formed}
 use Rattle.kc_runs.proofs.Named.{replays_named}
 use Rattle.kc_script.proofs.Spelled.{thread_at}
@@ -20,11 +21,11 @@ use Rattle.kc_top.specs.declared.run.Ran.{Ran}
 use Rattle.kc_top.specs.Ran.{HasRun}
 use Rattle.kc_top.specs.Runnable.{IsRunnable}
 
--- what prints the text of such a run shows it
-pub shows_of : {K : Type 0} (written : K → Option (List ℕ)) (faults : K → ℕ) (gives : K → List ℕ → Result ℕ Failed → K → Type 0) (script : Script) (records : List (List Record)) (served : Served) (old new : K) (r : Result (Unit {0}) Failed) (text : List ℕ)
-    → IsText script records text → IsServed script records served → Prints written faults gives old new r text → Shows written faults gives script served old new r
-shows_of written faults gives script records served old new (Ok u) text is serves prints = record { records = records; serves = serves; shows = record { text = text; such = is; took = prints.whole } }
-shows_of written faults gives script records served old new (Err e) text is serves prints = record { records = records; serves = serves; shows = record { text = text; such = is; front = prints.front } }
+-- what prints such a text shows the run
+pub shows_of : {K : Type 0} (written : K → Option (List ℕ)) (faults : K → ℕ) (gives : K → List ℕ → Result ℕ Failed → K → Type 0) (command : Command) (script : Script) (records : List (List Record)) (served : Served) (old new : K) (r : Result (Unit {0}) Failed) (text : List ℕ)
+    → IsShown command script records text → IsServed script records served → Prints written faults gives old new r text → Shows written faults gives command script served old new r
+shows_of written faults gives command script records served old new (Ok u) text is serves prints = record { records = records; serves = serves; shows = record { text = text; such = is; took = prints.whole } }
+shows_of written faults gives command script records served old new (Err e) text is serves prints = record { records = records; serves = serves; shows = record { text = text; such = is; front = prints.front } }
 
 module _ (script : Script) (ran : Ran) (can : IsRunnable script) (has : HasRun script ran) where
   pub shown_within : CellsWithin (length ran.store) script.objects

@@ -11,6 +11,7 @@ use Rattle.kc_script.specs.declared.parser.TheConstants.{MOST_BYTES}
 use Rattle.kc_script.specs.Spells.{Spells}
 use Rattle.kc_script.specs.Refused.{Refused}
 use Rattle.kc_script.specs.Parts.{SpellsParts, PartsRefused}
+use Rattle.kc_storm.specs.Storm.{storm_script}
 use Rattle.kc_top.specs.declared.command_line.Command.{Command}
 use Rattle.kc_top.specs.declared.command_line.Command.TheVariants as command
 use Rattle.kc_top.specs.declared.status.Status.{Status}
@@ -77,12 +78,14 @@ module _ {F : Type 0} (files : F → Option (List (List ℕ × List ℕ))) (faul
 
 module _ {S F : Type 0} (left : S → Option (List ℕ)) (source_faults : S → ℕ) (read_gives : S → List ℕ → Result ℕ Failed → List ℕ → S → Type 0)
     (files : F → Option (List (List ℕ × List ℕ))) (shelf_faults : F → ℕ) (sure : F → Bool) (fetch_gives : F → List ℕ → ℕ → Result (List ℕ) ShelfError → F → Type 0) (words : List (List ℕ)) where
-  -- what the command reads spells this script, and the rest of the outside is as it was
+  -- what the command reads spells this script, and the rest of the outside is as it was; a storm reads nothing
   abbrev pub Reads : Command → S → S → F → F → Script → Type 0
   Reads command.Run s s' f f' script = SourceSpells left source_faults read_gives s s' script × (f' ≡ f)
+  Reads (command.Storm n) s s' f f' script = (script ≡ storm_script n) × (s' ≡ s) × (f' ≡ f)
   Reads (command.Files setup) s s' f f' script = FilesSpell files shelf_faults sure fetch_gives (drop setup words) f f' script × (s' ≡ s)
 
   -- why it gave no script
   abbrev pub Refuses : Command → S → S → F → F → Status → Type 0
   Refuses command.Run s s' f f' status = SourceRefuses left source_faults read_gives s s' status × (f' ≡ f)
+  Refuses (command.Storm n) s s' f f' end = (end ≡ status.NoMemory) × (s' ≡ s) × (f' ≡ f)
   Refuses (command.Files setup) s s' f f' status = FilesRefuse files shelf_faults sure fetch_gives (drop setup words) f f' status × (s' ≡ s)

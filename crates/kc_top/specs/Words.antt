@@ -1,7 +1,9 @@
 -- What the words of the command line ask for. The first is the program's name, the second the command's.
-use Rattle.std.specs.Prelude.{ℕ, ◌+◌, Bool, true, false, not, ◌&&◌, ◌==◌, nat_le, List, [], ◌∷◌, length, drop, slice_get, codes, Option, Some, None, if◌then◌else◌}
+use Rattle.std.specs.Prelude.{ℕ, ◌+◌, Bool, true, false, not, ◌&&◌, ◌==◌, nat_le, List, [], ◌∷◌, length, drop, slice_get, slice_index_or, codes, Option, Some, None, if◌then◌else◌}
 use Rattle.std.specs.List.{list_all}
 use Rattle.std.specs.Str.{bytes_eq}
+use Rattle.std.specs.Option.{option_map}
+use Rattle.kc_lines.specs.Words.{number}
 use Rattle.kc_top.specs.declared.command_line.Command.{Command}
 use Rattle.kc_top.specs.declared.command_line.Command.TheVariants as command
 
@@ -28,9 +30,13 @@ is_name (byte ∷ bytes) = not (byte == 45)
 abbrev pub are_names : List (List ℕ) → Bool
 are_names words = nat_le 2 (length words) && nat_le (length words) 17 && list_all is_name words
 
+-- the storm of the number that the word at this place spells, where it is the last one
+abbrev pub storm_at : List (List ℕ) → ℕ → Option Command
+storm_at words place = if is_word words 1 (codes "storm") && (length words == place + 1) then option_map command.Storm (number 4294967295 (slice_index_or words place [])) else None
+
 -- what the words ask for; words that are no command ask for nothing
 abbrev pub command_of : List (List ℕ) → Option Command
 command_of words =
     if is_word words 1 (codes "run") && (length words == 2 + option_words words) then Some command.Run
     else if is_word words 1 (codes "files") && are_names (drop (2 + option_words words) words) then Some (command.Files (2 + option_words words))
-    else None
+    else storm_at words (2 + option_words words)

@@ -3,7 +3,9 @@
 ghost use Rattle.std.specs.Prelude.{◌≡◌, ◌≤◌, ◌<◌, ◌+◌, ◌&&◌, ◌==◌, true, length, drop, map, codes};
 ghost use Rattle.std.specs.List.{list_all};
 ghost use Rattle.std.specs.String.{string_bytes};
-ghost use Rattle.kc_top.specs.Words.{are_names, command_of, is_name, is_word, option_words};
+ghost use Rattle.kc_top.specs.Words.{are_names, command_of, is_name, is_word, option_words, storm_at};
+
+use kc_lines::number_of;
 
 /// The most files that a command may name beside the setup: one for each thread.
 const MOST_FILES: usize = 16;
@@ -16,11 +18,13 @@ pub enum Command {
     /// To run a script in files: the word at this place names its setup, and each word behind it a file of a thread's
     /// commands.
     Files { setup: usize },
+    /// To run the storm of this number.
+    Storm { number: u32 },
 }
 
 /// What the words ask for, the program's name first. Behind it stands `run`, or `files` and the names of a setup and of 1
-/// to 16 files. Directly behind the command's name may stand one store option, `--store lock` or `--store=lock`.
-/// No other word begins with `-`, and none is empty.
+/// to 16 files, or `storm` and a number. Directly behind the command's name may stand one store option, `--store lock`
+/// or `--store=lock`. No other word begins with `-`, and none is empty.
 pub fn command_of(words: &[String]) -> Option<Command>
     ensures { result ≡ command_of (map string_bytes words.now) }
 {
@@ -30,7 +34,7 @@ pub fn command_of(words: &[String]) -> Option<Command>
     } else if is_files(words, setup) {
         Some(Command::Files { setup })
     } else {
-        None
+        storm_at(words, setup)
     }
 }
 
@@ -47,6 +51,18 @@ fn is_files(words: &[String], setup: usize) -> bool
     ensures { result ≡ (is_word (map string_bytes words.now) 1 (codes "files") && are_names (drop setup (map string_bytes words.now))) }
 {
     is_word(words, 1, "files") && are_names(&words[setup..])
+}
+
+// The storm of the number that the word at a place spells, where it is the last word.
+fn storm_at(words: &[String], place: usize) -> Option<Command>
+    requires { place ≤ 4 }
+    ensures { result ≡ storm_at (map string_bytes words.now) place }
+{
+    if !is_word(words, 1, "storm") || words.len() != place + 1 {
+        return None;
+    }
+    let number = number_of(words[place].as_str().as_bytes(), u32::MAX)?;
+    Some(Command::Storm { number })
 }
 
 // Whether the word at a place is this.

@@ -4,10 +4,14 @@ ghost use Rattle.std.specs.Prelude.{◌≡◌, ℕ, true, List, Contains, Some, 
 ghost use Rattle.kc_model.specs.Outside.{Rises};
 ghost use Rattle.kc_model.specs.Shelves.{IsLonger, Lacks};
 ghost use Rattle.kc_script.specs.declared.parser.TheConstants.{MOST_BYTES};
+ghost use Rattle.kc_history.specs.declared.record.Record.{Record};
+ghost use Rattle.kc_storm.specs.Storm.{storm_script};
+ghost use Rattle.kc_storm.specs.Summary.{commits, summary_text};
 ghost use Rattle.kc_top.specs.declared.command_line.Command.TheVariants as command;
 ghost use Rattle.kc_top.specs.declared.served.Served.{Served as Serving};
 ghost use Rattle.kc_top.specs.declared.status.Status.TheVariants as status;
-ghost use Rattle.kc_top.specs.Statuses.{Says};
+ghost use Rattle.kc_top.specs.Served.{IsServed};
+ghost use Rattle.kc_top.specs.Statuses.{Says, Writes};
 ghost use Rattle.kc_top.specs.Words.{command_of};
 
 use kc_model::{Shelf, Sink, Source};
@@ -23,4 +27,13 @@ pub fn reading_fails_for_a_cause<S: Source, F: Shelf, K: Sink>()
         → Says S.left S.faults S.read_gives F.files F.faults F.sure F.fetch_gives K.written K.faults K.write_gives words s s' f f' k k' served status.ReadFault → F.sure f ≡ true → (name : List ℕ) × Contains (drop setup words) name × Lacks (F.files f) name }
     ensures longer { (words : List (List ℕ)) (s s' : S) (f f' : F) (k k' : K) (served : Serving) (setup : ℕ) → command_of words ≡ Some (command.Files setup)
         → Says S.left S.faults S.read_gives F.files F.faults F.sure F.fetch_gives K.written K.faults K.write_gives words s s' f f' k k' served status.TooLong → (name : List ℕ) × Contains (drop setup words) name × IsLonger (F.files f) name MOST_BYTES }
+{}
+
+/// What a storm writes is a function of its number: the one summary that it has. What was served are the 8,004 commits
+/// of a run of its script.
+pub fn storms_write_their_summary<S: Source, F: Shelf, K: Sink>()
+    ensures summary { (words : List (List ℕ)) (s s' : S) (f f' : F) (k k' : K) (served : Serving) (n : ℕ) → command_of words ≡ Some (command.Storm n)
+        → Says S.left S.faults S.read_gives F.files F.faults F.sure F.fetch_gives K.written K.faults K.write_gives words s s' f f' k k' served status.Done → Writes K.written K.faults K.write_gives (λ text. text ≡ summary_text n) k k' }
+    ensures served { (words : List (List ℕ)) (s s' : S) (f f' : F) (k k' : K) (served : Serving) (n : ℕ) → command_of words ≡ Some (command.Storm n)
+        → Says S.left S.faults S.read_gives F.files F.faults F.sure F.fetch_gives K.written K.faults K.write_gives words s s' f f' k k' served status.Done → (records : List (List Record)) × (commits records ≡ 8004) × IsServed (storm_script n) records served }
 {}

@@ -11,8 +11,9 @@ ghost use Rattle.kc_history.specs.Text.{records_text};
 ghost use Rattle.kc_runs.specs.Run.{run_text};
 ghost use Rattle.kc_top.specs.Ran.{HasRun};
 ghost use Rattle.kc_top.specs.Runnable.{IsRunnable};
-ghost use Rattle.kc_top.specs.Statuses.{Shows};
+ghost use Rattle.kc_top.specs.Statuses.{IsItsScript, Shows};
 
+use crate::command_line::Command;
 use crate::served::Served;
 use crate::settling::{room_for, settle};
 use crate::threads::run_locked;
@@ -20,6 +21,7 @@ use kc_bundle::{Bundle, opening, put_state};
 use kc_history::{Record, Room, put_text};
 use kc_model::{Failed, MOST_LOCATIONS, ModelError, NoMemory, Pen, PlainStore, Sink};
 use kc_run::Gate;
+use kc_storm::write_summary;
 use std::alloc::Global;
 use std::sync::Wait;
 use std::thread::Threads;
@@ -33,21 +35,38 @@ struct Ran {
     served: Served,
 }
 
-/// Runs a bundle, and writes its text. All memory is taken before the first command.
+/// Runs the bundle that a command asks for, and writes its text; of a storm, the summary. All memory is taken before the
+/// first command.
 pub fn perform<K: Sink, G: Gate, R: Threads + Wait + Sync>(
     rt: &R,
     alloc: Global,
+    command: Command,
     bundle: &Bundle,
     sink: &mut K,
     gate: &G,
 ) -> Result<(Result<(), Failed>, Served), NoMemory>
-    requires { IsRunnable (script_of bundle.now) }
-    ensures shows { IfOk result (λ r. Shows K.written K.faults K.write_gives (script_of bundle.now) r.1 sink.old sink.new r.0) }
+    requires can { IsRunnable (script_of bundle.now) }
+    requires own { IsItsScript command (script_of bundle.now) }
+    ensures shows { IfOk result (λ r. Shows K.written K.faults K.write_gives command (script_of bundle.now) r.1 sink.old sink.new r.0) }
     ensures untouched { OnErr result (sink.new ≡ sink.old) }
 {
     let ran = run_bundle(rt, alloc, bundle, gate)?;
-    let shown = write_run(bundle, &ran, sink);
+    let shown = show(command, bundle, &ran, sink);
     Ok((shown, ran.served))
+}
+
+// Writes what a command shows of a run.
+fn show<K: Sink>(command: Command, bundle: &Bundle, ran: &Ran, sink: &mut K) -> Result<(), Failed>
+    requires can { IsRunnable (script_of bundle.now) }
+    requires own { IsItsScript command (script_of bundle.now) }
+    requires has { HasRun (script_of bundle.now) ran.now }
+    ensures { Shows K.written K.faults K.write_gives command (script_of bundle.now) ran.now.served sink.old sink.new result }
+{
+    match command {
+        Command::Run => write_run(bundle, ran, sink),
+        Command::Files { .. } => write_run(bundle, ran, sink),
+        Command::Storm { number } => write_summary(number, bundle, &ran.records, &ran.store, sink),
+    }
 }
 
 fn run_bundle<G: Gate, R: Threads + Wait + Sync>(

@@ -15,12 +15,14 @@ use crate::status::Status;
 use kc_bundle::Bundle;
 use kc_model::{Failed, NoMemory, Shelf, Sink, Source};
 use kc_run::Gate;
+use kc_storm::storm;
 use std::alloc::Global;
 use std::sync::Wait;
 use std::thread::Threads;
 
 /// Runs the script that the words name, and writes its text to the sink. The words have the program's name first, and
-/// then a command: `run` reads the script from the source, `files SETUP FILE..` from the shelf, a file for each thread.
+/// then a command: `run` reads the script from the source, `files SETUP FILE..` from the shelf, a file for each thread;
+/// `storm N` runs the storm of that number, and writes its summary in place of a text.
 /// All is read before it is parsed. Each thread of the script runs in a thread of its own, behind the gate, on one
 /// store; a thread's command may wait for another's, and nothing is promised of when it ends.
 pub fn kcas_main<S: Source, F: Shelf, K: Sink, G: Gate, R: Threads + Wait + Sync>(
@@ -57,7 +59,7 @@ fn run<S: Source, F: Shelf, K: Sink, G: Gate, R: Threads + Wait + Sync>(
         Ok(bundle) => bundle,
         Err(status) => return (status, Served::Nothing),
     };
-    match perform(rt, alloc, &bundle, sink, gate) {
+    match perform(rt, alloc, command, &bundle, sink, gate) {
         Ok((Ok(()), served)) => (Status::Done, served),
         Ok((Err(Failed), served)) => (Status::WriteFault, served),
         Err(NoMemory) => (Status::NoMemory, Served::Nothing),
@@ -78,5 +80,6 @@ fn read_bundle<S: Source, F: Shelf>(
     match command {
         Command::Run => from_source(alloc, source),
         Command::Files { setup } => from_files(alloc, shelf, &words[setup..]),
+        Command::Storm { number } => Ok(storm(alloc, number)?),
     }
 }

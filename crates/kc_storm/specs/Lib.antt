@@ -1,0 +1,4 @@
+pub mod Storm
+pub mod State
+pub mod Summary
+pub mod Worked

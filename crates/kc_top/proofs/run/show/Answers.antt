@@ -1,0 +1,52 @@
+use Rattle.std.proofs.Common.{◌≡◌, refl}
+use Rattle.kc_bundle.specs.Script.{script_of}
+use Rattle.kc_history.specs.Records.{lists_of}
+use Rattle.kc_storm.specs.Storm.{storm_script}
+use Rattle.kc_top.specs.declared.command_line.Command.TheVariants as command
+use Rattle.kc_top.proofs.Shown.{shows_of, shown_formed, shown_named, shown_text, shown_within}
+use Rattle.kc_top.proofs.Stormed.{few_commits, summed_up}
+use Rattle.kc_top.proofs.run.show.Goals as goal
+
+pub write_run-requires-clause-cells : goal.write_run-requires-clause-cells
+write_run-requires-clause-cells g c = shown_within (script_of c.args.bundle.now) c.args.ran.now c.requires.can c.requires.has
+
+pub write_run-requires-clause-named : goal.write_run-requires-clause-named
+write_run-requires-clause-named g c = shown_named (script_of c.args.bundle.now) c.args.ran.now c.requires.can c.requires.has
+
+pub write_run-requires-in-Files-clause-cells : goal.write_run-requires-in-Files-clause-cells
+write_run-requires-in-Files-clause-cells g c = shown_within (script_of c.args.bundle.now) c.args.ran.now c.requires.can c.requires.has
+
+pub write_run-requires-in-Files-clause-named : goal.write_run-requires-in-Files-clause-named
+write_run-requires-in-Files-clause-named g c = shown_named (script_of c.args.bundle.now) c.args.ran.now c.requires.can c.requires.has
+
+pub write_summary-requires-clause-cells : goal.write_summary-requires-clause-cells
+write_summary-requires-clause-cells g c = shown_within (script_of c.args.bundle.now) c.args.ran.now c.requires.can c.requires.has
+
+pub write_summary-requires-clause-few : goal.write_summary-requires-clause-few
+write_summary-requires-clause-few g c =
+    let own = rw c.in-Storm.is at c.requires.own in
+    rw c.deref.ensures.value (few_commits c.in-Storm.number c.args.ran.now (script_of c.args.bundle.now) own c.requires.has)
+
+pub returns-in-Run : goal.returns-in-Run
+returns-in-Run g c =
+    let script = script_of c.args.bundle.now in
+    let ran = c.args.ran.now in
+    let formed = shown_formed script ran c.requires.can c.requires.has in
+    rw c.in-Run.is (shows_of g.K.Sink.written g.K.Sink.faults g.K.Sink.write_gives command.Run script (lists_of ran.records.items) ran.served c.args.sink.now c.write_run.new.sink c.write_run.result _
+    (shown_text script ran c.requires.can c.requires.has formed.0 formed.1) c.requires.has.served (c.write_run.ensures formed.0 formed.1))
+
+pub returns-in-Files : goal.returns-in-Files
+returns-in-Files g c =
+    let script = script_of c.args.bundle.now in
+    let ran = c.args.ran.now in
+    let formed = shown_formed script ran c.requires.can c.requires.has in
+    rw c.in-Files.is (shows_of g.K.Sink.written g.K.Sink.faults g.K.Sink.write_gives (command.Files c.in-Files.setup) script (lists_of ran.records.items) ran.served c.args.sink.now c.write_run-in-Files.new.sink c.write_run-in-Files.result _
+    (shown_text script ran c.requires.can c.requires.has formed.0 formed.1) c.requires.has.served (c.write_run-in-Files.ensures formed.0 formed.1))
+
+pub returns-in-Storm : goal.returns-in-Storm
+returns-in-Storm g c =
+    let script = script_of c.args.bundle.now in
+    let ran = c.args.ran.now in
+    let own = rw c.in-Storm.is at c.requires.own in
+    rw c.in-Storm.is (shows_of g.K.Sink.written g.K.Sink.faults g.K.Sink.write_gives (command.Storm c.in-Storm.number) script (lists_of ran.records.items) ran.served c.args.sink.now c.write_summary.new.sink c.write_summary.result _
+    (summed_up c.in-Storm.number ran script own c.requires.has) c.requires.has.served (rw c.deref.ensures.value at c.write_summary.ensures))

@@ -1,0 +1,108 @@
+//! Storms.
+
+use super::no_files;
+use crate::{Served, Status, kcas_main};
+use kc_model::{FrailSink, SureSource};
+use kc_run::{Gate, OpenGate};
+use std::alloc::Global;
+use std::sync::Wait;
+use std::sync::atomic::{AtomicU32, Ordering};
+use std::test::Fail;
+use std::thread::Threads;
+
+const STORM_0: &str =
+    "storm 0\ncommits 8004\nok 8000\nl0 35274\nl1 32514\nl2 35314\nl3 34844\nl4 32048\nl5 34797\nl6 29667\nl7 37103\na 262229\n";
+
+const STORM_7: &str =
+    "storm 7\ncommits 8004\nok 8000\nl0 30353\nl1 32914\nl2 35889\nl3 32471\nl4 30859\nl5 33745\nl6 33833\nl7 32873\na 261635\n";
+
+const STORM_LAST: &str =
+    "storm 4294967295\ncommits 8004\nok 8000\nl0 40823\nl1 33262\nl2 33715\nl3 37259\nl4 27450\nl5 36223\nl6 28180\nl7 30420\na 262859\n";
+
+// What the program's words behind its name come to, on a source and a shelf of nothing.
+fn asked<R: Threads + Wait + Sync, G: Gate>(
+    rt: &R,
+    alloc: Global,
+    behind: &[&str],
+    gate: &G,
+) -> Result<(Status, Vec<u8>, bool), Fail> {
+    let mut words = Vec::new(alloc);
+    words.push(String::from_str(alloc, "kcas")?)?;
+    for word in behind {
+        words.push(String::from_str(alloc, word)?)?;
+    }
+    let mut source = SureSource::new(Vec::new(alloc));
+    let mut shelf = no_files(alloc);
+    let mut sink = FrailSink::new(alloc, 1000, Vec::new(alloc))?;
+    let (status, served) = kcas_main(rt, alloc, &words, &mut source, &mut shelf, &mut sink, gate);
+    let ran = matches!(served, Served::Lock(_));
+    Ok((status, sink.bytes().to_vec(alloc)?, ran))
+}
+
+#[test]
+fn a_storm_writes_its_summary_at_each_run(rt: HostRuntime) -> Result<(), Fail> {
+    let rows = [
+        ("0", STORM_0),
+        ("7", STORM_7),
+        ("007", STORM_7),
+        ("4294967295", STORM_LAST),
+    ];
+    for (number, summary) in rows {
+        let (status, written, ran) = asked(&rt, rt.alloc(), &["storm", number], &OpenGate)?;
+        assert_eq!(rt; status, Status::Done, "{number}");
+        assert_eq!(rt; written.as_slice(), summary.as_bytes(), "{number}");
+        assert!(rt; ran, "{number}");
+    }
+    Ok(())
+}
+
+#[test]
+fn other_words_are_no_storm(rt: HostRuntime) -> Result<(), Fail> {
+    let rows: [&[&str]; 6] = [
+        &["storm"],
+        &["storm", "-1"],
+        &["storm", "4294967296"],
+        &["storm", "x"],
+        &["storm", ""],
+        &["storm", "1", "2"],
+    ];
+    for words in rows {
+        let (status, written, ran) = asked(&rt, rt.alloc(), words, &OpenGate)?;
+        assert_eq!(rt; status, Status::Usage);
+        assert!(rt; written.is_empty());
+        assert!(rt; !ran);
+    }
+    Ok(())
+}
+
+// Counts its calls.
+#[derive(Drop)]
+struct Counting {
+    before: AtomicU32,
+    after: AtomicU32,
+}
+
+impl Gate for Counting {
+    fn before(&self, _thread: u32, _number: u32) {
+        self.before.fetch_add(1, Ordering::SeqCst);
+    }
+
+    fn after(&self, _thread: u32, _number: u32) {
+        self.after.fetch_add(1, Ordering::SeqCst);
+    }
+}
+
+#[test]
+fn each_command_of_a_storm_passes_the_gate(rt: HostRuntime) -> Result<(), Fail> {
+    let gate = Counting {
+        before: AtomicU32::new(0),
+        after: AtomicU32::new(0),
+    };
+    let words = ["storm", "--store", "lock", "0"];
+    let (status, written, _) = asked(&rt, rt.alloc(), &words, &gate)?;
+    assert_eq!(rt; status, Status::Done);
+    assert_eq!(rt; written.as_slice(), STORM_0.as_bytes());
+    assert_eq!(rt; gate.before.load(Ordering::SeqCst), 8000);
+    assert_eq!(rt; gate.after.load(Ordering::SeqCst), 8000);
+    Ok(())
+}
