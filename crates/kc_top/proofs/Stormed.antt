@@ -9,7 +9,7 @@ use Rattle.kc_history.specs.Records.{lists_of}
 use Rattle.kc_storm.specs.Storm.{storm_script, storm_objects}
 use Rattle.kc_storm.specs.Summary.{commits, ok_commands, summary_lines, IsSummary}
 use Rattle.kc_storm.proofs.Drawn.{storm_commits}
-use Rattle.kc_storm.proofs.Lying.{storm_lies, storm_sized, thread_length, thread_on}
+use Rattle.kc_storm.proofs.Lying.{storm_lies, thread_length, thread_on}
 use Rattle.kc_top.specs.declared.run.Ran.{Ran}
 use Rattle.kc_top.specs.Ran.{HasRun}
 use Rattle.kc_top.specs.Runnable.{IsRunnable}
@@ -21,7 +21,6 @@ few_commands k e = omega (arith, e)
 pub storm_runnable : (n : ℕ) → IsRunnable (storm_script n)
 storm_runnable n = record {
   lies = storm_lies n;
-  sized = storm_sized n;
   few = lit≤ tt;
   threads = (
     few_commands _ (thread_length n 0 (omega arith)),
