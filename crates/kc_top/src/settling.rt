@@ -39,7 +39,7 @@ pub fn settle(records: &[Vec<Record>], room: &mut Room, store: &mut PlainStore)
     ensures legal { Legal (footprint_at (lists_of records.now)) (λ (_ : ℕ). 0) (store_of store.old) room.new.order (store_of store.new) }
     ensures size { length store.new ≡ length store.old }
 {
-    prove!(store.len() <= MOST_LOCATIONS);
+    prove!(store.len() as usize <= MOST_LOCATIONS);
     if arrange(records, room).is_err() {
         unreachable!("the records have a legal list");
     }
