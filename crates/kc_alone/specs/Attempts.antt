@@ -60,5 +60,5 @@ CanBeTaken m d = (d < m.descriptors) × ((m.world.control d).holds ≡ 0) × ((m
 -- an idle seat's attempt, made alone where two descriptors can be taken, ends within the bound of one task, whatever it puts that is well made
 abbrev pub AttemptsEnd : Opening → List Event → Type 0
 AttemptsEnd o es = (k d e : ℕ) (ls : List Loc) (puts : List Seen → List Put) → k < o.callers → is_idle ((run o es).seats k).work ≡ true → d < e → CanBeTaken (run o es) d → CanBeTaken (run o es) e
-    → All (λ l. l.0 < o.locations) ls → length ls ≤ MOST → ((rs : List Seen) → map (λ r. r.loc) rs ≡ ls → All (λ r. r.version < LAST_VERSION) rs → IsWellMade (footprint_of puts rs))
+    → All (λ l. l.0 < o.locations) ls → length ls ≤ MOST → ((rs : List Seen) → map (λ r. r.loc) rs ≡ ls → All (λ r. r.version ≤ LAST_VERSION) rs → IsWellMade (footprint_of puts rs))
     → (n : ℕ) × (n ≤ bound_alone o.callers MOST) × IsAttempt k (run o es) ls puts n

@@ -1,13 +1,12 @@
 use Rattle.std.proofs.Common.{refl, [], ◌∷◌}
-use Rattle.kc_model.specs.declared.footprint.Seen.{Seen}
 use Rattle.kc_steps.specs.declared.task.Task.TheVariants as task
 use Rattle.kc_steps.specs.declared.task.Told.TheVariants as told
 use Rattle.kc_steps.specs.Lines.{next_among}
 use Rattle.kc_machine.specs.Machine.{State, put, run}
 use Rattle.kc_claims.specs.Claims.{steps}
 use Rattle.kc_claims.specs.Worked.{seen}
-use Rattle.kc_alone.specs.Attempts.{makes, IsToldBy, Looks, none, look, Commits, once, footprint_of, IsAttempt}
-use Rattle.kc_alone.specs.Worked.{one, seven}
+use Rattle.kc_alone.specs.Attempts.{makes, none, look, once}
+use Rattle.kc_alone.specs.Worked.{one}
 use Rattle.kc_alone.proofs.worked.an_attempt_by_hand.Goals as goal
 
 pub returns : goal.returns
