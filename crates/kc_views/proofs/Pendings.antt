@@ -1,6 +1,6 @@
 -- Beginnings and halts of a seat between its steps.
 use Rattle.std.proofs.Common.{◌≡◌, ◌≢◌, ◌<◌, ℕ, List, [], ◌∷◌, ◌++◌, All, refl, sym, ap, ◌∙◌, subst, arith}
-use Rattle.std.proofs.lemmas.List.Elements.{All-push, All-append, All-head, All-tail}
+use Rattle.std.proofs.lemmas.List.Elements.{All-cons, All-head, All-tail}
 use Rattle.kc_model.specs.Store.{Store}
 use Rattle.kc_steps.specs.declared.task.Event.{Event}
 use Rattle.kc_steps.specs.declared.task.Event.TheVariants.{Begin, Step, Halt}
@@ -22,6 +22,10 @@ pub none_append : (k : ℕ) (xs ys : List Event) → NoneOf k xs → NoneOf k ys
 none_append k [] ys n p = p
 none_append k (x ∷ xs) ys n p = (n.0, none_append k xs ys n.1 p)
 
+pub all_front : {A : Type 0} (P : A → Type 0) (xs ys : List A) → All P (xs ++ ys) → All P xs
+all_front P [] ys a = λ i d l. absurd (omega arith)
+all_front P (x ∷ xs) ys a = All-cons P x xs (All-head P x (xs ++ ys) a) (all_front P xs ys (All-tail P x (xs ++ ys) a))
+
 -- own beginnings and halts are of no other seat
 pub waits_none : (j k : ℕ) (es : List Event) → j ≢ k → AllWait k es → NoneOf j es
 waits_none j k [] ne w = tt
@@ -33,7 +37,7 @@ waits_no_step : (k : ℕ) (es : List Event) → AllWait k es → All IsNoStep es
 waits_no_step k es w = go es w
   where
     cons : (e : Event) (es : List Event) → IsNoStep e → All IsNoStep es → All IsNoStep (e ∷ es)
-    cons e es a b = Rattle.std.proofs.lemmas.List.Elements.All-cons IsNoStep e es a b
+    cons e es a b = All-cons IsNoStep e es a b
 
     go : (es : List Event) → AllWait k es → All IsNoStep es
     go [] w = λ i d l. absurd (omega arith)

@@ -1,6 +1,6 @@
 //! What holds of every honest schedule of well-made tasks. An empty body: the contract is the law.
 
-ghost use Rattle.std.specs.Prelude.{◌≡◌, ℕ, ◌≤◌, ◌<◌, ◌++◌, List, Some, true};
+ghost use Rattle.std.specs.Prelude.{◌≡◌, ℕ, ◌≤◌, ◌<◌, ◌++◌, List, Some, true, false};
 ghost use Rattle.kc_model.specs.declared.footprint.Footprint.{Footprint};
 ghost use Rattle.kc_model.specs.declared.footprint.Loc.{Loc};
 ghost use Rattle.kc_model.specs.declared.footprint.Seen.{Seen};
@@ -11,12 +11,13 @@ ghost use Rattle.kc_steps.specs.declared.task.Task.TheVariants as task;
 ghost use Rattle.kc_steps.specs.declared.task.Told.TheVariants as told;
 ghost use Rattle.kc_machine.specs.declared.seat.Seat.{Seat};
 ghost use Rattle.kc_machine.specs.Machine.{Opening, run};
-ghost use Rattle.kc_machine.specs.Seats.{is_idle};
+ghost use Rattle.kc_machine.specs.Schedules.{IsWellMadeTask};
+ghost use Rattle.kc_machine.specs.Seats.{begun, is_idle};
 ghost use Rattle.kc_claims.specs.Histories.{Grows, IsKnown, IsLegalHistory, ending};
 ghost use Rattle.kc_claims.specs.Traces.{first_store};
 ghost use Rattle.kc_traces.specs.Entries.{by};
 ghost use Rattle.kc_traces.specs.Outcomes.{GainsAsTold};
-ghost use Rattle.kc_views.specs.Pending.{Pends};
+ghost use Rattle.kc_views.specs.Pending.{BeginsOne, Pends};
 ghost use Rattle.kc_views.specs.Known.{GoesOn, IsMeant, IsWhole, KnowsAPart, OwnsNone, known};
 ghost use Rattle.kc_model.specs.declared.word.Word.TheVariants.{Plain};
 ghost use Rattle.kc_views.specs.Tasks.{FailureTaught, LookTaught, Runs, SuccessTaught, ran};
@@ -72,4 +73,10 @@ pub fn idle_seats_own_nothing()
     ensures none { (o : Opening) (k : ℕ) (past pending : List Event) (began : Bool) (s : Seat) → Pends o k past began pending s → is_idle s.work ≡ true → OwnsNone o k past }
     ensures words { (o : Opening) (es : List Event) → IsMeant o es → ((k : ℕ) → k < o.callers → OwnsNone o k es) → (l : ℕ) → l < o.locations
         → (run o es).world.word l ≡ Plain (ending (first_store o) (known o es) l).version (ending (first_store o) (known o es) l).value }
+{}
+
+/// What a seat stands as that has begun a task, and made no step, says the task. A task that was halted so early gives way to the next one.
+pub fn beginnings_say_their_task()
+    ensures { (o : Opening) (k : ℕ) (past pending : List Event) (t u : Task) (s v : Seat) → Pends o k past true pending s → BeginsOne k ((run o past).seats k) t pending → IsWellMadeTask o.locations u
+        → is_idle v.work ≡ true → is_idle (begun v u).work ≡ false → s ≡ begun v u → t ≡ u }
 {}

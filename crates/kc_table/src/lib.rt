@@ -1,0 +1,18 @@
+//! The machine's steps on the words of one table, which threads share.
+#![tactic(auto)]
+
+mod end;
+mod laws;
+mod open;
+mod rule;
+mod seat;
+mod table;
+#[cfg(test)]
+mod tests;
+mod touch;
+mod view;
+
+pub use end::Past;
+pub use laws::{tasks_are_followed, what_was_begun_is_known};
+pub use seat::{KcNote, KcSeat};
+pub use table::KcTable;
