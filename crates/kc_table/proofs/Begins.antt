@@ -1,26 +1,22 @@
 -- A seat that begins or halts a task, learns or loads its signal is as ready as before.
-use Rattle.std.proofs.Common.{◌≡◌, ◌≢◌, ◌==◌, Bool, true, false, ℕ, List, [], ◌∷◌, ◌++◌, All, refl, sym, ap, ◌∙◌, subst, append_assoc, arith, if◌then◌else◌}
+use Rattle.std.proofs.Common.{◌≡◌, ◌≢◌, ◌==◌, Bool, true, false, ℕ, List, [], ◌∷◌, ◌++◌, All, refl, sym, ap, ◌∙◌, subst, append_assoc}
 use Rattle.std.proofs.lemmas.List.Elements.{All-push}
 use borrow.Author.Tests.{eqb-true, eqb-false}
 use Rattle.atomic_table.specs.Seated.{TableId}
 use Rattle.atomic_table.specs.Table.{Me}
 use Rattle.kc_steps.specs.declared.task.Task.{Task}
-use Rattle.kc_steps.specs.declared.task.Task.TheVariants as task
 use Rattle.kc_steps.specs.declared.task.Event.{Event}
-use Rattle.kc_steps.specs.declared.task.Event.TheVariants.{Begin, Step, Halt}
-use Rattle.kc_steps.specs.declared.task.Told.{Told}
-use Rattle.kc_machine.specs.Works.{Work}
-use Rattle.kc_machine.specs.Works as work
+use Rattle.kc_steps.specs.declared.task.Event.TheVariants.{Begin, Halt}
 use Rattle.kc_machine.specs.declared.seat.Seat.{Seat}
-use Rattle.kc_machine.specs.Seats.{begun, begun_idle, halted, is_idle}
+use Rattle.kc_machine.specs.Seats.{begun, halted, is_idle}
 use Rattle.kc_machine.specs.Machine.{Opening, run}
 use Rattle.kc_machine.specs.Schedules.{BeginsWellMade, IsWellMadeTask}
 use Rattle.kc_seats.specs.Seated.{SeatsStay}
 use Rattle.kc_claims.specs.Histories.{Grows}
-use Rattle.kc_claims.specs.Traces.{trace, first_store, BeginsHonestly}
+use Rattle.kc_claims.specs.Traces.{first_store, BeginsHonestly}
 use Rattle.kc_traces.specs.Moments.{BeginsNothing}
 use Rattle.kc_traces.specs.Parts.{NoneOf}
-use Rattle.kc_views.specs.Pending.{AllWait, moved_by, applied, HonestAt, BeginsOne, BeginsAsMarked, Pends}
+use Rattle.kc_views.specs.Pending.{AllWait, applied, HonestAt, BeginsAsMarked, Pends}
 use Rattle.kc_views.specs.Known.{IsMeant, IsPrefix, known}
 use Rattle.kc_views.proofs.Pendings.{all_front, waits_push, waits_front, waits_back, honest_push, honest_before, nothing_push, applied-append, waits_seat}
 use Rattle.kc_views.proofs.Knowing.{grows_on}

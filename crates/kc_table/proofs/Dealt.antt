@@ -1,18 +1,16 @@
 -- Seats as they are opened.
-use Rattle.std.proofs.Common.{false, ◌≡◌, ℕ, zero, suc, ◌+◌, ◌-◌, ◌*◌, ◌<◌, ◌≤◌, List, [], ◌∷◌, ◌++◌, length, All, get_or, refl, sym, ap, ◌∙◌, subst, arith}
+use Rattle.std.proofs.Common.{false, ◌≡◌, ℕ, zero, suc, ◌+◌, ◌-◌, ◌*◌, ◌<◌, ◌≤◌, List, [], ◌∷◌, ◌++◌, length, get_or, sym, ap, ◌∙◌, subst, arith}
 use Rattle.atomic_table.specs.Table.{Me}
-use Rattle.kc_model.specs.declared.footprint.TheConstants.{LAST_VERSION}
 use Rattle.kc_machine.specs.declared.seat.Seat.{Seat}
 use Rattle.kc_machine.specs.Seats.{fresh}
 use Rattle.kc_machine.specs.Machine.{pool_size, opened}
 use Rattle.kc_model.specs.declared.word.Word.TheVariants.{Plain}
-use Rattle.kc_model.specs.Word.{packed, unpacked}
+use Rattle.kc_model.specs.Word.{unpacked}
 use Rattle.kc_layout.specs.Opened.{opening_at}
 use Rattle.kc_layout.specs.Cells.{Stores}
 use Rattle.kc_layout.specs.Cells.Cell.{word}
 use Rattle.atomic_table.specs.Seated.{TableId}
-use Rattle.kc_table.specs.Origins.{Origin, Opens, opening_of, word_in, version_in, value_in}
-use Rattle.kc_table.specs.declared.view.Part.{Part}
+use Rattle.kc_table.specs.Origins.{Origin, Opens, word_in, version_in, value_in}
 use Rattle.kc_table.specs.declared.view.View.{View}
 use Rattle.kc_table.specs.Rule.{number_of, past_of, part, view, fresh_parts, Ready}
 use Rattle.kc_table.specs.Views.{TableView, SeatView, OpensAt, opened_seats}

@@ -10,11 +10,10 @@ use Rattle.kc_machine.specs.Seats.{begun, is_idle}
 use Rattle.kc_machine.specs.Machine.{Opening, run}
 use Rattle.kc_machine.specs.Schedules.{IsWellMadeTask}
 use Rattle.kc_traces.specs.Moments.{BeginsNothing}
-use Rattle.kc_traces.specs.Parts.{NoneOf}
 use Rattle.kc_traces.proofs.Others.{others_leave}
 use Rattle.kc_views.specs.Pending.{AllWait, applied, BeginsOne, BeginsAsMarked, Pends}
 use Rattle.kc_views.specs.Known.{IsMeant}
-use Rattle.kc_views.specs.Tasks.{Runs, ran}
+use Rattle.kc_views.specs.Tasks.{ran}
 use Rattle.kc_views.proofs.Pendings.{nothing_push, none_begins, waits_front, waits_seat}
 use Rattle.kc_views.proofs.Shown.{says}
 use Rattle.kc_table.specs.Origins.{opening_of}

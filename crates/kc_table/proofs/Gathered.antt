@@ -1,5 +1,5 @@
 -- Seats as they come back.
-use Rattle.std.proofs.Common.{◌≡◌, Bool, true, false, ℕ, zero, suc, ◌<◌, ◌≤◌, ◌+◌, List, [], ◌∷◌, ◌++◌, length, get_or, refl, sym, ap, ◌∙◌, arith, subst}
+use Rattle.std.proofs.Common.{◌≡◌, Bool, true, ℕ, zero, suc, ◌<◌, List, [], ◌∷◌, ◌++◌, length, get_or, refl, sym, ap, ◌∙◌, arith, subst}
 use Rattle.std.specs.Prelude.{All}
 use Rattle.std.proofs.lemmas.List.Elements.{All-head, All-tail}
 use Rattle.atomic_table.specs.Seated.{TableId}
@@ -8,13 +8,13 @@ use Rattle.kc_steps.specs.declared.task.Event.{Event}
 use Rattle.kc_machine.specs.declared.seat.Seat.{Seat}
 use Rattle.kc_machine.specs.Seats.{is_idle}
 use Rattle.kc_machine.specs.Machine.{Opening}
-use Rattle.kc_views.specs.Known.{known, IsMeant, GoesOn, KnowsAPart, OwnsNone, IsWhole}
+use Rattle.kc_views.specs.Known.{known, IsMeant, GoesOn, KnowsAPart, OwnsNone}
 use Rattle.kc_views.proofs.Knowing.{idle_owns_none, knows_a_part, whole}
 use Rattle.kc_table.specs.Origins.{Origin, opening_of}
 use Rattle.kc_table.specs.declared.view.Part.{Part}
 use Rattle.kc_table.specs.declared.view.View.{View}
 use Rattle.kc_table.specs.Rule.{number_of, past_of, part, Fits, EachFits, Ready}
-use Rattle.kc_table.specs.Views.{TableView, SeatView, PastView, Matches, IsPart, IsPast, AreAll}
+use Rattle.kc_table.specs.Views.{TableView, SeatView, Matches, IsPart, IsPast, AreAll}
 use Rattle.kc_table.proofs.Begins.{shown_as}
 
 matches-more : (o : Opening) (ps : List Part) (ss : List SeatView) (p : Part) (s : SeatView) → Matches o ps ss → p.number ≡ s.number → p.past ≡ s.past → OwnsNone o p.number p.past → Matches o (ps ++ p ∷ []) (ss ++ s ∷ [])

@@ -6,3 +6,5 @@ pub mod Dealt
 pub mod Gathered
 pub mod Waits
 pub mod Following
+pub mod Read
+pub mod Closing

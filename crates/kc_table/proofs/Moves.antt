@@ -1,7 +1,7 @@
 -- A step of a seat keeps the rule, however its word is touched.
-use Rattle.std.proofs.Common.{◌≡◌, ◌≢◌, ◌⊎◌, ℕ, ◌+◌, ◌<◌, ◌≤◌, Bool, true, false, List, [], ◌∷◌, ◌++◌, set, length, All, refl, sym, ap, ◌∙◌, ⊎_elim, arith, subst, append_assoc, append-nil}
+use Rattle.std.proofs.Common.{◌≡◌, ◌≢◌, ℕ, ◌<◌, Bool, true, false, List, [], ◌∷◌, ◌++◌, set, refl, sym, ap, ◌∙◌, ⊎_elim, arith, subst, append_assoc, append-nil}
 use Rattle.std.specs.Prelude.{slice_index}
-use Rattle.std.proofs.lemmas.List.Elements.{All-append, All-push}
+use Rattle.std.proofs.lemmas.List.Elements.{All-push}
 use mathlib.Core.Option.{some}
 use lib.ListN.{get_elem?}
 use Rattle.atomic_table.specs.Table as table
@@ -13,9 +13,9 @@ use Rattle.kc_steps.specs.declared.task.Event.{Event}
 use Rattle.kc_steps.specs.declared.task.Event.TheVariants.{Step}
 use Rattle.kc_machine.specs.declared.seat.Seat.{Seat}
 use Rattle.kc_machine.specs.Seats.{access_of, answer_of, is_idle}
-use Rattle.kc_machine.specs.Machine.{World, State, Opening, run, touched, possible, found_at, pool_size}
-use Rattle.kc_machine.specs.Schedules.{IsSchedule, BeginsWellMade}
-use Rattle.kc_claims.specs.Traces.{trace, first_store, IsHonest, BeginsHonestly}
+use Rattle.kc_machine.specs.Machine.{World, Opening, run, touched, possible, found_at, pool_size}
+use Rattle.kc_machine.specs.Schedules.{BeginsWellMade}
+use Rattle.kc_claims.specs.Traces.{trace, first_store}
 use Rattle.kc_ranges.specs.Bits.{AccessFits, ValuesFit}
 use Rattle.kc_ranges.specs.Ranges.{AccessIn}
 use Rattle.kc_ranges.proofs.Bits.{access_fits}
@@ -28,7 +28,7 @@ use Rattle.kc_views.specs.Known.{IsMeant, known}
 use Rattle.kc_views.proofs.Pendings.{none_append, waits_none, waits_world, waits_seat, honest_waits, honest_later}
 use Rattle.kc_views.proofs.Knowing.{begins_later}
 use Rattle.kc_layout.specs.Changes.{change_of, changed, aim_of}
-use Rattle.kc_layout.specs.Cells.{AllFit, Cell, CellFits, HasRoom, IsThere, Stores, base_of, bits, cell_of, place, size_of}
+use Rattle.kc_layout.specs.Cells.{AllFit, CellFits, HasRoom, IsThere, Stores, base_of, bits, cell_of, place, size_of}
 use Rattle.kc_layout.specs.declared.change.Change.{Change}
 use Rattle.kc_layout.specs.declared.change.Aim.{Aim}
 use Rattle.kc_layout.proofs.Places.{inside}

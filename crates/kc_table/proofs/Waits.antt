@@ -1,5 +1,5 @@
 -- A seat that waits for its signal.
-use Rattle.std.proofs.Common.{◌≡◌, Bool, ℕ, List, [], ◌∷◌, ◌++◌, refl, sym, ap, ◌∙◌, subst, append_assoc}
+use Rattle.std.proofs.Common.{Bool, ◌++◌, ap, ◌∙◌, subst, append_assoc}
 use Rattle.kc_machine.specs.Machine.{run}
 use Rattle.kc_traces.specs.Parts.{NoneOf}
 use Rattle.kc_views.specs.Known.{IsMeant}

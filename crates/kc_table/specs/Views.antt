@@ -1,19 +1,19 @@
 -- What clauses see of a table, its seats and notes, and of what is left of it.
-use Rattle.std.specs.Prelude.{◌≡◌, Bool, true, false, ℕ, zero, suc, ◌*◌, ◌≤◌, ◌<◌, List, [], ◌∷◌, ◌++◌, length, get_or, Option, None, Some, All, if◌then◌else◌, nat_lt}
+use Rattle.std.specs.Prelude.{◌≡◌, Bool, true, false, ℕ, zero, suc, ◌*◌, ◌<◌, List, [], ◌∷◌, length, get_or, Some, All, slice_get}
 use Rattle.atomic_table.specs.Seated.{TableId}
 use Rattle.kc_model.specs.declared.footprint.Seen.{Seen}
 use Rattle.kc_model.specs.declared.plain_store.Cell.{Cell}
 use Rattle.kc_steps.specs.declared.task.Event.{Event}
-use Rattle.kc_steps.specs.declared.task.Event.TheVariants.{Begin, Step}
+use Rattle.kc_steps.specs.declared.task.Event.TheVariants.{Begin}
 use Rattle.kc_steps.specs.declared.task.Task.{Task}
 use Rattle.kc_machine.specs.declared.seat.Seat.{Seat}
 use Rattle.kc_machine.specs.Machine.{Opening, run, pool_size}
 use Rattle.kc_machine.specs.Seats.{begun, fresh, is_idle}
 use Rattle.kc_claims.specs.Histories.{History, Grows, ending}
 use Rattle.kc_claims.specs.Traces.{first_store, BeginsHonestly}
-use Rattle.kc_traces.specs.Parts.{NoneOf}
 use Rattle.kc_views.specs.Known.{known, IsMeant, IsPrefix, IsWhole, GoesOn, KnowsAPart, OwnsNone}
-use Rattle.kc_table.specs.Origins.{Origin, opening_of}
+use Rattle.kc_model.specs.declared.word.Word.{Word}
+use Rattle.kc_table.specs.Origins.{Origin, opening_of, version_in, value_in, word_in}
 use Rattle.kc_table.specs.Rule.{Steps}
 use Rattle.kc_table.specs.declared.view.Part.{Part}
 
@@ -135,20 +135,26 @@ pub record IsPast (z : TableView) (seats : List SeatView) (p : PastView) : Type 
   pub whole : IsWhole (opening_of p.origin) (known (opening_of p.origin) p.schedule)
   pub parts : All (IsPart (opening_of p.origin) p.schedule) seats
 
--- the words of the locations that are there
+-- what stands at each location
 pub record ClosedView : Type 0 where
-  pub locations : ℕ
-  pub cell : ℕ → Cell
+  pub seen : List Seen
 
-abbrev pub seen_at : ClosedView → ℕ → Option Seen
-seen_at c l = if nat_lt l c.locations then Some (record { loc = record { 0 = l }; version = (c.cell l).version; value = (c.cell l).value }) else None
+abbrev pub seen_at : ℕ → Cell → Seen
+seen_at l c = record { loc = record { 0 = l }; version = c.version; value = c.value }
 
 -- the store at the end of such a schedule
 pub record IsClosed (z : TableView) (seats : List SeatView) (c : ClosedView) : Type 0 where
   pub schedule : List Event
   pub past : IsPast z seats (record { origin = z.origin; schedule = schedule })
-  pub locations : c.locations ≡ z.origin.locations
-  pub cells : (l : ℕ) → l < c.locations → c.cell l ≡ ending (first_store (opening_of z.origin)) (known (opening_of z.origin) schedule) l
+  pub locations : length c.seen ≡ z.origin.locations
+  pub each : (l : ℕ) → l < z.origin.locations → slice_get c.seen l ≡ Some (seen_at l (ending (first_store (opening_of z.origin)) (known (opening_of z.origin) schedule) l))
+
+-- what a word says that is plain
+abbrev pub seen_of : ℕ → Word → Seen
+seen_of l w = seen_at l (record { version = version_in w; value = value_in w })
+
+abbrev pub seen_in : List ℕ → ℕ → Seen
+seen_in ws l = seen_of l (word_in ws l)
 
 -- each part is of the seat at its place, which owned nothing at its last step
 abbrev pub Matches : Opening → List Part → List SeatView → Type 0

@@ -12,7 +12,7 @@ mod tests;
 mod touch;
 mod view;
 
-pub use end::Past;
+pub use end::{CloseRefused, Closed, Past};
 pub use laws::{tasks_are_followed, what_was_begun_is_known};
 pub use seat::{KcNote, KcSeat};
 pub use table::KcTable;

@@ -11,7 +11,6 @@ use crate::table::KcTable;
 use crate::touch::Token;
 use crate::view::Origin;
 use atomic_table::Table;
-use kc_layout::base_at;
 use kc_machine::Seat;
 use std::alloc::{AllocError, Global};
 
@@ -20,8 +19,8 @@ pub(crate) fn make_table(alloc: Global, origin: &Origin) -> Result<(KcTable, Tok
     ensures { IfOk result (λ t. (t.0.origin ≡ origin.now) × (t.1.table_id ≡ t.0.table) × (t.1.me ≡ (everyone origin.now, []))) }
 {
     let (table, first) = Table::of_words(alloc, origin.words.as_slice(), origin)?;
-    let base = base_at(origin.locations as usize);
-    Ok((KcTable { table, base }, first))
+    let locations = origin.locations as usize;
+    Ok((KcTable { table, locations }, first))
 }
 
 pub(crate) fn deal_seats(

@@ -1,4 +1,4 @@
-use Rattle.std.proofs.Common.{◌≡◌, true, arith, sym, ap, ◌∙◌, rules, subst, append_assoc, append-nil, ◌++◌, ◌∷◌, []}
+use Rattle.std.proofs.Common.{◌≡◌, true, sym, ap, ◌∙◌, subst, append_assoc, append-nil, ◌++◌, ◌∷◌, []}
 use Rattle.std.specs.Prelude.{All}
 use Rattle.kc_machine.specs.Seats.{is_idle}
 use Rattle.kc_table.specs.Origins.{opening_of}

@@ -1,4 +1,4 @@
-use Rattle.std.proofs.Common.{◌≡◌, true, sym, ap, ◌∙◌, subst, rules}
+use Rattle.std.proofs.Common.{true, sym, subst}
 use Rattle.kc_table.specs.Views.{Signalled}
 use Rattle.kc_table.proofs.Waits.Waited.{still}
 use Rattle.kc_table.proofs.Waits.{waited_more, waited_signal}
