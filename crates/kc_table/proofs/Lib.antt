@@ -8,3 +8,4 @@ pub mod Waits
 pub mod Following
 pub mod Read
 pub mod Closing
+pub mod Keeping

@@ -13,6 +13,9 @@ mod touch;
 mod view;
 
 pub use end::{CloseRefused, Closed, Past};
-pub use laws::{tasks_are_followed, what_was_begun_is_known};
+pub use laws::{
+    knowledge_is_kept, looks_teach_their_seat, own_entries_are_known, tasks_are_followed,
+    what_was_begun_is_known,
+};
 pub use seat::{KcNote, KcSeat};
 pub use table::KcTable;
