@@ -9,3 +9,4 @@ pub mod Following
 pub mod Read
 pub mod Closing
 pub mod Keeping
+pub mod Trying

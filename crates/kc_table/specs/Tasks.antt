@@ -1,5 +1,5 @@
 -- A task of a seat, from its beginning on, and what the seat knows by its steps.
-use Rattle.std.specs.Prelude.{◌≡◌, ◌≤◌, ◌++◌, ℕ, List}
+use Rattle.std.specs.Prelude.{◌≡◌, ◌<◌, ◌≤◌, ◌++◌, ℕ, List}
 use Rattle.kc_model.specs.declared.footprint.Loc.{Loc}
 use Rattle.kc_model.specs.declared.footprint.Seen.{Seen}
 use Rattle.kc_steps.specs.declared.task.Event.{Event}
@@ -42,3 +42,11 @@ pub record Saw (v : SeatView) (l : Loc) (r : Seen) (w : SeatView) : Type 0 where
   pub of : r.loc ≡ l
   pub known : IsKnown (first_store (opening_at_seat w)) (knows w) r
   pub no_lower : (ending (first_store (opening_at_seat v)) (knows v) r.loc.0).version ≤ r.version
+
+-- a read of a location of the table that the seat knows
+abbrev pub KnowsRead : SeatView → Seen → Type 0
+KnowsRead v r = (r.loc.0 < v.of.origin.locations) × IsKnown (first_store (opening_at_seat v)) (knows v) r
+
+-- of the same table, and of the same number
+abbrev pub IsSameSeat : SeatView → SeatView → Type 0
+IsSameSeat v w = (w.of ≡ v.of) × (w.number ≡ v.number)
