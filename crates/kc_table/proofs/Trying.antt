@@ -1,5 +1,5 @@
 -- What tests step on.
-use Rattle.std.proofs.Common.{◌≡◌, ◌<◌, ◌≤◌, ℕ, List, [], ◌∷◌, length, get_or, Some, true, false, refl, sym, ap, ◌∙◌, subst}
+use Rattle.std.proofs.Common.{◌≡◌, ◌<◌, ◌≤◌, ℕ, List, [], ◌∷◌, length, get_or, Some, true, false, refl, sym, ap, ◌∙◌, subst, arith}
 use Rattle.std.specs.Prelude.{All, Contains}
 use Rattle.std.proofs.lemmas.List.Elements.{All-contains, All-push}
 use Rattle.kc_model.specs.declared.footprint.Footprint.{Footprint}
@@ -10,13 +10,10 @@ use Rattle.kc_words.specs.declared.words.Mode.{Mode}
 use Rattle.kc_steps.specs.declared.task.Task.{Task}
 use Rattle.kc_steps.specs.declared.task.Task.TheVariants as task
 use Rattle.kc_steps.specs.declared.task.Told.TheVariants as told
-use Rattle.kc_machine.specs.declared.seat.Seat.{Seat}
 use Rattle.kc_machine.specs.Seats.{begun, is_idle}
 use Rattle.kc_machine.specs.Schedules.{IsWellMadeTask}
-use Rattle.kc_claims.specs.Histories.{IsKnown}
-use Rattle.kc_claims.specs.Traces.{first_store}
-use Rattle.kc_table.specs.Views.{SeatView, Learns, Starts, Stepped, KnowsReads, knows, opening_at_seat}
-use Rattle.kc_table.specs.Tasks.{Does, Keeps, KnowsRead, Saw, IsSameSeat}
+use Rattle.kc_table.specs.Views.{TableView, SeatView, Learns, Starts, Stepped, KnowsReads, AreAll, count_from}
+use Rattle.kc_table.specs.Tasks.{Does, Keeps, KnowsRead}
 use Rattle.kc_table.proofs.Following.{does_first, does_further}
 use Rattle.kc_table.proofs.Keeping.{steps_keep, loads_keep, looks_saw}
 
@@ -67,3 +64,18 @@ module _ (v : SeatView) (reads : List Seen) (f : Footprint) (among : (r : Seen) 
 
   pub commit_made : (m : Mode) → IsWellMade f → length f.reads.items ≤ 64 → IsWellMadeTask v.of.origin.locations (task.Commit f m)
   commit_made m w l = (w, λ r c. (each r c).0, l)
+
+pub are_all : (z : TableView) (a b : SeatView) → a.of ≡ z → b.of ≡ z → z.origin.callers ≡ 2 → a.number ≡ 0 → b.number ≡ 1 → is_idle a.seat.work ≡ true → is_idle b.seat.work ≡ true → AreAll z (a ∷ b ∷ [])
+are_all z a b p q c m n i j = record {
+  of = two (λ s. s.of ≡ z) p q;
+  idle = two (λ s. is_idle s.seat.work ≡ true) i j;
+  all = (λ t. m t ∷ n t ∷ []) ∙ ap (count_from 0) (sym c);
+}
+  where
+    two : (P : SeatView → Type 0) → P a → P b → All P (a ∷ b ∷ [])
+    two P x y = All-push P (a ∷ []) b (All-push P [] a (λ k d lt. absurd (omega arith)) x) y
+
+-- ---- waiting
+
+pub one_below : (n : ℕ) (r : Seen) → r.loc.0 < n → All (λ (x : Seen). x.loc.0 < n) (r ∷ [])
+one_below n r b = All-push (λ (x : Seen). x.loc.0 < n) [] r (λ k d lt. absurd (omega arith)) b

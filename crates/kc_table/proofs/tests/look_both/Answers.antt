@@ -1,4 +1,3 @@
-use Rattle.std.proofs.Common.{◌≡◌}
 use Rattle.kc_table.proofs.Trying.{two_known}
 use Rattle.kc_table.proofs.tests.look_both.Goals as goal
 

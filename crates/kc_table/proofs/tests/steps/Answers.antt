@@ -1,4 +1,4 @@
-use Rattle.std.proofs.Common.{◌≡◌, ◌∙◌}
+use Rattle.std.proofs.Common.{◌∙◌}
 use Rattle.kc_table.proofs.Trying.{reads_step}
 use Rattle.kc_table.proofs.tests.steps.Goals as goal
 
