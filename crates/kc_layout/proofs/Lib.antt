@@ -1,0 +1,4 @@
+pub mod Places
+pub mod Touches
+pub mod Stored
+mod Opening

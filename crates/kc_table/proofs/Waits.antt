@@ -1,0 +1,34 @@
+-- A seat that waits for its signal.
+use Rattle.std.proofs.Common.{Bool, ◌++◌, ap, ◌∙◌, subst, append_assoc}
+use Rattle.kc_machine.specs.Machine.{run}
+use Rattle.kc_traces.specs.Parts.{NoneOf}
+use Rattle.kc_views.specs.Known.{IsMeant}
+use Rattle.kc_views.proofs.Pendings.{none_append}
+use Rattle.kc_table.specs.Origins.{opening_of}
+use Rattle.kc_table.specs.Views.{SeatView, Learns, Signalled}
+
+-- as it was, or knowing more
+pub data Waited (s : SeatView) : SeatView → Type 0 where
+  still : Waited s s
+  more : {t : SeatView} → Learns s t → Waited s t
+
+learns_on : (s t u : SeatView) → Learns s t → Learns t u → Learns s u
+learns_on s t u a b = record {
+  of = b.of ∙ a.of;
+  number = b.number ∙ a.number;
+  began = b.began ∙ a.began;
+  seat = b.seat ∙ a.seat;
+  on = (a.on.0 ++ b.on.0, b.on.1 ∙ ap (λ l. l ++ b.on.0) a.on.1 ∙ append_assoc s.past a.on.0 b.on.0, none_append s.number a.on.0 b.on.0 a.on.2 (subst (λ n. NoneOf n b.on.0) a.number b.on.2));
+  meant = subst (λ q. IsMeant (opening_of q) u.past) (ap (λ z. z.origin) a.of) b.meant;
+}
+
+pub waited_more : (s t u : SeatView) (b : Bool) → Waited s t → Signalled t b u → Waited s u
+waited_more s _ u b still g = more g.learns
+waited_more s t u b (more l) g = more (learns_on s t u l g.learns)
+
+pub waited_signal : (s t u : SeatView) (b : Bool) → Waited s t → Signalled t b u → Signalled s b u
+waited_signal s _ u b still g = g
+waited_signal s t u b (more l) g = record {
+  learns = learns_on s t u l g.learns;
+  stood = g.stood ∙ (λ i. (run (opening_of (ap (λ z. z.origin) l.of i)) u.past).world.signal (l.number i));
+}

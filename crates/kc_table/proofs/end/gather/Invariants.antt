@@ -1,0 +1,11 @@
+use Rattle.std.proofs.Common.{◌≡◌, ◌++◌}
+use Rattle.kc_table.specs.Origins.{opening_of}
+use Rattle.kc_table.specs.Views.{Matches}
+use Rattle.kc_table.proofs.end.gather.Given as goal
+
+abbrev pub invariant-loop-seat : goal.invariant-loop-seat
+invariant-loop-seat l = record {
+  table : (l.keeper.table_id ≡ l.words.table_id) × (l.keeper.me.0.origin ≡ l.words.key);
+  all : l.yielded ++ l.seat-iterator.rest.items ≡ l.fn.seats.items;
+  matches : Matches (opening_of l.words.key) l.keeper.me.0.parts l.yielded;
+}

@@ -1,0 +1,46 @@
+//! A table and its seats as they are made.
+
+ghost use Rattle.std.specs.Prelude.{◌≡◌, IfOk, []};
+ghost use Rattle.kc_table.specs.Origins.{Opens};
+ghost use Rattle.kc_table.specs.Rule.{everyone};
+ghost use Rattle.kc_table.specs.Views.{opened_seats};
+
+use crate::rule::Deals;
+use crate::seat::KcSeat;
+use crate::table::KcTable;
+use crate::touch::Token;
+use crate::view::Origin;
+use atomic_table::Table;
+use kc_machine::Seat;
+use std::alloc::{AllocError, Global};
+
+pub(crate) fn make_table(alloc: Global, origin: &Origin) -> Result<(KcTable, Token), AllocError>
+    requires { Opens origin.now }
+    ensures { IfOk result (λ t. (t.0.origin ≡ origin.now) × (t.1.table_id ≡ t.0.table) × (t.1.me ≡ (everyone origin.now, []))) }
+{
+    let (table, first) = Table::of_words(alloc, origin.words.as_slice(), origin)?;
+    let locations = origin.locations as usize;
+    Ok((KcTable { table, locations }, first))
+}
+
+pub(crate) fn deal_seats(
+    alloc: Global,
+    table: &KcTable,
+    first: Token,
+    callers: u32,
+) -> Result<Vec<KcSeat>, AllocError>
+    requires { (first.table_id ≡ table.now.table) × (first.me ≡ (everyone table.now.origin, [])) × (callers ≡ table.now.origin.callers) × Opens table.now.origin }
+    ensures { IfOk result (λ seats. seats.items ≡ opened_seats table.now 0 callers) }
+{
+    let mut first = first;
+    let mut seats = Vec::new(alloc);
+    for number in 0..callers {
+        let token = table.table.shared.split_seat::<Deals>(&mut first);
+        seats.push(KcSeat {
+            machine: Seat::new(number, 3 * callers + 1, 3 * number),
+            token,
+            began: false,
+        })?;
+    }
+    Ok(seats)
+}

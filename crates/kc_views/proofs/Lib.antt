@@ -1,0 +1,5 @@
+pub mod Pendings
+pub mod Knowing
+pub mod Taught
+pub mod Beginnings
+pub mod Shown
