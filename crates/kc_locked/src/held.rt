@@ -10,7 +10,7 @@ ghost use Rattle.kc_locked.specs.Held.{held, Commits, IsSound};
 ghost use Rattle.kc_history.specs.Callers.{entry_of};
 
 use crate::history::History;
-use kc_model::{Answer, Footprint, ModelError, MOST_LOCATIONS, PlainStore};
+use kc_model::{Answer, Footprint, MOST_LOCATIONS, ModelError, PlainStore};
 use kc_xt::{Ended, Transact, Tried, commit};
 use std::alloc::Global;
 use std::marker::Model;
