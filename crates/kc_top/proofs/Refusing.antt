@@ -28,12 +28,15 @@ module _ {S F : Type 0} (left : S → Option (List ℕ)) (source_faults : S → 
   -- memory may run out behind it
   pub read_starved : (command : Command) (script : Script) → Reads left source_faults read_gives files shelf_faults sure fetch_gives words command s s' f f' script → Refuses left source_faults read_gives files shelf_faults sure fetch_gives words command s s' f f' status.NoMemory
   read_starved command.Run script r = (inr (r.0.bytes, r.0.all), r.1)
-  read_starved (command.Files setup) script r = (inl (record {
+  read_starved (command.Files setup) script r = (
+    inl (record {
       count = length (drop setup words);
       within = omega arith;
       files = r.0.setup ∷ r.0.rest;
       fetched = subst (λ (names : List (List ℕ)). Fetched files shelf_faults sure fetch_gives MOST_BYTES f names (r.0.setup ∷ r.0.rest) f') (sym (take_all (length (drop setup words)) (drop setup words) (omega arith))) r.0.all;
-    }), r.1)
+    }),
+    r.1,
+  )
 
   -- where no script was read, nothing is written or served
   pub refused_ends : {K : Type 0} (written : K → Option (List ℕ)) (sink_faults : K → ℕ) (write_gives : K → List ℕ → Result ℕ Failed → K → Type 0) (k k' : K) → k' ≡ k → (command : Command) (e : Status)

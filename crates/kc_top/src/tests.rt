@@ -262,7 +262,15 @@ fn other_words_are_usage(rt: HostRuntime) -> Result<(), Fail> {
         let mut source = FrailSource::new(FIRST.as_bytes().to_vec(alloc)?, Vec::new(alloc));
         let mut sink = FrailSink::new(alloc, 100, Vec::new(alloc))?;
         let mut shelf = no_files(alloc);
-        let (status, _) = kcas_main(&rt, alloc, &words, &mut source, &mut shelf, &mut sink, &OpenGate);
+        let (status, _) = kcas_main(
+            &rt,
+            alloc,
+            &words,
+            &mut source,
+            &mut shelf,
+            &mut sink,
+            &OpenGate,
+        );
         assert_eq!(rt; status, Status::Usage, "{second}");
         assert!(rt; sink.bytes().is_empty());
     }
@@ -285,7 +293,15 @@ fn run_failing<R: Threads + Wait + Sync>(
     let mut source = FrailSource::new(script, vec![in alloc; failing_read]?);
     let mut sink = FrailSink::new(alloc, 4096, vec![in alloc; failing_write]?)?;
     let mut shelf = no_files(alloc);
-    let (status, _) = kcas_main(rt, alloc, &words, &mut source, &mut shelf, &mut sink, &OpenGate);
+    let (status, _) = kcas_main(
+        rt,
+        alloc,
+        &words,
+        &mut source,
+        &mut shelf,
+        &mut sink,
+        &OpenGate,
+    );
     Ok((status, sink.bytes().to_vec(alloc)?))
 }
 
@@ -358,13 +374,29 @@ fn as_many_commands_as_may_be_are_run_and_written_by_the_page(rt: HostRuntime) -
     let mut source = SureSource::new(script.as_bytes().to_vec(alloc)?);
     let mut sink = FrailSink::new(alloc, 100_000, Vec::new(alloc))?;
     let mut shelf = no_files(alloc);
-    let (status, _) = kcas_main(&rt, alloc, &words, &mut source, &mut shelf, &mut sink, &OpenGate);
+    let (status, _) = kcas_main(
+        &rt,
+        alloc,
+        &words,
+        &mut source,
+        &mut shelf,
+        &mut sink,
+        &OpenGate,
+    );
     assert_eq!(rt; status, Status::Done);
     assert_eq!(rt; sink.bytes(), text.as_bytes());
     let mut source = SureSource::new(script.as_bytes().to_vec(alloc)?);
     let mut counting = CountingSink { calls: 0, bytes: 0 };
     let mut shelf = no_files(alloc);
-    let (status, _) = kcas_main(&rt, alloc, &words, &mut source, &mut shelf, &mut counting, &OpenGate);
+    let (status, _) = kcas_main(
+        &rt,
+        alloc,
+        &words,
+        &mut source,
+        &mut shelf,
+        &mut counting,
+        &OpenGate,
+    );
     assert_eq!(rt; status, Status::Done);
     assert_eq!(rt; counting.bytes, text.len());
     assert!(rt;
@@ -389,7 +421,15 @@ fn as_many_locations_as_may_be_are_opened(rt: HostRuntime) -> Result<(), Fail> {
     let mut source = SureSource::new(script.as_bytes().to_vec(alloc)?);
     let mut sink = FrailSink::new(alloc, 1_000_000, Vec::new(alloc))?;
     let mut shelf = no_files(alloc);
-    let (status, _) = kcas_main(&rt, alloc, &words, &mut source, &mut shelf, &mut sink, &OpenGate);
+    let (status, _) = kcas_main(
+        &rt,
+        alloc,
+        &words,
+        &mut source,
+        &mut shelf,
+        &mut sink,
+        &OpenGate,
+    );
     assert_eq!(rt; status, Status::Done);
     assert_eq!(rt; sink.bytes(), text.as_bytes());
     Ok(())

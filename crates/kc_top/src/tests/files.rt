@@ -11,7 +11,9 @@ use std::test::Fail;
 use std::thread::Threads;
 
 const SETUP: (&str, &str) = ("S", "kcas 1\nloc x 0\n");
+
 const ONE: (&str, &str) = ("A", "incr x\n");
+
 const OTHER: (&str, &str) = ("B", "incr x\n");
 
 fn strings(alloc: Global, texts: &[&str]) -> Result<Vec<String>, Fail> {
@@ -27,7 +29,10 @@ fn shelf(alloc: Global, files: &[(&str, &str)], failing: Vec<u64>) -> Result<Mem
 {
     let mut kept = Vec::new(alloc);
     for file in files {
-        kept.push((String::from_str(alloc, file.0)?, file.1.as_bytes().to_vec(alloc)?))?;
+        kept.push((
+            String::from_str(alloc, file.0)?,
+            file.1.as_bytes().to_vec(alloc)?,
+        ))?;
     }
     Ok(MemShelf::new(kept, failing))
 }
@@ -89,19 +94,46 @@ fn an_empty_file_is_a_thread_without_commands(rt: HostRuntime) -> Result<(), Fai
     let files = [SETUP, ("A", ""), ("lock", "")];
     let (status, written) = run_files(&rt, rt.alloc(), &["files", "S", "A"], &files)?;
     assert_eq!(rt; status, Status::Done);
-    assert_eq!(rt; written.as_slice(), b"order\n1.end\nstate\nx 0\n".as_slice());
+    assert_eq!(rt;
+        written.as_slice(),
+        b"order\n1.end\nstate\nx 0\n".as_slice()
+    );
     let (status, written) = run_files(&rt, rt.alloc(), &["files", "S", "lock"], &files)?;
     assert_eq!(rt; status, Status::Done);
-    assert_eq!(rt; written.as_slice(), b"order\n1.end\nstate\nx 0\n".as_slice());
+    assert_eq!(rt;
+        written.as_slice(),
+        b"order\n1.end\nstate\nx 0\n".as_slice()
+    );
     Ok(())
 }
 
 #[test]
 fn a_fault_names_its_part_and_the_line_in_it(rt: HostRuntime) -> Result<(), Fail> {
     let rows = [
-        ("kcas 1\nloc x 0\n", "incr x\n", "incr y\n", 2, 1, Why::UnknownName),
-        ("kcas 1\nloc x 0\n", "\n\nincr z\n", "incr y\n", 1, 3, Why::UnknownName),
-        ("kcas 1\nloc x 0\nthread\n", "incr z\n", "", 0, 3, Why::StrayWord),
+        (
+            "kcas 1\nloc x 0\n",
+            "incr x\n",
+            "incr y\n",
+            2,
+            1,
+            Why::UnknownName,
+        ),
+        (
+            "kcas 1\nloc x 0\n",
+            "\n\nincr z\n",
+            "incr y\n",
+            1,
+            3,
+            Why::UnknownName,
+        ),
+        (
+            "kcas 1\nloc x 0\nthread\n",
+            "incr z\n",
+            "",
+            0,
+            3,
+            Why::StrayWord,
+        ),
         ("", "incr z\n", "", 0, 1, Why::Header),
     ];
     for (setup, one, other, part, line, why) in rows {
@@ -234,8 +266,15 @@ fn run_takes_the_store_option_and_no_file(rt: HostRuntime) -> Result<(), Fail> {
         let mut source = FrailSource::new(b"kcas 1\n".to_vec(alloc)?, Vec::new(alloc));
         let mut shelf = shelf(alloc, &[], vec![in alloc; 1]?)?;
         let mut sink = FrailSink::new(alloc, 100, Vec::new(alloc))?;
-        let (status, _) =
-            kcas_main(&rt, alloc, &words, &mut source, &mut shelf, &mut sink, &OpenGate);
+        let (status, _) = kcas_main(
+            &rt,
+            alloc,
+            &words,
+            &mut source,
+            &mut shelf,
+            &mut sink,
+            &OpenGate,
+        );
         assert_eq!(rt; status, Status::Done);
         assert_eq!(rt; sink.bytes(), b"order\nstate\n".as_slice());
     }

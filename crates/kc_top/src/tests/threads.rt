@@ -53,7 +53,15 @@ fn text_of<R: Threads + Wait + Sync>(
     let mut source = SureSource::new(script.as_bytes().to_vec(alloc)?);
     let mut sink = FrailSink::new(alloc, 2_000_000, Vec::new(alloc))?;
     let mut shelf = no_files(alloc);
-    let (status, _) = kcas_main(rt, alloc, &words, &mut source, &mut shelf, &mut sink, &OpenGate);
+    let (status, _) = kcas_main(
+        rt,
+        alloc,
+        &words,
+        &mut source,
+        &mut shelf,
+        &mut sink,
+        &OpenGate,
+    );
     Ok((status, sink.bytes().to_vec(alloc)?))
 }
 
