@@ -1,7 +1,7 @@
 //! The files of the host as a shelf. It tells nothing of what they have, which can change at any time, and counts its
 //! faults.
 
-ghost use Rattle.std.specs.Prelude.{◌≤◌, None, false, vec_len, IfOk};
+ghost use Rattle.std.specs.Prelude.{◌≡◌, ◌≤◌, None, false, vec_len, IfOk};
 ghost use Rattle.kcas.specs.Ends.{CountsFault};
 
 #[cfg(test)]

@@ -50,6 +50,14 @@ fn run_on<I: Read + Drop, H: Files + Drop, O: Write + Drop, R: Threads + Wait + 
     let mut source = StdinSource::new(input);
     let mut shelf = DirShelf::new(host);
     let mut sink = StdoutSink::new(output);
-    let (status, _) = kcas_main(rt, alloc, words, &mut source, &mut shelf, &mut sink, &OpenGate);
+    let (status, _) = kcas_main(
+        rt,
+        alloc,
+        words,
+        &mut source,
+        &mut shelf,
+        &mut sink,
+        &OpenGate,
+    );
     status
 }

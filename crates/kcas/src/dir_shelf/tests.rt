@@ -151,11 +151,7 @@ impl Files for FewFiles {
 }
 
 // The status of `files setup` and this file, and what was written.
-fn run_files<R: Threads + Wait + Sync>(
-    rt: &R,
-    alloc: Global,
-    file: &str,
-) -> Result<Status, Fail> {
+fn run_files<R: Threads + Wait + Sync>(rt: &R, alloc: Global, file: &str) -> Result<Status, Fail> {
     let mut words = Vec::new(alloc);
     for word in ["kcas", "files", "setup", file] {
         words.push(String::from_str(alloc, word)?)?;
@@ -183,10 +179,21 @@ fn a_file_that_cannot_be_read_whole_is_a_read_fault(rt: HostRuntime) -> Result<(
 fn a_file_has_at_most_the_limit(rt: HostRuntime) -> Result<(), Fail> {
     let alloc = rt.alloc();
     let mut shelf = DirShelf::new(FewFiles);
-    let fits = matches!(&shelf.fetch(alloc, "one\nline", 7), Ok(file) if file.as_slice() == b"incr x\n".as_slice());
+    let fits =
+        matches!(&shelf.fetch(alloc, "one\nline", 7), Ok(file) if file.as_slice() == b"incr x\n".as_slice());
     assert!(rt; fits);
-    assert!(rt; matches!(&shelf.fetch(alloc, "one\nline", 6), Err(ShelfError::TooLong)));
-    assert!(rt; matches!(&shelf.fetch(alloc, "growing", 1000), Err(ShelfError::TooLong)));
+    assert!(rt;
+        matches!(
+            &shelf.fetch(alloc, "one\nline", 6),
+            Err(ShelfError::TooLong)
+        )
+    );
+    assert!(rt;
+        matches!(
+            &shelf.fetch(alloc, "growing", 1000),
+            Err(ShelfError::TooLong)
+        )
+    );
     Ok(())
 }
 
@@ -195,9 +202,24 @@ fn the_files_of_the_system_are_read(rt: HostRuntime) -> Result<(), Fail> {
     let alloc = rt.alloc();
     let mut shelf = DirShelf::new(&rt);
     assert!(rt; matches!(&shelf.fetch(alloc, "/dev/null", 0), Ok(file) if file.is_empty()));
-    assert!(rt; matches!(&shelf.fetch(alloc, "/dev/zero", 5000), Err(ShelfError::TooLong)));
+    assert!(rt;
+        matches!(
+            &shelf.fetch(alloc, "/dev/zero", 5000),
+            Err(ShelfError::TooLong)
+        )
+    );
     assert!(rt; matches!(&shelf.fetch(alloc, "/", 5000), Err(ShelfError::Failed)));
-    assert!(rt; matches!(&shelf.fetch(alloc, "/dev/null/x", 5000), Err(ShelfError::Failed)));
-    assert!(rt; matches!(&shelf.fetch(alloc, "/no\nsuch file", 5000), Err(ShelfError::Failed)));
+    assert!(rt;
+        matches!(
+            &shelf.fetch(alloc, "/dev/null/x", 5000),
+            Err(ShelfError::Failed)
+        )
+    );
+    assert!(rt;
+        matches!(
+            &shelf.fetch(alloc, "/no\nsuch file", 5000),
+            Err(ShelfError::Failed)
+        )
+    );
     Ok(())
 }
