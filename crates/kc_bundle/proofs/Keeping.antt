@@ -1,6 +1,5 @@
 -- An operation keeps the cells of all objects well formed.
 use Rattle.std.proofs.Common.{◌≡◌, ◌≢◌, ℕ, ◌+◌, ◌≤◌, ◌<◌, ◌==◌, Bool, true, false, cond, List, [], ◌∷◌, inl, inr, refl, sym, ap, subst, arith}
-use Rattle.std.specs.Prelude.{None, reverse}
 use Rattle.std.proofs.lemmas.Bool.Decides.{nat_tests}
 use Rattle.kc_model.specs.declared.footprint.Loc.{Loc}
 use Rattle.kc_xt.specs.Meaning.{too_large, put, map_after}

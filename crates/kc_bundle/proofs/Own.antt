@@ -1,5 +1,5 @@
 -- Which cells an operation keeps to.
-use Rattle.std.proofs.Common.{◌≡◌, ◌≢◌, ℕ, ◌+◌, ◌<◌, ◌≤◌, arith}
+use Rattle.std.proofs.Common.{ℕ, ◌+◌, ◌≤◌, arith}
 use Rattle.kc_model.specs.declared.plain_store.TheConstants.{MOST_LOCATIONS}
 use Rattle.kc_model.specs.declared.footprint.Loc.{Loc}
 use Rattle.kc_xt.specs.Program.{replies}

@@ -1,5 +1,5 @@
 -- A cache as its keys and values, the most recently used pair first.
-use Rattle.std.specs.Prelude.{◌≡◌, ℕ, ◌+◌, ◌-◌, ◌<◌, ◌≤◌, ◌==◌, cond, List, [], ◌∷◌, length, map, Option, Some, None}
+use Rattle.std.specs.Prelude.{◌≡◌, ℕ, ◌-◌, ◌≤◌, ◌==◌, cond, List, [], ◌∷◌, length, map, Option, Some, None}
 use Rattle.kc_model.specs.declared.reply.Reply.TheVariants as reply
 use Rattle.kc_xt.specs.Meaning.{replied, retried}
 use Rattle.kc_xt.specs.Structure.{Value, comes_to}

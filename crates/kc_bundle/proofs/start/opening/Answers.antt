@@ -5,8 +5,7 @@ use Rattle.std.specs.Global.{Global}
 use Rattle.kc_bundle.specs.declared.object.Object.{Object}
 use Rattle.kc_bundle.specs.Script.{named, names_of, script_of}
 use Rattle.kc_bundle.specs.State.{opening_cells, opening_values}
-use Rattle.kc_bundle.proofs.Entries.{entry_at, entry_within, adds_next, adds_all}
-use Rattle.kc_bundle.proofs.Places.{cells_within}
+use Rattle.kc_bundle.proofs.Entries.{entry_at, adds_next, adds_all}
 use Rattle.kc_bundle.proofs.start.opening.Goals as goal
 
 pub loop-i-preserved : goal.loop-i-preserved

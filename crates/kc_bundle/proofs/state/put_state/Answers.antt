@@ -1,6 +1,5 @@
-use Rattle.std.proofs.Common.{◌≡◌, ◌∙◌, ◌<◌, ◌≤◌, ℕ, ◌+◌, List, length, drop, refl, sym, ap, rules, arith}
+use Rattle.std.proofs.Common.{◌∙◌, ◌<◌, ◌≤◌, ℕ, List, length, refl, arith}
 use Rattle.std.proofs.lemmas.List.{length-map}
-use Rattle.std.specs.String.{string_bytes}
 use Rattle.kc_model.proofs.Pens.{owes_all, owes_next, owes_last}
 use Rattle.kc_model.specs.Store.{store_of}
 use Rattle.kc_xt.specs.Meaning.{values}

@@ -1,4 +1,3 @@
-use Rattle.std.proofs.Common.{arith}
 use Rattle.kc_dllist.proofs.DllistLaw.{dllist_law}
 use Rattle.kc_dllist.proofs.operation.DllistOpTransact.run.Goals as goal
 
