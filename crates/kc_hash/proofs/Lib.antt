@@ -7,6 +7,7 @@ pub mod Inserted
 pub mod Kept
 pub mod Maps
 pub mod Opened
+pub mod Pieces
 pub mod Removed
 pub mod Same
 pub mod Sweeps

@@ -1,5 +1,5 @@
 -- A table as a finite map: the list of its keys and values, in rising order of key.
-use Rattle.std.specs.Prelude.{◌≡◌, ℕ, zero, suc, ◌+◌, ◌-◌, ◌/◌, ◌%◌, ◌<◌, ◌≤◌, ◌==◌, nat_lt, Bool, true, ◌&&◌, cond, List, [], ◌∷◌, ◌++◌, length, map, Option, Some, None}
+use Rattle.std.specs.Prelude.{◌≡◌, ℕ, zero, suc, ◌+◌, ◌-◌, ◌/◌, ◌%◌, ◌<◌, ◌≤◌, ◌==◌, nat_lt, Bool, true, cond, List, [], ◌∷◌, ◌++◌, length, map, take, Option, Some, None}
 use Rattle.std.specs.List.{filter}
 use Rattle.kc_model.specs.declared.reply.Reply.{Reply}
 use Rattle.kc_model.specs.declared.reply.Reply.TheVariants as reply
@@ -42,18 +42,18 @@ abbrev pub first_pair : List (ℕ × ℕ) → Option (ℕ × ℕ)
 first_pair [] = None
 first_pair (p ∷ ps) = Some p
 
--- the first pair whose key is above this one
-abbrev pub first_above : Option ℕ → List (ℕ × ℕ) → Option (ℕ × ℕ)
-first_above key pairs = first_pair (above key pairs)
+-- with this pair, where its key is new: it stands in front of the first greater key
+abbrev pub with_new : List (ℕ × ℕ) → ℕ × ℕ → List (ℕ × ℕ)
+with_new [] p = p ∷ []
+with_new (q ∷ qs) p = cond (nat_lt q.0 p.0) (q ∷ with_new qs p) (cond (q.0 == p.0) (q ∷ qs) (p ∷ q ∷ qs))
 
--- whether a key is below that of a pair; all are below None
-abbrev pub is_below : ℕ → Option (ℕ × ℕ) → Bool
-is_below key None = true
-is_below key (Some p) = nat_lt key p.0
+-- the first n of the pairs with this one, where its key is above `after`
+abbrev pub nearest : ℕ → Option ℕ → List (ℕ × ℕ) → ℕ × ℕ → List (ℕ × ℕ)
+nearest n after pairs p = cond (is_above after p.0) (take n (with_new pairs p)) pairs
 
--- the pair, where its key is above `after` and below that of the best one so far
-abbrev pub nearer : Option ℕ → Option (ℕ × ℕ) → ℕ × ℕ → Option (ℕ × ℕ)
-nearer after best p = cond (is_above after p.0 && is_below p.0 best) (Some p) best
+-- the pairs begin with these
+abbrev pub IsFront : List (ℕ × ℕ) → List (ℕ × ℕ) → Type 0
+IsFront front pairs = (rest : List (ℕ × ℕ)) × (pairs ≡ front ++ rest)
 
 -- ---- cells that stand for a map
 

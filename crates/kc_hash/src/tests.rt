@@ -55,7 +55,7 @@ fn a_walk_round_a_circle_of_links_ends(rt: HostRuntime) -> Result<(), Fail> {
     for (seen, loc) in footprint.reads.as_slice().iter().zip(&touched) {
         assert_eq!(rt; seen.loc, *loc);
     }
-    assert_eq!(rt; hash.pair_above(&store, None), Some((5, 0)));
+    assert_eq!(rt; hash.pairs(&store).next(), Some((5, 0)));
     Ok(())
 }
 
@@ -69,6 +69,27 @@ fn pairs_come_in_rising_order_of_key_from_all_chains(rt: HostRuntime) -> Result<
     assert_eq!(rt; pairs.next(), Some((1, 11)));
     assert_eq!(rt; pairs.next(), Some((4, 44)));
     assert_eq!(rt; pairs.next(), Some((9, 90)));
+    assert_eq!(rt; pairs.next(), None);
+    Ok(())
+}
+
+#[test]
+fn pairs_of_more_than_one_pass_come_in_rising_order_of_key(rt: HostRuntime) -> Result<(), Fail> {
+    let mut cells = [0; 3 + 3 * 600];
+    cells[2] = 1;
+    for node in 0..600 {
+        let key = 600 - node as u32;
+        cells[3 + 3 * node] = key;
+        cells[4 + 3 * node] = 2 * key;
+        cells[5 + 3 * node] = node as u32 + 2;
+    }
+    let Ok(store) = PlainStore::open(rt.alloc(), &cells) else {
+        return Err(Fail::from("no memory"));
+    };
+    let mut pairs = Hash::layout(Loc(0), 1, 600).pairs(&store);
+    for key in 1..601 {
+        assert_eq!(rt; pairs.next(), Some((key, 2 * key)));
+    }
     assert_eq!(rt; pairs.next(), None);
     Ok(())
 }
