@@ -6,3 +6,4 @@ pub mod Dealt
 pub mod Gathered
 pub mod Waits
 pub mod Following
+mod Straights

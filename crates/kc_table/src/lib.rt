@@ -1,11 +1,13 @@
 //! The machine's steps on the words of one table, which threads share.
 #![tactic(auto)]
 
+mod atoms;
 mod end;
 mod laws;
 mod open;
 mod rule;
 mod seat;
+mod straight;
 mod table;
 #[cfg(test)]
 mod tests;
