@@ -7,3 +7,4 @@ pub mod Gathered
 pub mod Waits
 pub mod Following
 mod Straights
+mod Links

@@ -209,3 +209,276 @@ fn start<C: Chain>(run: &Run, token: &mut Token, made: u64, held: Held)
     let word = status_at(run.base, held.own.descriptor);
     swaps::<C>(run, token, at, word, status.pack());
 }
+
+// Whether a line is installed, or else checked.
+#[inline(always)]
+fn is_installed(mode: Mode, line: &Line) -> bool
+    ensures { result ≡ is_installed mode line.now }
+{
+    match mode {
+        Mode::All => true,
+        Mode::Light => line.put.is_some(),
+    }
+}
+
+// The exchange of a line's plain word for the reference to the line.
+#[inline(always)]
+fn install<C: Chain>(
+    run: &Run,
+    token: &mut Token,
+    made: u64,
+    held: Held,
+    index: u32,
+    line: Line,
+) -> Option<Stop>
+    requires line { slice_get run.now.lines.now index ≡ Some line }
+    requires on { On C.start run.now token.old.table_id token.old.me false (seat_in run.now (at_own made held (step.Pass (pass.Install index)))) }
+    ensures none { IfNone result (On C.start run.now token.new.table_id token.new.me false (seat_in run.now (at_own (one_more made) held (step.Pass (from_install run.now.mode run.now.lines.now (after_line index)))))) }
+    ensures some { IfSome result (λ e. Stopped C.start run.now token.new.table_id token.new.me e) }
+{
+    ranged_line(line);
+    kc_words::bits_tell_words_apart();
+    let old = Word::Plain {
+        version: line.seen.version,
+        value: line.seen.value,
+    }
+    .pack();
+    let new = Word::Ref {
+        generation: held.own.generation,
+        descriptor: held.own.descriptor,
+        entry: index,
+    }
+    .pack();
+    let at = point_at(made, held, OwnStep::Pass(PassStep::Install { line: index }));
+    let number = exchanges::<C>(run, token, at, location_at(line.seen.loc), old, new);
+    if number != old {
+        return Some(stop_at(at, number));
+    }
+    None
+}
+
+// The installs of all lines that are installed; how many steps were made then.
+#[inline(always)]
+fn installs<C: Chain>(run: &Run, token: &mut Token, made: u64, held: Held) -> Result<u64, Stop>
+    requires few { length run.now.lines.now ≤ 64 }
+    requires on { On C.start run.now token.old.table_id token.old.me false (seat_in run.now (at_own made held (step.Pass (from_install run.now.mode run.now.lines.now 0)))) }
+    ensures ok { IfOk result (λ made. On C.start run.now token.new.table_id token.new.me false (seat_in run.now (at_own made held (step.Pass (from_check run.now.mode run.now.lines.now 0))))) }
+    ensures err { IfErr result (λ e. Stopped C.start run.now token.new.table_id token.new.me e) }
+{
+    let mut made = made;
+    for index in 0..run.lines.len() {
+        let line = run.lines[index];
+        if is_installed(run.mode, &line) {
+            if let Some(stop) = install::<C>(run, token, made, held, index as u32, line) {
+                return Err(stop);
+            }
+            made = one_more(made);
+        }
+    }
+    Ok(made)
+}
+
+// The load of a comparison's word.
+#[inline(always)]
+fn check<C: Chain>(
+    run: &Run,
+    token: &mut Token,
+    made: u64,
+    held: Held,
+    index: u32,
+    line: Line,
+) -> Option<Stop>
+    requires line { slice_get run.now.lines.now index ≡ Some line }
+    requires on { On C.start run.now token.old.table_id token.old.me false (seat_in run.now (at_own made held (step.Pass (pass.Check index)))) }
+    ensures none { IfNone result (On C.start run.now token.new.table_id token.new.me false (seat_in run.now (at_own (one_more made) held (step.Pass (from_check run.now.mode run.now.lines.now (after_line index)))))) }
+    ensures some { IfSome result (λ e. Stopped C.start run.now token.new.table_id token.new.me e) }
+{
+    let at = point_at(made, held, OwnStep::Pass(PassStep::Check { line: index }));
+    let number = loads::<C>(run, token, false, at, location_at(line.seen.loc));
+    if let Word::Plain { version, value } = Word::unpack(number) {
+        if version == line.seen.version && value == line.seen.value {
+            return None;
+        }
+    }
+    Some(stop_at(at, number))
+}
+
+// The checks of all lines that are not installed; how many steps were made then.
+#[inline(always)]
+fn checks<C: Chain>(run: &Run, token: &mut Token, made: u64, held: Held) -> Result<u64, Stop>
+    requires few { length run.now.lines.now ≤ 64 }
+    requires on { On C.start run.now token.old.table_id token.old.me false (seat_in run.now (at_own made held (step.Pass (from_check run.now.mode run.now.lines.now 0)))) }
+    ensures ok { IfOk result (λ made. On C.start run.now token.new.table_id token.new.me false (seat_in run.now (at_own made held (step.Pass (pass.Decide Succeeded))))) }
+    ensures err { IfErr result (λ e. Stopped C.start run.now token.new.table_id token.new.me e) }
+{
+    let mut made = made;
+    for index in 0..run.lines.len() {
+        let line = run.lines[index];
+        if !is_installed(run.mode, &line) {
+            if let Some(stop) = check::<C>(run, token, made, held, index as u32, line) {
+                return Err(stop);
+            }
+            made = one_more(made);
+        }
+    }
+    Ok(made)
+}
+
+// The decision.
+#[inline(always)]
+fn decide<C: Chain>(run: &Run, token: &mut Token, made: u64, held: Held) -> Option<Stop>
+    requires base { run.now.base ≤ 1048576 }
+    requires on { On C.start run.now token.old.table_id token.old.me false (seat_in run.now (at_own made held (step.Pass (pass.Decide Succeeded)))) }
+    ensures none { IfNone result (On C.start run.now token.new.table_id token.new.me false (seat_in run.now (at_own (one_more made) held (after_own_pass (intent_of run.now.mode run.now.lines.now) (from_release run.now.mode run.now.lines.now 0 Succeeded))))) }
+    ensures some { IfSome result (λ e. Stopped C.start run.now token.new.table_id token.new.me e) }
+{
+    kc_words::bits_tell_words_apart();
+    let generation = held.own.generation;
+    let old = Status {
+        generation,
+        phase: Phase::Active,
+    }
+    .pack();
+    let new = Status {
+        generation,
+        phase: Phase::Succeeded,
+    }
+    .pack();
+    let at = point_at(
+        made,
+        held,
+        OwnStep::Pass(PassStep::Decide {
+            phase: Phase::Succeeded,
+        }),
+    );
+    let word = status_at(run.base, held.own.descriptor);
+    let number = exchanges::<C>(run, token, at, word, old, new);
+    if number != old {
+        return Some(stop_at(at, number));
+    }
+    None
+}
+
+// What a line leaves at its location.
+#[inline(always)]
+fn left(line: &Line) -> (u32, u32)
+    ensures { result ≡ resolved (first_of line.now) (second_of line.now).after Succeeded }
+{
+    match line.put {
+        Some(after) => if line.seen.version < LAST_VERSION {
+            (line.seen.version + 1, after)
+        } else {
+            (line.seen.version, after)
+        },
+        None => (line.seen.version, line.seen.value),
+    }
+}
+
+// The exchange of the reference to a line for what the line leaves.
+#[inline(always)]
+fn release<C: Chain>(run: &Run, token: &mut Token, made: u64, held: Held, index: u32, line: Line)
+    requires line { slice_get run.now.lines.now index ≡ Some line }
+    requires on { On C.start run.now token.old.table_id token.old.me false (seat_in run.now (at_own made held (step.Pass (pass.Release index Succeeded)))) }
+    ensures { On C.start run.now token.new.table_id token.new.me false (seat_in run.now (at_own (one_more made) held (after_own_pass (intent_of run.now.mode run.now.lines.now) (from_release run.now.mode run.now.lines.now (after_line index) Succeeded)))) }
+{
+    ranged_line(line);
+    let old = Word::Ref {
+        generation: held.own.generation,
+        descriptor: held.own.descriptor,
+        entry: index,
+    }
+    .pack();
+    let (version, value) = left(&line);
+    let new = Word::Plain { version, value }.pack();
+    let at = point_at(
+        made,
+        held,
+        OwnStep::Pass(PassStep::Release {
+            line: index,
+            phase: Phase::Succeeded,
+        }),
+    );
+    exchanges::<C>(run, token, at, location_at(line.seen.loc), old, new);
+}
+
+// The releases of all lines that were installed; how many steps were made then.
+#[inline(always)]
+fn releases<C: Chain>(run: &Run, token: &mut Token, made: u64, held: Held) -> u64
+    requires few { length run.now.lines.now ≤ 64 }
+    requires on { On C.start run.now token.old.table_id token.old.me false (seat_in run.now (at_own made held (after_own_pass (intent_of run.now.mode run.now.lines.now) (from_release run.now.mode run.now.lines.now 0 Succeeded)))) }
+    ensures { On C.start run.now token.new.table_id token.new.me false (seat_in run.now (at_own result held (finished (intent_of run.now.mode run.now.lines.now) Succeeded))) }
+{
+    let mut made = made;
+    for index in 0..run.lines.len() {
+        let line = run.lines[index];
+        if is_installed(run.mode, &line) {
+            release::<C>(run, token, made, held, index as u32, line);
+            made = one_more(made);
+        }
+    }
+    made
+}
+
+// The awaiters of a put's location, which are owed a signal from now on.
+#[inline(always)]
+fn wake<C: Chain>(
+    run: &Run,
+    token: &mut Token,
+    made: u64,
+    held: Held,
+    index: u32,
+    line: Line,
+    owed: u64,
+) -> u64
+    requires line { slice_get run.now.lines.now index ≡ Some line }
+    requires on { On C.start run.now token.old.table_id token.old.me false (seat_in run.now (at_own made held (step.Wake index owed))) }
+    ensures { On C.start run.now token.new.table_id token.new.me false (seat_in run.now (at_own (one_more made) held (wake_or_signal result (next_line Put run.now.mode run.now.lines.now (after_line index))))) }
+{
+    let at = point_at(made, held, OwnStep::Wake { line: index, owed });
+    let number = swaps::<C>(run, token, at, awaiters_at(line.seen.loc), 0);
+    owed | number
+}
+
+// The awaiters of all puts' locations; how many steps were made then, where nobody is owed a signal.
+#[inline(always)]
+fn wakes<C: Chain>(run: &Run, token: &mut Token, made: u64, held: Held) -> Result<u64, Stop>
+    requires few { length run.now.lines.now ≤ 64 }
+    requires on { On C.start run.now token.old.table_id token.old.me false (seat_in run.now (at_own made held (finished (intent_of run.now.mode run.now.lines.now) Succeeded))) }
+    ensures ok { IfOk result (λ made. On C.start run.now token.new.table_id token.new.me false (seat_in run.now (at_own made held (step.Drop Succeeded)))) }
+    ensures err { IfErr result (λ e. Stopped C.start run.now token.new.table_id token.new.me e) }
+{
+    let mut made = made;
+    let mut owed = 0u64;
+    for index in 0..run.lines.len() {
+        let line = run.lines[index];
+        if line.put.is_some() {
+            owed = wake::<C>(run, token, made, held, index as u32, line, owed);
+            made = one_more(made);
+        }
+    }
+    if owed != 0 {
+        return Err(Stop {
+            at: point_at(made, held, OwnStep::Signal { owed }),
+            found: None,
+        });
+    }
+    Ok(made)
+}
+
+// The drop of the descriptor, with which the commit ends.
+#[inline(always)]
+fn drop_own<C: Chain>(run: &Run, token: &mut Token, made: u64, held: Held)
+    requires base { run.now.base ≤ 1048576 }
+    requires on { On C.start run.now token.old.table_id token.old.me false (seat_in run.now (at_own made held (step.Drop Succeeded))) }
+    ensures { On C.start run.now token.new.table_id token.new.me false (seat_told run.now.seat.now (one_more made) held.calls (told.Succeeded held.calls)) }
+{
+    let at = point_at(
+        made,
+        held,
+        OwnStep::Drop {
+            phase: Phase::Succeeded,
+        },
+    );
+    let word = control_at(run.base, held.own.descriptor);
+    subtracts::<C>(run, token, at, word);
+}
