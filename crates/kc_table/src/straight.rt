@@ -1,7 +1,7 @@
 //! A commit that runs on from its first scan to its drop by the numbers that its steps find. Its seat is written once,
 //! where it ends, or where a word is not as expected.
 
-ghost use Rattle.std.specs.Prelude.{◌≡◌, ◌≤◌, ◌<◌, false, true, length, IfOk, IfErr, IfSome, IfNone, Some, slice_get};
+ghost use Rattle.std.specs.Prelude.{◌≡◌, ◌≤◌, ◌<◌, ◌+◌, false, true, length, IfOk, IfErr, IfSome, IfNone, Some, slice_get};
 ghost use Rattle.kc_words.specs.declared.words.Phase.TheVariants.{Succeeded};
 ghost use Rattle.kc_steps.specs.declared.line.Pick.TheVariants.{Put};
 ghost use Rattle.kc_steps.specs.declared.pass.PassStep.TheVariants as pass;
@@ -9,7 +9,7 @@ ghost use Rattle.kc_steps.specs.declared.task.Told.TheVariants as told;
 ghost use Rattle.kc_steps.specs.Lines.{after_line, first_of, is_installed, next_line, one_more, resolved, second_of, value_after};
 ghost use Rattle.kc_steps.specs.Passes.{from_check, from_install, from_release};
 ghost use Rattle.kc_commits.specs.declared.commit.OwnStep.TheVariants as step;
-ghost use Rattle.kc_commits.specs.Commits.{after_own_pass, fill_next, finished, intent_of, owed_next, wake_or_signal};
+ghost use Rattle.kc_commits.specs.Commits.{after_own_pass, fill_next, intent_of, owed_next, wake_or_signal};
 ghost use Rattle.kc_machine.specs.Points.{first_point, seat_told};
 ghost use Rattle.kc_table.specs.Straight.{On, Stopped, at_own, at_take, seat_in};
 
@@ -20,6 +20,13 @@ use kc_machine::{OwnStep, Point, Stage};
 use kc_model::{LAST_VERSION, Word};
 use kc_steps::{Line, PassStep, first_of, one_more, second_of};
 use kc_words::{Control, Handle, LAST_GENERATION, Mode, Owner, Phase, Status};
+
+/// Where a commit ended: the steps and the calls that its seat has made.
+#[derive(Clone, Copy)]
+pub(crate) struct Ended {
+    pub made: u64,
+    pub calls: u64,
+}
 
 // Of a descriptor that is owned.
 #[inline(always)]
@@ -257,6 +264,31 @@ fn install<C: Chain>(
     None
 }
 
+// The install of a line, where it is installed; how many steps were made then.
+#[inline(always)]
+fn install_line<C: Chain>(
+    run: &Run,
+    token: &mut Token,
+    made: u64,
+    held: Held,
+    index: u32,
+    line: Line,
+) -> Result<u64, Stop>
+    requires few { length run.now.lines.now ≤ 64 }
+    requires line { slice_get run.now.lines.now index ≡ Some line }
+    requires on { On C.start run.now token.old.table_id token.old.me false (seat_in run.now (at_own made held (step.Pass (from_install run.now.mode run.now.lines.now index)))) }
+    ensures ok { IfOk result (λ made. On C.start run.now token.new.table_id token.new.me false (seat_in run.now (at_own made held (step.Pass (from_install run.now.mode run.now.lines.now (index + 1)))))) }
+    ensures err { IfErr result (λ e. Stopped C.start run.now token.new.table_id token.new.me e) }
+{
+    if !is_installed(run.mode, &line) {
+        return Ok(made);
+    }
+    match install::<C>(run, token, made, held, index, line) {
+        None => Ok(one_more(made)),
+        Some(stop) => Err(stop),
+    }
+}
+
 // The installs of all lines that are installed; how many steps were made then.
 #[inline(always)]
 fn installs<C: Chain>(run: &Run, token: &mut Token, made: u64, held: Held) -> Result<u64, Stop>
@@ -267,13 +299,7 @@ fn installs<C: Chain>(run: &Run, token: &mut Token, made: u64, held: Held) -> Re
 {
     let mut made = made;
     for index in 0..run.lines.len() {
-        let line = run.lines[index];
-        if is_installed(run.mode, &line) {
-            if let Some(stop) = install::<C>(run, token, made, held, index as u32, line) {
-                return Err(stop);
-            }
-            made = one_more(made);
-        }
+        made = install_line::<C>(run, token, made, held, index as u32, run.lines[index])?;
     }
     Ok(made)
 }
@@ -303,6 +329,31 @@ fn check<C: Chain>(
     Some(stop_at(at, number))
 }
 
+// The check of a line, where it is not installed; how many steps were made then.
+#[inline(always)]
+fn check_line<C: Chain>(
+    run: &Run,
+    token: &mut Token,
+    made: u64,
+    held: Held,
+    index: u32,
+    line: Line,
+) -> Result<u64, Stop>
+    requires few { length run.now.lines.now ≤ 64 }
+    requires line { slice_get run.now.lines.now index ≡ Some line }
+    requires on { On C.start run.now token.old.table_id token.old.me false (seat_in run.now (at_own made held (step.Pass (from_check run.now.mode run.now.lines.now index)))) }
+    ensures ok { IfOk result (λ made. On C.start run.now token.new.table_id token.new.me false (seat_in run.now (at_own made held (step.Pass (from_check run.now.mode run.now.lines.now (index + 1)))))) }
+    ensures err { IfErr result (λ e. Stopped C.start run.now token.new.table_id token.new.me e) }
+{
+    if is_installed(run.mode, &line) {
+        return Ok(made);
+    }
+    match check::<C>(run, token, made, held, index, line) {
+        None => Ok(one_more(made)),
+        Some(stop) => Err(stop),
+    }
+}
+
 // The checks of all lines that are not installed; how many steps were made then.
 #[inline(always)]
 fn checks<C: Chain>(run: &Run, token: &mut Token, made: u64, held: Held) -> Result<u64, Stop>
@@ -313,13 +364,7 @@ fn checks<C: Chain>(run: &Run, token: &mut Token, made: u64, held: Held) -> Resu
 {
     let mut made = made;
     for index in 0..run.lines.len() {
-        let line = run.lines[index];
-        if !is_installed(run.mode, &line) {
-            if let Some(stop) = check::<C>(run, token, made, held, index as u32, line) {
-                return Err(stop);
-            }
-            made = one_more(made);
-        }
+        made = check_line::<C>(run, token, made, held, index as u32, run.lines[index])?;
     }
     Ok(made)
 }
@@ -401,20 +446,38 @@ fn release<C: Chain>(run: &Run, token: &mut Token, made: u64, held: Held, index:
     exchanges::<C>(run, token, at, location_at(line.seen.loc), old, new);
 }
 
+// The release of a line, where it was installed; how many steps were made then.
+#[inline(always)]
+fn release_line<C: Chain>(
+    run: &Run,
+    token: &mut Token,
+    made: u64,
+    held: Held,
+    index: u32,
+    line: Line,
+) -> u64
+    requires few { length run.now.lines.now ≤ 64 }
+    requires line { slice_get run.now.lines.now index ≡ Some line }
+    requires on { On C.start run.now token.old.table_id token.old.me false (seat_in run.now (at_own made held (after_own_pass (intent_of run.now.mode run.now.lines.now) (from_release run.now.mode run.now.lines.now index Succeeded)))) }
+    ensures { On C.start run.now token.new.table_id token.new.me false (seat_in run.now (at_own result held (after_own_pass (intent_of run.now.mode run.now.lines.now) (from_release run.now.mode run.now.lines.now (index + 1) Succeeded)))) }
+{
+    if !is_installed(run.mode, &line) {
+        return made;
+    }
+    release::<C>(run, token, made, held, index, line);
+    one_more(made)
+}
+
 // The releases of all lines that were installed; how many steps were made then.
 #[inline(always)]
 fn releases<C: Chain>(run: &Run, token: &mut Token, made: u64, held: Held) -> u64
     requires few { length run.now.lines.now ≤ 64 }
     requires on { On C.start run.now token.old.table_id token.old.me false (seat_in run.now (at_own made held (after_own_pass (intent_of run.now.mode run.now.lines.now) (from_release run.now.mode run.now.lines.now 0 Succeeded)))) }
-    ensures { On C.start run.now token.new.table_id token.new.me false (seat_in run.now (at_own result held (finished (intent_of run.now.mode run.now.lines.now) Succeeded))) }
+    ensures { On C.start run.now token.new.table_id token.new.me false (seat_in run.now (at_own result held (wake_or_signal 0 (next_line Put run.now.mode run.now.lines.now 0)))) }
 {
     let mut made = made;
     for index in 0..run.lines.len() {
-        let line = run.lines[index];
-        if is_installed(run.mode, &line) {
-            release::<C>(run, token, made, held, index as u32, line);
-            made = one_more(made);
-        }
+        made = release_line::<C>(run, token, made, held, index as u32, run.lines[index]);
     }
     made
 }
@@ -439,30 +502,51 @@ fn wake<C: Chain>(
     owed | number
 }
 
-// The awaiters of all puts' locations; how many steps were made then, where nobody is owed a signal.
+/// How many steps were made, and the callers that are owed a signal, bit c for caller c.
+#[derive(Clone, Copy)]
+pub(crate) struct Woken {
+    pub made: u64,
+    pub owed: u64,
+}
+
+// The awaiters of a line's location, where it puts.
 #[inline(always)]
-fn wakes<C: Chain>(run: &Run, token: &mut Token, made: u64, held: Held) -> Result<u64, Stop>
+fn wake_line<C: Chain>(
+    run: &Run,
+    token: &mut Token,
+    woken: Woken,
+    held: Held,
+    index: u32,
+    line: Line,
+) -> Woken
     requires few { length run.now.lines.now ≤ 64 }
-    requires on { On C.start run.now token.old.table_id token.old.me false (seat_in run.now (at_own made held (finished (intent_of run.now.mode run.now.lines.now) Succeeded))) }
-    ensures ok { IfOk result (λ made. On C.start run.now token.new.table_id token.new.me false (seat_in run.now (at_own made held (step.Drop Succeeded)))) }
-    ensures err { IfErr result (λ e. Stopped C.start run.now token.new.table_id token.new.me e) }
+    requires line { slice_get run.now.lines.now index ≡ Some line }
+    requires on { On C.start run.now token.old.table_id token.old.me false (seat_in run.now (at_own woken.made held (wake_or_signal woken.owed (next_line Put run.now.mode run.now.lines.now index)))) }
+    ensures { On C.start run.now token.new.table_id token.new.me false (seat_in run.now (at_own result.made held (wake_or_signal result.owed (next_line Put run.now.mode run.now.lines.now (index + 1))))) }
 {
-    let mut made = made;
-    let mut owed = 0u64;
+    if !line.put.is_some() {
+        return woken;
+    }
+    let Woken { made, owed } = woken;
+    let owed = wake::<C>(run, token, made, held, index, line, owed);
+    Woken {
+        made: one_more(made),
+        owed,
+    }
+}
+
+// The awaiters of all puts' locations.
+#[inline(always)]
+fn wakes<C: Chain>(run: &Run, token: &mut Token, made: u64, held: Held) -> Woken
+    requires few { length run.now.lines.now ≤ 64 }
+    requires on { On C.start run.now token.old.table_id token.old.me false (seat_in run.now (at_own made held (wake_or_signal 0 (next_line Put run.now.mode run.now.lines.now 0)))) }
+    ensures { On C.start run.now token.new.table_id token.new.me false (seat_in run.now (at_own result.made held (owed_next result.owed))) }
+{
+    let mut woken = Woken { made, owed: 0 };
     for index in 0..run.lines.len() {
-        let line = run.lines[index];
-        if line.put.is_some() {
-            owed = wake::<C>(run, token, made, held, index as u32, line, owed);
-            made = one_more(made);
-        }
+        woken = wake_line::<C>(run, token, woken, held, index as u32, run.lines[index]);
     }
-    if owed != 0 {
-        return Err(Stop {
-            at: point_at(made, held, OwnStep::Signal { owed }),
-            found: None,
-        });
-    }
-    Ok(made)
+    woken
 }
 
 // The drop of the descriptor, with which the commit ends.
@@ -481,4 +565,64 @@ fn drop_own<C: Chain>(run: &Run, token: &mut Token, made: u64, held: Held)
     );
     let word = control_at(run.base, held.own.descriptor);
     subtracts::<C>(run, token, at, word);
+}
+
+// The drop, where nobody is owed a signal; how many steps were made then.
+#[inline(always)]
+fn end<C: Chain>(run: &Run, token: &mut Token, woken: Woken, held: Held) -> Result<u64, Stop>
+    requires base { run.now.base ≤ 1048576 }
+    requires on { On C.start run.now token.old.table_id token.old.me false (seat_in run.now (at_own woken.made held (owed_next woken.owed))) }
+    ensures ok { IfOk result (λ made. On C.start run.now token.new.table_id token.new.me false (seat_told run.now.seat.now made held.calls (told.Succeeded held.calls))) }
+    ensures err { IfErr result (λ e. Stopped C.start run.now token.new.table_id token.new.me e) }
+{
+    let Woken { made, owed } = woken;
+    if owed != 0 {
+        return Err(Stop {
+            at: point_at(made, held, OwnStep::Signal { owed }),
+            found: None,
+        });
+    }
+    drop_own::<C>(run, token, made, held);
+    Ok(one_more(made))
+}
+
+// From the take on: how many steps were made at the end.
+#[inline(always)]
+fn own<C: Chain>(run: &Run, token: &mut Token, held: Held) -> Result<u64, Stop>
+    requires base { run.now.base ≤ 1048576 }
+    requires few { length run.now.lines.now ≤ 64 }
+    requires on { On C.start run.now token.old.table_id token.old.me false (seat_in run.now (at_own (one_more (one_more run.now.seat.now.made)) held step.FillOwner)) }
+    ensures ok { IfOk result (λ made. On C.start run.now token.new.table_id token.new.me false (seat_told run.now.seat.now made held.calls (told.Succeeded held.calls))) }
+    ensures err { IfErr result (λ e. Stopped C.start run.now token.new.table_id token.new.me e) }
+{
+    let made = one_more(one_more(run.seat.steps()));
+    fill_owner::<C>(run, token, made, held);
+    let made = fills::<C>(run, token, one_more(made), held);
+    start::<C>(run, token, made, held);
+    let made = installs::<C>(run, token, one_more(made), held)?;
+    let made = checks::<C>(run, token, made, held)?;
+    if let Some(stop) = decide::<C>(run, token, made, held) {
+        return Err(stop);
+    }
+    let made = releases::<C>(run, token, one_more(made), held);
+    let woken = wakes::<C>(run, token, made, held);
+    end::<C>(run, token, woken, held)
+}
+
+/// Runs a commit on from its first scan: how many steps and calls the seat has made where it ends, told Succeeded.
+#[inline(always)]
+pub(crate) fn straight<C: Chain>(run: &Run, token: &mut Token) -> Result<Ended, Stop>
+    requires base { run.now.base ≤ 1048576 }
+    requires few { length run.now.lines.now ≤ 64 }
+    requires on { On C.start run.now token.old.table_id token.old.me true (seat_in run.now (first_point run.now.seat.now)) }
+    ensures ok { IfOk result (λ e. On C.start run.now token.new.table_id token.new.me false (seat_told run.now.seat.now e.made e.calls (told.Succeeded e.calls))) }
+    ensures err { IfErr result (λ e. Stopped C.start run.now token.new.table_id token.new.me e) }
+{
+    let generation = scan::<C>(run, token)?;
+    let held = take::<C>(run, token, generation)?;
+    let made = own::<C>(run, token, held)?;
+    Ok(Ended {
+        made,
+        calls: held.calls,
+    })
 }

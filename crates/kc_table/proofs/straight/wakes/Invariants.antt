@@ -9,4 +9,4 @@ use Rattle.kc_table.specs.Straight.{On, at_own, seat_in}
 use Rattle.kc_table.proofs.straight.wakes.Given as goal
 
 abbrev pub invariant-loop-index : goal.invariant-loop-index
-invariant-loop-index g l = On g.C.Chain.start l.run l.token.table_id l.token.me false (seat_in l.run (at_own l.made l.held (wake_or_signal l.owed (next_line Put l.run.mode l.run.lines.now l.index))))
+invariant-loop-index g l = On g.C.Chain.start l.run l.token.table_id l.token.me false (seat_in l.run (at_own l.woken.made l.held (wake_or_signal l.woken.owed (next_line Put l.run.mode l.run.lines.now l.index))))
