@@ -8,3 +8,4 @@ pub mod Waits
 pub mod Following
 mod Straights
 mod Links
+mod Wholes

@@ -101,3 +101,8 @@ StoppedAt start r token me p (Some n) = Went start r token me (seat_in r p) n
 
 abbrev pub Stopped : SeatView → Run → TableId → Me Unit View → Stop → Type 0
 Stopped start r token me e = StoppedAt start r token me e.at e.found
+
+-- the seat s is written at a point, or behind the step there, which found this number
+abbrev pub StandsAt : Seat → Mode → List Line → Point → Option ℕ → Seat → Type 0
+StandsAt s m xs p None t = t ≡ seat_at s m xs p
+StandsAt s m xs p (Some n) t = Makes (seat_at s m xs p) n t

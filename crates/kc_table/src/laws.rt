@@ -4,6 +4,7 @@ ghost use Rattle.std.specs.Prelude.{◌≡◌, true, false};
 ghost use Rattle.kc_steps.specs.declared.task.Task.{Task};
 ghost use Rattle.kc_machine.specs.Schedules.{IsWellMadeTask};
 ghost use Rattle.kc_machine.specs.Seats.{begun, is_idle};
+ghost use Rattle.kc_table.specs.Straight.{Ran};
 ghost use Rattle.kc_table.specs.Tasks.{Does};
 ghost use Rattle.kc_table.specs.Views.{KnowsReads, SeatView, Starts, Stepped};
 
@@ -15,4 +16,9 @@ pub fn what_was_begun_is_known()
 /// Further steps of a seat, with or without halts between, go on with its task.
 pub fn tasks_are_followed()
     ensures { (v u w : SeatView) (t : Task) → Does v t u → u.began ≡ false → Stepped u w → Does v t w }
+{}
+
+/// A task that was begun and run in one call shows, as one that was stepped.
+pub fn what_was_run_is_known()
+    ensures { (v w : SeatView) (t : Task) → Starts v t → IsWellMadeTask v.of.origin.locations t → Ran v t w → Does v t w }
 {}

@@ -2,6 +2,7 @@
 #![tactic(auto)]
 
 mod atoms;
+mod calls;
 mod end;
 mod laws;
 mod open;
@@ -15,6 +16,6 @@ mod touch;
 mod view;
 
 pub use end::Past;
-pub use laws::{tasks_are_followed, what_was_begun_is_known};
+pub use laws::{tasks_are_followed, what_was_begun_is_known, what_was_run_is_known};
 pub use seat::{KcNote, KcSeat};
 pub use table::KcTable;
