@@ -10,32 +10,18 @@ use Rattle.kc_machine.specs.Seats.{begun, is_idle}
 use Rattle.kc_machine.specs.Machine.{Opening, run}
 use Rattle.kc_machine.specs.Schedules.{IsWellMadeTask}
 use Rattle.kc_traces.specs.Moments.{BeginsNothing}
-use Rattle.kc_traces.specs.Parts.{NoneOf}
 use Rattle.kc_traces.proofs.Others.{others_leave}
 use Rattle.kc_views.specs.Pending.{AllWait, applied, BeginsOne, BeginsAsMarked, Pends}
 use Rattle.kc_views.specs.Known.{IsMeant}
-use Rattle.kc_views.specs.Tasks.{Runs, ran}
+use Rattle.kc_views.specs.Tasks.{ran}
 use Rattle.kc_views.proofs.Pendings.{nothing_push, none_begins, waits_front, waits_seat}
+use Rattle.kc_views.proofs.Knowing.{owned_none}
 use Rattle.kc_views.proofs.Shown.{says}
-use Rattle.kc_table.specs.Origins.{opening_of}
-use Rattle.kc_table.specs.declared.view.View.{View}
-use Rattle.kc_table.specs.Rule.{number_of, past_of, Steps, Moved}
-use Rattle.kc_table.specs.Views.{SeatView, Starts, Stepped, opening_at_seat}
+use Rattle.kc_moves.specs.Origins.{opening_of}
+use Rattle.kc_moves.specs.declared.view.View.{View}
+use Rattle.kc_moves.specs.Rule.{number_of, past_of, Steps, Moved}
+use Rattle.kc_moves.specs.Views.{SeatView, Starts, Stepped, opening_at_seat}
 use Rattle.kc_table.specs.Tasks.{Does}
-use Rattle.kc_table.proofs.Begins.{shown_as}
-
--- what clauses see of a step
-pub stepped_view : (v : SeatView) (began : Bool) (s t : Seat) (me after : Me Unit View) (z y : TableId) (n : ℕ) → shown_as z me began s ≡ v → y ≡ z → Moved s began me n after
-    → t ≡ (run (opening_of me.0.origin) (past_of after.0.parts)).seats (number_of me.0.parts) → Stepped v (shown_as y after false t)
-stepped_view v began s t me after z y n e same m is = subst (λ u. Stepped u (shown_as y after false t)) e
-    record {
-      of = λ i. record { table = same i; origin = ap (λ (x : Me Unit View). x.0.origin) m.1 i };
-      number = ap (λ (x : Me Unit View). number_of x.0.parts) m.1;
-      began = refl;
-      found = n;
-      steps = subst (λ p. Steps (opening_of me.0.origin) (number_of me.0.parts) (past_of me.0.parts) began s n p) (sym (ap (λ (x : Me Unit View). past_of x.0.parts) m.1)) m.2;
-      seat = is;
-    }
 
 -- the first step of a task shows it
 module _ (v w : SeatView) (t : Task) (st : Starts v t) (made : IsWellMadeTask v.of.origin.locations t) (s : Stepped (record v { seat = begun v.seat t; began = true }) w) where
@@ -64,33 +50,35 @@ module _ (v w : SeatView) (t : Task) (st : Starts v t) (made : IsWellMadeTask v.
   one = subst (λ u. BeginsOne k s0 u pending) (says o k v.past pending some_task.0 t (begun v.seat t) v.seat pends some_task.1 made st.0 st.1 refl) some_task.1
 
   abbrev before : List Event
-  before = v.past ++ (others ++ one.before)
+  before = (v.past ++ others) ++ one.before
 
   abbrev rest : List Event
   rest = one.behind ++ Step k ∷ []
 
   late : w.past ≡ ran k t before rest
   late =
-      let head : ((v.past ++ others) ++ one.before) ≡ before = append_assoc v.past others one.before in
       s.steps.is ∙ ap (λ l. ((v.past ++ others) ++ l) ++ Step k ∷ []) one.is
       ∙ ap (λ l. l ++ Step k ∷ []) (sym (append_assoc (v.past ++ others) one.before (Begin k t ∷ one.behind)))
       ∙ append_assoc ((v.past ++ others) ++ one.before) (Begin k t ∷ one.behind) (Step k ∷ [])
-      ∙ ap (λ l. l ++ Begin k t ∷ rest) head
 
   front : (run o before).seats k ≡ applied s0 one.before
   front =
-      ap (λ l. (run o l).seats k) (sym (append_assoc v.past others one.before))
-      ∙ waits_seat o (v.past ++ others) one.before k s.steps.within (waits_front k one.before (Begin k t ∷ one.behind) (subst (AllWait k) one.is pends.waits))
+      waits_seat o (v.past ++ others) one.before k s.steps.within (waits_front k one.before (Begin k t ∷ one.behind) (subst (AllWait k) one.is pends.waits))
       ∙ ap (λ y. applied y one.before) (others_leave o v.past others k s.steps.none)
 
   pub does_begin : Does v t w
   does_begin = record {
     of = s.of;
     number = s.number;
-    more = others ++ one.before;
-    nothing_more = nothing_push k others one.before (none_begins k others s.steps.none) one.nothing_before;
+    owned_none = owned_none s0 one.before one.idle;
+    others = others;
+    none = s.steps.none;
+    halts = one.before;
+    waits = waits_front k one.before (Begin k t ∷ one.behind) (subst (AllWait k) one.is pends.waits);
+    nothing = one.nothing_before;
     rest = rest;
     past = late;
+    seat = s.seat;
     runs = record {
       within = s.steps.within;
       meant = subst (IsMeant o) late s.steps.meant;
@@ -104,11 +92,11 @@ pub does_first : (v u w : SeatView) (t : Task) → Starts v t → IsWellMadeTask
 does_first v u w t st made e s = does_begin v w t st made (subst (λ (x : SeatView). Stepped x w) e s)
 
 -- a further step
-pub does_further : (v u w : SeatView) (t : Task) → Does v t u → u.began ≡ false → Stepped u w → Does v t w
-does_further v u w t d old s =
+pub does_further : (v u w : SeatView) (y : Seat) (t : Task) → Does v t u → u.began ≡ false → Stepped (record u { seat = y }) w → Does v t w
+does_further v u w y t d old s =
     let x = s.steps in
     let k = v.number in
-    let before = v.past ++ d.more in
+    let before = (v.past ++ d.others) ++ d.halts in
     let new = x.others ++ (x.pending ++ Step u.number ∷ []) in
     let none : BeginsNothing u.number x.pending = subst (λ b. BeginsAsMarked b u.number ((run (opening_at_seat u) u.past).seats u.number) x.pending) old x.pends.begins in
     let late : w.past ≡ ran k t before (d.rest ++ new) =
@@ -117,8 +105,13 @@ does_further v u w t d old s =
     record {
       of = s.of ∙ d.of;
       number = s.number ∙ d.number;
-      more = d.more;
-      nothing_more = d.nothing_more;
+      owned_none = d.owned_none;
+      others = d.others;
+      none = d.none;
+      halts = d.halts;
+      waits = d.waits;
+      nothing = d.nothing;
+      seat = s.seat ∙ (λ i. (run (opening_of (ap (λ z. z.origin) d.of i)) w.past).seats (d.number i));
       rest = d.rest ++ new;
       past = late;
       runs = record {

@@ -1,11 +1,11 @@
-pub mod Views
-pub mod Moves
 pub mod Loads
 pub mod Begins
 pub mod Dealt
 pub mod Gathered
 pub mod Waits
 pub mod Following
-mod Straights
-mod Links
+pub mod Read
+pub mod Closing
+pub mod Keeping
+pub mod Trying
 mod Wholes

@@ -1,5 +1,5 @@
 -- What moves no seat of the machine: opening, dealing, notes, joins, and loads that show the schedule.
-use Rattle.std.proofs.Common.{◌≡◌, ◌≢◌, ℕ, zero, suc, ◌+◌, ◌*◌, ◌/◌, ◌%◌, ◌^◌, ◌<◌, ◌≤◌, ◌-◌, get_or, Bool, true, false, List, [], ◌∷◌, ◌++◌, set, length, All, refl, sym, ap, ◌∙◌, ⊎_elim, arith, subst, if◌then◌else◌, eqb, append-nil}
+use Rattle.std.proofs.Common.{◌≡◌, ◌≢◌, ℕ, zero, suc, ◌+◌, ◌*◌, ◌/◌, ◌%◌, ◌^◌, ◌<◌, ◌≤◌, ◌-◌, get_or, Bool, true, false, List, [], ◌∷◌, ◌++◌, set, refl, sym, ap, ◌∙◌, ⊎_elim, arith, subst, if◌then◌else◌, eqb, append-nil}
 use Rattle.std.specs.Prelude.{slice_index, nat_lt}
 use Rattle.std.proofs.lemmas.List.{set-get_or}
 use Rattle.std.proofs.lemmas.Bool.Decides.{nat_tests}
@@ -9,8 +9,7 @@ use borrow.Author.Tests.{ne_eqb, eqb-true, ltb-true}
 use Rattle.atomic_table.specs.Table as table
 use Rattle.atomic_table.specs.Table.{Me, Allows, Enters, Splits, Joins, keeps, stepped}
 use Rattle.atomic_table.proofs.Lists.{at_set, at_snoc}
-use Rattle.kc_model.specs.declared.word.Word.{Word}
-use Rattle.kc_model.specs.declared.word.Word.TheVariants.{Plain, Ref}
+use Rattle.kc_model.specs.declared.word.Word.TheVariants.{Plain}
 use Rattle.kc_model.specs.Word.{packed, unpacked, unpacked_reference}
 use Rattle.kc_model.specs.declared.footprint.TheConstants.{LAST_VERSION}
 use Rattle.kc_words.specs.declared.words.TheConstants.{LAST_GENERATION}
@@ -19,14 +18,14 @@ use Rattle.kc_machine.specs.Machine.{Opening, opened, run, pool_size}
 use Rattle.kc_machine.specs.Schedules.{IsInRange}
 use Rattle.kc_traces.specs.Parts.{NoneOf}
 use Rattle.kc_views.specs.Known.{IsMeant, IsPrefix}
-use Rattle.kc_layout.specs.Cells.{AllFit, Cell, IsThere, CellFits, place, bits, signal_bit, Stores}
+use Rattle.kc_layout.specs.Cells.{AllFit, Cell, IsThere, place, bits, signal_bit, Stores}
 use Rattle.kc_layout.specs.Cells.Cell.{none, word, awaiters, control, status, owner, first, second, signal}
 use Rattle.kc_layout.specs.Opened.{opening_at}
-use Rattle.kc_table.specs.Origins.{Origin, version_in, value_in, word_in, opening_of}
-use Rattle.kc_table.specs.declared.view.Part.{Part}
-use Rattle.kc_table.specs.declared.view.View.{View}
-use Rattle.kc_table.specs.Rule.{part, view, fresh_parts, everyone, Fits, EachFits, FitsView, times, Kept, past_of, first_part, other_parts, dealt, undealt, noted, spent, nothing, hearing, gathered, Merged, Heard, Ended}
-use Rattle.kc_table.proofs.Views.{total_set, total_two, total_snoc}
+use Rattle.kc_moves.specs.Origins.{Origin, version_in, value_in, word_in, opening_of}
+use Rattle.kc_moves.specs.declared.view.Part.{Part}
+use Rattle.kc_moves.specs.declared.view.View.{View}
+use Rattle.kc_moves.specs.Rule.{part, view, fresh_parts, everyone, Fits, EachFits, FitsView, times, Kept, past_of, first_part, other_parts, dealt, undealt, noted, spent, nothing, hearing, gathered, Merged, Heard, Ended}
+use Rattle.kc_moves.proofs.Views.{total_set, total_two, total_snoc}
 
 -- views after another's change
 views_set : (q : Origin) (es : List Event) (views : List View) (id : ℕ) (w : View) → ((j : ℕ) (u : View) → get_elem? views j ≡ some u → FitsView q es u) → FitsView q es w

@@ -23,18 +23,18 @@ use Rattle.kc_machine.specs.Machine.{World, run, found_at}
 use Rattle.kc_layout.specs.declared.change.Change.TheVariants as change
 use Rattle.kc_layout.specs.Cells.{CellFits, base_of, bits, cell_of, place}
 use Rattle.kc_layout.specs.Cells.Cell.{word}
-use Rattle.kc_table.specs.Origins.{Origin, opening_of}
-use Rattle.kc_table.specs.declared.view.View.{View}
-use Rattle.kc_table.specs.declared.atoms.Run.{Run}
-use Rattle.kc_table.specs.declared.atoms.Stop.{Stop}
-use Rattle.kc_table.specs.Rule.{number_of, past_of, Ready, Moved}
-use Rattle.kc_table.specs.Views.{SeatView, KnowsReads, Starts, Stepped}
-use Rattle.kc_table.specs.Straight.{StepsTo, here, further, Aims, Commits, Here, On, Ran, StandsAt, StoppedAt, begun_at, seat_in, seen_as}
+use Rattle.kc_moves.specs.Origins.{Origin, opening_of}
+use Rattle.kc_moves.specs.declared.view.View.{View}
+use Rattle.kc_moves.specs.declared.atoms.Run.{Run}
+use Rattle.kc_moves.specs.declared.atoms.Stop.{Stop}
+use Rattle.kc_moves.specs.Rule.{number_of, past_of, Ready, Moved}
+use Rattle.kc_moves.specs.Views.{SeatView, KnowsReads, Starts, Stepped, seen_as}
+use Rattle.kc_moves.specs.Straight.{StepsTo, here, further, Aims, Commits, Here, On, Ran, StandsAt, StoppedAt, begun_at, seat_in}
 use Rattle.kc_table.specs.Tasks.{Does}
 use Rattle.kc_table.proofs.Begins.{ready_begun}
-use Rattle.kc_table.proofs.Following.{stepped_view, does_first, does_further}
-use Rattle.kc_table.proofs.Moves.{answered, ready_after}
-use Rattle.kc_table.proofs.Straights.{went_on}
+use Rattle.kc_table.proofs.Following.{does_first, does_further}
+use Rattle.kc_moves.proofs.Allowed.{answered, ready_after}
+use Rattle.kc_moves.proofs.Straights.{stepped_view, went_on}
 
 -- ---- the beginning
 
@@ -105,7 +105,7 @@ looks_on s l g d k e = rw e refl
 
 begins_or_does : (v : SeatView) (t : Task) (u w : SeatView) → Starts v t → IsWellMadeTask v.of.origin.locations t → StepsTo (begun_at v t) u → Stepped u w → Does v t w
 begins_or_does v t u w st made here s = does_first v (begun_at v t) w t st made refl s
-begins_or_does v t u w st made (further x y d busy r) s = does_further v u w t (begins_or_does v t x y st made d r) r.began s
+begins_or_does v t u w st made (further x y d busy r) s = does_further v u w u.seat t (begins_or_does v t x y st made d r) r.began s
 
 pub does_ran : (v w : SeatView) (t : Task) → Starts v t → IsWellMadeTask v.of.origin.locations t → Ran v t w → Does v t w
 does_ran v w t st made r = go w r.steps r.shown

@@ -9,19 +9,16 @@ ghost use Rattle.kc_machine.specs.Points.{first_point, seat_told};
 ghost use Rattle.kc_machine.specs.Schedules.{IsWellMadeTask};
 ghost use Rattle.kc_machine.specs.Seats.{answer_of, begun, is_idle};
 ghost use Rattle.kc_layout.specs.declared.change.Change.TheVariants as change;
-ghost use Rattle.kc_table.specs.Rule.{Moved, Ready};
-ghost use Rattle.kc_table.specs.Views.{KnowsReads};
-ghost use Rattle.kc_table.specs.Straight.{Aims, Commits, Here, On, Ran, StandsAt, Stopped, seat_in};
+ghost use Rattle.kc_moves.specs.Rule.{Moved, Ready};
+ghost use Rattle.kc_moves.specs.Views.{KnowsReads};
+ghost use Rattle.kc_moves.specs.Straight.{Aims, Commits, Here, On, Ran, StandsAt, Stopped, seat_in};
 
-use crate::atoms::{Chain, Run, Stop, load};
-use crate::rule::Now;
 use crate::seat::KcSeat;
-use crate::straight::{Ended, straight};
 use crate::table::KcTable;
-use crate::touch::{Token, Words};
 use kc_layout::{location_at, shown};
 use kc_machine::Seat;
 use kc_model::{Loc, Seen, Word};
+use kc_moves::{Chain, Ended, Now, Run, Stop, Token, Words, load, run_commit};
 use kc_steps::{Line, Task, Told, one_more};
 use kc_words::{Found, Mode};
 use std::marker::Brand;
@@ -142,7 +139,7 @@ fn run_task<C: Chain>(run: &Run, token: &mut Token, _task: &Task) -> Result<Ende
     ensures ok { IfOk result (λ e. On C.start run.now token.new.table_id token.new.me false (seat_told run.now.seat.now e.made e.calls (told.Succeeded e.calls))) }
     ensures err { IfErr result (λ e. Stopped C.start run.now token.new.table_id token.new.me e) }
 {
-    straight::<C>(run, token)
+    run_commit::<C>(run, token)
 }
 
 #[inline(always)]

@@ -1,14 +1,19 @@
 //! What is left of a table when all seats came back.
 
-ghost use Rattle.std.specs.Prelude.{◌≡◌, ◌<◌, true, false, All, IfOk, Err, Ok};
+ghost use Rattle.std.specs.Prelude.{◌≡◌, ◌<◌, ◌≤◌, ℕ, true, All, IfErr, IfOk, get_or, length, slice_get};
+ghost use Rattle.std.specs.Mem.Slots.{IsFull, slots_items, slots_len};
+ghost use Rattle.kc_layout.specs.Cells.{base_of};
+ghost use Rattle.kc_model.specs.declared.footprint.Seen.{Seen};
 ghost use Rattle.kc_machine.specs.Seats.{is_idle};
-ghost use Rattle.kc_table.specs.Origins.{opening_of};
-ghost use Rattle.kc_table.specs.Views.{AreAll, IsPast, Matches};
+ghost use Rattle.kc_moves.specs.Origins.{opening_of};
+ghost use Rattle.kc_moves.specs.Views.{AreAll, IsClosed, IsPast, Matches, seen_in, seen_of};
 
-use crate::rule::{Empty, Gathers, Shows};
 use crate::seat::KcSeat;
 use crate::table::KcTable;
-use crate::touch::{Token, Words};
+use kc_layout::location_at;
+use kc_model::{Loc, Seen, Word};
+use kc_moves::{Empty, Gathers, Shows, Token, Words};
+use std::alloc::Global;
 use std::marker::Model;
 
 /// What is left when all seats came back. Contracts see the opening and the one schedule; its history is the one history.
@@ -18,7 +23,7 @@ pub struct Past {
 }
 
 impl Model for Past {
-    ghost use Rattle.kc_table.specs.Views.{PastView};
+    ghost use Rattle.kc_moves.specs.Views.{PastView};
 
     ghost Value = { PastView };
 
@@ -31,10 +36,99 @@ impl KcTable {
         requires { AreAll self seats.items }
         ensures { IsPast self seats.items result }
     {
-        let KcTable { table, base: _ } = self;
+        let KcTable {
+            table,
+            locations: _,
+        } = self;
         let mut keeper = gather(&table.shared, seats);
         table.shared.load::<Shows>(&mut keeper, 0);
         Past { token: keeper }
+    }
+
+    /// All seats come back, and the values at the end show.
+    ///
+    /// # Errors
+    ///
+    /// Want of memory: the table and its seats as they were.
+    pub fn close(self, alloc: Global, seats: Vec<KcSeat>) -> Result<Closed, CloseRefused>
+        requires { AreAll self seats.items }
+        ensures ok { IfOk result (λ c. IsClosed self seats.items c) }
+        ensures refused { IfErr result (λ r. (r.table ≡ self) × (r.seats.items ≡ seats.items)) }
+    {
+        let blank = Seen {
+            loc: Loc(0),
+            version: 0,
+            value: 0,
+        };
+        let Ok(mut seen) = vec![in alloc; blank; self.locations] else {
+            return Err(CloseRefused { table: self, seats });
+        };
+        let KcTable {
+            table,
+            locations: _,
+        } = self;
+        let keeper = gather(&table.shared, seats);
+        let closed = table.close_with(keeper);
+        read_words(&closed, seen.as_mut_slice());
+        closed.free();
+        Ok(Closed { seen })
+    }
+}
+
+/// The values at the end. Contracts see of each location, in order, its version and its value.
+#[derive(Drop)]
+pub struct Closed {
+    seen: Vec<Seen>,
+}
+
+impl Model for Closed {
+    ghost use Rattle.kc_moves.specs.Views.{ClosedView};
+
+    ghost Value = { ClosedView };
+
+    ghost view = { λ c. record { seen = c.seen.items } };
+}
+
+impl Closed {
+    /// What stands at a location; None exactly past the last one.
+    pub fn seen(&self, loc: Loc) -> Option<Seen>
+        ensures { result ≡ slice_get self.now.seen loc.0 }
+    {
+        self.seen.get(loc.0 as usize).copied()
+    }
+}
+
+/// There was no memory: the table and its seats come back.
+#[derive(Drop)]
+pub struct CloseRefused {
+    pub table: KcTable,
+    pub seats: Vec<KcSeat>,
+}
+
+// What the words of each location say.
+fn read_words(words: &atomic_table::Closed<(), Global>, seen: &mut [Seen])
+    requires words { IsFull words.now.words × (base_of (length seen.old) ≤ slots_len words.now.words) }
+    requires few { length seen.old ≤ 65536 }
+    ensures size { length seen.new ≡ length seen.old }
+    ensures seen { (l : ℕ) (d : Seen) → l < length seen.old → get_or seen.new l d ≡ seen_in (slots_items words.now.words) l }
+{
+    for l in 0..seen.len() {
+        let loc = Loc(l as u32);
+        seen[l] = seen_as(loc, Word::unpack(words.word(location_at(loc))));
+    }
+}
+
+fn seen_as(loc: Loc, word: Word) -> Seen
+    ensures { result ≡ seen_of loc.0 word }
+{
+    let (version, value) = match word {
+        Word::Plain { version, value } => (version, value),
+        Word::Ref { .. } => (0, 0),
+    };
+    Seen {
+        loc,
+        version,
+        value,
     }
 }
 

@@ -1,18 +1,15 @@
 //! A table and its seats as they are made.
 
 ghost use Rattle.std.specs.Prelude.{◌≡◌, IfOk, []};
-ghost use Rattle.kc_table.specs.Origins.{Opens};
-ghost use Rattle.kc_table.specs.Rule.{everyone};
-ghost use Rattle.kc_table.specs.Views.{opened_seats};
+ghost use Rattle.kc_moves.specs.Origins.{Opens};
+ghost use Rattle.kc_moves.specs.Rule.{everyone};
+ghost use Rattle.kc_moves.specs.Views.{opened_seats};
 
-use crate::rule::Deals;
 use crate::seat::KcSeat;
 use crate::table::KcTable;
-use crate::touch::Token;
-use crate::view::Origin;
 use atomic_table::Table;
-use kc_layout::base_at;
 use kc_machine::Seat;
+use kc_moves::{Deals, Origin, Token};
 use std::alloc::{AllocError, Global};
 
 pub(crate) fn make_table(alloc: Global, origin: &Origin) -> Result<(KcTable, Token), AllocError>
@@ -20,8 +17,8 @@ pub(crate) fn make_table(alloc: Global, origin: &Origin) -> Result<(KcTable, Tok
     ensures { IfOk result (λ t. (t.0.origin ≡ origin.now) × (t.1.table_id ≡ t.0.table) × (t.1.me ≡ (everyone origin.now, []))) }
 {
     let (table, first) = Table::of_words(alloc, origin.words.as_slice(), origin)?;
-    let base = base_at(origin.locations as usize);
-    Ok((KcTable { table, base }, first))
+    let locations = origin.locations as usize;
+    Ok((KcTable { table, locations }, first))
 }
 
 pub(crate) fn deal_seats(

@@ -1,17 +1,15 @@
 //! The table.
 
-ghost use Rattle.std.specs.Prelude.{◌≡◌, ◌≤◌, ◌<◌, ◌↔◌, ◌⊎◌, true, false, length, All, IfOk, Err};
+ghost use Rattle.std.specs.Prelude.{◌≡◌, ◌≤◌, ◌<◌, ◌↔◌, ◌⊎◌, true, false, length, replicate, All, IfOk, Err};
 ghost use Rattle.kc_machine.specs.Seats.{is_idle};
-ghost use Rattle.kc_table.specs.Views.{Joined, OpensAt, Signalled, Stepped, opened_seats};
+ghost use Rattle.kc_moves.specs.Views.{Joined, OpensAt, Signalled, Stepped, opened_seats};
 
 use crate::open::{deal_seats, make_table};
-use crate::rule::{Hears, Merges, Notes, Rule};
 use crate::seat::{KcNote, KcSeat};
-use crate::touch::touch_seat;
-use crate::view::{Origin, View};
 use atomic_table::Table;
-use kc_layout::{open_words, shown, signal_at};
+use kc_layout::{base_at, open_words, shown, signal_at};
 use kc_model::{LAST_VERSION, MOST_LOCATIONS, OpenError};
+use kc_moves::{Hears, Merges, Notes, Origin, Rule, View, touch_seat};
 use kc_words::{Access, LAST_GENERATION};
 use std::alloc::Global;
 use std::marker::{Brand, Model};
@@ -21,24 +19,49 @@ use std::sync::Wait;
 #[derive(Drop)]
 pub struct KcTable {
     pub(crate) table: Table<(), View, Origin, Rule, Global>,
-    // Where the descriptors begin.
-    pub(crate) base: usize,
+    pub(crate) locations: usize,
 }
 
 impl Model for KcTable {
     ghost use Rattle.std.specs.Prelude.{◌≡◌, ◌≤◌};
-    ghost use Rattle.kc_layout.specs.Cells.{base_of, size_of};
+    ghost use Rattle.kc_layout.specs.Cells.{size_of};
     ghost use Rattle.kc_machine.specs.Machine.{pool_size};
-    ghost use Rattle.kc_table.specs.Views.{TableView};
+    ghost use Rattle.kc_moves.specs.Views.{TableView};
 
     ghost Value = { TableView };
 
     ghost view = { λ t. record { table = t.table.shared.table_id; origin = t.table.shared.key } };
 
-    ghost invariant = { λ t. (t.base ≡ base_of t.table.shared.key.locations) × (t.table.shared.key.locations ≤ 65536) × (t.table.shared.table_id.words ≡ size_of t.table.shared.key.locations (pool_size t.table.shared.key.callers)) × (t.table.shared.table_id.slots ≡ 0) };
+    ghost invariant = { λ t. (t.locations ≡ t.table.shared.key.locations) × (t.table.shared.key.locations ≤ 65536) × (t.table.shared.table_id.words ≡ size_of t.table.shared.key.locations (pool_size t.table.shared.key.callers)) × (t.table.shared.table_id.slots ≡ 0) };
 }
 
 impl KcTable {
+    /// A table with these values at version 0, whose descriptors begin at generation 0, and its seats.
+    ///
+    /// # Errors
+    ///
+    /// - TooManyLocs: exactly above 65,536 values
+    /// - TooManyCallers: else, exactly for no caller or more than 64
+    /// - NoMemory
+    pub fn open(
+        alloc: Global,
+        values: &[u32],
+        callers: u32,
+    ) -> Result<(KcTable, Vec<KcSeat>), OpenError>
+        ensures ok { IfOk result (λ t. OpensAt values.now (replicate (length values.now) 0) callers 0 t.0 × (t.1.items ≡ opened_seats t.0 0 callers)) }
+        ensures locations { (result ≡ Err OpenError.TooManyLocs) ↔ (65536 < length values.now) }
+        ensures callers { (result ≡ Err OpenError.TooManyCallers) ↔ ((length values.now ≤ 65536) × ((callers ≡ 0) ⊎ (64 < callers))) }
+    {
+        if values.len() > MOST_LOCATIONS {
+            return Err(OpenError::TooManyLocs);
+        }
+        if callers == 0 || callers > 64 {
+            return Err(OpenError::TooManyCallers);
+        }
+        let versions = vec![in alloc; 0u32; values.len()]?;
+        KcTable::open_at(alloc, values, versions.as_slice(), callers, 0)
+    }
+
     /// A table with these values at these versions, whose descriptors begin at this generation, and its seats.
     ///
     /// # Errors
@@ -90,7 +113,7 @@ impl KcTable {
             &seat.machine,
             seat.began,
             access,
-            self.base,
+            base_at(self.locations),
         );
         seat.machine.answer(&shown(&access, found));
         seat.began = false;

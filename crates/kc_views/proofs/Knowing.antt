@@ -84,7 +84,7 @@ owns_through s [] o = o
 owns_through s (e ∷ es) o = owns_through (moved_by s e) es (owns_on s s.work e o)
 
 -- so where it comes to be idle, it owned none
-owned_none : (s : Seat) (es : List Event) → is_idle (applied s es).work ≡ true → is_some (own_of s) ≡ false
+pub owned_none : (s : Seat) (es : List Event) → is_idle (applied s es).work ≡ true → is_some (own_of s) ≡ false
 owned_none s es i = go (is_some (own_of s)) refl
   where
     idle_owns : (x : Work) → is_idle x ≡ true → is_some (own_of_work x) ≡ false
@@ -119,7 +119,7 @@ no_hold s d g = go s.work
     go (work.Leave l) o q = absurd (cc)
 
 -- a seat that owns none gains no entry by what others do
-gains_none : (o : Opening) (es more : List Event) (k : ℕ) → is_some (own_of ((run o es).seats k)) ≡ false → NoneOf k more → by k (known o (es ++ more)) ≡ by k (known o es)
+pub gains_none : (o : Opening) (es more : List Event) (k : ℕ) → is_some (own_of ((run o es).seats k)) ≡ false → NoneOf k more → by k (known o (es ++ more)) ≡ by k (known o es)
 gains_none o es [] k i n = ap (λ x. by k (known o x)) (append-nil es)
 gains_none o es (e ∷ more) k i n =
     let at = others_leave o es (e ∷ []) k (n.0, tt) in

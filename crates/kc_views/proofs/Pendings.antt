@@ -33,7 +33,7 @@ waits_none j k (Begin i t ∷ es) ne w = ((λ e. ne (sym e ∙ w.0)), waits_none
 waits_none j k (Step i ∷ es) ne w = absurd w
 waits_none j k (Halt i ∷ es) ne w = ((λ e. ne (sym e ∙ w.0)), waits_none j k es ne w.1)
 
-waits_no_step : (k : ℕ) (es : List Event) → AllWait k es → All IsNoStep es
+pub waits_no_step : (k : ℕ) (es : List Event) → AllWait k es → All IsNoStep es
 waits_no_step k es w = go es w
   where
     cons : (e : Event) (es : List Event) → IsNoStep e → All IsNoStep es → All IsNoStep (e ∷ es)

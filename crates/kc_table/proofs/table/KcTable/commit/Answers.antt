@@ -1,7 +1,7 @@
 use Rattle.std.proofs.Common.{◌≡◌, ◌∙◌, ap, sym, true}
 use Rattle.kc_machine.specs.Points.{first_point, seat_at}
 use Rattle.kc_machine.specs.Seats.{is_idle}
-use Rattle.kc_table.specs.Views.{SeatView}
+use Rattle.kc_moves.specs.Views.{SeatView}
 use Rattle.kc_table.proofs.Wholes.{commit_begins, commit_starts, on_begins}
 use Rattle.kc_table.proofs.table.KcTable.commit.Goals as goal
 

@@ -1,4 +1,4 @@
-use Rattle.std.proofs.Common.{refl, rules, arith, sym, ap, ◌∙◌}
+use Rattle.std.proofs.Common.{arith, sym, ap, ◌∙◌}
 use Rattle.kc_table.proofs.Loads.{hears, merges}
 use Rattle.kc_table.proofs.Begins.{ready_merged, joined_view}
 use Rattle.kc_table.proofs.table.KcTable.join.Goals as goal

@@ -1,4 +1,4 @@
-use Rattle.std.proofs.Common.{rules, arith, sym, ap, ◌∙◌}
+use Rattle.std.proofs.Common.{arith, sym, ap, ◌∙◌}
 use Rattle.kc_table.proofs.Loads.{notes}
 use Rattle.kc_table.proofs.table.KcTable.split.Goals as goal
 

@@ -1,13 +1,14 @@
-use Rattle.std.proofs.Common.{refl, sym, ap, ◌∙◌, subst}
-use Rattle.kc_table.proofs.Moves.{ready_after, answered}
-use Rattle.kc_table.proofs.Following.{stepped_view}
+use Rattle.std.proofs.Common.{sym, ap, ◌∙◌}
+use Rattle.kc_layout.specs.Cells.{base_of}
+use Rattle.kc_moves.proofs.Allowed.{ready_after, answered}
+use Rattle.kc_moves.proofs.Straights.{stepped_view}
 use Rattle.kc_table.proofs.table.KcTable.step.Goals as goal
 
 pub touch_seat-found-requires-clause-table : goal.touch_seat-found-requires-clause-table
 touch_seat-found-requires-clause-table c =
     let i = c.self.invariant in
     let e = ap (λ v. v.of) c.seat.view_is ∙ c.requires.table ∙ sym c.self.view_is in
-    (ap (λ v. v.table) e, ap (λ v. v.origin) e, i.0, i.1, i.2)
+    (ap (λ v. v.table) e, ap (λ v. v.origin) e, c.base_at.ensures ∙ ap base_of i.0, i.1, i.2)
 
 pub invariant_of-seat : goal.invariant_of-seat
 invariant_of-seat c =

@@ -1,0 +1,9 @@
+use Rattle.std.proofs.Common.{◌≡◌}
+use Rattle.kc_table.specs.Tasks.{IsSameSeat}
+use Rattle.kc_table.proofs.tests.take.Given as goal
+
+abbrev pub invariant-loop : goal.invariant-loop
+invariant-loop l = record {
+  table : l.seat.of ≡ l.table;
+  same : IsSameSeat l.fn.seat l.seat;
+}
