@@ -15,7 +15,7 @@ ghost use Rattle.kc_moves.specs.Straight.{Aims, Commits, Here, On, Ran, StandsAt
 
 use crate::seat::KcSeat;
 use crate::table::KcTable;
-use kc_layout::{location_at, shown};
+use kc_layout::{base_at, location_at, shown};
 use kc_machine::Seat;
 use kc_model::{Loc, Seen, Word};
 use kc_moves::{Chain, Ended, Now, Run, Stop, Token, Words, load, run_commit};
@@ -39,7 +39,7 @@ impl KcTable {
             &mut seat.token,
             &seat.machine,
             loc,
-            self.base,
+            base_at(self.locations),
             location_at(loc),
         );
         seat.began = false;
@@ -80,7 +80,7 @@ impl KcTable {
             seat: &seat.machine,
             mode,
             lines,
-            base: self.base,
+            base: base_at(self.locations),
         };
         let ran = run_task::<Brand>(&run, &mut seat.token, task);
         seat.began = false;

@@ -1,6 +1,7 @@
 use Rattle.std.proofs.Common.{◌≡◌, ◌∙◌, ap, sym, true}
 use Rattle.kc_model.specs.declared.word.Word.TheVariants.{Plain}
 use Rattle.kc_steps.specs.declared.task.Task.TheVariants.{Look}
+use Rattle.kc_layout.specs.Cells.{base_of}
 use Rattle.kc_machine.specs.Seats.{is_idle}
 use Rattle.kc_moves.specs.Views.{SeatView, Starts}
 use Rattle.kc_table.proofs.Begins.{ready_begun}
@@ -11,7 +12,7 @@ pub load_look-number-requires-clause-here : goal.load_look-number-requires-claus
 load_look-number-requires-clause-here c =
     let i = c.self.invariant in
     let e = ap (λ v. v.of) c.seat.view_is ∙ c.requires.table ∙ sym c.self.view_is in
-    record { table = ap (λ v. v.table) e; origin = ap (λ v. v.origin) e; from = i.0; few = i.1; size = i.2 }
+    record { table = ap (λ v. v.table) e; origin = ap (λ v. v.origin) e; from = c.base_at.ensures ∙ ap base_of i.0; few = i.1; size = i.2 }
 
 pub load_look-number-requires-clause-seat : goal.load_look-number-requires-clause-seat
 load_look-number-requires-clause-seat c =
