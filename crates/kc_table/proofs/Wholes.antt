@@ -113,3 +113,10 @@ does_ran v w t st made r = go w r.steps r.shown
     go : (w : SeatView) → StepsTo (begun_at v t) w → w.began ≡ false → Does v t w
     go w here old = absurd (cc)
     go w (further x y d busy s) old = begins_or_does v t x y st made d s
+
+steps_same : (v w : SeatView) → StepsTo v w → (w.of ≡ v.of) × (w.number ≡ v.number)
+steps_same v w here = (refl, refl)
+steps_same v w (further x y d busy s) = let h = steps_same v x d in (s.of ∙ h.0, s.number ∙ h.1)
+
+pub ran_same : (v w : SeatView) (t : Task) → Ran v t w → (w.of ≡ v.of) × (w.number ≡ v.number)
+ran_same v w t r = steps_same (begun_at v t) w r.steps
