@@ -23,14 +23,12 @@ use Rattle.kc_views.proofs.Knowing.{grows_on}
 use Rattle.kc_views.proofs.Beginnings.{begun_again}
 use Rattle.kc_layout.specs.Cells.{place, signal_bit}
 use Rattle.kc_layout.specs.Cells.Cell.{signal}
-use Rattle.kc_table.specs.Origins.{opening_of}
-use Rattle.kc_table.specs.declared.view.View.{View}
-use Rattle.kc_table.specs.Rule.{part, view, number_of, past_of, Ready, Merged, Heard}
-use Rattle.kc_table.specs.Views.{TableView, SeatView, NoteView, KnowsReads, Starts, Learns, Joined, Signalled}
-use Rattle.kc_table.proofs.Moves.{pends_on}
-
-abbrev pub shown_as : TableId → Me Unit View → Bool → Seat → SeatView
-shown_as z me began s = record { of = record { table = z; origin = me.0.origin }; number = number_of me.0.parts; past = past_of me.0.parts; began = began; seat = s }
+use Rattle.kc_moves.specs.Origins.{opening_of}
+use Rattle.kc_moves.specs.declared.view.View.{View}
+use Rattle.kc_moves.specs.Rule.{part, view, number_of, past_of, Ready, Merged, Heard}
+use Rattle.kc_moves.specs.Views.{TableView, SeatView, NoteView, KnowsReads, Starts, Learns, Joined, Signalled}
+use Rattle.kc_moves.specs.Views.{seen_as}
+use Rattle.kc_moves.proofs.Allowed.{pends_on}
 
 -- ---- beginnings and halts
 
@@ -92,9 +90,9 @@ module _ (o : Opening) (k : ℕ) (past pending : List Event) (s : Seat) (t : Tas
       waits_behind : (xs ys : List Event) → AllWait k (xs ++ Begin k p.begins.0 ∷ ys) → AllWait k ys
       waits_behind xs ys w = (waits_back k xs (Begin k p.begins.0 ∷ ys) w).1
 
-pub ready_begun : (me : Me Unit View) (began : Bool) (s : Seat) (z : TableId) (v : SeatView) (t : Task) → Ready me began s → shown_as z me began s ≡ v → Starts v t → IsWellMadeTask v.of.origin.locations t → KnowsReads v t → Ready me true (begun s t)
+pub ready_begun : (me : Me Unit View) (began : Bool) (s : Seat) (z : TableId) (v : SeatView) (t : Task) → Ready me began s → seen_as z me began s ≡ v → Starts v t → IsWellMadeTask v.of.origin.locations t → KnowsReads v t → Ready me true (begun s t)
 ready_begun me began s z v t r e st m k =
-    let is = subst (λ (x : Me Unit View). shown_as z x began s ≡ v) r.is e in
+    let is = subst (λ (x : Me Unit View). seen_as z x began s ≡ v) r.is e in
     let q = ap (λ (x : SeatView). x.of.origin) is in
     let st' = subst (λ (x : SeatView). Starts x t) (sym is) st in
     let p = pends_begun (opening_of r.origin) r.number r.past r.pending s t st'.0 st'.1 (subst (λ i. IsWellMadeTask i.locations t) (sym q) m) (subst (λ (x : SeatView). KnowsReads x t) (sym is) k) began r.pends in
@@ -131,13 +129,13 @@ learned me after began s r others is none meant =
       pends = pends_on (opening_of r.origin) r.number r.past others r.pending began s meant' none r.pends;
     }
 
-learned_view : (me after : Me Unit View) (began : Bool) (s : Seat) (z y : TableId) (v : SeatView) (r : Ready me began s) (others : List Event) → shown_as z me began s ≡ v → y ≡ z
-    → after ≡ (view me.0.origin (part r.number (r.past ++ others) ∷ []) [], me.1) → NoneOf r.number others → IsMeant (opening_of me.0.origin) (r.past ++ others) → Learns v (shown_as y after began s)
+learned_view : (me after : Me Unit View) (began : Bool) (s : Seat) (z y : TableId) (v : SeatView) (r : Ready me began s) (others : List Event) → seen_as z me began s ≡ v → y ≡ z
+    → after ≡ (view me.0.origin (part r.number (r.past ++ others) ∷ []) [], me.1) → NoneOf r.number others → IsMeant (opening_of me.0.origin) (r.past ++ others) → Learns v (seen_as y after began s)
 learned_view me after began s z y v r others e same is none meant =
     let past : past_of after.0.parts ≡ r.past ++ others = ap (λ (a : Me Unit View). past_of a.0.parts) is in
     let was : past_of me.0.parts ≡ r.past = ap (λ (a : Me Unit View). past_of a.0.parts) r.is in
     let number : number_of me.0.parts ≡ r.number = ap (λ (a : Me Unit View). number_of a.0.parts) r.is in
-    subst (λ (u : SeatView). Learns u (shown_as y after began s)) e
+    subst (λ (u : SeatView). Learns u (seen_as y after began s)) e
     (record {
       of = λ i. record { table = same i; origin = ap (λ (a : Me Unit View). a.0.origin) is i };
       number = ap (λ (a : Me Unit View). number_of a.0.parts) is ∙ sym number;
@@ -164,7 +162,7 @@ module _ (me mid after : Me Unit View) (began : Bool) (s : Seat) (r : Ready me b
   pub ready_merged : Ready after began s
   ready_merged = learned me after began s r others is_after (m r.number r.past parts).2 meant_after
 
-  pub joined_view : (z y : TableId) (v : SeatView) (note : NoteView) → shown_as z me began s ≡ v → y ≡ z → mid.0.heard ≡ note.past → Joined v note (shown_as y after began s)
+  pub joined_view : (z y : TableId) (v : SeatView) (note : NoteView) → seen_as z me began s ≡ v → y ≡ z → mid.0.heard ≡ note.past → Joined v note (seen_as y after began s)
   joined_view z y v note e same eh =
       let past : past_of after.0.parts ≡ r.past ++ others = ap (λ (a : Me Unit View). past_of a.0.parts) is_after in
       let learns = learned_view me after began s z y v r others e same is_after (m r.number r.past parts).2 meant_after in
@@ -203,7 +201,7 @@ module _ (me after : Me Unit View) (began : Bool) (s : Seat) (i n : ℕ) (r : Re
   pub ready_heard : Ready after began s
   ready_heard = let x = m r.number r.past own_parts here in learned me after began s r x.0 x.1 x.2 x.3
 
-  pub heard_view : (z y : TableId) (v : SeatView) (answer : Bool) → shown_as z me began s ≡ v → y ≡ z → (n ≢ 0 → answer ≡ true) → (n ≡ 0 → answer ≡ false) → Signalled v answer (shown_as y after began s)
+  pub heard_view : (z y : TableId) (v : SeatView) (answer : Bool) → seen_as z me began s ≡ v → y ≡ z → (n ≢ 0 → answer ≡ true) → (n ≡ 0 → answer ≡ false) → Signalled v answer (seen_as y after began s)
   heard_view z y v answer e same if_so if_not =
       let x = m r.number r.past own_parts here in
       let past : past_of after.0.parts ≡ r.past ++ x.0 = ap (λ (a : Me Unit View). past_of a.0.parts) x.1 in

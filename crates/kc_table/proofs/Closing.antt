@@ -19,11 +19,11 @@ use Rattle.kc_views.specs.Known.{known, IsMeant, IsWhole, OwnsNone}
 use Rattle.kc_views.proofs.Knowing.{plain_words}
 use Rattle.kc_layout.specs.Cells.{place}
 use Rattle.kc_layout.specs.Cells.Cell.{word}
-use Rattle.kc_table.specs.Origins.{Origin, opening_of}
-use Rattle.kc_table.specs.declared.view.Part.{Part}
-use Rattle.kc_table.specs.declared.view.View.{View}
-use Rattle.kc_table.specs.Rule.{EachFits, Kept}
-use Rattle.kc_table.specs.Views.{TableView, SeatView, ClosedView, AreAll, IsClosed, IsPart, Matches, numbers, count_from, seen_at, seen_in, seen_of}
+use Rattle.kc_moves.specs.Origins.{Origin, opening_of}
+use Rattle.kc_moves.specs.declared.view.Part.{Part}
+use Rattle.kc_moves.specs.declared.view.View.{View}
+use Rattle.kc_moves.specs.Rule.{EachFits, Kept}
+use Rattle.kc_moves.specs.Views.{TableView, SeatView, ClosedView, AreAll, IsClosed, IsPart, Matches, numbers, count_from, seen_at, seen_in, seen_of}
 use Rattle.kc_table.proofs.Loads.{unpacked_plain}
 use Rattle.kc_table.proofs.Gathered.{is_past}
 

@@ -10,11 +10,11 @@ use Rattle.kc_layout.specs.Opened.{opening_at}
 use Rattle.kc_layout.specs.Cells.{Stores}
 use Rattle.kc_layout.specs.Cells.Cell.{word}
 use Rattle.atomic_table.specs.Seated.{TableId}
-use Rattle.kc_table.specs.Origins.{Origin, Opens, word_in, version_in, value_in}
-use Rattle.kc_table.specs.declared.view.View.{View}
-use Rattle.kc_table.specs.Rule.{number_of, past_of, part, view, fresh_parts, Ready}
-use Rattle.kc_table.specs.Views.{TableView, SeatView, OpensAt, opened_seats}
-use Rattle.kc_table.proofs.Begins.{shown_as}
+use Rattle.kc_moves.specs.Origins.{Origin, Opens, word_in, version_in, value_in}
+use Rattle.kc_moves.specs.declared.view.View.{View}
+use Rattle.kc_moves.specs.Rule.{number_of, past_of, part, view, fresh_parts, Ready}
+use Rattle.kc_moves.specs.Views.{TableView, SeatView, OpensAt, opened_seats}
+use Rattle.kc_moves.specs.Views.{seen_as}
 use Rattle.kc_table.proofs.Loads.{in_range, opening_words, unpacked_plain}
 
 pub parts_next : (k e : ℕ) → k < e → fresh_parts k (e - k) ≡ part k [] ∷ fresh_parts (k + 1) (e - (k + 1))
@@ -74,7 +74,7 @@ origin_opens q values versions callers generation l c g a b d small s = record {
 }
 
 pub dealt_view : (z : TableView) (n callers : ℕ) (tid : TableId) (me : Me Unit View) (s : Seat) → tid ≡ z.table → me ≡ (view z.origin (part n [] ∷ []) [], []) → s ≡ fresh n (3 * callers + 1) (3 * n) → callers ≡ z.origin.callers
-    → shown_as tid me false s ≡ record { of = z; number = n; past = []; began = false; seat = fresh n (pool_size z.origin.callers) (3 * n) }
+    → seen_as tid me false s ≡ record { of = z; number = n; past = []; began = false; seat = fresh n (pool_size z.origin.callers) (3 * n) }
 dealt_view z n callers tid me s a b e f = λ i. record {
   of = record { table = a i; origin = ap (λ (x : Me Unit View). x.0.origin) b i };
   number = ap (λ (x : Me Unit View). number_of x.0.parts) b i;

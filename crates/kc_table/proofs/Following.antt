@@ -17,25 +17,11 @@ use Rattle.kc_views.specs.Tasks.{ran}
 use Rattle.kc_views.proofs.Pendings.{nothing_push, none_begins, waits_front, waits_seat}
 use Rattle.kc_views.proofs.Knowing.{owned_none}
 use Rattle.kc_views.proofs.Shown.{says}
-use Rattle.kc_table.specs.Origins.{opening_of}
-use Rattle.kc_table.specs.declared.view.View.{View}
-use Rattle.kc_table.specs.Rule.{number_of, past_of, Steps, Moved}
-use Rattle.kc_table.specs.Views.{SeatView, Starts, Stepped, opening_at_seat}
+use Rattle.kc_moves.specs.Origins.{opening_of}
+use Rattle.kc_moves.specs.declared.view.View.{View}
+use Rattle.kc_moves.specs.Rule.{number_of, past_of, Steps, Moved}
+use Rattle.kc_moves.specs.Views.{SeatView, Starts, Stepped, opening_at_seat}
 use Rattle.kc_table.specs.Tasks.{Does}
-use Rattle.kc_table.proofs.Begins.{shown_as}
-
--- what clauses see of a step
-pub stepped_view : (v : SeatView) (began : Bool) (s t : Seat) (me after : Me Unit View) (z y : TableId) (n : ℕ) → shown_as z me began s ≡ v → y ≡ z → Moved s began me n after
-    → t ≡ (run (opening_of me.0.origin) (past_of after.0.parts)).seats (number_of me.0.parts) → Stepped v (shown_as y after false t)
-stepped_view v began s t me after z y n e same m is = subst (λ u. Stepped u (shown_as y after false t)) e
-    record {
-      of = λ i. record { table = same i; origin = ap (λ (x : Me Unit View). x.0.origin) m.1 i };
-      number = ap (λ (x : Me Unit View). number_of x.0.parts) m.1;
-      began = refl;
-      found = n;
-      steps = subst (λ p. Steps (opening_of me.0.origin) (number_of me.0.parts) (past_of me.0.parts) began s n p) (sym (ap (λ (x : Me Unit View). past_of x.0.parts) m.1)) m.2;
-      seat = is;
-    }
 
 -- the first step of a task shows it
 module _ (v w : SeatView) (t : Task) (st : Starts v t) (made : IsWellMadeTask v.of.origin.locations t) (s : Stepped (record v { seat = begun v.seat t; began = true }) w) where

@@ -10,12 +10,12 @@ use Rattle.kc_machine.specs.Seats.{is_idle}
 use Rattle.kc_machine.specs.Machine.{Opening}
 use Rattle.kc_views.specs.Known.{known, IsMeant, GoesOn, KnowsAPart, OwnsNone}
 use Rattle.kc_views.proofs.Knowing.{idle_owns_none, knows_a_part, whole}
-use Rattle.kc_table.specs.Origins.{Origin, opening_of}
-use Rattle.kc_table.specs.declared.view.Part.{Part}
-use Rattle.kc_table.specs.declared.view.View.{View}
-use Rattle.kc_table.specs.Rule.{number_of, past_of, part, Fits, EachFits, Ready}
-use Rattle.kc_table.specs.Views.{TableView, SeatView, Matches, IsPart, IsPast, AreAll}
-use Rattle.kc_table.proofs.Begins.{shown_as}
+use Rattle.kc_moves.specs.Origins.{Origin, opening_of}
+use Rattle.kc_moves.specs.declared.view.Part.{Part}
+use Rattle.kc_moves.specs.declared.view.View.{View}
+use Rattle.kc_moves.specs.Rule.{number_of, past_of, part, Fits, EachFits, Ready}
+use Rattle.kc_moves.specs.Views.{TableView, SeatView, Matches, IsPart, IsPast, AreAll}
+use Rattle.kc_moves.specs.Views.{seen_as}
 
 matches-more : (o : Opening) (ps : List Part) (ss : List SeatView) (p : Part) (s : SeatView) → Matches o ps ss → p.number ≡ s.number → p.past ≡ s.past → OwnsNone o p.number p.past → Matches o (ps ++ p ∷ []) (ss ++ s ∷ [])
 matches-more o [] [] p s m e f n = (e, f, n, tt)
@@ -24,7 +24,7 @@ matches-more o (q ∷ ps) [] p s m e f n = absurd m
 matches-more o (q ∷ ps) (x ∷ ss) p s m e f n = (m.0, m.1, m.2, matches-more o ps ss p s m.3 e f n)
 
 -- an idle seat's part has its number and its past, and owned nothing
-pub ready_part : (q : Origin) (me : Me Unit View) (began : Bool) (s : Seat) (z : TableId) (ps : List Part) (ss : List SeatView) (v : SeatView) → Ready me began s → shown_as z me began s ≡ v → me.0.origin ≡ q → is_idle v.seat.work ≡ true
+pub ready_part : (q : Origin) (me : Me Unit View) (began : Bool) (s : Seat) (z : TableId) (ps : List Part) (ss : List SeatView) (v : SeatView) → Ready me began s → seen_as z me began s ≡ v → me.0.origin ≡ q → is_idle v.seat.work ≡ true
     → Matches (opening_of q) ps ss → Matches (opening_of q) (ps ++ me.0.parts) (ss ++ v ∷ [])
 ready_part q me began s z ps ss v r e from idle m =
     let is : me.0.parts ≡ part r.number r.past ∷ [] = ap (λ (x : Me Unit View). x.0.parts) r.is in

@@ -21,8 +21,8 @@ use Rattle.kc_views.specs.Tasks.{ran}
 use Rattle.kc_views.proofs.Pendings.{waits_no_step}
 use Rattle.kc_views.proofs.Knowing.{grows_on, known_on, versions_on, gains_none}
 use Rattle.kc_views.proofs.Taught.{look_taught, own_as_told}
-use Rattle.kc_table.specs.Origins.{opening_of}
-use Rattle.kc_table.specs.Views.{SeatView, Learns, Stepped, knows, opening_at_seat}
+use Rattle.kc_moves.specs.Origins.{opening_of}
+use Rattle.kc_moves.specs.Views.{SeatView, Learns, Stepped, knows, opening_at_seat}
 use Rattle.kc_table.specs.Tasks.{Does, Keeps, Saw}
 
 -- a seat whose schedule goes on

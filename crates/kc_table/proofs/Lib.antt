@@ -1,5 +1,3 @@
-pub mod Views
-pub mod Moves
 pub mod Loads
 pub mod Begins
 pub mod Dealt
@@ -10,3 +8,4 @@ pub mod Read
 pub mod Closing
 pub mod Keeping
 pub mod Trying
+mod Wholes

@@ -21,11 +21,11 @@ use Rattle.kc_views.specs.Known.{IsMeant, IsPrefix}
 use Rattle.kc_layout.specs.Cells.{AllFit, Cell, IsThere, place, bits, signal_bit, Stores}
 use Rattle.kc_layout.specs.Cells.Cell.{none, word, awaiters, control, status, owner, first, second, signal}
 use Rattle.kc_layout.specs.Opened.{opening_at}
-use Rattle.kc_table.specs.Origins.{Origin, version_in, value_in, word_in, opening_of}
-use Rattle.kc_table.specs.declared.view.Part.{Part}
-use Rattle.kc_table.specs.declared.view.View.{View}
-use Rattle.kc_table.specs.Rule.{part, view, fresh_parts, everyone, Fits, EachFits, FitsView, times, Kept, past_of, first_part, other_parts, dealt, undealt, noted, spent, nothing, hearing, gathered, Merged, Heard, Ended}
-use Rattle.kc_table.proofs.Views.{total_set, total_two, total_snoc}
+use Rattle.kc_moves.specs.Origins.{Origin, version_in, value_in, word_in, opening_of}
+use Rattle.kc_moves.specs.declared.view.Part.{Part}
+use Rattle.kc_moves.specs.declared.view.View.{View}
+use Rattle.kc_moves.specs.Rule.{part, view, fresh_parts, everyone, Fits, EachFits, FitsView, times, Kept, past_of, first_part, other_parts, dealt, undealt, noted, spent, nothing, hearing, gathered, Merged, Heard, Ended}
+use Rattle.kc_moves.proofs.Views.{total_set, total_two, total_snoc}
 
 -- views after another's change
 views_set : (q : Origin) (es : List Event) (views : List View) (id : ℕ) (w : View) → ((j : ℕ) (u : View) → get_elem? views j ≡ some u → FitsView q es u) → FitsView q es w

@@ -12,7 +12,7 @@ use Rattle.kc_steps.specs.declared.task.Task.TheVariants as task
 use Rattle.kc_steps.specs.declared.task.Told.TheVariants as told
 use Rattle.kc_machine.specs.Seats.{begun, is_idle}
 use Rattle.kc_machine.specs.Schedules.{IsWellMadeTask}
-use Rattle.kc_table.specs.Views.{TableView, SeatView, Learns, Starts, Stepped, KnowsReads, AreAll, count_from}
+use Rattle.kc_moves.specs.Views.{TableView, SeatView, Learns, Starts, Stepped, KnowsReads, AreAll, count_from}
 use Rattle.kc_table.specs.Tasks.{Does, Keeps, KnowsRead}
 use Rattle.kc_table.proofs.Following.{does_first, does_further}
 use Rattle.kc_table.proofs.Keeping.{steps_keep, loads_keep, looks_saw}

@@ -1,4 +1,1 @@
-pub mod Origins
-pub mod Rule
-pub mod Views
 pub mod Tasks

@@ -12,7 +12,7 @@ use Rattle.kc_traces.specs.Parts.{NoneOf}
 use Rattle.kc_views.specs.Known.{OwnsNone}
 use Rattle.kc_views.specs.Pending.{AllWait}
 use Rattle.kc_views.specs.Tasks.{Runs, ran}
-use Rattle.kc_table.specs.Views.{SeatView, knows, opening_at_seat}
+use Rattle.kc_moves.specs.Views.{SeatView, knows, opening_at_seat}
 
 -- since v, when it owned nothing, the seat has begun this task and no other, and has made a step of it. Between stand events of others and own halts
 pub record Does (v : SeatView) (t : Task) (w : SeatView) : Type 0 where

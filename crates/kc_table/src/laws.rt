@@ -11,8 +11,9 @@ ghost use Rattle.kc_machine.specs.Schedules.{IsWellMadeTask};
 ghost use Rattle.kc_machine.specs.Seats.{begun, is_idle};
 ghost use Rattle.kc_traces.specs.Entries.{by};
 ghost use Rattle.kc_traces.specs.Outcomes.{GainsAsTold};
+ghost use Rattle.kc_moves.specs.Straight.{Ran};
 ghost use Rattle.kc_table.specs.Tasks.{Does, Keeps, Saw};
-ghost use Rattle.kc_table.specs.Views.{Learns, SeatView, Starts, Stepped, knows};
+ghost use Rattle.kc_moves.specs.Views.{Learns, SeatView, Starts, Stepped, knows};
 
 /// The first step of a seat that has begun a task shows this task.
 pub fn what_was_begun_is_known()
@@ -39,4 +40,9 @@ pub fn looks_teach_their_seat()
 /// none more.
 pub fn own_entries_are_known()
     ensures { (v w : SeatView) (t : Task) → Does v t w → is_idle w.seat.work ≡ true → GainsAsTold v.number t w.seat.told (by v.number (knows v)) (by v.number (knows w)) }
+{}
+
+/// A task that was begun and run in one call shows, as one that was stepped.
+pub fn what_was_run_is_known()
+    ensures { (v w : SeatView) (t : Task) → Starts v t → IsWellMadeTask v.of.origin.locations t → Ran v t w → Does v t w }
 {}

@@ -2,12 +2,12 @@ ghost use Rattle.std.specs.Prelude.{◌≡◌, ◌<◌, ◌≤◌, [], false, Al
 ghost use Rattle.kc_model.specs.Footprint.{Reads};
 ghost use Rattle.kc_model.specs.declared.footprint.Seen.{Seen};
 ghost use Rattle.kc_table.specs.Tasks.{IsSameSeat, KnowsRead};
-ghost use Rattle.kc_table.specs.Views.{AreAll};
+ghost use Rattle.kc_moves.specs.Views.{AreAll};
 
 use crate::{KcSeat, KcTable};
 use arrayvec::ArrayVec;
 use kc_model::{Footprint, Loc, OpenError, Put, Seen};
-use kc_steps::{Task, Told};
+use kc_steps::{Task, Told, fill_lines};
 use kc_words::Mode;
 use std::test::Fail;
 use std::thread;
@@ -111,6 +111,35 @@ fn begin(seat: &mut KcSeat, mode: Mode, reads: &[Seen], puts: &[Option<u32>]) ->
     }
     seat.begin(&Task::Commit { footprint, mode });
     true
+}
+
+// Runs a commit of these reads and puts in one call; false where a task runs, or it is none.
+fn run(table: &KcTable, seat: &mut KcSeat, mode: Mode, reads: &[Seen], puts: &[Option<u32>]) -> bool
+    requires table { seat.old.of ≡ table.now }
+    requires reads { All (KnowsRead seat.old) reads.now }
+    ensures same { IsSameSeat seat.old seat.new }
+{
+    let footprint = footprint(reads, puts);
+    if seat.busy() || !footprint.is_well_made() {
+        return false;
+    }
+    let mut lines = ArrayVec::new();
+    fill_lines(&mut lines, &footprint);
+    let task = Task::Commit { footprint, mode };
+    table.commit(seat, &task, mode, lines.as_slice());
+    true
+}
+
+// What a look in one call tells; None where a reference stands, or a task runs.
+fn see(table: &KcTable, seat: &mut KcSeat, loc: Loc) -> Option<Seen>
+    requires table { seat.old.of ≡ table.now }
+    requires location { loc.0 < seat.old.of.origin.locations }
+    ensures same { IsSameSeat seat.old seat.new }
+{
+    if seat.busy() {
+        return None;
+    }
+    table.look(seat, loc)
 }
 
 // Steps until the seat owns a descriptor.
@@ -410,5 +439,56 @@ fn two_threads_raise_one_location(rt: HostRuntime) -> Result<(), Fail> {
     assert_eq!(rt; (seen.version, seen.value), (4_000, 4_000));
     let seats = together(&rt, &table, a, b)?;
     let _past = table.finish(seats);
+    Ok(())
+}
+
+#[test]
+fn a_commit_in_one_call_makes_its_steps(rt: HostRuntime) -> Result<(), Fail> {
+    for mode in [Mode::Light, Mode::All] {
+        let Some((table, mut a, mut b)) = open_two(&rt, &[5, 6]) else {
+            return Err(Fail::from("not opened"));
+        };
+        let Some(mine) = look(&table, &mut a, &[], Loc(0)) else {
+            return Err(Fail::from("nothing seen"));
+        };
+        let Some(theirs) = look(&table, &mut b, &[], Loc(0)) else {
+            return Err(Fail::from("nothing seen"));
+        };
+        assert!(rt; run(&table, &mut a, mode, &[mine], &[Some(7)]));
+        assert_eq!(rt; a.steps(), 12);
+        assert_eq!(rt; a.told(), Some(Told::Succeeded { number: 1 }));
+        assert!(rt; run(&table, &mut b, mode, &[theirs], &[Some(9)]));
+        steps(&table, &mut b, &[], 100);
+        assert_eq!(rt; b.told(), Some(Told::Failed { entry: 0 }));
+        let seven = Seen {
+            loc: Loc(0),
+            version: 1,
+            value: 7,
+        };
+        assert_eq!(rt; see(&table, &mut b, Loc(0)), Some(seven));
+        assert_eq!(rt; b.told(), Some(Told::Seen(seven)));
+    }
+    Ok(())
+}
+
+#[test]
+fn a_commit_in_one_call_stops_at_anothers_reference(rt: HostRuntime) -> Result<(), Fail> {
+    let Some((table, mut a, mut b)) = open_two(&rt, &[5, 6]) else {
+        return Err(Fail::from("not opened"));
+    };
+    let Some(mine) = look_both(&table, &mut a) else {
+        return Err(Fail::from("nothing seen"));
+    };
+    let Some(theirs) = look(&table, &mut b, &[], Loc(0)) else {
+        return Err(Fail::from("nothing seen"));
+    };
+    assert!(rt; begin(&mut a, Mode::All, &mine, &[Some(7), Some(8)]));
+    assert_eq!(rt; steps(&table, &mut a, &mine, 9), 9);
+    assert!(rt; run(&table, &mut b, Mode::Light, &[theirs], &[Some(9)]));
+    assert!(rt; b.busy());
+    steps(&table, &mut b, &[], 100);
+    assert_eq!(rt; b.told(), Some(Told::Failed { entry: 0 }));
+    steps(&table, &mut a, &mine, 100);
+    assert_eq!(rt; a.told(), Some(Told::Succeeded { number: 1 }));
     Ok(())
 }

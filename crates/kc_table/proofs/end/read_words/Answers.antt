@@ -5,7 +5,7 @@ use Rattle.std.specs.Mem.Slots.{slots_items}
 use Rattle.kc_model.specs.Word.{unpacked}
 use Rattle.kc_layout.specs.Cells.{place}
 use Rattle.kc_layout.specs.Cells.Cell.{word}
-use Rattle.kc_table.specs.Views.{seen_of}
+use Rattle.kc_moves.specs.Views.{seen_of}
 use Rattle.kc_table.proofs.Read.{elem_index, read_more}
 use Rattle.kc_table.proofs.end.read_words.Goals as goal
 

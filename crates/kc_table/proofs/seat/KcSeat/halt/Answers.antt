@@ -1,5 +1,5 @@
 use Rattle.std.proofs.Common.{subst, sym}
-use Rattle.kc_table.specs.Rule.{Ready}
+use Rattle.kc_moves.specs.Rule.{Ready}
 use Rattle.kc_table.proofs.Begins.{ready_halted}
 use Rattle.kc_table.proofs.seat.KcSeat.halt.Goals as goal
 

@@ -3,7 +3,7 @@ use Rattle.std.proofs.lemmas.Option.{slice_get-get_or}
 use Rattle.std.specs.Vec.{with_items}
 use Rattle.std.specs.Mem.Slots.{slots_items}
 use Rattle.kc_model.specs.declared.footprint.Seen.{Seen}
-use Rattle.kc_table.specs.Views.{IsClosed}
+use Rattle.kc_moves.specs.Views.{IsClosed}
 use Rattle.kc_model.proofs.Lists.{written_over}
 use Rattle.kc_table.proofs.Closing.{closed}
 use Rattle.kc_table.proofs.table.KcTable.close.Goals as goal

@@ -1,7 +1,7 @@
 use Rattle.std.proofs.Common.{◌≡◌, sym, ap, ◌∙◌, subst, arith}
-use Rattle.kc_table.specs.Origins.{opening_of}
-use Rattle.kc_table.specs.Rule.{EachFits}
-use Rattle.kc_table.specs.Views.{IsPast}
+use Rattle.kc_moves.specs.Origins.{opening_of}
+use Rattle.kc_moves.specs.Rule.{EachFits}
+use Rattle.kc_moves.specs.Views.{IsPast}
 use Rattle.kc_views.specs.Known.{IsMeant}
 use Rattle.kc_table.proofs.Loads.{ends}
 use Rattle.kc_table.proofs.Gathered.{is_past}

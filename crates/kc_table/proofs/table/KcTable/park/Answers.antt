@@ -1,5 +1,5 @@
 use Rattle.std.proofs.Common.{true, sym, subst}
-use Rattle.kc_table.specs.Views.{Signalled}
+use Rattle.kc_moves.specs.Views.{Signalled}
 use Rattle.kc_table.proofs.Waits.Waited.{still}
 use Rattle.kc_table.proofs.Waits.{waited_more, waited_signal}
 use Rattle.kc_table.proofs.table.KcTable.park.Goals.{in-None, in-Some+then-signalled}

@@ -1,0 +1,4 @@
+pub mod Views
+pub mod Allowed
+pub mod Straights
+pub mod Links

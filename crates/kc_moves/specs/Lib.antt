@@ -1,0 +1,4 @@
+pub mod Origins
+pub mod Rule
+pub mod Views
+pub mod Straight

@@ -1,0 +1,122 @@
+-- A whole task in one call.
+use Rattle.std.proofs.lemmas.List.{length-map}
+use Rattle.std.proofs.Common.{◌≡◌, ℕ, ◌<◌, ◌≤◌, arith, Bool, true, false, if◌then◌else◌, List, length, map, Option, None, Some, refl, sym, ap, ◌∙◌, subst}
+use Rattle.atomic_table.specs.Seated.{TableId}
+use Rattle.atomic_table.specs.Table.{Me}
+use Rattle.kc_model.specs.declared.footprint.Loc.{Loc}
+use Rattle.kc_model.specs.declared.word.Word.{Word}
+use Rattle.kc_model.specs.declared.word.Word.TheVariants.{Plain, Ref}
+use Rattle.kc_model.specs.Word.{IsPackable, packed}
+use Rattle.kc_words.specs.declared.words.Mode.{Mode}
+use Rattle.kc_words.specs.declared.access.Access.TheVariants as access
+use Rattle.kc_words.specs.declared.access.Found.TheVariants as found
+use Rattle.kc_words.specs.declared.access.Touch.TheVariants as touch
+use Rattle.kc_steps.specs.declared.line.Line.{Line}
+use Rattle.kc_steps.specs.declared.task.Task.{Task}
+use Rattle.kc_steps.specs.declared.task.Task.TheVariants as task
+use Rattle.kc_steps.specs.Lines.{line_of, lines_of}
+use Rattle.kc_machine.specs.declared.seat.Seat.{Seat}
+use Rattle.kc_machine.specs.Points.{first_point, seat_at}
+use Rattle.kc_machine.specs.Schedules.{IsWellMadeTask}
+use Rattle.kc_machine.specs.Seats.{access_of, answer_of, begun, is_idle}
+use Rattle.kc_machine.specs.Machine.{World, run, found_at}
+use Rattle.kc_layout.specs.declared.change.Change.TheVariants as change
+use Rattle.kc_layout.specs.Cells.{CellFits, base_of, bits, cell_of, place}
+use Rattle.kc_layout.specs.Cells.Cell.{word}
+use Rattle.kc_moves.specs.Origins.{Origin, opening_of}
+use Rattle.kc_moves.specs.declared.view.View.{View}
+use Rattle.kc_moves.specs.declared.atoms.Run.{Run}
+use Rattle.kc_moves.specs.declared.atoms.Stop.{Stop}
+use Rattle.kc_moves.specs.Rule.{number_of, past_of, Ready, Moved}
+use Rattle.kc_moves.specs.Views.{SeatView, KnowsReads, Starts, Stepped, seen_as}
+use Rattle.kc_moves.specs.Straight.{StepsTo, here, further, Aims, Commits, Here, On, Ran, StandsAt, StoppedAt, begun_at, seat_in}
+use Rattle.kc_table.specs.Tasks.{Does}
+use Rattle.kc_table.proofs.Begins.{ready_begun}
+use Rattle.kc_table.proofs.Following.{does_first, does_further}
+use Rattle.kc_moves.proofs.Allowed.{answered, ready_after}
+use Rattle.kc_moves.proofs.Straights.{stepped_view, went_on}
+
+-- ---- the beginning
+
+pub commit_begins : (s : Seat) (t : Task) (m : Mode) (xs : List Line) → is_idle s.work ≡ true → Commits t m xs → begun s t ≡ seat_at s m xs (first_point s)
+commit_begins s (task.Commit f n) m xs idle c = rw (idle, c.0, c.1) refl
+commit_begins s (task.Look l) m xs idle c = absurd c
+commit_begins s (task.Hang reads) m xs idle c = absurd c
+commit_begins s (task.Leave reads) m xs idle c = absurd c
+
+-- a commit and a look begin wherever nothing runs
+pub commit_starts : (v : SeatView) (t : Task) (m : Mode) (xs : List Line) → is_idle v.seat.work ≡ true → Commits t m xs → Starts v t
+commit_starts v t m xs idle c = (idle, ap (λ (x : Seat). is_idle x.work) (commit_begins v.seat t m xs idle c))
+
+pub look_busy : (s : Seat) (l : Loc) → is_idle s.work ≡ true → is_idle (begun s (task.Look l)).work ≡ false
+look_busy s l e = rw e refl
+
+pub few_lines : (t : Task) (m : Mode) (xs : List Line) (n : ℕ) → Commits t m xs → IsWellMadeTask n t → length xs ≤ 64
+few_lines (task.Commit f k) m xs n c w = let e : length xs ≡ length f.reads.items = ap length (sym c.1) ∙ length-map f.reads.items (line_of f.puts.items) in let l = w.2 in omega arith
+few_lines (task.Look l) m xs n c w = absurd c
+few_lines (task.Hang reads) m xs n c w = absurd c
+few_lines (task.Leave reads) m xs n c w = absurd c
+
+abbrev pub starts_as : TableId → Me Unit View → Seat → Task → SeatView
+starts_as z me s t = seen_as z me true (begun s t)
+
+pub on_begins : (r : Run) (z : TableId) (me : Me Unit View) (began : Bool) (s u : Seat) (v : SeatView) (t : Task) → Here r.words.now.key r.words.now.table_id r.base z me → Ready me began s → seen_as z me began s ≡ v → Starts v t → IsWellMadeTask v.of.origin.locations t
+    → KnowsReads v t → begun s t ≡ u → On (starts_as z me s t) r z me true u
+on_begins r z me began s u v t h ready shown st made knows e = record {
+  here = h;
+  ready = subst (Ready me true) e (ready_begun me began s z v t ready shown st made knows);
+  steps = subst (λ x. StepsTo (starts_as z me s t) (seen_as z me true x)) e here;
+}
+
+-- ---- the end
+
+pub ran_on : (r : Run) (z y : TableId) (me later : Me Unit View) (began : Bool) (s u : Seat) (v : SeatView) (t : Task) → seen_as z me began s ≡ v → On (starts_as z me s t) r y later false u → Ran v t (seen_as y later false u)
+ran_on r z y me later began s u v t shown on = subst (λ x. Ran x t (seen_as y later false u)) shown (record { steps = on.steps; shown = refl })
+
+pub stands_on : (start : SeatView) (r : Run) (z : TableId) (me : Me Unit View) (e : Stop) (t : Seat) → StoppedAt start r z me e.at e.found → StandsAt r.seat.now r.mode r.lines.now e.at e.found t → On start r z me false t
+stands_on start r z me e t stopped stands = go e.found stopped stands
+  where
+    go : (o : Option ℕ) → StoppedAt start r z me e.at o → StandsAt r.seat.now r.mode r.lines.now e.at o t → On start r z me false t
+    go None on is = subst (On start r z me false) (sym is) on
+    go (Some n) w makes = went_on start r z me (seat_in r e.at) t n w makes
+
+-- ---- a look
+
+pub look_aims : (q : Origin) (s : Seat) (l : Loc) (n : ℕ) → is_idle s.work ≡ true → n ≡ place 0 (word l.0) → Aims q (begun s (task.Look l)) n change.Load
+look_aims q s l n e f = rw e (record { place = f; makes = refl; ranged = tt })
+
+-- the seat where the schedule has it
+pub look_stands : (s u : Seat) (me later : Me Unit View) (l : Loc) (n : ℕ) (w : Word) → is_idle s.work ≡ true → Moved (begun s (task.Look l)) true me n later → ((x : Word) → IsPackable x → packed x ≡ n → w ≡ x) → u ≡ answer_of (begun s (task.Look l)) (found.Word w)
+    → u ≡ (run (opening_of me.0.origin) (past_of later.0.parts)).seats (number_of me.0.parts)
+look_stands s u me later l n w idle m back e =
+    answered (begun s (task.Look l)) u true me later n (access.Location l touch.Load) (found.Word w) m (rw idle refl) (λ v fits f. ap found.Word (back (v.word l.0) fits f)) e
+
+pub look_ran : (z y : TableId) (me later : Me Unit View) (began : Bool) (s u : Seat) (v : SeatView) (l : Loc) (n : ℕ) → is_idle s.work ≡ true → seen_as z me began s ≡ v → y ≡ z → Moved (begun s (task.Look l)) true me n later
+    → u ≡ (run (opening_of me.0.origin) (past_of later.0.parts)).seats (number_of me.0.parts) → Ran v (task.Look l) (seen_as y later false u)
+look_ran z y me later began s u v l n idle shown same m stands = subst (λ x. Ran x (task.Look l) (seen_as y later false u)) shown (record {
+  steps = further (starts_as z me s (task.Look l)) (seen_as y later false u) here (look_busy s l idle) (stepped_view (starts_as z me s (task.Look l)) true (begun s (task.Look l)) u me later z y n refl same m stands);
+  shown = refl;
+})
+
+pub looks_on : (s : Seat) (l : Loc) (g d k : ℕ) → is_idle s.work ≡ true → is_idle (answer_of (begun s (task.Look l)) (found.Word (Ref g d k))).work ≡ false
+looks_on s l g d k e = rw e refl
+
+-- ---- what such a task tells
+
+begins_or_does : (v : SeatView) (t : Task) (u w : SeatView) → Starts v t → IsWellMadeTask v.of.origin.locations t → StepsTo (begun_at v t) u → Stepped u w → Does v t w
+begins_or_does v t u w st made here s = does_first v (begun_at v t) w t st made refl s
+begins_or_does v t u w st made (further x y d busy r) s = does_further v u w u.seat t (begins_or_does v t x y st made d r) r.began s
+
+pub does_ran : (v w : SeatView) (t : Task) → Starts v t → IsWellMadeTask v.of.origin.locations t → Ran v t w → Does v t w
+does_ran v w t st made r = go w r.steps r.shown
+  where
+    go : (w : SeatView) → StepsTo (begun_at v t) w → w.began ≡ false → Does v t w
+    go w here old = absurd (cc)
+    go w (further x y d busy s) old = begins_or_does v t x y st made d s
+
+steps_same : (v w : SeatView) → StepsTo v w → (w.of ≡ v.of) × (w.number ≡ v.number)
+steps_same v w here = (refl, refl)
+steps_same v w (further x y d busy s) = let h = steps_same v x d in (s.of ∙ h.0, s.number ∙ h.1)
+
+pub ran_same : (v w : SeatView) (t : Task) → Ran v t w → (w.of ≡ v.of) × (w.number ≡ v.number)
+ran_same v w t r = steps_same (begun_at v t) w r.steps

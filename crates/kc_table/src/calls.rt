@@ -1,0 +1,165 @@
+//! A whole task in one call, by the same steps: the seat is written once.
+
+ghost use Rattle.std.specs.Prelude.{◌≡◌, ◌≤◌, ◌<◌, true, false, length, IfOk, IfErr, IfSome, IfNone, Some};
+ghost use Rattle.kc_model.specs.declared.word.Word.TheVariants.{Plain};
+ghost use Rattle.kc_words.specs.declared.access.Found.TheVariants as found;
+ghost use Rattle.kc_steps.specs.declared.task.Task.TheVariants.{Look};
+ghost use Rattle.kc_steps.specs.declared.task.Told.TheVariants as told;
+ghost use Rattle.kc_machine.specs.Points.{first_point, seat_told};
+ghost use Rattle.kc_machine.specs.Schedules.{IsWellMadeTask};
+ghost use Rattle.kc_machine.specs.Seats.{answer_of, begun, is_idle};
+ghost use Rattle.kc_layout.specs.declared.change.Change.TheVariants as change;
+ghost use Rattle.kc_moves.specs.Rule.{Moved, Ready};
+ghost use Rattle.kc_moves.specs.Views.{KnowsReads};
+ghost use Rattle.kc_moves.specs.Straight.{Aims, Commits, Here, On, Ran, StandsAt, Stopped, seat_in};
+
+use crate::seat::KcSeat;
+use crate::table::KcTable;
+use kc_layout::{base_at, location_at, shown};
+use kc_machine::Seat;
+use kc_model::{Loc, Seen, Word};
+use kc_moves::{Chain, Ended, Now, Run, Stop, Token, Words, load, run_commit};
+use kc_steps::{Line, Task, Told, one_more};
+use kc_words::{Found, Mode};
+use std::marker::Brand;
+
+impl KcTable {
+    /// Looks at a location: what a plain word says, by one load, and the seat is told it. None exactly where a reference
+    /// stands there; then the look goes on by `step` until the seat is told.
+    pub fn look(&self, seat: &mut KcSeat, loc: Loc) -> Option<Seen>
+        requires table { seat.old.of ≡ self.now }
+        requires idle { is_idle seat.old.seat.work ≡ true }
+        requires made { IsWellMadeTask seat.old.of.origin.locations (Look loc) }
+        ensures ran { Ran seat.old (Look loc) seat.new }
+        ensures some { IfSome result (λ x. (is_idle seat.new.seat.work ≡ true) × (seat.new.seat.told ≡ Some (told.Seen x))) }
+        ensures none { IfNone result (is_idle seat.new.seat.work ≡ false) }
+    {
+        let number = load_look::<Brand>(
+            &self.table.shared,
+            &mut seat.token,
+            &seat.machine,
+            loc,
+            base_at(self.locations),
+            location_at(loc),
+        );
+        seat.began = false;
+        let word = Word::unpack(number);
+        match word {
+            Word::Plain { version, value } => {
+                let seen = Seen {
+                    loc,
+                    version,
+                    value,
+                };
+                end_look(&mut seat.machine, seen);
+                Some(seen)
+            }
+            Word::Ref {
+                generation: _,
+                descriptor: _,
+                entry: _,
+            } => {
+                look_on(&mut seat.machine, loc, word);
+                None
+            }
+        }
+    }
+
+    /// Begins a commit of these lines and runs it straight on: to its end, or to the first word that is not as it expects,
+    /// from where it goes on by `step` until the seat is told. The lines are those of the task, which is not read.
+    pub fn commit(&self, seat: &mut KcSeat, task: &Task, mode: Mode, lines: &[Line])
+        requires table { seat.old.of ≡ self.now }
+        requires idle { is_idle seat.old.seat.work ≡ true }
+        requires task { Commits task.now mode lines.now }
+        requires made { IsWellMadeTask seat.old.of.origin.locations task.now }
+        requires known { KnowsReads seat.old task.now }
+        ensures { Ran seat.old task.now seat.new }
+    {
+        let run = Run {
+            words: &self.table.shared,
+            seat: &seat.machine,
+            mode,
+            lines,
+            base: base_at(self.locations),
+        };
+        let ran = run_task::<Brand>(&run, &mut seat.token, task);
+        seat.began = false;
+        match ran {
+            Ok(ended) => end_commit(&mut seat.machine, ended),
+            Err(stop) => stand(&mut seat.machine, mode, lines, stop),
+        }
+    }
+}
+
+// The load of a look. What names the seat is not read.
+#[inline(always)]
+fn load_look<B: Now>(
+    words: &Words,
+    token: &mut Token,
+    _seat: &Seat,
+    _loc: Loc,
+    base: usize,
+    word: usize,
+) -> u64
+    requires here { Here words.now.key words.now.table_id base token.old.table_id token.old.me }
+    requires seat { (is_idle B.now.work ≡ false) × Ready token.old.me B.began B.now }
+    requires aim { Aims words.now.key B.now word change.Load }
+    ensures table { token.new.table_id ≡ token.old.table_id }
+    ensures moved { Moved B.now B.began token.old.me result token.new.me }
+{
+    load::<B>(words, token, base, word)
+}
+
+#[inline(always)]
+fn end_look(seat: &mut Seat, seen: Seen)
+    requires { is_idle seat.old.work ≡ true }
+    ensures { seat.new ≡ answer_of (begun seat.old (Look seen.loc)) (found.Word (Plain seen.version seen.value)) }
+{
+    let made = one_more(seat.steps());
+    let calls = seat.calls();
+    seat.end_with(made, calls, Told::Seen(seen));
+}
+
+// A look that found a reference. Its task is large, and so stays out of the caller.
+#[cold]
+#[inline(never)]
+fn look_on(seat: &mut Seat, loc: Loc, word: Word)
+    ensures { seat.new ≡ answer_of (begun seat.old (Look loc)) (found.Word word) }
+{
+    seat.begin(&Task::Look(loc));
+    seat.answer(&Found::Word(word));
+}
+
+// What names the task is not read.
+#[inline(always)]
+fn run_task<C: Chain>(run: &Run, token: &mut Token, _task: &Task) -> Result<Ended, Stop>
+    requires base { run.now.base ≤ 1048576 }
+    requires few { length run.now.lines.now ≤ 64 }
+    requires on { On C.start run.now token.old.table_id token.old.me true (seat_in run.now (first_point run.now.seat.now)) }
+    ensures ok { IfOk result (λ e. On C.start run.now token.new.table_id token.new.me false (seat_told run.now.seat.now e.made e.calls (told.Succeeded e.calls))) }
+    ensures err { IfErr result (λ e. Stopped C.start run.now token.new.table_id token.new.me e) }
+{
+    run_commit::<C>(run, token)
+}
+
+#[inline(always)]
+fn end_commit(seat: &mut Seat, ended: Ended)
+    ensures { seat.new ≡ seat_told seat.old ended.made ended.calls (told.Succeeded ended.calls) }
+{
+    let Ended { made, calls } = ended;
+    seat.end_with(made, calls, Told::Succeeded { number: calls });
+}
+
+// Writes the seat where its commit has come to.
+#[cold]
+#[inline(never)]
+fn stand(seat: &mut Seat, mode: Mode, lines: &[Line], stop: Stop)
+    requires { length lines.now ≤ 64 }
+    ensures { StandsAt seat.old mode lines.now stop.at stop.found seat.new }
+{
+    seat.stand_at(mode, lines, stop.at);
+    if let Some(number) = stop.found {
+        let access = seat.access();
+        seat.answer(&shown(&access, number));
+    }
+}
