@@ -1,6 +1,9 @@
-//! Runs each script of `examples/`, of which `data/` is the copy that the gate lets a program read, and says whether its text and its exit number are those that stand beside it; each script of `faults/`, whether its line on standard error is that; and the script in parts of `files/`, whether its text is that.
+//! Runs each script of `examples/`, of which `data/` is the copy that the gate lets a program read, and says whether its text and its exit number are those that stand beside it; each script of `faults/`, whether its line on standard error is that; and the script in parts of `files/`, whether its text is that. Last it says of bytes that nobody would write whether they have their faults.
 #![tactic(auto)]
 
+mod hostile;
+
+use hostile::{HOSTILE, Hostile};
 use kc_model::{FrailSink, FrailSource, MemShelf};
 use kc_run::OpenGate;
 use kc_top::{Status, kcas_main};
@@ -69,13 +72,13 @@ fn main(rt: HostRuntime) -> io::Result<()> {
     for (name, number) in EXAMPLES {
         let script = fs::read(&rt, &format!(in alloc; "{name}.kcas")?)?;
         let text = fs::read(&rt, &format!(in alloc; "{name}.txt")?)?;
-        let verdict = verdict(is_as_expected(&rt, alloc, script, &text, number)?);
+        let verdict = verdict_of(is_as_expected(&rt, alloc, script, &text, number)?);
         println!(rt; "{name}: {verdict}")?;
     }
     for name in FAULTS {
         let script = fs::read(&rt, &format!(in alloc; "faults/{name}.kcas")?)?;
         let line = fs::read(&rt, &format!(in alloc; "faults/{name}.txt")?)?;
-        let verdict = verdict(has_its_line(&rt, alloc, script, &line)?);
+        let verdict = verdict_of(has_its_line(&rt, alloc, script, &line)?);
         println!(rt; "faults/{name}: {verdict}")?;
     }
     let mut parts = Vec::new(alloc);
@@ -83,12 +86,16 @@ fn main(rt: HostRuntime) -> io::Result<()> {
         parts.push((String::from_str(alloc, name)?, fs::read(&rt, name)?))?;
     }
     let text = fs::read(&rt, "files/text.txt")?;
-    let verdict = verdict(parts_are_as_expected(&rt, alloc, parts, &text)?);
+    let verdict = verdict_of(parts_are_as_expected(&rt, alloc, parts, &text)?);
     println!(rt; "files: {verdict}")?;
+    for hostile in &HOSTILE {
+        let verdict = verdict_of(has_its_fault(&rt, alloc, hostile)?);
+        println!(rt; "{}: {verdict}", hostile.name)?;
+    }
     Ok(())
 }
 
-fn verdict(good: bool) -> &'static str {
+fn verdict_of(good: bool) -> &'static str {
     if good { "ok" } else { "differs" }
 }
 
@@ -138,6 +145,26 @@ fn has_its_line<R: Threads + Wait + Sync>(
             && sink.bytes().is_empty()
             && line.strip_suffix(b"\n".as_slice()) == Some(told.as_bytes()),
     )
+}
+
+// Whether the bytes are refused with their fault, and nothing is written.
+fn has_its_fault<R: Threads + Wait + Sync>(
+    rt: &R,
+    alloc: Global,
+    hostile: &Hostile,
+) -> io::Result<bool> {
+    let mut script = hostile.front.to_vec(alloc)?;
+    for _ in 0..hostile.times {
+        script.extend_from_slice(hostile.more)?;
+    }
+    let fault = Status::Script {
+        part: 0,
+        line: hostile.line,
+        why: hostile.why,
+    };
+    let mut sink = sink(alloc)?;
+    let status = run(rt, alloc, script, &mut sink)?;
+    Ok(status == fault && sink.bytes().is_empty())
 }
 
 fn sink(alloc: Global) -> io::Result<FrailSink> {

@@ -10,5 +10,5 @@ commit-requires-clause-made c =
 pub commit-requires-clause-known : goal.commit-requires-clause-known
 commit-requires-clause-known c = commit_known c.args.seat.now c.args.reads.now c.footprint-footprint.result c.footprint-footprint.ensures.among c.requires.reads c.args.mode
 
-pub returns-clause-same : goal.returns-clause-same
-returns-clause-same c = ran_same c.args.seat.now c.commit.new.seat (task.Commit c.footprint-footprint.result c.args.mode) c.commit.ensures
+pub returns : goal.returns
+returns c = record { same = ran_same c.args.seat.now c.commit.new.seat (task.Commit c.footprint-footprint.result c.args.mode) c.commit.ensures }

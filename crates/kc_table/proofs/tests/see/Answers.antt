@@ -2,5 +2,5 @@ use Rattle.kc_steps.specs.declared.task.Task.TheVariants as task
 use Rattle.kc_table.proofs.Wholes.{ran_same}
 use Rattle.kc_table.proofs.tests.see.Goals as goal
 
-pub returns-clause-same : goal.returns-clause-same
-returns-clause-same c = ran_same c.args.seat.now c.look.new.seat (task.Look c.args.loc) c.look.ensures.ran
+pub returns : goal.returns
+returns c = record { same = ran_same c.args.seat.now c.look.new.seat (task.Look c.args.loc) c.look.ensures.ran }
