@@ -55,11 +55,7 @@ const FAULTS: [&str; 16] = [
 ];
 
 // The parts of `files/`, the setup first. Beside them stands their text.
-const PARTS: [&str; 3] = [
-    "files/setup.kcas",
-    "files/first.kcas",
-    "files/second.kcas",
-];
+const PARTS: [&str; 3] = ["files/setup.kcas", "files/first.kcas", "files/second.kcas"];
 
 // The exit number of a script with a fault.
 const FAULT: u8 = 3;
@@ -125,7 +121,13 @@ fn parts_are_as_expected<R: Threads + Wait + Sync>(
     let mut shelf = MemShelf::new(parts, Vec::new(alloc));
     let mut sink = sink(alloc)?;
     let (status, _) = kcas_main(
-        rt, alloc, &words, &mut source, &mut shelf, &mut sink, &OpenGate,
+        rt,
+        alloc,
+        &words,
+        &mut source,
+        &mut shelf,
+        &mut sink,
+        &OpenGate,
     );
     Ok(status == Status::Done && sink.bytes() == text)
 }
