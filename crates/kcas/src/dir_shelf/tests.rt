@@ -48,7 +48,7 @@ impl Read for Opened {
             }
             None => match self.end {
                 End::Ends => Ok(0),
-                End::Fails => unsupported(),
+                End::Fails => Err(io::Error::from(io::ErrorKind::Unsupported)),
                 End::Grows => {
                     buf.fill(b'#');
                     Ok(buf.len())
@@ -60,7 +60,7 @@ impl Read for Opened {
 
 impl Write for Opened {
     fn write(&mut self, _buf: &[u8]) -> io::Result<usize> {
-        unsupported()
+        Err(io::Error::from(io::ErrorKind::Unsupported))
     }
 
     fn flush(&mut self) -> io::Result<()> {
