@@ -11,7 +11,7 @@ git clone -q "$top" "$room/kcas"
 bench="$room/kcas/crates/kc_bench"
 mkdir -p "$bench/src"
 cp "$top/tools/bench/straight/lib.rt.txt" "$bench/src/lib.rt"
-echo 'kc_bench staticlib: kc_table kc_model kc_steps kc_words' >> "$room/kcas/crates.txt"
+echo 'kc_bench staticlib: kc_table kc_model kc_machine_steps kc_machine_words' >> "$room/kcas/crates.txt"
 (cd "$bench" && rt lib > "$room/built" 2>&1) || { cat "$room/built" >&2; exit 1; }
 kit="$(dirname "$(dirname "$(readlink -f "$(command -v rt)")")")"
 gcc -O2 "$top/tools/bench/straight/main.c" "$bench/out/libkc_bench.a" "$kit/c/liblibc_c.a" -o "$room/straight" -pthread -lm

@@ -1,17 +1,17 @@
 use Rattle.std.proofs.Common.{◌≡◌, ◌≢◌, ◌++◌, ◌+◌, ◌%◌, ◌^◌, ℕ, List, Option, Some, None, ap, refl, subst, sym}
+use Rattle.kc_bank.specs.Bank.{credit_meaning, credited, find_of, put_of}
+use Rattle.kc_bank.specs.Content.{credit_found, credit_value}
+use Rattle.kc_bank.specs.declared.bank.Credit.{Credit}
+use Rattle.kc_bank.specs.declared.bank.TheConstants.{DIVIDEND}
+use Rattle.kc_hash.proofs.Values.{hash_means}
 use Rattle.kc_hash.specs.Content.{StandsFor, hash_value, put_value, value_at}
 use Rattle.kc_hash.specs.Meaning.{hash_meaning}
-use Rattle.kc_hash.proofs.Values.{hash_means}
 use Rattle.kc_model.specs.declared.Reply.{Reply}
 use Rattle.kc_model.specs.declared.Reply.TheVariants.{Bool, Empty, Full, Many, Stranded, Unit, Value}
 use Rattle.kc_term.proofs.Closed.{map_after-append}
 use Rattle.kc_xt.specs.Meaning.{Meaning, Outcome, Run, Touch, map_after, replied, retried, then_meaning, then_run, too_large}
 use Rattle.kc_xt.specs.Structure.{MeansItsValue, Standing, comes_to}
 use Rattle.kc_xt.specs.Structure.{Value as Comes}
-use Rattle.kc_bank.specs.Bank.{credit_meaning, credited, find_of, put_of}
-use Rattle.kc_bank.specs.Content.{credit_found, credit_value}
-use Rattle.kc_bank.specs.declared.bank.Credit.{Credit}
-use Rattle.kc_bank.specs.declared.bank.TheConstants.{DIVIDEND}
 
 -- what one behind the other comes to, where the first ended so on this content
 abbrev pub then_on : {C : Type 0} → Outcome → C → (Reply → Comes C) → Comes C

@@ -1,6 +1,12 @@
 use Rattle.std.proofs.Common.{◌≡◌, ◌≤◌, ℕ, List, Ok, Result, refl, subst}
+use Rattle.kc_bank.specs.Bank.{credited, paid}
+use Rattle.kc_bank.specs.declared.bank.Credit.{Credit}
+use Rattle.kc_bank.specs.declared.bank.PayNext.{PayNext}
 use Rattle.kc_model.specs.declared.Reply.{Reply}
 use Rattle.kc_model.specs.declared.Reply.TheVariants.{Bool, Empty, Full, Many, Stranded, Unit, Value}
+use Rattle.kc_xt.proofs.Chain.{does_reply}
+use Rattle.kc_xt.proofs.Composed.{obeys_wider}
+use Rattle.kc_xt.proofs.Laws.{law_of}
 use Rattle.kc_xt.specs.Law.{Obeys}
 use Rattle.kc_xt.specs.Log.{Log}
 use Rattle.kc_xt.specs.Meaning.{Meaning, Outcome, Run, Touch, replied, retried, then_meaning, then_run, too_large}
@@ -8,13 +14,7 @@ use Rattle.kc_xt.specs.Peeks.{Gives}
 use Rattle.kc_xt.specs.Program.{meaning, replies}
 use Rattle.kc_xt.specs.Single.{RepliesOne}
 use Rattle.kc_xt.specs.Structure.{RepliesOneItem}
-use Rattle.kc_xt.proofs.Chain.{does_reply}
-use Rattle.kc_xt.proofs.Composed.{obeys_wider}
-use Rattle.kc_xt.proofs.Laws.{law_of}
 use Rattle.kc_xt.specs.declared.Stop.{Stop}
-use Rattle.kc_bank.specs.Bank.{credited, paid}
-use Rattle.kc_bank.specs.declared.bank.Credit.{Credit}
-use Rattle.kc_bank.specs.declared.bank.PayNext.{PayNext}
 
 -- a transaction that only replies
 pub obeys_reply : {P : Type 0} {gives : Gives P} (a : Reply) (bound : ℕ) (x : Log P) →

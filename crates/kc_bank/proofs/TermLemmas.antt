@@ -1,25 +1,25 @@
 use Rattle.std.proofs.Common.{◌≤◌, ◌+◌, ◌++◌, ◌∷◌, ◌%◌, ◌^◌, [], List, arith}
-use Rattle.kc_hash.specs.declared.HashOp.{HashOp}
-use Rattle.kc_hash.specs.Meaning.{cells_end, hash_begin, hash_meaning, hash_program}
-use Rattle.kc_loc.specs.Meaning.{loc_begin, loc_last, loc_program}
-use Rattle.kc_queue.specs.Meaning.{queue_begin, queue_end, queue_meaning, queue_program}
-use Rattle.kc_xt.specs.Program.{replies}
-use Rattle.kc_hash.proofs.HashLaw.{hash_stays}
-use Rattle.kc_loc.proofs.LocLaw.{loc_stays}
-use Rattle.kc_queue.proofs.QueueLaw.{queue_stays}
-use Rattle.kc_term.specs.Fit.{AreFit, Each}
-use Rattle.kc_term.specs.Meaning.{greatest_end}
-use Rattle.kc_xt.specs.Structure.{RepliesOneItem}
-use Rattle.kc_xt.proofs.Stay.{stays_one}
-use Rattle.kc_model.specs.declared.Reply.{Reply}
-use Rattle.kc_model.specs.declared.Reply.TheVariants.{Bool, Empty, Full, Many, Stranded, Unit, Value}
+use Rattle.kc_bank.proofs.PayLemmas.{then_one}
 use Rattle.kc_bank.specs.Bank.{BankIsFit, LieInBank, LiesInBank, bank_meaning, bank_op_end, credit_of, credited, find_of, next_of, paid, put_of}
 use Rattle.kc_bank.specs.declared.bank.BankOp.{BankOp}
 use Rattle.kc_bank.specs.declared.bank.BankOp.TheVariants.{Account, Count, Line, Pay}
 use Rattle.kc_bank.specs.declared.bank.Credit.{Credit}
 use Rattle.kc_bank.specs.declared.bank.PayNext.{PayNext}
 use Rattle.kc_bank.specs.declared.bank.TheConstants.{BANK_CELLS, DIVIDEND}
-use Rattle.kc_bank.proofs.PayLemmas.{then_one}
+use Rattle.kc_hash.proofs.HashLaw.{hash_stays}
+use Rattle.kc_hash.specs.Meaning.{cells_end, hash_begin, hash_meaning, hash_program}
+use Rattle.kc_hash.specs.declared.HashOp.{HashOp}
+use Rattle.kc_loc.proofs.LocLaw.{loc_stays}
+use Rattle.kc_loc.specs.Meaning.{loc_begin, loc_last, loc_program}
+use Rattle.kc_model.specs.declared.Reply.{Reply}
+use Rattle.kc_model.specs.declared.Reply.TheVariants.{Bool, Empty, Full, Many, Stranded, Unit, Value}
+use Rattle.kc_queue.proofs.QueueLaw.{queue_stays}
+use Rattle.kc_queue.specs.Meaning.{queue_begin, queue_end, queue_meaning, queue_program}
+use Rattle.kc_term.specs.Fit.{AreFit, Each}
+use Rattle.kc_term.specs.Meaning.{greatest_end}
+use Rattle.kc_xt.proofs.Stay.{stays_one}
+use Rattle.kc_xt.specs.Program.{replies}
+use Rattle.kc_xt.specs.Structure.{RepliesOneItem}
 
 -- what holds of each in two lists holds of each in both
 pub each_append : {X : Type 0} (P : X → Type 0) (xs ys : List X) → Each P xs → Each P ys → Each P (xs ++ ys)

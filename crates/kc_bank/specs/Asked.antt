@@ -1,5 +1,7 @@
 -- What is asked of the bank.
 use Rattle.std.specs.Prelude.{ℕ, [], ◌∷◌}
+use Rattle.kc_bank.specs.declared.bank.BankOp.{BankOp}
+use Rattle.kc_bank.specs.declared.bank.BankOp.TheVariants.{Account, Count, Line, Pay}
 use Rattle.kc_hash.specs.declared.Hash.{Hash}
 use Rattle.kc_hash.specs.declared.HashAct.{HashAct}
 use Rattle.kc_hash.specs.declared.HashAct.TheVariants.{Find, Put}
@@ -8,8 +10,6 @@ use Rattle.kc_model.specs.declared.Loc.{Loc}
 use Rattle.kc_queue.specs.declared.Queue.{Queue}
 use Rattle.kc_queue.specs.declared.QueueAct.TheVariants.{Enq}
 use Rattle.kc_term.specs.Tree.{Tree, first, op, seq, trees}
-use Rattle.kc_bank.specs.declared.bank.BankOp.{BankOp}
-use Rattle.kc_bank.specs.declared.bank.BankOp.TheVariants.{Account, Count, Line, Pay}
 
 -- ---- one step
 

@@ -1,22 +1,22 @@
 use Rattle.std.specs.Prelude.{ℕ, List, ◌+◌, ◌%◌, ◌^◌, ◌≤◌, length, max}
-use Rattle.kc_model.specs.declared.Reply.{Reply}
-use Rattle.kc_model.specs.declared.Reply.TheVariants.{Empty, Value}
-use Rattle.kc_hash.specs.declared.HashAct.TheVariants.{Find, Put}
-use Rattle.kc_hash.specs.declared.HashOp.{HashOp}
-use Rattle.kc_hash.specs.Meaning.{hash_end, hash_meaning}
-use Rattle.kc_loc.specs.Meaning.{LocIsFit, loc_end, loc_meaning}
-use Rattle.kc_queue.specs.declared.QueueAct.TheVariants.{DeqWait}
-use Rattle.kc_queue.specs.declared.QueueOp.{QueueOp}
-use Rattle.kc_queue.specs.Meaning.{queue_end, queue_meaning}
-use Rattle.kc_term.specs.declared.term.TheConstants.{MOST_OPERATIONS}
-use Rattle.kc_term.specs.Fit.{Each}
-use Rattle.kc_xt.specs.Meaning.{Meaning, then_meaning}
-use Rattle.kc_xt.specs.Program.{meaning, replies}
-use Rattle.kc_bank.specs.declared.bank.TheConstants.{BANK_CELLS, DIVIDEND}
 use Rattle.kc_bank.specs.declared.bank.BankOp.{BankOp}
 use Rattle.kc_bank.specs.declared.bank.BankOp.TheVariants.{Account, Count, Line, Pay}
 use Rattle.kc_bank.specs.declared.bank.Credit.{Credit}
 use Rattle.kc_bank.specs.declared.bank.PayNext.{PayNext}
+use Rattle.kc_bank.specs.declared.bank.TheConstants.{BANK_CELLS, DIVIDEND}
+use Rattle.kc_hash.specs.Meaning.{hash_end, hash_meaning}
+use Rattle.kc_hash.specs.declared.HashAct.TheVariants.{Find, Put}
+use Rattle.kc_hash.specs.declared.HashOp.{HashOp}
+use Rattle.kc_loc.specs.Meaning.{LocIsFit, loc_end, loc_meaning}
+use Rattle.kc_model.specs.declared.Reply.{Reply}
+use Rattle.kc_model.specs.declared.Reply.TheVariants.{Empty, Value}
+use Rattle.kc_queue.specs.Meaning.{queue_end, queue_meaning}
+use Rattle.kc_queue.specs.declared.QueueAct.TheVariants.{DeqWait}
+use Rattle.kc_queue.specs.declared.QueueOp.{QueueOp}
+use Rattle.kc_term.specs.Fit.{Each}
+use Rattle.kc_term.specs.declared.term.TheConstants.{MOST_OPERATIONS}
+use Rattle.kc_xt.specs.Meaning.{Meaning, then_meaning}
+use Rattle.kc_xt.specs.Program.{meaning, replies}
 
 -- the look for an account's balance
 abbrev pub find_of : Credit → HashOp

@@ -1,14 +1,14 @@
 use Rattle.std.specs.Prelude.{◌≡◌, ◌≢◌, Result, Ok, Err}
 use Rattle.kc_model.specs.Store.{Finds, after, store_of}
-use Rattle.kc_term.specs.Tree.{Tree}
 use Rattle.kc_term.specs.Meaning.{term_meaning}
+use Rattle.kc_term.specs.Tree.{Tree}
 use Rattle.kc_xt.specs.declared.Tried.{Tried}
 use Rattle.kc_xt.specs.declared.Tried.TheVariants as tried
-use Rattle.kc_xt.specs.Commit.{Came, PutsWhereDone}
-use Rattle.kc_xt.specs.Meaning.{Meaning}
 use Rattle.kc_bank.specs.Bank.{bank_meaning}
 use Rattle.kc_bank.specs.declared.bank.BankOp.{BankOp}
 use Rattle.kc_bank.specs.declared.teller.Teller.{Teller}
+use Rattle.kc_xt.specs.Commit.{Came, PutsWhereDone}
+use Rattle.kc_xt.specs.Meaning.{Meaning}
 
 -- The teller committed what has this meaning, and it came to this.
 pub record Commits (m : Meaning) (t : Tried) (old new : Teller) : Type 0 where

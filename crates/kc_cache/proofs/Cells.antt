@@ -2,20 +2,20 @@
 use Rattle.std.proofs.Common.{◌≡◌, ℕ, ◌+◌, ◌-◌, ◌*◌, ◌<◌, ◌≤◌, ◌==◌, true, false, List, [], refl, sym, ap, ◌∙◌, arith}
 use Rattle.std.specs.Prelude.{nat_lt}
 use Rattle.std.proofs.lemmas.Bool.{ne_eqb, lt-ltb, le-ltb}
-use Rattle.kc_xt.specs.Structure.{DependsOnItsCells, Opened}
-use Rattle.kc_hash.specs.Meaning.{hash_cells}
-use Rattle.kc_hash.specs.Content.{hash_opening}
-use Rattle.kc_hash.proofs.Kept.{same_cells}
-use Rattle.kc_hash.proofs.Opened.{hash_opens}
-use Rattle.kc_dllist.specs.Meaning.{dllist_cells, dllist_opening}
-use Rattle.kc_dllist.specs.Content.{Listed, numbers, opening_content}
+use Rattle.kc_cache.proofs.States.{pairs_same}
+use Rattle.kc_cache.specs.Content.{StandsFor, index_of, pairs_of, shown}
+use Rattle.kc_cache.specs.Meaning.{table_of, order_of, space_cell, value_cell, cells_end, cache_cells, cache_opening}
+use Rattle.kc_cache.specs.declared.cache.Cache.{Cache}
 use Rattle.kc_dllist.proofs.Standing.{listed_node}
 use Rattle.kc_dllist.proofs.Values.{dllist_same, opened_empty}
 use Rattle.kc_dllist.proofs.Walks.{walk_listed}
-use Rattle.kc_cache.specs.declared.cache.Cache.{Cache}
-use Rattle.kc_cache.specs.Meaning.{table_of, order_of, space_cell, value_cell, cells_end, cache_cells, cache_opening}
-use Rattle.kc_cache.specs.Content.{StandsFor, index_of, pairs_of, shown}
-use Rattle.kc_cache.proofs.States.{pairs_same}
+use Rattle.kc_dllist.specs.Content.{Listed, numbers, opening_content}
+use Rattle.kc_dllist.specs.Meaning.{dllist_cells, dllist_opening}
+use Rattle.kc_hash.proofs.Kept.{same_cells}
+use Rattle.kc_hash.proofs.Opened.{hash_opens}
+use Rattle.kc_hash.specs.Content.{hash_opening}
+use Rattle.kc_hash.specs.Meaning.{hash_cells}
+use Rattle.kc_xt.specs.Structure.{DependsOnItsCells, Opened}
 
 pub cache_same : (c : Cache) → DependsOnItsCells (StandsFor c) c.base.0 (cells_end c)
 cache_same c m w pairs f s = record {

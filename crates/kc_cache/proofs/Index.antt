@@ -1,13 +1,13 @@
 -- Listed nodes, the map of their keys, and their pairs.
 use Rattle.std.proofs.Common.{◌≡◌, ◌≢◌, ℕ, suc, ◌<◌, ◌≤◌, ◌==◌, Bool, true, false, List, [], ◌∷◌, length, map, Some, None, refl, sym, ap, ◌∙◌, subst, arith}
 use Rattle.std.proofs.lemmas.Bool.{eqb-true, eqb-false, eq-eqb, ne_eqb}
-use Rattle.kc_xt.specs.Times.{times}
 use Rattle.kc_xt.proofs.Times.{times-here, times-append, has_here, has_rest, has_later}
+use Rattle.kc_xt.specs.Times.{times}
 use Rattle.kc_model.specs.declared.reply.Reply.TheVariants as reply
-use Rattle.kc_hash.specs.Content.{with_pair, without_key, value_at}
-use Rattle.kc_hash.proofs.FiniteMaps.{with_pair-comm, value_at-with, value_at-other, without-with, length-with}
-use Rattle.kc_dllist.specs.Content.{Listed, numbers, payload_of, without, last_reply}
 use Rattle.kc_cache.specs.Content.{keys, index_of, without_last}
+use Rattle.kc_dllist.specs.Content.{Listed, numbers, payload_of, without, last_reply}
+use Rattle.kc_hash.proofs.FiniteMaps.{with_pair-comm, value_at-with, value_at-other, without-with, length-with}
+use Rattle.kc_hash.specs.Content.{with_pair, without_key, value_at}
 
 -- the pairs of listed nodes, by the value of each node
 abbrev pub pairs_by : (ℕ → ℕ) → List Listed → List (ℕ × ℕ)

@@ -1,29 +1,29 @@
 -- The plain run of each operation on cells that stand for pairs, whatever comes behind it.
 use Rattle.std.proofs.Common.{◌≡◌, ◌≢◌, ℕ, ◌+◌, ◌<◌, ◌≤◌, ◌==◌, Bool, false, cond, List, ◌∷◌, length, Some, None, refl, sym, ap, ap₂, ◌∙◌, subst, arith, inl, inr}
 use Rattle.std.proofs.lemmas.Bool.{ne_eqb, cases_eq}
-use Rattle.kc_xt.specs.Times.{times}
-use Rattle.kc_xt.proofs.Times.{times-here, times-there, has_here, apart}
 use Rattle.kc_model.specs.declared.reply.Reply.{Reply}
+use Rattle.kc_xt.proofs.Times.{times-here, times-there, has_here, apart}
+use Rattle.kc_xt.specs.Times.{times}
 use Rattle.kc_model.specs.declared.reply.Reply.TheVariants as reply
 use Rattle.kc_xt.specs.Meaning.{Outcome, replied, put}
 use Rattle.kc_xt.specs.Program.{Program, plain}
 use Rattle.kc_xt.specs.Structure.{Value}
 use Rattle.kc_hash.specs.declared.operation.HashAct.TheVariants as table
-use Rattle.kc_hash.specs.Meaning.{hash_program}
-use Rattle.kc_hash.specs.Content.{after, without_key, found_reply, put_value}
 use Rattle.kc_hash.proofs.FiniteMaps.{without-none}
+use Rattle.kc_hash.specs.Content.{after, without_key, found_reply, put_value}
+use Rattle.kc_hash.specs.Meaning.{hash_program}
 use Rattle.kc_dllist.specs.declared.operation.DllistAct.TheVariants as list
-use Rattle.kc_dllist.specs.Meaning.{dllist_program, IsNode}
-use Rattle.kc_dllist.specs.Content.{Listed, Content, numbers, payload_of, without}
-use Rattle.kc_dllist.proofs.Times.{times-less, less}
-use Rattle.kc_dllist.proofs.Rings.{put_here, put_else}
-use Rattle.kc_dllist.proofs.Cells.{node_as_is}
-use Rattle.kc_dllist.proofs.Standing.{listed_node, free_node, listed_once, not_listed, numbers-without}
-use Rattle.kc_cache.specs.declared.cache.Cache.{Cache}
-use Rattle.kc_cache.specs.Meaning.{table_of, order_of, space_cell, value_cell, counted, node_named, with_node, value_program, write_program, got_program, get_program, renew_program, valued_program, listed_program, enter_program, dropped_program, add_program, placed_program, put_program, freed_program, taken_program, del_program}
-use Rattle.kc_cache.specs.Content.{keys, index_of}
 use Rattle.kc_cache.proofs.Index.{pairs_by, Differ, index_none, index_length, Entry, entry_out}
 use Rattle.kc_cache.proofs.States.{State, Step, on_table, on_list, on_space, on_value, pairs_same}
+use Rattle.kc_cache.specs.Content.{keys, index_of}
+use Rattle.kc_cache.specs.Meaning.{table_of, order_of, space_cell, value_cell, counted, node_named, with_node, value_program, write_program, got_program, get_program, renew_program, valued_program, listed_program, enter_program, dropped_program, add_program, placed_program, put_program, freed_program, taken_program, del_program}
+use Rattle.kc_cache.specs.declared.cache.Cache.{Cache}
+use Rattle.kc_dllist.proofs.Cells.{node_as_is}
+use Rattle.kc_dllist.proofs.Rings.{put_here, put_else}
+use Rattle.kc_dllist.proofs.Standing.{listed_node, free_node, listed_once, not_listed, numbers-without}
+use Rattle.kc_dllist.proofs.Times.{times-less, less}
+use Rattle.kc_dllist.specs.Content.{Listed, Content, numbers, payload_of, without}
+use Rattle.kc_dllist.specs.Meaning.{dllist_program, IsNode}
 
 -- one part behind another
 then_step : (c : Cache) (f : (Reply → Program) → Program) (g : Reply → (Reply → Program) → Program) (m : ℕ → ℕ) (a b : Reply) (l r : Content) (t u : List (ℕ × ℕ)) (s n : ℕ) (v w : ℕ → ℕ) (h : Step c f m (replied a) l t s v) → Step c (g a) h.left (replied b) r u n w → Step c (λ k. f (λ a. g a k)) m (replied b) r u n w

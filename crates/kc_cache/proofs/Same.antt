@@ -1,9 +1,9 @@
 -- Caches of the same numbers; the parts of a cache by their numbers.
 use Rattle.std.proofs.Common.{◌≡◌, ◌≤◌, ◌+◌, ◌*◌, ◌∙◌, ℕ, sym, ap, ap₂, subst, arith}
 use Rattle.std.proofs.Math.Bridge.{le_prop}
+use Rattle.kc_cache.specs.declared.cache.Cache.{Cache}
 use Rattle.kc_model.specs.declared.footprint.Loc.{Loc}
 use Rattle.kc_model.specs.declared.plain_store.TheConstants.{MOST_LOCATIONS}
-use Rattle.kc_cache.specs.declared.cache.Cache.{Cache}
 
 -- where the cells of a cache are locations of a store, so are those of its table and of its list
 pub table_laid : (b m n : ℕ) → b + 6 + m + 7 * n ≤ MOST_LOCATIONS → b + 1 + 2 + m + 3 * n ≤ MOST_LOCATIONS

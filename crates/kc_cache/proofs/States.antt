@@ -1,27 +1,27 @@
 -- What stands in a cache's cells between the steps of an operation, and what each step makes of it.
 use Rattle.std.proofs.Common.{◌≡◌, ℕ, ◌-◌, ◌<◌, ◌≤◌, ◌==◌, Bool, true, false, cond, List, [], ◌∷◌, length, refl, sym, ap, ap₂, ◌∙◌, subst, arith}
 use Rattle.std.proofs.lemmas.Bool.{eqb-true, eqb-false}
-use Rattle.kc_xt.specs.Times.{times}
-use Rattle.kc_xt.proofs.Times.{has_here, has_rest}
-use Rattle.kc_model.specs.declared.reply.Reply.{Reply}
-use Rattle.kc_xt.specs.Meaning.{Outcome, put}
-use Rattle.kc_xt.specs.Program.{Program, plain}
-use Rattle.kc_xt.specs.Structure.{goes_on}
-use Rattle.kc_hash.specs.declared.operation.HashAct.{HashAct}
-use Rattle.kc_hash.specs.Meaning.{hash_program}
-use Rattle.kc_hash.specs.Content.{hash_value, StandsFor as TableStandsFor}
-use Rattle.kc_hash.proofs.Values.{hash_inside}
-use Rattle.kc_hash.proofs.Kept.{same_cells}
-use Rattle.kc_dllist.specs.declared.operation.DllistAct.{DllistAct}
-use Rattle.kc_dllist.specs.Meaning.{dllist_program, IsNode}
-use Rattle.kc_dllist.specs.Content.{Listed, Content, numbers, dllist_value, NamesListed, StandsFor as ListStandsFor}
+use Rattle.kc_cache.proofs.Index.{pairs_by, Differ}
+use Rattle.kc_cache.specs.Content.{keys, index_of, StandsFor}
+use Rattle.kc_cache.specs.Meaning.{table_of, order_of, space_cell, value_cell}
+use Rattle.kc_cache.specs.declared.cache.Cache.{Cache}
 use Rattle.kc_dllist.proofs.Rings.{put_here, put_else}
 use Rattle.kc_dllist.proofs.Standing.{listed_node}
 use Rattle.kc_dllist.proofs.Values.{dllist_same, dllist_inside}
-use Rattle.kc_cache.specs.declared.cache.Cache.{Cache}
-use Rattle.kc_cache.specs.Meaning.{table_of, order_of, space_cell, value_cell}
-use Rattle.kc_cache.specs.Content.{keys, index_of, StandsFor}
-use Rattle.kc_cache.proofs.Index.{pairs_by, Differ}
+use Rattle.kc_dllist.specs.Content.{Listed, Content, numbers, dllist_value, NamesListed, StandsFor as ListStandsFor}
+use Rattle.kc_dllist.specs.Meaning.{dllist_program, IsNode}
+use Rattle.kc_dllist.specs.declared.operation.DllistAct.{DllistAct}
+use Rattle.kc_hash.proofs.Kept.{same_cells}
+use Rattle.kc_hash.proofs.Values.{hash_inside}
+use Rattle.kc_hash.specs.Content.{hash_value, StandsFor as TableStandsFor}
+use Rattle.kc_hash.specs.Meaning.{hash_program}
+use Rattle.kc_hash.specs.declared.operation.HashAct.{HashAct}
+use Rattle.kc_model.specs.declared.reply.Reply.{Reply}
+use Rattle.kc_xt.proofs.Times.{has_here, has_rest}
+use Rattle.kc_xt.specs.Meaning.{Outcome, put}
+use Rattle.kc_xt.specs.Program.{Program, plain}
+use Rattle.kc_xt.specs.Structure.{goes_on}
+use Rattle.kc_xt.specs.Times.{times}
 
 -- the list, the table, the number of free places, and the value of each node
 pub record State (c : Cache) (m : ℕ → ℕ) (l : Content) (t : List (ℕ × ℕ)) (s : ℕ) (v : ℕ → ℕ) : Type 0 where

@@ -2,32 +2,32 @@
 use Rattle.std.proofs.Common.{◌≡◌, ℕ, suc, ◌+◌, ◌-◌, ◌<◌, ◌≤◌, ◌==◌, Bool, true, false, cond, List, [], ◌∷◌, length, Option, None, refl, sym, ap, ap₂, ◌∙◌, subst, arith, inl, inr}
 use Rattle.std.proofs.lemmas.Bool.{cases_lt, ne_eqb, eq-eqb, eqb-true, eqb-false}
 use Rattle.std.proofs.lemmas.List.{length-map}
-use Rattle.kc_xt.specs.Times.{times}
-use Rattle.kc_xt.proofs.Times.{times-append}
 use Rattle.kc_model.specs.declared.reply.Reply.{Reply}
+use Rattle.kc_xt.proofs.Times.{times-append}
+use Rattle.kc_xt.specs.Times.{times}
 use Rattle.kc_model.specs.declared.reply.Reply.TheVariants as reply
+use Rattle.kc_hash.proofs.FiniteMaps.{without-none}
+use Rattle.kc_hash.specs.Content.{without_key, value_at, found_reply}
+use Rattle.kc_xt.proofs.Inside.{GoesTo, runs_to}
+use Rattle.kc_xt.proofs.Structures.{runs_means, means_keeps}
 use Rattle.kc_xt.specs.Meaning.{put, replied, retried}
 use Rattle.kc_xt.specs.Program.{Program, plain, retries, write}
 use Rattle.kc_xt.specs.Structure.{Value, comes_to, RunsInsideOthers, MeansItsValue, KeepsWellFormed}
-use Rattle.kc_xt.proofs.Inside.{GoesTo, runs_to}
-use Rattle.kc_xt.proofs.Structures.{runs_means, means_keeps}
-use Rattle.kc_hash.specs.Content.{without_key, value_at, found_reply}
-use Rattle.kc_hash.proofs.FiniteMaps.{without-none}
 use Rattle.kc_dllist.specs.declared.operation.DllistAct.TheVariants as list
-use Rattle.kc_dllist.specs.Content.{Listed, Content, numbers, without}
-use Rattle.kc_dllist.proofs.Rings.{put_here}
-use Rattle.kc_dllist.proofs.Standing.{listed_once}
-use Rattle.kc_dllist.proofs.Counts.{all_nodes}
 use Rattle.kc_cache.specs.declared.cache.Cache.{Cache}
 use Rattle.kc_cache.specs.declared.operation.CacheAct.{CacheAct}
+use Rattle.kc_dllist.proofs.Counts.{all_nodes}
+use Rattle.kc_dllist.proofs.Rings.{put_here}
+use Rattle.kc_dllist.proofs.Standing.{listed_once}
+use Rattle.kc_dllist.specs.Content.{Listed, Content, numbers, without}
 use Rattle.kc_cache.specs.declared.operation.CacheAct.TheVariants as act
-use Rattle.kc_cache.specs.declared.operation.CacheOp.{CacheOp}
-use Rattle.kc_cache.specs.Meaning.{cache_program, cache_meaning, cache_begin, cells_end, order_of, space_cell, value_cell, counted, oldest_program, replace_program, enter_program, add_program, put_program, get_program, del_program, length_program}
-use Rattle.kc_cache.specs.Content.{keys, index_of, without_last, used, added, put_value, cache_value, StandsFor}
 use Rattle.kc_cache.proofs.CacheLaw.{cache_stays}
 use Rattle.kc_cache.proofs.Index.{pairs_by, Differ, pairs_none, Entry, entry, entry_differ, last_key}
-use Rattle.kc_cache.proofs.States.{State, stands, state, on_list, on_space}
 use Rattle.kc_cache.proofs.Runs.{front_index, front_differ, get_there, put_there, rest_values, del_there, remove_step, del_step, dropped_runs, dropped_state, miss_step, get_missing, del_missing, add_runs, add_state, new_differ, enter_step, new_values}
+use Rattle.kc_cache.proofs.States.{State, stands, state, on_list, on_space}
+use Rattle.kc_cache.specs.Content.{keys, index_of, without_last, used, added, put_value, cache_value, StandsFor}
+use Rattle.kc_cache.specs.Meaning.{cache_program, cache_meaning, cache_begin, cells_end, order_of, space_cell, value_cell, counted, oldest_program, replace_program, enter_program, add_program, put_program, get_program, del_program, length_program}
+use Rattle.kc_cache.specs.declared.operation.CacheOp.{CacheOp}
 
 -- it goes to a value
 abbrev Has : Cache → ((Reply → Program) → Program) → (ℕ → ℕ) → Value (List (ℕ × ℕ)) → Type 0

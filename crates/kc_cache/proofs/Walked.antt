@@ -2,13 +2,13 @@
 use Rattle.std.proofs.Common.{◌≡◌, ℕ, List, [], ◌∷◌, Some, sym, ap, ap₂, ◌∙◌, subst}
 use Rattle.std.specs.List.{All}
 use Rattle.std.proofs.lemmas.List.Elements.{All-head}
-use Rattle.kc_dllist.specs.declared.dllist.Dllist.{Dllist}
-use Rattle.kc_dllist.specs.Meaning.{IsNode}
-use Rattle.kc_dllist.specs.Content.{Listed, first_listed}
-use Rattle.kc_cache.specs.declared.cache.Cache.{Cache}
-use Rattle.kc_cache.specs.Meaning.{value_cell}
-use Rattle.kc_hash.specs.Content.{first_pair}
 use Rattle.kc_cache.specs.Content.{pairs_of}
+use Rattle.kc_cache.specs.Meaning.{value_cell}
+use Rattle.kc_cache.specs.declared.cache.Cache.{Cache}
+use Rattle.kc_dllist.specs.Content.{Listed, first_listed}
+use Rattle.kc_dllist.specs.Meaning.{IsNode}
+use Rattle.kc_dllist.specs.declared.dllist.Dllist.{Dllist}
+use Rattle.kc_hash.specs.Content.{first_pair}
 
 -- pairs that are equal have equal parts
 parts : (p q : ℕ × ℕ) → Some p ≡ Some q → (p.0 ≡ q.0) × (p.1 ≡ q.1)

@@ -1,13 +1,13 @@
 -- A cache as its keys and values, the most recently used pair first.
 use Rattle.std.specs.Prelude.{◌≡◌, ℕ, ◌-◌, ◌≤◌, ◌==◌, cond, List, [], ◌∷◌, length, map, Option, Some, None}
 use Rattle.kc_model.specs.declared.reply.Reply.TheVariants as reply
-use Rattle.kc_xt.specs.Meaning.{replied, retried}
-use Rattle.kc_xt.specs.Structure.{Value, comes_to}
-use Rattle.kc_hash.specs.Content.{with_pair, without_key, value_at, found_reply, StandsFor as TableStandsFor}
-use Rattle.kc_xt.specs.Times.{times}
-use Rattle.kc_dllist.specs.Content.{Listed, Content, walked, StandsFor as ListStandsFor}
 use Rattle.kc_cache.specs.declared.cache.Cache.{Cache}
 use Rattle.kc_cache.specs.declared.operation.CacheAct.{CacheAct}
+use Rattle.kc_dllist.specs.Content.{Listed, Content, walked, StandsFor as ListStandsFor}
+use Rattle.kc_hash.specs.Content.{with_pair, without_key, value_at, found_reply, StandsFor as TableStandsFor}
+use Rattle.kc_xt.specs.Meaning.{replied, retried}
+use Rattle.kc_xt.specs.Structure.{Value, comes_to}
+use Rattle.kc_xt.specs.Times.{times}
 use Rattle.kc_cache.specs.declared.operation.CacheAct.TheVariants as act
 use Rattle.kc_cache.specs.Meaning.{table_of, order_of, space_cell, value_cell}
 

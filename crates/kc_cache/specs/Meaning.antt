@@ -2,17 +2,17 @@
 use Rattle.std.specs.Prelude.{ℕ, ◌+◌, ◌-◌, ◌*◌, ◌==◌, nat_lt, min, Bool, true, false, cond, Option, Some, None}
 use Rattle.kc_model.specs.declared.reply.Reply.{Reply}
 use Rattle.kc_model.specs.declared.reply.Reply.TheVariants as reply
+use Rattle.kc_hash.specs.declared.hash.Hash.{Hash}
 use Rattle.kc_xt.specs.Meaning.{Meaning}
 use Rattle.kc_xt.specs.Program.{Program, read, write, retries, replies, meaning}
-use Rattle.kc_hash.specs.declared.hash.Hash.{Hash}
 use Rattle.kc_hash.specs.declared.operation.HashAct.TheVariants as table
-use Rattle.kc_hash.specs.Meaning.{hash_program}
-use Rattle.kc_hash.specs.Content.{hash_opening}
 use Rattle.kc_dllist.specs.declared.dllist.Dllist.{Dllist}
+use Rattle.kc_hash.specs.Content.{hash_opening}
+use Rattle.kc_hash.specs.Meaning.{hash_program}
 use Rattle.kc_dllist.specs.declared.operation.DllistAct.TheVariants as list
-use Rattle.kc_dllist.specs.Meaning.{dllist_program, node_in, dllist_opening}
 use Rattle.kc_cache.specs.declared.cache.Cache.{Cache}
 use Rattle.kc_cache.specs.declared.operation.CacheAct.{CacheAct}
+use Rattle.kc_dllist.specs.Meaning.{dllist_program, node_in, dllist_opening}
 use Rattle.kc_cache.specs.declared.operation.CacheAct.TheVariants as act
 use Rattle.kc_cache.specs.declared.operation.CacheOp.{CacheOp}
 

@@ -4,7 +4,14 @@ use Rattle.std.specs.Prelude.{Result}
 use Rattle.std.proofs.lemmas.Nat.{mod_below}
 use Rattle.kc_model.specs.declared.reply.Reply.{Reply}
 use Rattle.kc_model.specs.declared.reply.Reply.TheVariants as reply
-use Rattle.kc_xt.specs.declared.stop.Stop.{Stop}
+use Rattle.kc_cells.specs.Accumulator.{acc_cells_end, acc_opening, acc_program, acc_meaning, acc_begin, acc_end, AccStandsFor, acc_value, cells_sum, bumped_cell}
+use Rattle.kc_cells.specs.declared.accumulator.AccAct.{AccAct}
+use Rattle.kc_cells.specs.declared.accumulator.AccOp.{AccOp}
+use Rattle.kc_cells.specs.declared.accumulator.Accumulator.{Accumulator}
+use Rattle.kc_xt.proofs.Inside.{GoesTo, runs_to}
+use Rattle.kc_xt.proofs.Laws.{TouchesFirst}
+use Rattle.kc_xt.proofs.Stay.{stays_law}
+use Rattle.kc_xt.proofs.Structures.{runs_means}
 use Rattle.kc_xt.specs.Law.{Obeys}
 use Rattle.kc_xt.specs.Log.{Log}
 use Rattle.kc_xt.specs.Meaning.{put}
@@ -13,14 +20,7 @@ use Rattle.kc_xt.specs.Program.{plain, replies, wrapped}
 use Rattle.kc_xt.specs.Stays.{Stays}
 use Rattle.kc_xt.specs.Steps.{Does}
 use Rattle.kc_xt.specs.Structure.{ContentIsOne, DependsOnItsCells, MeansItsValue, Opens, RunsInsideOthers}
-use Rattle.kc_xt.proofs.Inside.{GoesTo, runs_to}
-use Rattle.kc_xt.proofs.Laws.{TouchesFirst}
-use Rattle.kc_xt.proofs.Stay.{stays_law}
-use Rattle.kc_xt.proofs.Structures.{runs_means}
-use Rattle.kc_cells.specs.Accumulator.{acc_cells_end, acc_opening, acc_program, acc_meaning, acc_begin, acc_end, AccStandsFor, acc_value, cells_sum, bumped_cell}
-use Rattle.kc_cells.specs.declared.accumulator.Accumulator.{Accumulator}
-use Rattle.kc_cells.specs.declared.accumulator.AccOp.{AccOp}
-use Rattle.kc_cells.specs.declared.accumulator.AccAct.{AccAct}
+use Rattle.kc_xt.specs.declared.stop.Stop.{Stop}
 use Rattle.kc_cells.specs.declared.accumulator.AccAct.TheVariants as act
 use Rattle.kc_cells.proofs.Sums.{sum_same, sum_bumped, sum_zero, sums_stays, sums_first, sums_plain}
 

@@ -1,7 +1,10 @@
 -- The programs of a one-place variable.
 use Rattle.std.specs.Prelude.{ℕ, Option, Result}
+use Rattle.kc_cells.proofs.OnePlaces.{place_stays, place_first, place_means}
+use Rattle.kc_cells.specs.Mvar.{mvar_act, mvar_program, mvar_meaning, mvar_begin, mvar_end, mvar_value, MvarStandsFor}
+use Rattle.kc_cells.specs.declared.mvar.MvarOp.{MvarOp}
 use Rattle.kc_model.specs.declared.reply.Reply.{Reply}
-use Rattle.kc_xt.specs.declared.stop.Stop.{Stop}
+use Rattle.kc_xt.proofs.Stay.{stays_law}
 use Rattle.kc_xt.specs.Law.{Obeys}
 use Rattle.kc_xt.specs.Log.{Log}
 use Rattle.kc_xt.specs.Peeks.{Gives}
@@ -9,10 +12,7 @@ use Rattle.kc_xt.specs.Program.{replies}
 use Rattle.kc_xt.specs.Stays.{Stays}
 use Rattle.kc_xt.specs.Steps.{Does}
 use Rattle.kc_xt.specs.Structure.{MeansItsValue}
-use Rattle.kc_xt.proofs.Stay.{stays_law}
-use Rattle.kc_cells.specs.Mvar.{mvar_act, mvar_program, mvar_meaning, mvar_begin, mvar_end, mvar_value, MvarStandsFor}
-use Rattle.kc_cells.specs.declared.mvar.MvarOp.{MvarOp}
-use Rattle.kc_cells.proofs.OnePlaces.{place_stays, place_first, place_means}
+use Rattle.kc_xt.specs.declared.stop.Stop.{Stop}
 
 pub mvar_stays : (o : MvarOp) → Stays (mvar_begin o) (mvar_end o) (mvar_program o.mvar o.act replies)
 mvar_stays o = place_stays o.mvar.base.0 (mvar_act o.act)

@@ -3,16 +3,16 @@ use Rattle.std.proofs.Common.{◌≡◌, ℕ, ◌+◌, true, false, not, cond, O
 use Rattle.std.specs.Prelude.{◌==◌}
 use Rattle.std.proofs.lemmas.Bool.Decides.{nat_tests}
 use Rattle.kc_model.specs.declared.reply.Reply.TheVariants as reply
-use Rattle.kc_xt.specs.Meaning.{put}
-use Rattle.kc_xt.specs.Program.{plain, read, write, replies, retries}
-use Rattle.kc_xt.specs.Stays.{Stays}
-use Rattle.kc_xt.specs.Structure.{ContentIsOne, DependsOnItsCells, MeansItsValue, Opens, RunsInsideOthers}
-use Rattle.kc_xt.specs.Program.{meaning}
+use Rattle.kc_cells.specs.declared.one_place.PlaceAct.{PlaceAct}
 use Rattle.kc_xt.proofs.Inside.{GoesTo, runs_to}
 use Rattle.kc_xt.proofs.Laws.{TouchesFirst}
 use Rattle.kc_xt.proofs.Stay.{stays_if}
 use Rattle.kc_xt.proofs.Structures.{runs_means}
-use Rattle.kc_cells.specs.declared.one_place.PlaceAct.{PlaceAct}
+use Rattle.kc_xt.specs.Meaning.{put}
+use Rattle.kc_xt.specs.Program.{plain, read, write, replies, retries}
+use Rattle.kc_xt.specs.Program.{meaning}
+use Rattle.kc_xt.specs.Stays.{Stays}
+use Rattle.kc_xt.specs.Structure.{ContentIsOne, DependsOnItsCells, MeansItsValue, Opens, RunsInsideOthers}
 use Rattle.kc_cells.specs.declared.one_place.PlaceAct.TheVariants as act
 use Rattle.kc_cells.specs.OnePlace.{place_cells, place_opening, place_program, place_value, held, Holds}
 

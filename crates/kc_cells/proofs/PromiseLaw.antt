@@ -1,7 +1,10 @@
 -- The programs of a promise.
 use Rattle.std.specs.Prelude.{ℕ, Option, Result}
+use Rattle.kc_cells.proofs.OnePlaces.{place_stays, place_first, place_means}
+use Rattle.kc_cells.specs.Promise.{promise_act, promise_program, promise_meaning, promise_begin, promise_end, promise_value, PromiseStandsFor}
+use Rattle.kc_cells.specs.declared.promise.PromiseOp.{PromiseOp}
 use Rattle.kc_model.specs.declared.reply.Reply.{Reply}
-use Rattle.kc_xt.specs.declared.stop.Stop.{Stop}
+use Rattle.kc_xt.proofs.Stay.{stays_law}
 use Rattle.kc_xt.specs.Law.{Obeys}
 use Rattle.kc_xt.specs.Log.{Log}
 use Rattle.kc_xt.specs.Peeks.{Gives}
@@ -9,10 +12,7 @@ use Rattle.kc_xt.specs.Program.{replies}
 use Rattle.kc_xt.specs.Stays.{Stays}
 use Rattle.kc_xt.specs.Steps.{Does}
 use Rattle.kc_xt.specs.Structure.{MeansItsValue}
-use Rattle.kc_xt.proofs.Stay.{stays_law}
-use Rattle.kc_cells.specs.Promise.{promise_act, promise_program, promise_meaning, promise_begin, promise_end, promise_value, PromiseStandsFor}
-use Rattle.kc_cells.specs.declared.promise.PromiseOp.{PromiseOp}
-use Rattle.kc_cells.proofs.OnePlaces.{place_stays, place_first, place_means}
+use Rattle.kc_xt.specs.declared.stop.Stop.{Stop}
 
 pub promise_stays : (o : PromiseOp) → Stays (promise_begin o) (promise_end o) (promise_program o.promise o.act replies)
 promise_stays o = place_stays o.promise.base.0 (promise_act o.act)

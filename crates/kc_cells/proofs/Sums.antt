@@ -8,11 +8,11 @@ use Rattle.std.proofs.lemmas.List.Sums.{sum_by-cons, sum_by_push}
 use Rattle.std.proofs.lemmas.List.FromFn.{map-range_with_len_more}
 use Rattle.kc_model.specs.declared.reply.Reply.{Reply}
 use Rattle.kc_model.specs.declared.reply.Reply.TheVariants as reply
+use Rattle.kc_cells.specs.Accumulator.{sums, cells_sum}
+use Rattle.kc_xt.proofs.Laws.{TouchesFirst}
 use Rattle.kc_xt.specs.Meaning.{put}
 use Rattle.kc_xt.specs.Program.{Program, plain, replies, wrapped}
 use Rattle.kc_xt.specs.Stays.{Stays}
-use Rattle.kc_xt.proofs.Laws.{TouchesFirst}
-use Rattle.kc_cells.specs.Accumulator.{sums, cells_sum}
 
 -- ---- sums
 

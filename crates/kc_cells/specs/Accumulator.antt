@@ -3,12 +3,12 @@ use Rattle.std.specs.Prelude.{◌≡◌, ℕ, zero, suc, ◌+◌, ◌%◌, map}
 use Rattle.std.specs.List.{sum, range_with_len}
 use Rattle.kc_model.specs.declared.reply.Reply.{Reply}
 use Rattle.kc_model.specs.declared.reply.Reply.TheVariants as reply
-use Rattle.kc_xt.specs.Meaning.{replied, Meaning}
-use Rattle.kc_xt.specs.Structure.{Standing, Value, comes_to}
-use Rattle.kc_xt.specs.Program.{Program, read, replies, meaning, wrapped, fetches_and_adds}
-use Rattle.kc_cells.specs.declared.accumulator.Accumulator.{Accumulator}
-use Rattle.kc_cells.specs.declared.accumulator.AccOp.{AccOp}
 use Rattle.kc_cells.specs.declared.accumulator.AccAct.{AccAct}
+use Rattle.kc_cells.specs.declared.accumulator.AccOp.{AccOp}
+use Rattle.kc_cells.specs.declared.accumulator.Accumulator.{Accumulator}
+use Rattle.kc_xt.specs.Meaning.{replied, Meaning}
+use Rattle.kc_xt.specs.Program.{Program, read, replies, meaning, wrapped, fetches_and_adds}
+use Rattle.kc_xt.specs.Structure.{Standing, Value, comes_to}
 use Rattle.kc_cells.specs.declared.accumulator.AccAct.TheVariants as act
 
 -- a number above its cells

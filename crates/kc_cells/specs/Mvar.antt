@@ -1,12 +1,12 @@
 -- What the operations on a one-place variable mean, by cells and on contents: a value, or none.
 use Rattle.std.specs.Prelude.{ℕ, ◌+◌, true, false, Option}
+use Rattle.kc_cells.specs.declared.mvar.Mvar.{Mvar}
+use Rattle.kc_cells.specs.declared.mvar.MvarAct.{MvarAct}
+use Rattle.kc_cells.specs.declared.mvar.MvarOp.{MvarOp}
 use Rattle.kc_model.specs.declared.reply.Reply.{Reply}
 use Rattle.kc_xt.specs.Meaning.{Meaning}
 use Rattle.kc_xt.specs.Program.{Program, replies, meaning}
 use Rattle.kc_xt.specs.Structure.{Standing, Value}
-use Rattle.kc_cells.specs.declared.mvar.Mvar.{Mvar}
-use Rattle.kc_cells.specs.declared.mvar.MvarOp.{MvarOp}
-use Rattle.kc_cells.specs.declared.mvar.MvarAct.{MvarAct}
 use Rattle.kc_cells.specs.declared.mvar.MvarAct.TheVariants as act
 use Rattle.kc_cells.specs.declared.one_place.PlaceAct.{PlaceAct}
 use Rattle.kc_cells.specs.declared.one_place.PlaceAct.TheVariants as place

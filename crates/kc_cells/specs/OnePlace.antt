@@ -3,10 +3,10 @@ use Rattle.std.specs.Prelude.{◌≡◌, ℕ, ◌+◌, ◌==◌, Bool, false, no
 use Rattle.std.specs.Option.{is_some}
 use Rattle.kc_model.specs.declared.reply.Reply.{Reply}
 use Rattle.kc_model.specs.declared.reply.Reply.TheVariants as reply
+use Rattle.kc_cells.specs.declared.one_place.PlaceAct.{PlaceAct}
 use Rattle.kc_xt.specs.Meaning.{Outcome, replied, retried}
 use Rattle.kc_xt.specs.Program.{Program, read, write, retries}
 use Rattle.kc_xt.specs.Structure.{Standing, Value, comes_to}
-use Rattle.kc_cells.specs.declared.one_place.PlaceAct.{PlaceAct}
 use Rattle.kc_cells.specs.declared.one_place.PlaceAct.TheVariants as act
 
 -- how many cells

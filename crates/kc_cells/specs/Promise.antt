@@ -1,12 +1,12 @@
 -- What the operations on a promise mean, by cells and on contents: the value of one that is resolved, else none.
 use Rattle.std.specs.Prelude.{ℕ, ◌+◌, true, false, Option}
+use Rattle.kc_cells.specs.declared.promise.Promise.{Promise}
+use Rattle.kc_cells.specs.declared.promise.PromiseAct.{PromiseAct}
+use Rattle.kc_cells.specs.declared.promise.PromiseOp.{PromiseOp}
 use Rattle.kc_model.specs.declared.reply.Reply.{Reply}
 use Rattle.kc_xt.specs.Meaning.{Meaning}
 use Rattle.kc_xt.specs.Program.{Program, replies, meaning}
 use Rattle.kc_xt.specs.Structure.{Standing, Value}
-use Rattle.kc_cells.specs.declared.promise.Promise.{Promise}
-use Rattle.kc_cells.specs.declared.promise.PromiseOp.{PromiseOp}
-use Rattle.kc_cells.specs.declared.promise.PromiseAct.{PromiseAct}
 use Rattle.kc_cells.specs.declared.promise.PromiseAct.TheVariants as act
 use Rattle.kc_cells.specs.declared.one_place.PlaceAct.{PlaceAct}
 use Rattle.kc_cells.specs.declared.one_place.PlaceAct.TheVariants as place

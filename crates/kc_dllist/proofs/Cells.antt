@@ -2,13 +2,13 @@
 use Rattle.std.proofs.Common.{◌≡◌, ◌≢◌, ℕ, ◌<◌, ◌≤◌, ◌==◌, Bool, true, false, cond, List, [], ◌∷◌, refl, sym, ap, ◌∙◌, subst, arith}
 use Rattle.std.proofs.lemmas.Bool.{ne_eqb}
 use Rattle.std.proofs.lemmas.Bool.Decides.{nat_tests}
-use Rattle.kc_xt.specs.Times.{times}
+use Rattle.kc_dllist.proofs.Rings.{Ring, put_here, put_else}
+use Rattle.kc_dllist.specs.Content.{Listed, numbers, Chain, Backward, Payloads}
+use Rattle.kc_dllist.specs.Meaning.{last_cell, free_cell, payload_cell, prev_cell, next_cell, after_cell, before_cell, node_in}
+use Rattle.kc_dllist.specs.declared.dllist.Dllist.{Dllist}
 use Rattle.kc_xt.proofs.Times.{has_here, has_rest}
 use Rattle.kc_xt.specs.Meaning.{put}
-use Rattle.kc_dllist.specs.declared.dllist.Dllist.{Dllist}
-use Rattle.kc_dllist.specs.Meaning.{last_cell, free_cell, payload_cell, prev_cell, next_cell, after_cell, before_cell, node_in}
-use Rattle.kc_dllist.specs.Content.{Listed, numbers, Chain, Backward, Payloads}
-use Rattle.kc_dllist.proofs.Rings.{Ring, put_here, put_else}
+use Rattle.kc_xt.specs.Times.{times}
 
 -- ---- cells apart
 

@@ -1,13 +1,13 @@
 -- What unlinking a node, and listing one first, do to the links and to all else.
 use Rattle.std.proofs.Common.{◌≡◌, ◌≢◌, ℕ, ◌<◌, ◌≤◌, ◌==◌, cond, List, ◌∷◌, refl, ap, ap₂, ◌∙◌}
-use Rattle.kc_xt.specs.Times.{times}
+use Rattle.kc_dllist.proofs.Cells.{nexts, prevs, next_is, prev_is, node_as_is, nexts-after, nexts-before, prevs-after, prevs-before, free-after, free-before, payload-after, payload-before}
+use Rattle.kc_dllist.proofs.Rings.{Ring, Apart, ring_same, ring_back, ring_less, ring_lead}
+use Rattle.kc_dllist.proofs.Times.{less}
+use Rattle.kc_dllist.specs.Meaning.{first_cell, free_cell, payload_cell, prev_cell, next_cell, after_cell, before_cell, node_in, unlink_program, lead_program}
+use Rattle.kc_dllist.specs.declared.dllist.Dllist.{Dllist}
 use Rattle.kc_xt.specs.Meaning.{put}
 use Rattle.kc_xt.specs.Program.{Program, plain}
-use Rattle.kc_dllist.specs.declared.dllist.Dllist.{Dllist}
-use Rattle.kc_dllist.specs.Meaning.{first_cell, free_cell, payload_cell, prev_cell, next_cell, after_cell, before_cell, node_in, unlink_program, lead_program}
-use Rattle.kc_dllist.proofs.Times.{less}
-use Rattle.kc_dllist.proofs.Rings.{Ring, Apart, ring_same, ring_back, ring_less, ring_lead}
-use Rattle.kc_dllist.proofs.Cells.{nexts, prevs, next_is, prev_is, node_as_is, nexts-after, nexts-before, prevs-after, prevs-before, free-after, free-before, payload-after, payload-before}
+use Rattle.kc_xt.specs.Times.{times}
 
 -- the map where the nodes a and b are each other's neighbours
 abbrev pub unlinked : Dllist → (ℕ → ℕ) → ℕ → ℕ → ℕ → ℕ

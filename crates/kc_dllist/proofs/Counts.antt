@@ -1,9 +1,9 @@
 -- Lists that have each node once have as many numbers as there are nodes.
 use Rattle.std.proofs.Common.{◌≡◌, ℕ, ◌+◌, ◌++◌, length, arith, length-append}
 use Rattle.std.proofs.lemmas.List.{length-map}
-use Rattle.kc_xt.proofs.Times.{length-once}
-use Rattle.kc_dllist.specs.declared.dllist.Dllist.{Dllist}
 use Rattle.kc_dllist.specs.Content.{Listed, Content, numbers, StandsFor}
+use Rattle.kc_dllist.specs.declared.dllist.Dllist.{Dllist}
+use Rattle.kc_xt.proofs.Times.{length-once}
 
 pub all_nodes : (d : Dllist) (m : ℕ → ℕ) (c : Content) → StandsFor d m c → length c.listed + length c.free ≡ d.cap
 all_nodes d m c s =

@@ -4,20 +4,20 @@ use Rattle.std.specs.Prelude.{Result, ◌==◌}
 use Rattle.std.proofs.lemmas.Bool.Decides.{nat_tests}
 use Rattle.kc_model.specs.declared.reply.Reply.{Reply}
 use Rattle.kc_model.specs.declared.reply.Reply.TheVariants as reply
-use Rattle.kc_xt.specs.declared.stop.Stop.{Stop}
-use Rattle.kc_xt.specs.Log.{Log}
-use Rattle.kc_xt.specs.Steps.{Does}
-use Rattle.kc_xt.specs.Peeks.{Gives}
-use Rattle.kc_xt.specs.Law.{Obeys}
-use Rattle.kc_xt.specs.Program.{Program, replies}
-use Rattle.kc_xt.specs.Meaning.{replied}
-use Rattle.kc_xt.specs.Single.{RepliesOne}
-use Rattle.kc_xt.specs.Stays.{Stays}
-use Rattle.kc_xt.proofs.Laws.{TouchesFirst}
-use Rattle.kc_xt.proofs.Stay.{stays_if, stays_test, stays_law}
 use Rattle.kc_dllist.specs.Meaning.{dllist_program, dllist_meaning, dllist_begin, dllist_end, DllistIsFit, NamesNode, IsNode, unlink_program, lead_program, take_program, release_program, bring_program, node_in, after_cell, before_cell, cells_end}
 use Rattle.kc_dllist.specs.declared.dllist.Dllist.{Dllist}
 use Rattle.kc_dllist.specs.declared.operation.DllistAct.{DllistAct}
+use Rattle.kc_xt.proofs.Laws.{TouchesFirst}
+use Rattle.kc_xt.proofs.Stay.{stays_if, stays_test, stays_law}
+use Rattle.kc_xt.specs.Law.{Obeys}
+use Rattle.kc_xt.specs.Log.{Log}
+use Rattle.kc_xt.specs.Meaning.{replied}
+use Rattle.kc_xt.specs.Peeks.{Gives}
+use Rattle.kc_xt.specs.Program.{Program, replies}
+use Rattle.kc_xt.specs.Single.{RepliesOne}
+use Rattle.kc_xt.specs.Stays.{Stays}
+use Rattle.kc_xt.specs.Steps.{Does}
+use Rattle.kc_xt.specs.declared.stop.Stop.{Stop}
 use Rattle.kc_dllist.specs.declared.operation.DllistAct.TheVariants as act
 use Rattle.kc_dllist.specs.declared.operation.DllistOp.{DllistOp}
 

@@ -2,10 +2,10 @@
 use Rattle.std.proofs.Common.{◌≡◌, ◌≢◌, ℕ, ◌<◌, ◌==◌, Bool, true, false, cond, List, [], ◌∷◌, refl, sym, ap, ◌∙◌, subst, arith}
 use Rattle.std.proofs.lemmas.Bool.{eqb-true, eqb-false}
 use Rattle.std.proofs.lemmas.Bool.Decides.{nat_tests}
-use Rattle.kc_xt.specs.Times.{times}
+use Rattle.kc_dllist.proofs.Times.{less}
 use Rattle.kc_xt.proofs.Times.{times-there, times-here, has_here, has_rest, has_later, apart}
 use Rattle.kc_xt.specs.Meaning.{put}
-use Rattle.kc_dllist.proofs.Times.{less}
+use Rattle.kc_xt.specs.Times.{times}
 
 -- From p on the links lead through these nodes and then to 0, and back.
 abbrev pub Ring : (ℕ → ℕ) → (ℕ → ℕ) → ℕ → List ℕ → Type 0

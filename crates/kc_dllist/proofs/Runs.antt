@@ -1,24 +1,24 @@
 -- The plain run of each operation on cells that stand for a content, whatever comes behind it.
 use Rattle.std.proofs.Common.{◌≡◌, ◌≢◌, ℕ, ◌<◌, ◌≤◌, ◌==◌, Bool, true, false, cond, List, [], ◌∷◌, ◌++◌, refl, sym, ap, ap₂, ◌∙◌, subst, arith}
 use Rattle.std.proofs.lemmas.Bool.{eqb-true, eq-eqb, ne_eqb}
-use Rattle.kc_xt.specs.Times.{times}
-use Rattle.kc_xt.proofs.Times.{times-there, times-append, has_here, has_rest, apart}
 use Rattle.kc_model.specs.declared.reply.Reply.{Reply}
+use Rattle.kc_xt.proofs.Times.{times-there, times-append, has_here, has_rest, apart}
+use Rattle.kc_xt.specs.Times.{times}
 use Rattle.kc_model.specs.declared.reply.Reply.TheVariants as reply
+use Rattle.kc_dllist.specs.declared.dllist.Dllist.{Dllist}
+use Rattle.kc_dllist.specs.declared.operation.DllistAct.{DllistAct}
+use Rattle.kc_xt.proofs.Inside.{GoesTo}
 use Rattle.kc_xt.specs.Meaning.{put}
 use Rattle.kc_xt.specs.Program.{Program, plain, read}
 use Rattle.kc_xt.specs.Structure.{Value}
-use Rattle.kc_xt.proofs.Inside.{GoesTo}
-use Rattle.kc_dllist.specs.declared.dllist.Dllist.{Dllist}
-use Rattle.kc_dllist.specs.declared.operation.DllistAct.{DllistAct}
 use Rattle.kc_dllist.specs.declared.operation.DllistAct.TheVariants as act
-use Rattle.kc_dllist.specs.Meaning.{dllist_program, unlink_program, take_program, release_program, bring_program, lead_program, first_cell, last_cell, free_cell, payload_cell, next_cell, after_cell, node_in, IsNode}
-use Rattle.kc_dllist.specs.Content.{Listed, Content, numbers, Chain, HasEachOnce, StandsFor, NamesListed, payload_of, without, last_reply, dllist_value, pushed, comes_to}
-use Rattle.kc_dllist.proofs.Times.{times-less, less}
-use Rattle.kc_dllist.proofs.Rings.{Ring, Apart, put_here, put_else, ring_same, ring_near, ring_first}
 use Rattle.kc_dllist.proofs.Cells.{nexts, prevs, next_is, node_as_is, nexts-after, prevs-after, nexts-free, prevs-free, nexts-payload, prevs-payload, free-payload, payload-after, payload-free, payload-payload, payloads_same}
 use Rattle.kc_dllist.proofs.Changes.{unlinked, led, plain_unlink, nexts-unlinked, free-unlinked, payload-unlinked, ring_unlinked, plain_lead, nexts-led, free-led, payload-led, ring_led}
+use Rattle.kc_dllist.proofs.Rings.{Ring, Apart, put_here, put_else, ring_same, ring_near, ring_first}
 use Rattle.kc_dllist.proofs.Standing.{each_same, apart_of, listed_node, free_node, listed_some, free_some, not_free, not_listed, listed_once, listed_zero, free_zero, listed_apart, chain_within, ring, stands, free_same, payload_at, payloads_without, numbers-without, last_is}
+use Rattle.kc_dllist.proofs.Times.{times-less, less}
+use Rattle.kc_dllist.specs.Content.{Listed, Content, numbers, Chain, HasEachOnce, StandsFor, NamesListed, payload_of, without, last_reply, dllist_value, pushed, comes_to}
+use Rattle.kc_dllist.specs.Meaning.{dllist_program, unlink_program, take_program, release_program, bring_program, lead_program, first_cell, last_cell, free_cell, payload_cell, next_cell, after_cell, node_in, IsNode}
 
 -- an operation goes to a value
 abbrev pub Goes : Dllist → DllistAct → (ℕ → ℕ) → Value Content → Type 0

@@ -1,9 +1,9 @@
 -- Lists of the same numbers.
 use Rattle.std.proofs.Common.{◌≡◌, ◌≤◌, ◌+◌, ◌*◌, ℕ, sym, ap₂, subst}
 use Rattle.std.proofs.Math.Bridge.{le_prop}
+use Rattle.kc_dllist.specs.declared.dllist.Dllist.{Dllist}
 use Rattle.kc_model.specs.declared.footprint.Loc.{Loc}
 use Rattle.kc_model.specs.declared.plain_store.TheConstants.{MOST_LOCATIONS}
-use Rattle.kc_dllist.specs.declared.dllist.Dllist.{Dllist}
 
 -- they are the same
 pub same_dllist : (d g : Dllist) → d.base ≡ g.base → d.cap ≡ g.cap → d ≡ g

@@ -1,15 +1,15 @@
 -- What cells that stand for a content show, and what shows that they do.
 use Rattle.std.proofs.Common.{◌≡◌, ◌≢◌, ℕ, ◌<◌, ◌≤◌, ◌==◌, Bool, true, false, cond, List, [], ◌∷◌, ◌++◌, refl, sym, ap, ◌∙◌, subst, arith, inl, inr}
 use Rattle.std.proofs.lemmas.Bool.{cases_lt, eqb-true, eqb-false}
-use Rattle.kc_xt.specs.Times.{times}
 use Rattle.kc_xt.proofs.Times.{times-here, times-rest, times-append, has_here, has_rest, has_later}
+use Rattle.kc_xt.specs.Times.{times}
 use Rattle.kc_model.specs.declared.reply.Reply.TheVariants as reply
-use Rattle.kc_dllist.specs.declared.dllist.Dllist.{Dllist}
-use Rattle.kc_dllist.specs.Meaning.{last_cell, free_cell, payload_cell, IsNode}
-use Rattle.kc_dllist.specs.Content.{Listed, Content, numbers, Chain, Backward, Payloads, HasEachOnce, StandsFor, payload_of, without, last_reply}
-use Rattle.kc_dllist.proofs.Times.{less}
-use Rattle.kc_dllist.proofs.Rings.{Ring, Apart}
 use Rattle.kc_dllist.proofs.Cells.{nexts, prevs, next_is, ring_of, chain_of, backward_of, chain_same}
+use Rattle.kc_dllist.proofs.Rings.{Ring, Apart}
+use Rattle.kc_dllist.proofs.Times.{less}
+use Rattle.kc_dllist.specs.Content.{Listed, Content, numbers, Chain, Backward, Payloads, HasEachOnce, StandsFor, payload_of, without, last_reply}
+use Rattle.kc_dllist.specs.Meaning.{last_cell, free_cell, payload_cell, IsNode}
+use Rattle.kc_dllist.specs.declared.dllist.Dllist.{Dllist}
 
 -- ---- each node once
 

@@ -1,8 +1,8 @@
 -- Lists without one number.
 use Rattle.std.proofs.Common.{◌≡◌, ℕ, ◌<◌, ◌==◌, Bool, true, false, cond, List, [], ◌∷◌, refl, sym, ap, arith}
 use Rattle.std.proofs.lemmas.Bool.{eqb-true, eqb-false}
-use Rattle.kc_xt.specs.Times.{times}
 use Rattle.kc_xt.proofs.Times.{has_later}
+use Rattle.kc_xt.specs.Times.{times}
 
 -- without the first such number
 abbrev pub less : ℕ → List ℕ → List ℕ

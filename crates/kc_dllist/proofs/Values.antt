@@ -2,21 +2,21 @@
 use Rattle.std.proofs.Common.{◌≡◌, ◌≢◌, ℕ, zero, suc, ◌+◌, ◌*◌, ◌/◌, ◌%◌, ◌<◌, ◌≤◌, ◌==◌, cond, List, [], ◌∷◌, refl, sym, ap, ap₂, ◌∙◌, subst, arith, inl, inr}
 use Rattle.std.proofs.lemmas.Bool.{cases_lt, cases_eq}
 use Rattle.std.proofs.lemmas.Bool.Decides.{nat_tests}
-use Rattle.kc_xt.specs.Times.{times}
-use Rattle.kc_xt.proofs.Times.{times-append, has_here}
-use Rattle.kc_xt.specs.Structure.{RunsInsideOthers, MeansItsValue, DependsOnItsCells, Opened}
+use Rattle.kc_dllist.specs.declared.dllist.Dllist.{Dllist}
+use Rattle.kc_dllist.specs.declared.operation.DllistAct.{DllistAct}
+use Rattle.kc_dllist.specs.declared.operation.DllistOp.{DllistOp}
 use Rattle.kc_xt.proofs.Inside.{runs_to}
 use Rattle.kc_xt.proofs.Structures.{runs_means}
-use Rattle.kc_dllist.specs.declared.dllist.Dllist.{Dllist}
-use Rattle.kc_dllist.specs.declared.operation.DllistOp.{DllistOp}
-use Rattle.kc_dllist.specs.declared.operation.DllistAct.{DllistAct}
+use Rattle.kc_xt.proofs.Times.{times-append, has_here}
+use Rattle.kc_xt.specs.Structure.{RunsInsideOthers, MeansItsValue, DependsOnItsCells, Opened}
+use Rattle.kc_xt.specs.Times.{times}
 use Rattle.kc_dllist.specs.declared.operation.DllistAct.TheVariants as act
-use Rattle.kc_dllist.specs.Meaning.{dllist_program, dllist_meaning, dllist_begin, dllist_cells, dllist_opening, NamesNode, first_cell, last_cell, free_cell, payload_cell, prev_cell, next_cell, node_in, IsNode, cells_end}
-use Rattle.kc_dllist.specs.Content.{Listed, Content, numbers, Chain, Payloads, StandsFor, NamesListed, dllist_value, rising, opening_content}
 use Rattle.kc_dllist.proofs.Cells.{chain_same, backward_same, payloads_same, node_as_is}
-use Rattle.kc_dllist.proofs.Standing.{listed_node, free_node, listed_some, free_some}
 use Rattle.kc_dllist.proofs.DllistLaw.{op_stays}
 use Rattle.kc_dllist.proofs.Runs.{performs}
+use Rattle.kc_dllist.proofs.Standing.{listed_node, free_node, listed_some, free_some}
+use Rattle.kc_dllist.specs.Content.{Listed, Content, numbers, Chain, Payloads, StandsFor, NamesListed, dllist_value, rising, opening_content}
+use Rattle.kc_dllist.specs.Meaning.{dllist_program, dllist_meaning, dllist_begin, dllist_cells, dllist_opening, NamesNode, first_cell, last_cell, free_cell, payload_cell, prev_cell, next_cell, node_in, IsNode, cells_end}
 
 -- a node that is listed is a node
 names_node : (d : Dllist) (m : ℕ → ℕ) (a : DllistAct) (c : Content) → StandsFor d m c → NamesListed a c → NamesNode d a

@@ -6,18 +6,18 @@ use Rattle.std.proofs.lemmas.Option.{unwrap_or-slice_get}
 use Rattle.std.specs.List.{All}
 use Rattle.std.proofs.lemmas.List.Elements.{All-nil, All-cons}
 use Rattle.std.proofs.lemmas.Bool.{ne_eqb, eq-eqb, eqb-false}
-use Rattle.kc_xt.specs.Times.{times}
-use Rattle.kc_xt.proofs.Times.{has_here, has_rest}
-use Rattle.kc_dllist.proofs.DllistLaw.{node_within}
-use Rattle.kc_model.specs.declared.plain_store.Cell.{Cell}
-use Rattle.kc_model.specs.Store.{zero_cell, store_of}
-use Rattle.kc_xt.specs.Meaning.{values}
-use Rattle.kc_dllist.specs.declared.dllist.Dllist.{Dllist}
-use Rattle.kc_dllist.specs.Meaning.{IsNode, node_in, first_cell, next_cell, payload_cell}
-use Rattle.kc_dllist.specs.Content.{Listed, Content, numbers, Chain, Payloads, StandsFor, listed_from, walked}
 use Rattle.kc_dllist.proofs.Cells.{node_as_is}
-use Rattle.kc_dllist.proofs.Standing.{listed_node}
 use Rattle.kc_dllist.proofs.Counts.{all_nodes}
+use Rattle.kc_dllist.proofs.DllistLaw.{node_within}
+use Rattle.kc_dllist.proofs.Standing.{listed_node}
+use Rattle.kc_dllist.specs.Content.{Listed, Content, numbers, Chain, Payloads, StandsFor, listed_from, walked}
+use Rattle.kc_dllist.specs.Meaning.{IsNode, node_in, first_cell, next_cell, payload_cell}
+use Rattle.kc_dllist.specs.declared.dllist.Dllist.{Dllist}
+use Rattle.kc_model.specs.Store.{zero_cell, store_of}
+use Rattle.kc_model.specs.declared.plain_store.Cell.{Cell}
+use Rattle.kc_xt.proofs.Times.{has_here, has_rest}
+use Rattle.kc_xt.specs.Meaning.{values}
+use Rattle.kc_xt.specs.Times.{times}
 
 -- a walk over a chain of listed nodes, with room for all
 walk_chain : (d : Dllist) (m : ℕ → ℕ) (c : ℕ) (n : ℕ) (xs : List Listed) → ((j : ℕ) → 0 < times j (numbers xs) → IsNode d j) → length xs ≤ n → Chain d m c (numbers xs) → Payloads d m xs → listed_from d m (node_in d (m c)) n ≡ xs

@@ -3,11 +3,11 @@ use Rattle.std.specs.Prelude.{◌≡◌, ℕ, zero, suc, ◌+◌, ◌<◌, ◌==
 use Rattle.std.specs.Coded.{Coded, code_by, coded×, coded_ℕ}
 use Rattle.kc_model.specs.declared.reply.Reply.{Reply}
 use Rattle.kc_model.specs.declared.reply.Reply.TheVariants as reply
-use Rattle.kc_xt.specs.Meaning.{replied}
-use Rattle.kc_xt.specs.Times.{times}
-use Rattle.kc_xt.specs.Structure.{Value}
 use Rattle.kc_dllist.specs.declared.dllist.Dllist.{Dllist}
 use Rattle.kc_dllist.specs.declared.operation.DllistAct.{DllistAct}
+use Rattle.kc_xt.specs.Meaning.{replied}
+use Rattle.kc_xt.specs.Structure.{Value}
+use Rattle.kc_xt.specs.Times.{times}
 use Rattle.kc_dllist.specs.declared.operation.DllistAct.TheVariants as act
 use Rattle.kc_dllist.specs.Meaning.{first_cell, last_cell, free_cell, payload_cell, prev_cell, next_cell, node_in, IsNode}
 

@@ -2,10 +2,10 @@
 use Rattle.std.specs.Prelude.{ℕ, ◌+◌, ◌*◌, ◌/◌, ◌%◌, ◌<◌, ◌≤◌, ◌==◌, nat_le, cond}
 use Rattle.kc_model.specs.declared.reply.Reply.{Reply}
 use Rattle.kc_model.specs.declared.reply.Reply.TheVariants as reply
-use Rattle.kc_xt.specs.Meaning.{Meaning}
-use Rattle.kc_xt.specs.Program.{Program, read, write, replies, meaning}
 use Rattle.kc_dllist.specs.declared.dllist.Dllist.{Dllist}
 use Rattle.kc_dllist.specs.declared.operation.DllistAct.{DllistAct}
+use Rattle.kc_xt.specs.Meaning.{Meaning}
+use Rattle.kc_xt.specs.Program.{Program, read, write, replies, meaning}
 use Rattle.kc_dllist.specs.declared.operation.DllistAct.TheVariants as act
 use Rattle.kc_dllist.specs.declared.operation.DllistOp.{DllistOp}
 

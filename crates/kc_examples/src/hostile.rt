@@ -1,6 +1,6 @@
 //! Bytes that nobody would write, and their faults.
 
-use kc_lines::{Limit, Why};
+use kc_script_lines::{Limit, Why};
 
 /// Bytes: a front, and behind it some bytes so many times.
 pub struct Hostile {

@@ -1,12 +1,12 @@
 -- The nodes of all chains, and of all but one.
 use Rattle.std.proofs.Common.{◌≡◌, ◌≢◌, ◌⊎◌, ℕ, zero, suc, ◌+◌, ◌<◌, ◌≤◌, cond, eqb, List, [], ◌∷◌, ◌++◌, refl, sym, ap, ◌∙◌, subst, inl, inr, arith, eq-eqb, ne_eqb, append_assoc}
 use Rattle.std.proofs.lemmas.Bool.{cases_eq}
-use Rattle.kc_xt.specs.Times.{times}
-use Rattle.kc_xt.proofs.Times.{times-there, times-append}
-use Rattle.kc_hash.specs.declared.hash.Hash.{Hash}
-use Rattle.kc_hash.specs.Meaning.{key_cell, bucket_of}
-use Rattle.kc_hash.specs.Content.{keys_of, nodes_of, AllInBucket}
 use Rattle.kc_hash.proofs.Maps.{times_keys}
+use Rattle.kc_hash.specs.Content.{keys_of, nodes_of, AllInBucket}
+use Rattle.kc_hash.specs.Meaning.{key_cell, bucket_of}
+use Rattle.kc_hash.specs.declared.hash.Hash.{Hash}
+use Rattle.kc_xt.proofs.Times.{times-there, times-append}
+use Rattle.kc_xt.specs.Times.{times}
 
 -- with another chain in one bucket
 abbrev pub with_chain : (ℕ → List ℕ) → ℕ → List ℕ → ℕ → List ℕ

@@ -1,13 +1,13 @@
 -- Chains of nodes, and walks over them.
 use Rattle.std.proofs.Common.{◌≡◌, ◌≢◌, ◌⊎◌, ℕ, zero, suc, ◌<◌, ◌≤◌, Bool, true, false, cond, eqb, List, [], ◌∷◌, ◌++◌, length, Option, Some, None, refl, sym, ap, ◌∙◌, inl, inr, arith, le-leb, eq-eqb, ne_eqb}
 use Rattle.std.proofs.lemmas.Bool.{cases_eq}
-use Rattle.kc_xt.specs.Times.{times}
-use Rattle.kc_xt.proofs.Times.{times-there, has_here, has_rest, none_there}
-use Rattle.kc_xt.specs.Program.{Program, plain}
+use Rattle.kc_hash.specs.Content.{keys_of, IsChain, AllInBucket}
+use Rattle.kc_hash.specs.Meaning.{nodes_program, key_cell, next_cell, bucket_of, link_of}
 use Rattle.kc_hash.specs.declared.hash.Hash.{Hash}
 use Rattle.kc_hash.specs.declared.walk.Place.{Place}
-use Rattle.kc_hash.specs.Meaning.{nodes_program, key_cell, next_cell, bucket_of, link_of}
-use Rattle.kc_hash.specs.Content.{keys_of, IsChain, AllInBucket}
+use Rattle.kc_xt.proofs.Times.{times-there, has_here, has_rest, none_there}
+use Rattle.kc_xt.specs.Program.{Program, plain}
+use Rattle.kc_xt.specs.Times.{times}
 
 -- a link to a node counts as it is
 pub link_is : (h : Hash) (n : ℕ) → n ≤ h.cap → link_of h n ≡ n

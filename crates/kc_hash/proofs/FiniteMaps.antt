@@ -2,8 +2,8 @@
 use Rattle.std.proofs.Common.{◌≡◌, ◌≢◌, ◌⊎◌, ℕ, suc, ◌<◌, List, [], ◌∷◌, length, map, Some, None, refl, subst, inl, inr, arith}
 use Rattle.std.proofs.lemmas.Bool.{cases_order}
 use Rattle.std.proofs.lemmas.Bool.Decides.{nat_tests}
-use Rattle.kc_model.specs.Rising.{IsRising, IsRisingAbove}
 use Rattle.kc_hash.specs.Content.{value_at, with_pair, without_key}
+use Rattle.kc_model.specs.Rising.{IsRising, IsRisingAbove}
 
 -- ---- pairs of different keys, in either order
 

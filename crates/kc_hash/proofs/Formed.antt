@@ -1,17 +1,17 @@
 -- What is so where cells stand for pairs.
 use Rattle.std.proofs.Common.{◌≡◌, ◌⊎◌, ℕ, suc, ◌+◌, ◌<◌, ◌≤◌, List, [], ◌∷◌, ◌++◌, length, Some, None, sym, ap, ◌∙◌, subst, inl, inr, arith, append_assoc, length-append}
 use Rattle.std.proofs.lemmas.Bool.{cases_eq}
-use Rattle.kc_xt.specs.Times.{times}
-use Rattle.kc_xt.proofs.Times.{times-here, times-append, has_here, length-once}
-use Rattle.kc_model.specs.Rising.{IsRising}
-use Rattle.kc_hash.specs.declared.hash.Hash.{Hash}
-use Rattle.kc_hash.specs.Meaning.{key_cell, value_cell, head_cell, free_cell, bucket_of}
-use Rattle.kc_hash.specs.Content.{keys_of, nodes_of, map_of, with_pair, value_at, StandsFor}
-use Rattle.kc_hash.proofs.HashLaw.{bucket_within}
-use Rattle.kc_hash.proofs.FiniteMaps.{keys, value_at-with}
-use Rattle.kc_hash.proofs.Maps.{times_keys, map_split, map_none, map_length, map_rising}
-use Rattle.kc_hash.proofs.Chains.{chain_nodes, in_bucket, Found}
 use Rattle.kc_hash.proofs.Buckets.{Around, around, in_all, in_none, with_chain}
+use Rattle.kc_hash.proofs.Chains.{chain_nodes, in_bucket, Found}
+use Rattle.kc_hash.proofs.FiniteMaps.{keys, value_at-with}
+use Rattle.kc_hash.proofs.HashLaw.{bucket_within}
+use Rattle.kc_hash.proofs.Maps.{times_keys, map_split, map_none, map_length, map_rising}
+use Rattle.kc_hash.specs.Content.{keys_of, nodes_of, map_of, with_pair, value_at, StandsFor}
+use Rattle.kc_hash.specs.Meaning.{key_cell, value_cell, head_cell, free_cell, bucket_of}
+use Rattle.kc_hash.specs.declared.hash.Hash.{Hash}
+use Rattle.kc_model.specs.Rising.{IsRising}
+use Rattle.kc_xt.proofs.Times.{times-here, times-append, has_here, length-once}
+use Rattle.kc_xt.specs.Times.{times}
 
 module _ (h : Hash) (m : ℕ → ℕ) (pairs : List (ℕ × ℕ)) (S : StandsFor h m pairs) where
   -- the nodes of all chains from the heads

@@ -2,17 +2,17 @@
 use Rattle.std.proofs.Common.{◌≡◌, ◌≢◌, ◌⊎◌, ℕ, ◌+◌, ◌<◌, ◌≤◌, List, [], ◌∷◌, ◌++◌, length, refl, sym, ap, ◌∙◌, subst, inl, inr, arith, length-append}
 use Rattle.std.proofs.lemmas.Bool.{cases_eq}
 use Rattle.std.proofs.lemmas.Bool.Decides.{nat_tests}
-use Rattle.kc_xt.specs.Times.{times}
-use Rattle.kc_xt.proofs.Times.{times-here, times-there, times-append, has_here}
-use Rattle.kc_xt.specs.Meaning.{put}
-use Rattle.kc_hash.specs.declared.hash.Hash.{Hash}
-use Rattle.kc_hash.specs.Meaning.{count_cell, free_cell, head_cell, key_cell, value_cell, next_cell, bucket_of, link_of, counted}
-use Rattle.kc_hash.specs.Content.{keys_of, nodes_of, map_of, with_pair, IsChain, StandsFor}
+use Rattle.kc_hash.proofs.Buckets.{with_chain, with_chain-here, with_chain-there}
+use Rattle.kc_hash.proofs.Chains.{chain_first, chain_moved, chain_nodes, in_bucket, bucket_from}
+use Rattle.kc_hash.proofs.Formed.{listed, room, listed_nodes, free_nodes, not_free, not_listed, in_listed, round, key_missing}
 use Rattle.kc_hash.proofs.HashLaw.{bucket_within}
 use Rattle.kc_hash.proofs.Maps.{times_keys, keys_same, map_same, map_split}
-use Rattle.kc_hash.proofs.Chains.{chain_first, chain_moved, chain_nodes, in_bucket, bucket_from}
-use Rattle.kc_hash.proofs.Buckets.{with_chain, with_chain-here, with_chain-there}
-use Rattle.kc_hash.proofs.Formed.{listed, room, listed_nodes, free_nodes, not_free, not_listed, in_listed, round, key_missing}
+use Rattle.kc_hash.specs.Content.{keys_of, nodes_of, map_of, with_pair, IsChain, StandsFor}
+use Rattle.kc_hash.specs.Meaning.{count_cell, free_cell, head_cell, key_cell, value_cell, next_cell, bucket_of, link_of, counted}
+use Rattle.kc_hash.specs.declared.hash.Hash.{Hash}
+use Rattle.kc_xt.proofs.Times.{times-here, times-there, times-append, has_here}
+use Rattle.kc_xt.specs.Meaning.{put}
+use Rattle.kc_xt.specs.Times.{times}
 
 -- ---- the writes, in order
 

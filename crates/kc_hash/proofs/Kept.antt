@@ -1,16 +1,16 @@
 -- What the operations that link no node leave.
 use Rattle.std.proofs.Common.{◌≡◌, ◌≢◌, ℕ, ◌<◌, ◌≤◌, List, ◌++◌, sym, ap, ◌∙◌, subst, arith}
 use Rattle.std.proofs.lemmas.Bool.Decides.{nat_tests}
-use Rattle.kc_xt.specs.Times.{times}
+use Rattle.kc_hash.proofs.Chains.{chain_moved, chain_nodes, in_bucket, bucket_from, Found}
+use Rattle.kc_hash.proofs.FiniteMaps.{with_pair-twice}
+use Rattle.kc_hash.proofs.Formed.{listed, listed_nodes, free_nodes, found_node, alone, key_left, pairs_parts, parts, left, right, times_parts}
+use Rattle.kc_hash.proofs.Maps.{keys_same, map_same, map_split}
+use Rattle.kc_hash.specs.Content.{keys_of, map_of, with_pair, StandsFor}
+use Rattle.kc_hash.specs.Meaning.{count_cell, free_cell, head_cell, key_cell, value_cell, next_cell, bucket_of, cells_end}
+use Rattle.kc_hash.specs.declared.hash.Hash.{Hash}
 use Rattle.kc_xt.specs.Meaning.{put}
 use Rattle.kc_xt.specs.Structure.{SameCells}
-use Rattle.kc_hash.specs.declared.hash.Hash.{Hash}
-use Rattle.kc_hash.specs.Meaning.{count_cell, free_cell, head_cell, key_cell, value_cell, next_cell, bucket_of, cells_end}
-use Rattle.kc_hash.specs.Content.{keys_of, map_of, with_pair, StandsFor}
-use Rattle.kc_hash.proofs.FiniteMaps.{with_pair-twice}
-use Rattle.kc_hash.proofs.Maps.{keys_same, map_same, map_split}
-use Rattle.kc_hash.proofs.Chains.{chain_moved, chain_nodes, in_bucket, bucket_from, Found}
-use Rattle.kc_hash.proofs.Formed.{listed, listed_nodes, free_nodes, found_node, alone, key_left, pairs_parts, parts, left, right, times_parts}
+use Rattle.kc_xt.specs.Times.{times}
 
 module _ (h : Hash) (m : ℕ → ℕ) (pairs : List (ℕ × ℕ)) (S : StandsFor h m pairs) where
   -- The same links, keys and count make the same chains, and other values other pairs.

@@ -1,13 +1,13 @@
 -- The map that nodes make.
 use Rattle.std.proofs.Common.{◌≡◌, ℕ, suc, ◌+◌, ◌≤◌, List, [], ◌∷◌, ◌++◌, length, None, refl, sym, ap, ◌∙◌, arith}
 use Rattle.std.proofs.lemmas.List.{map-append}
-use Rattle.kc_xt.specs.Times.{times}
-use Rattle.kc_xt.proofs.Times.{times-here, times-rest, times-append, has_here, has_rest, none_there}
-use Rattle.kc_model.specs.Rising.{IsRising}
-use Rattle.kc_hash.specs.declared.hash.Hash.{Hash}
-use Rattle.kc_hash.specs.Meaning.{key_cell, value_cell}
-use Rattle.kc_hash.specs.Content.{keys_of, map_of, with_pair, value_at}
 use Rattle.kc_hash.proofs.FiniteMaps.{keys, with_pair-comm, value_at-other, length-with, rising-with}
+use Rattle.kc_hash.specs.Content.{keys_of, map_of, with_pair, value_at}
+use Rattle.kc_hash.specs.Meaning.{key_cell, value_cell}
+use Rattle.kc_hash.specs.declared.hash.Hash.{Hash}
+use Rattle.kc_model.specs.Rising.{IsRising}
+use Rattle.kc_xt.proofs.Times.{times-here, times-rest, times-append, has_here, has_rest, none_there}
+use Rattle.kc_xt.specs.Times.{times}
 
 module _ (h : Hash) where
   pub times_keys : (m : ℕ → ℕ) (k : ℕ) (xs ys : List ℕ) → times k (keys_of h m (xs ++ ys)) ≡ times k (keys_of h m xs) + times k (keys_of h m ys)

@@ -1,11 +1,11 @@
 -- Cells with their opening values stand for no pairs.
 use Rattle.std.proofs.Common.{◌≡◌, ◌≢◌, ◌⊎◌, ℕ, zero, suc, ◌+◌, ◌-◌, ◌*◌, ◌/◌, ◌%◌, ◌<◌, ◌≤◌, cond, ltb, List, [], ◌∷◌, ◌++◌, length, refl, sym, ap, ◌∙◌, inl, inr, arith, eq-eqb, ne_eqb, lt-ltb, le-ltb}
 use Rattle.std.proofs.lemmas.Bool.{cases_eq}
-use Rattle.kc_xt.specs.Times.{times}
-use Rattle.kc_xt.proofs.Times.{times-here, times-there}
-use Rattle.kc_hash.specs.declared.hash.Hash.{Hash}
-use Rattle.kc_hash.specs.Meaning.{hash_cells, count_cell, free_cell, head_cell, next_cell}
 use Rattle.kc_hash.specs.Content.{keys_of, nodes_of, map_of, IsChain, StandsFor, hash_opening, node_opening}
+use Rattle.kc_hash.specs.Meaning.{hash_cells, count_cell, free_cell, head_cell, next_cell}
+use Rattle.kc_hash.specs.declared.hash.Hash.{Hash}
+use Rattle.kc_xt.proofs.Times.{times-here, times-there}
+use Rattle.kc_xt.specs.Times.{times}
 
 -- n numbers, from this one on
 numbers : ℕ → ℕ → List ℕ

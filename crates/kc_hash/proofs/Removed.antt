@@ -2,17 +2,17 @@
 use Rattle.std.proofs.Common.{◌≡◌, ◌≢◌, ◌⊎◌, ℕ, ◌+◌, ◌-◌, ◌<◌, ◌≤◌, List, [], ◌∷◌, ◌++◌, length, refl, sym, ap, ◌∙◌, subst, inl, inr, arith, length-append}
 use Rattle.std.proofs.lemmas.Bool.{cases_eq}
 use Rattle.std.proofs.lemmas.Bool.Decides.{nat_tests}
-use Rattle.kc_xt.specs.Times.{times}
+use Rattle.kc_hash.proofs.Buckets.{with_chain, with_chain-here, with_chain-there}
+use Rattle.kc_hash.proofs.Chains.{link_behind, chain_first, chain_moved, chain_nodes, in_bucket, bucket_from, Found}
+use Rattle.kc_hash.proofs.FiniteMaps.{without-with}
+use Rattle.kc_hash.proofs.Formed.{listed, room, free_nodes, not_free, at_most_once, in_listed, one_bucket, at_home, left, right, parts, parts_without, found_in_chain, found_listed, found_node, times_parts, key_others, pairs_parts}
+use Rattle.kc_hash.proofs.Maps.{times_keys, keys_same, map_same, map_none}
+use Rattle.kc_hash.specs.Content.{keys_of, nodes_of, map_of, without_key, IsChain, StandsFor}
+use Rattle.kc_hash.specs.Meaning.{count_cell, free_cell, head_cell, key_cell, value_cell, next_cell, bucket_of, link_of, counted}
+use Rattle.kc_hash.specs.declared.hash.Hash.{Hash}
 use Rattle.kc_xt.proofs.Times.{times-here, times-rest, times-append, has_here, has_rest}
 use Rattle.kc_xt.specs.Meaning.{put}
-use Rattle.kc_hash.specs.declared.hash.Hash.{Hash}
-use Rattle.kc_hash.specs.Meaning.{count_cell, free_cell, head_cell, key_cell, value_cell, next_cell, bucket_of, link_of, counted}
-use Rattle.kc_hash.specs.Content.{keys_of, nodes_of, map_of, without_key, IsChain, StandsFor}
-use Rattle.kc_hash.proofs.FiniteMaps.{without-with}
-use Rattle.kc_hash.proofs.Maps.{times_keys, keys_same, map_same, map_none}
-use Rattle.kc_hash.proofs.Chains.{link_behind, chain_first, chain_moved, chain_nodes, in_bucket, bucket_from, Found}
-use Rattle.kc_hash.proofs.Buckets.{with_chain, with_chain-here, with_chain-there}
-use Rattle.kc_hash.proofs.Formed.{listed, room, free_nodes, not_free, at_most_once, in_listed, one_bucket, at_home, left, right, parts, parts_without, found_in_chain, found_listed, found_node, times_parts, key_others, pairs_parts}
+use Rattle.kc_xt.specs.Times.{times}
 
 -- ---- the cell of a link
 

@@ -1,9 +1,9 @@
 -- Tables of the same numbers.
 use Rattle.std.proofs.Common.{◌≡◌, ◌≤◌, ◌+◌, ◌*◌, ◌∙◌, ℕ, sym, ap, ap₂, subst}
 use Rattle.std.proofs.Math.Bridge.{le_prop}
+use Rattle.kc_hash.specs.declared.hash.Hash.{Hash}
 use Rattle.kc_model.specs.declared.footprint.Loc.{Loc}
 use Rattle.kc_model.specs.declared.plain_store.TheConstants.{MOST_LOCATIONS}
-use Rattle.kc_hash.specs.declared.hash.Hash.{Hash}
 
 -- they are the same
 pub same_hash : (h g : Hash) → h.base ≡ g.base → h.buckets ≡ g.buckets → h.cap ≡ g.cap → h ≡ g

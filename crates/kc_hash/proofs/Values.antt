@@ -2,24 +2,24 @@
 use Rattle.std.proofs.Common.{◌≡◌, ◌≢◌, ◌⊎◌, ℕ, suc, ◌<◌, ◌≤◌, min, cond, eqb, List, [], ◌∷◌, ◌++◌, length, None, refl, sym, ap, ◌∙◌, subst, inl, inr, arith, length-append, eq-eqb, ne_eqb}
 use Rattle.kc_xt.specs.Times.{times}
 use Rattle.kc_model.specs.declared.reply.Reply.TheVariants as reply
+use Rattle.kc_hash.specs.declared.hash.Hash.{Hash}
+use Rattle.kc_hash.specs.declared.operation.HashAct.{HashAct}
+use Rattle.kc_hash.specs.declared.operation.HashOp.{HashOp}
+use Rattle.kc_xt.proofs.Inside.{GoesTo, runs_to}
+use Rattle.kc_xt.proofs.Structures.{runs_means, means_keeps}
 use Rattle.kc_xt.specs.Meaning.{put}
 use Rattle.kc_xt.specs.Program.{plain}
 use Rattle.kc_xt.specs.Structure.{Value, RunsInsideOthers, MeansItsValue, KeepsWellFormed}
-use Rattle.kc_xt.proofs.Inside.{GoesTo, runs_to}
-use Rattle.kc_xt.proofs.Structures.{runs_means, means_keeps}
-use Rattle.kc_hash.specs.declared.hash.Hash.{Hash}
-use Rattle.kc_hash.specs.declared.operation.HashOp.{HashOp}
-use Rattle.kc_hash.specs.declared.operation.HashAct.{HashAct}
 use Rattle.kc_hash.specs.declared.operation.HashAct.TheVariants as act
-use Rattle.kc_hash.specs.Meaning.{hash_program, hash_meaning, hash_begin, cells_end, found_program, placed_program, link_program, removed_program, bucket_of, link_of, count_cell, free_cell, head_cell, value_cell}
-use Rattle.kc_hash.specs.Content.{keys_of, IsChain, StandsFor, hash_value, after, found_reply, put_value, with_pair}
-use Rattle.kc_hash.proofs.HashLaw.{hash_stays, bucket_within}
-use Rattle.kc_hash.proofs.FiniteMaps.{without-none}
 use Rattle.kc_hash.proofs.Chains.{link_is, plain_true, plain_false, walk_misses, walk_finds_it, Found, seek}
+use Rattle.kc_hash.proofs.FiniteMaps.{without-none}
 use Rattle.kc_hash.proofs.Formed.{room, pairs_length, chain_length, value_missing, value_found}
-use Rattle.kc_hash.proofs.Kept.{stands_valued}
+use Rattle.kc_hash.proofs.HashLaw.{hash_stays, bucket_within}
 use Rattle.kc_hash.proofs.Inserted.{inserted, inserts}
+use Rattle.kc_hash.proofs.Kept.{stands_valued}
 use Rattle.kc_hash.proofs.Removed.{from, removed, removes, taken_out}
+use Rattle.kc_hash.specs.Content.{keys_of, IsChain, StandsFor, hash_value, after, found_reply, put_value, with_pair}
+use Rattle.kc_hash.specs.Meaning.{hash_program, hash_meaning, hash_begin, cells_end, found_program, placed_program, link_program, removed_program, bucket_of, link_of, count_cell, free_cell, head_cell, value_cell}
 
 -- an operation goes to a value
 abbrev Goes : Hash → HashAct → (ℕ → ℕ) → Value (List (ℕ × ℕ)) → Type 0

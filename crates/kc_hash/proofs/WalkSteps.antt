@@ -1,14 +1,14 @@
 -- The steps of a walk over nodes.
 use Rattle.std.proofs.Common.{◌≡◌, ◌≢◌, ℕ, zero, suc, eq-eqb, ne_eqb}
 use Rattle.std.specs.Prelude.{Ok, Err, Some, None}
-use Rattle.kc_xt.specs.declared.stop.Stop.{Stop}
+use Rattle.kc_hash.specs.Meaning.{nodes_program, key_cell, next_cell, link_of}
+use Rattle.kc_hash.specs.declared.hash.Hash.{Hash}
+use Rattle.kc_xt.proofs.Chain.{then_read, stop_read, does_reply, does_true, does_false, goes_from, goes_read, goes_false}
 use Rattle.kc_xt.specs.Log.{Log}
 use Rattle.kc_xt.specs.Peeks.{Gives}
 use Rattle.kc_xt.specs.Program.{read}
 use Rattle.kc_xt.specs.Steps.{Does, Goes}
-use Rattle.kc_xt.proofs.Chain.{then_read, stop_read, does_reply, does_true, does_false, goes_from, goes_read, goes_false}
-use Rattle.kc_hash.specs.declared.hash.Hash.{Hash}
-use Rattle.kc_hash.specs.Meaning.{nodes_program, key_cell, next_cell, link_of}
+use Rattle.kc_xt.specs.declared.stop.Stop.{Stop}
 
 module _ {P : Type 0} {gives : Gives P} (h : Hash) (key : ℕ) where
   pub walk_ends : (from node : ℕ) (x : Log P) → Does gives (nodes_program h key zero from node) x (Ok None) x

@@ -3,11 +3,11 @@ use Rattle.std.specs.Prelude.{◌≡◌, ℕ, zero, suc, ◌+◌, ◌-◌, ◌/�
 use Rattle.std.specs.List.{filter}
 use Rattle.kc_model.specs.declared.reply.Reply.{Reply}
 use Rattle.kc_model.specs.declared.reply.Reply.TheVariants as reply
-use Rattle.kc_xt.specs.Meaning.{replied}
-use Rattle.kc_xt.specs.Times.{times}
-use Rattle.kc_xt.specs.Structure.{Value, comes_to}
 use Rattle.kc_hash.specs.declared.hash.Hash.{Hash}
 use Rattle.kc_hash.specs.declared.operation.HashAct.{HashAct}
+use Rattle.kc_xt.specs.Meaning.{replied}
+use Rattle.kc_xt.specs.Structure.{Value, comes_to}
+use Rattle.kc_xt.specs.Times.{times}
 use Rattle.kc_hash.specs.declared.operation.HashAct.TheVariants as act
 use Rattle.kc_hash.specs.Meaning.{count_cell, free_cell, head_cell, key_cell, value_cell, next_cell, bucket_of, link_of}
 

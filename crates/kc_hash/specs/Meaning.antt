@@ -2,12 +2,12 @@
 use Rattle.std.specs.Prelude.{ℕ, zero, suc, ◌+◌, ◌-◌, ◌*◌, ◌%◌, ◌<◌, ◌≤◌, ◌==◌, nat_le, min, cond, Option, Some, None}
 use Rattle.kc_model.specs.declared.reply.Reply.{Reply}
 use Rattle.kc_model.specs.declared.reply.Reply.TheVariants as reply
+use Rattle.kc_hash.specs.declared.hash.Hash.{Hash}
+use Rattle.kc_hash.specs.declared.operation.HashAct.{HashAct}
+use Rattle.kc_hash.specs.declared.operation.HashOp.{HashOp}
+use Rattle.kc_hash.specs.declared.walk.Place.{Place}
 use Rattle.kc_xt.specs.Meaning.{Meaning}
 use Rattle.kc_xt.specs.Program.{Program, read, write, replies, meaning}
-use Rattle.kc_hash.specs.declared.hash.Hash.{Hash}
-use Rattle.kc_hash.specs.declared.walk.Place.{Place}
-use Rattle.kc_hash.specs.declared.operation.HashOp.{HashOp}
-use Rattle.kc_hash.specs.declared.operation.HashAct.{HashAct}
 use Rattle.kc_hash.specs.declared.operation.HashAct.TheVariants as act
 
 -- ---- the cells

@@ -4,13 +4,13 @@ use Rattle.std.specs.Prelude.{IsSome}
 use Rattle.std.specs.Option.{option_map}
 use Rattle.std.specs.Global.{Global}
 use Rattle.std.proofs.lemmas.List.{drop_more, drop_all}
-use Rattle.kc_model.specs.declared.footprint.Footprint.{Footprint}
-use Rattle.kc_model.specs.Store.{Store, Finds, after}
-use Rattle.kc_history.specs.declared.record.Record.{Record}
-use Rattle.kc_history.specs.declared.record.Place.{Place}
+use Rattle.kc_history.proofs.Places.{record_read}
 use Rattle.kc_history.specs.Order.{Footprints, Legal, more}
 use Rattle.kc_history.specs.Records.{record_at, footprint_at, lists_of}
-use Rattle.kc_history.proofs.Places.{record_read}
+use Rattle.kc_history.specs.declared.record.Place.{Place}
+use Rattle.kc_history.specs.declared.record.Record.{Record}
+use Rattle.kc_model.specs.Store.{Store, Finds, after}
+use Rattle.kc_model.specs.declared.footprint.Footprint.{Footprint}
 
 -- where a footprint stands, a record does
 pub some_record : (records : List (List Record)) (t k : ℕ) (f : Footprint) → footprint_at records t k ≡ Some f → IsSome (record_at records t k)

@@ -1,10 +1,10 @@
 -- The canonical order leaves no choice.
 use Rattle.std.proofs.Common.{◌≡◌, ℕ, zero, suc, ◌+◌, ◌<◌, ◌≤◌, List, [], ◌∷◌, Some, refl, sym, ap, ap₂, ◌∙◌, subst, subst₂, arith}
-use Rattle.kc_model.specs.declared.footprint.Footprint.{Footprint}
-use Rattle.kc_history.specs.declared.record.Place.{Place}
-use Rattle.kc_history.specs.declared.arranging.Cycle.{Cycle}
-use Rattle.kc_history.specs.Order.{Footprints, more, raised, IsNext, NoneLeft, NoneReady, Ready, Chooses, IsCanonical}
 use Rattle.kc_history.specs.Ends.{IsFirstLeft, IsStuck}
+use Rattle.kc_history.specs.Order.{Footprints, more, raised, IsNext, NoneLeft, NoneReady, Ready, Chooses, IsCanonical}
+use Rattle.kc_history.specs.declared.arranging.Cycle.{Cycle}
+use Rattle.kc_history.specs.declared.record.Place.{Place}
+use Rattle.kc_model.specs.declared.footprint.Footprint.{Footprint}
 
 -- what two equal options hold is equal
 pub some_is : {A : Type 0} (x y : A) → Some x ≡ Some y → x ≡ y

@@ -1,20 +1,20 @@
 -- From legal entries to legal records.
 use Rattle.std.proofs.Common.{◌≡◌, ◌≢◌, ℕ, zero, suc, ◌+◌, ◌-◌, List, [], ◌∷◌, map, if◌then◌else◌, slice_get, refl, sym, ap, ◌∙◌, subst, arith, slice_index_or, eq-eqb, ne_eqb, add-zero, zero-add, inl, inr}
-use Rattle.kc_model.specs.declared.footprint.Footprint.{Footprint}
 use Rattle.kc_history.specs.Order.{Footprints, more, Legal}
-use Rattle.kc_model.specs.Store.{Store, after, cell_after}
 use Rattle.kc_model.specs.Footprint.{put_at}
+use Rattle.kc_model.specs.Store.{Store, after, cell_after}
+use Rattle.kc_model.specs.declared.footprint.Footprint.{Footprint}
 use Rattle.std.proofs.Math.Path.{fun_ext}
-use Rattle.kc_model.specs.declared.footprint.Entry.{Entry}
-use Rattle.kc_model.specs.Legal.{IsLegal}
 use Rattle.kc_history.specs.Callers.{of_caller, entries_of, HasJust}
 use Rattle.kc_history.specs.Records.{footprint_at}
 use Rattle.kc_history.specs.declared.record.Record.{Record}
+use Rattle.kc_model.specs.Legal.{IsLegal}
+use Rattle.kc_model.specs.declared.footprint.Entry.{Entry}
 use Rattle.std.specs.Option.{option_map}
+use Rattle.kc_history.proofs.Passing.{not_below}
+use Rattle.kc_history.proofs.Ready.{no_some, same_or, more_same, more_other}
 use Rattle.kc_history.specs.Moves.{by, placed_from, LeavesLooks}
 use Rattle.kc_history.specs.Moves.LeavesLooks.{end, keep, leave}
-use Rattle.kc_history.proofs.Ready.{no_some, same_or, more_same, more_other}
-use Rattle.kc_history.proofs.Passing.{not_below}
 
 by_same : (u : ℕ) (x : Entry) (xs : List Entry) → u ≡ x.caller → by u (x ∷ xs) ≡ x.footprint ∷ by u xs
 by_same u x xs e = ap (λ b. map (λ (y : Entry). y.footprint) (if b then x ∷ of_caller u xs else of_caller u xs)) (eq-eqb x.caller u (sym e))

@@ -1,18 +1,18 @@
 -- A ready record can be brought to the front of a legal list.
 use Rattle.std.proofs.Common.{◌≡◌, ◌≢◌, inl, inr, ℕ, ◌+◌, ◌≤◌, List, [], ◌∷◌, Some, sym, ap, ◌∙◌, subst, subst₂, arith}
 use Rattle.std.proofs.Math.Path.{fun_ext}
-use Rattle.kc_model.specs.declared.footprint.Seen.{Seen}
-use Rattle.kc_model.specs.declared.footprint.Footprint.{Footprint}
-use Rattle.kc_model.specs.declared.plain_store.Cell.{Cell}
-use Rattle.kc_model.specs.Footprint.{Reads, PutsWhatItReads, put_at}
-use Rattle.kc_model.specs.Store.{Store, cell_after, after, Finds}
-use Rattle.kc_history.specs.declared.record.Place.{Place}
-use Rattle.kc_history.specs.Order.{Footprints, more, IsNext, NoneLeft, Legal, Ready, Chooses, NoneReady, IsCanonical}
+use Rattle.kc_history.proofs.Choice.{some_is, one_next, none_ready}
+use Rattle.kc_history.proofs.Ready.{versions, same_or, no_some, more_same, more_other, Skips, PutAt, skips_or, puts_there, after_skips, after_put, raised_versions, found, later, ends_what_stands, first_ready}
 use Rattle.kc_history.specs.Moves.{PutsNothingOf, Exchanges}
 use Rattle.kc_history.specs.Moves.Exchanged.{here, there}
 use Rattle.kc_history.specs.Moves.Exchanges.{none, one}
-use Rattle.kc_history.proofs.Choice.{some_is, one_next, none_ready}
-use Rattle.kc_history.proofs.Ready.{versions, same_or, no_some, more_same, more_other, Skips, PutAt, skips_or, puts_there, after_skips, after_put, raised_versions, found, later, ends_what_stands, first_ready}
+use Rattle.kc_history.specs.Order.{Footprints, more, IsNext, NoneLeft, Legal, Ready, Chooses, NoneReady, IsCanonical}
+use Rattle.kc_history.specs.declared.record.Place.{Place}
+use Rattle.kc_model.specs.Footprint.{Reads, PutsWhatItReads, put_at}
+use Rattle.kc_model.specs.Store.{Store, cell_after, after, Finds}
+use Rattle.kc_model.specs.declared.footprint.Footprint.{Footprint}
+use Rattle.kc_model.specs.declared.footprint.Seen.{Seen}
+use Rattle.kc_model.specs.declared.plain_store.Cell.{Cell}
 
 pub more_least : (t : ℕ) (n : ℕ → ℕ) (u : ℕ) → n u ≤ more t n u
 more_least t n u = elim (same_or u t) [ inl e ↦ rw (more_same t n u e) (omega arith) | inr e ↦ rw (more_other t n u e) (omega arith) ]

@@ -4,11 +4,11 @@ use Rattle.std.proofs.Math.Path.{fun_ext}
 use Rattle.std.proofs.Math.ListN.{drop_of_length-le}
 use Rattle.std.proofs.lemmas.List.Sums.{sum_by-cons, sum_by_more, sum_by-take-le}
 use Rattle.std.specs.Global.{Global}
-use Rattle.kc_model.specs.declared.footprint.Footprint.{Footprint}
-use Rattle.kc_history.specs.declared.record.Record.{Record}
-use Rattle.kc_history.specs.Counts.{foot_at, footprints, total, readers_of, putters_of, slot, width, Slots, Counted}
 use Rattle.kc_history.proofs.Choice.{some_is}
 use Rattle.kc_history.proofs.Totals.{total_all, record_is, list_is}
+use Rattle.kc_history.specs.Counts.{foot_at, footprints, total, readers_of, putters_of, slot, width, Slots, Counted}
+use Rattle.kc_history.specs.declared.record.Record.{Record}
+use Rattle.kc_model.specs.declared.footprint.Footprint.{Footprint}
 
 pub ones_sum : (xs : List ℕ) → ((k : ℕ) → k < length xs → slice_index xs k ≡ 1) → sum xs ≤ length xs
 ones_sum [] h = omega arith

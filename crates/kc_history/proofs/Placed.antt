@@ -5,21 +5,21 @@ use Rattle.std.proofs.Math.Seq.{take-suc-set}
 use Rattle.std.proofs.lemmas.List.Elements.{All-contains, Contains-get_or}
 use Rattle.std.proofs.lemmas.List.Sums.{sum_by-cons}
 use Rattle.std.specs.Global.{Global}
-use Rattle.kc_model.specs.declared.footprint.Seen.{Seen}
-use Rattle.kc_model.specs.declared.footprint.Put.{Put}
-use Rattle.kc_model.specs.declared.footprint.Footprint.{Footprint}
-use Rattle.kc_history.specs.declared.record.Record.{Record}
-use Rattle.kc_history.specs.declared.record.Place.{Place}
-use Rattle.kc_history.specs.Order.{Footprints, version_after, more, raised, NoneReady, Ready, Chosen, Chooses}
-use Rattle.kc_model.specs.Footprint.{put_at, Reads, Puts}
-use Rattle.kc_history.specs.Counts.{Slots, Forgets, footprints, foot_at, total, readers, readers_of, putters_of, slot, width, records_in, WellMade, AllWellMade, Passes, Counted}
-use Rattle.kc_history.specs.declared.placing.Tested.{Tested}
-use Rattle.kc_history.specs.Tested.{Finds, IsTested, AllTested, untested, Placing}
-use Rattle.kc_history.proofs.Ready.{same_or, more_same, more_other, Skips, skips_or, ends_what_stands}
 use Rattle.kc_history.proofs.Opening.{in_items}
+use Rattle.kc_history.proofs.Passing.{passes_ready, ready_passes}
+use Rattle.kc_history.proofs.Ready.{same_or, more_same, more_other, Skips, skips_or, ends_what_stands}
 use Rattle.kc_history.proofs.Tallies.{all_taken}
 use Rattle.kc_history.proofs.Totals.{total_step, zero_each, reader_in, raised_as_put, same_record, list_is, record_is}
-use Rattle.kc_history.proofs.Passing.{passes_ready, ready_passes}
+use Rattle.kc_history.specs.Counts.{Slots, Forgets, footprints, foot_at, total, readers, readers_of, putters_of, slot, width, records_in, WellMade, AllWellMade, Passes, Counted}
+use Rattle.kc_history.specs.Order.{Footprints, version_after, more, raised, NoneReady, Ready, Chosen, Chooses}
+use Rattle.kc_history.specs.Tested.{Finds, IsTested, AllTested, untested, Placing}
+use Rattle.kc_history.specs.declared.placing.Tested.{Tested}
+use Rattle.kc_history.specs.declared.record.Place.{Place}
+use Rattle.kc_history.specs.declared.record.Record.{Record}
+use Rattle.kc_model.specs.Footprint.{put_at, Reads, Puts}
+use Rattle.kc_model.specs.declared.footprint.Footprint.{Footprint}
+use Rattle.kc_model.specs.declared.footprint.Put.{Put}
+use Rattle.kc_model.specs.declared.footprint.Seen.{Seen}
 
 -- one more choice
 pub chooses_more : (a : Footprints) (n v : ℕ → ℕ) (ps : List Place) (m w : ℕ → ℕ) (p : Place) (f : Footprint) → Chooses a n v ps m w → Chosen a m w p f → Chooses a n v (ps ++ p ∷ []) (more p.thread m) (raised f w)

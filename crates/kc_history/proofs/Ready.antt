@@ -1,15 +1,15 @@
 -- The first record of a legal list is ready.
 use Rattle.std.proofs.Common.{◌≡◌, ◌≢◌, ◌⊎◌, inl, inr, ℕ, zero, suc, ◌+◌, ◌<◌, ◌≤◌, List, [], ◌∷◌, cond, Option, Some, None, Contains, refl, sym, ap, ap₂, ◌∙◌, subst, length, slice_index_or, arith, eq-eqb, ne_eqb}
 use Rattle.std.proofs.Math.Path.{fun_ext}
-use Rattle.kc_model.specs.declared.footprint.Seen.{Seen}
-use Rattle.kc_model.specs.declared.footprint.Put.{Put}
-use Rattle.kc_model.specs.declared.footprint.Footprint.{Footprint}
-use Rattle.kc_model.specs.declared.plain_store.Cell.{Cell}
+use Rattle.kc_history.proofs.Choice.{some_is}
+use Rattle.kc_history.specs.Order.{Footprints, more, IsNext, Legal, version_after, raised, Ready}
+use Rattle.kc_history.specs.declared.record.Place.{Place}
 use Rattle.kc_model.specs.Footprint.{Reads, Puts, PutsWhatItReads, put_at}
 use Rattle.kc_model.specs.Store.{Store, cell_after, after, Finds}
-use Rattle.kc_history.specs.declared.record.Place.{Place}
-use Rattle.kc_history.specs.Order.{Footprints, more, IsNext, Legal, version_after, raised, Ready}
-use Rattle.kc_history.proofs.Choice.{some_is}
+use Rattle.kc_model.specs.declared.footprint.Footprint.{Footprint}
+use Rattle.kc_model.specs.declared.footprint.Put.{Put}
+use Rattle.kc_model.specs.declared.footprint.Seen.{Seen}
+use Rattle.kc_model.specs.declared.plain_store.Cell.{Cell}
 
 -- the versions of a store
 abbrev pub versions : Store → ℕ → ℕ

@@ -1,12 +1,12 @@
 -- Steps of the counts.
 use Rattle.std.proofs.Common.{◌≡◌, ◌≢◌, ◌⊎◌, inl, inr, ℕ, zero, suc, ◌+◌, ◌-◌, ◌<◌, ◌≤◌, List, [], ◌∷◌, Bool, true, false, cond, ◌==◌, ◌&&◌, length, take, slice_index, slice_index_or, slice_set, All, refl, sym, ap, ap₂, ◌∙◌, subst, arith, eq-eqb, ne_eqb, add-zero, add-one, sum_by, get_or-set_other, get_or-set_same, take_all, AllPairs, Option, Some, None, length-take, get_or-take}
 use Rattle.std.proofs.lemmas.List.Sums.{sum_by_more, sum_by_more_le}
-use Rattle.kc_model.specs.declared.footprint.Seen.{Seen}
-use Rattle.kc_model.specs.declared.footprint.Put.{Put}
-use Rattle.kc_model.specs.Footprint.{put_at}
-use Rattle.kc_history.specs.Order.{version_after}
-use Rattle.kc_history.specs.Counts.{reads_at, readers, width, slot, Slots}
 use Rattle.kc_history.proofs.Ready.{same_or}
+use Rattle.kc_history.specs.Counts.{reads_at, readers, width, slot, Slots}
+use Rattle.kc_history.specs.Order.{version_after}
+use Rattle.kc_model.specs.Footprint.{put_at}
+use Rattle.kc_model.specs.declared.footprint.Put.{Put}
+use Rattle.kc_model.specs.declared.footprint.Seen.{Seen}
 
 pub all_taken : {X : Type 0} (P : X → Type 0) (xs : List X) (i : ℕ) → length xs ≤ i → All P (take i xs) → All P xs
 all_taken P xs i h a = subst (All P) (take_all i xs h) a

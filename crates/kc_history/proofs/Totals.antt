@@ -5,21 +5,21 @@ use Rattle.std.proofs.lemmas.List.Elements.{Contains-get_or}
 use Rattle.std.proofs.lemmas.List.Sums.{sum_by-cons}
 use Rattle.std.specs.Prelude.{map}
 use Rattle.std.specs.Option.{option_map}
-use Rattle.kc_model.specs.declared.plain_store.TheConstants.{MOST_LOCATIONS}
-use Rattle.kc_model.specs.Rising.{IsRising, IsRisingAbove}
 use Rattle.kc_history.specs.Ends.{AreWellMade}
 use Rattle.kc_history.specs.Records.{footprint_at, lists_of}
+use Rattle.kc_model.specs.Rising.{IsRising, IsRisingAbove}
+use Rattle.kc_model.specs.declared.plain_store.TheConstants.{MOST_LOCATIONS}
 use Rattle.std.specs.Global.{Global}
-use Rattle.kc_model.specs.declared.footprint.Seen.{Seen}
-use Rattle.kc_model.specs.declared.footprint.Put.{Put}
-use Rattle.kc_model.specs.declared.footprint.Footprint.{Footprint}
-use Rattle.kc_history.specs.declared.record.Record.{Record}
-use Rattle.kc_history.specs.Order.{Footprints, more, version_after}
-use Rattle.kc_model.specs.Footprint.{put_at}
-use Rattle.kc_history.specs.Counts.{AllWellMade, list_at, footprints, foot_at, total, reads_at, readers, putters, puts_at}
 use Rattle.kc_history.proofs.Choice.{some_is}
 use Rattle.kc_history.proofs.Ready.{no_some, same_or, more_same, more_other}
 use Rattle.kc_history.proofs.Tallies.{one_read, other_loc}
+use Rattle.kc_history.specs.Counts.{AllWellMade, list_at, footprints, foot_at, total, reads_at, readers, putters, puts_at}
+use Rattle.kc_history.specs.Order.{Footprints, more, version_after}
+use Rattle.kc_history.specs.declared.record.Record.{Record}
+use Rattle.kc_model.specs.Footprint.{put_at}
+use Rattle.kc_model.specs.declared.footprint.Footprint.{Footprint}
+use Rattle.kc_model.specs.declared.footprint.Put.{Put}
+use Rattle.kc_model.specs.declared.footprint.Seen.{Seen}
 
 rest_suc : (w : Footprint → ℕ) (fs : List Footprint) (k : ℕ) (f : Footprint) → slice_get fs k ≡ Some f → sum_by w (drop k fs) ≡ w f + sum_by w (drop (suc k) fs)
 rest_suc w [] k f e = absurd (no_some f e)

@@ -1,10 +1,10 @@
 -- A history by its callers.
 use Rattle.std.specs.Prelude.{◌≡◌, ℕ, ◌+◌, ◌<◌, List, [], ◌∷◌, All, if◌then◌else◌, ◌==◌, slice_index_or}
-use Rattle.kc_model.specs.declared.footprint.Entry.{Entry}
-use Rattle.kc_model.specs.declared.footprint.Footprint.{Footprint}
+use Rattle.kc_history.specs.declared.record.Record.{Record}
 use Rattle.kc_model.specs.Legal.{IsLegal}
 use Rattle.kc_model.specs.Store.{Store, store_of, opened}
-use Rattle.kc_history.specs.declared.record.Record.{Record}
+use Rattle.kc_model.specs.declared.footprint.Entry.{Entry}
+use Rattle.kc_model.specs.declared.footprint.Footprint.{Footprint}
 
 -- the history is legal from these values at versions 0
 abbrev pub IsLegalFrom : List ℕ → List Entry → Type 0

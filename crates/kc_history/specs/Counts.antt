@@ -1,11 +1,11 @@
 -- The counts from which the order is made. They serve private functions and proofs.
 use Rattle.std.specs.Prelude.{◌≡◌, ℕ, zero, suc, ◌+◌, ◌-◌, ◌^◌, ◌<◌, ◌≤◌, List, [], ◌∷◌, map, Option, Some, All, AllPairs, drop, slice_get, Bool, ◌==◌, ◌&&◌, count_by, sum_by, length, slice_index, Vec, vec_len}
 use Rattle.std.specs.Global.{Global}
-use Rattle.kc_model.specs.declared.footprint.Seen.{Seen}
-use Rattle.kc_model.specs.declared.footprint.Put.{Put}
-use Rattle.kc_model.specs.declared.footprint.Footprint.{Footprint}
-use Rattle.kc_model.specs.Footprint.{PutsWhatItReads}
 use Rattle.kc_history.specs.declared.record.Record.{Record}
+use Rattle.kc_model.specs.Footprint.{PutsWhatItReads}
+use Rattle.kc_model.specs.declared.footprint.Footprint.{Footprint}
+use Rattle.kc_model.specs.declared.footprint.Put.{Put}
+use Rattle.kc_model.specs.declared.footprint.Seen.{Seen}
 
 abbrev pub reads_at : ℕ → ℕ → Seen → Bool
 reads_at l v r = (r.loc.0 == l) && (r.version == v)

@@ -1,12 +1,12 @@
 -- How an arranging of records ends.
 use Rattle.std.specs.Prelude.{◌≡◌, ℕ, ◌+◌, ◌<◌, List, Some}
-use Rattle.kc_model.specs.declared.plain_store.TheConstants.{MOST_LOCATIONS}
-use Rattle.kc_model.specs.declared.footprint.Footprint.{Footprint}
+use Rattle.kc_history.specs.Order.{Footprints, Legal, Chooses, NoneReady}
+use Rattle.kc_history.specs.declared.arranging.Cycle.{Cycle}
+use Rattle.kc_history.specs.declared.record.Place.{Place}
 use Rattle.kc_model.specs.Footprint.{IsWellMade, IsBelow}
 use Rattle.kc_model.specs.Store.{Store}
-use Rattle.kc_history.specs.declared.record.Place.{Place}
-use Rattle.kc_history.specs.declared.arranging.Cycle.{Cycle}
-use Rattle.kc_history.specs.Order.{Footprints, Legal, Chooses, NoneReady}
+use Rattle.kc_model.specs.declared.footprint.Footprint.{Footprint}
+use Rattle.kc_model.specs.declared.plain_store.TheConstants.{MOST_LOCATIONS}
 
 -- the footprint is well made, and of a store of so many locations
 abbrev pub CanStandIn : ℕ → Footprint → Type 0

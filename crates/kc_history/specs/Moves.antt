@@ -1,13 +1,13 @@
 -- Lists of records that differ by exchanges alone; lists of records that come from entries.
 use Rattle.std.specs.Prelude.{◌≡◌, ◌≢◌, ℕ, List, [], ◌∷◌, map, Some}
-use Rattle.kc_model.specs.declared.footprint.Seen.{Seen}
-use Rattle.kc_model.specs.declared.footprint.Put.{Put}
-use Rattle.kc_model.specs.declared.footprint.Footprint.{Footprint}
-use Rattle.kc_model.specs.declared.footprint.Entry.{Entry}
-use Rattle.kc_model.specs.Footprint.{Reads, Puts}
-use Rattle.kc_history.specs.declared.record.Place.{Place}
 use Rattle.kc_history.specs.Callers.{of_caller}
 use Rattle.kc_history.specs.Order.{Footprints, more}
+use Rattle.kc_history.specs.declared.record.Place.{Place}
+use Rattle.kc_model.specs.Footprint.{Reads, Puts}
+use Rattle.kc_model.specs.declared.footprint.Entry.{Entry}
+use Rattle.kc_model.specs.declared.footprint.Footprint.{Footprint}
+use Rattle.kc_model.specs.declared.footprint.Put.{Put}
+use Rattle.kc_model.specs.declared.footprint.Seen.{Seen}
 
 -- the first puts nothing that the second reads
 abbrev pub PutsNothingOf : Footprint → Footprint → Type 0

@@ -1,11 +1,11 @@
 -- Legal lists of records, and the canonical order.
 use Rattle.std.specs.Prelude.{◌≡◌, ◌≢◌, ℕ, ◌+◌, ◌<◌, ◌≤◌, List, [], ◌∷◌, cond, Option, Some, None, ◌==◌}
-use Rattle.kc_model.specs.declared.footprint.Seen.{Seen}
-use Rattle.kc_model.specs.declared.footprint.Put.{Put}
-use Rattle.kc_model.specs.declared.footprint.Footprint.{Footprint}
+use Rattle.kc_history.specs.declared.record.Place.{Place}
 use Rattle.kc_model.specs.Footprint.{Reads, Puts, put_at}
 use Rattle.kc_model.specs.Store.{Store, Finds, after}
-use Rattle.kc_history.specs.declared.record.Place.{Place}
+use Rattle.kc_model.specs.declared.footprint.Footprint.{Footprint}
+use Rattle.kc_model.specs.declared.footprint.Put.{Put}
+use Rattle.kc_model.specs.declared.footprint.Seen.{Seen}
 
 -- the footprint of a thread's record, by the thread and the index in it
 abbrev pub Footprints : Type 0

@@ -1,14 +1,14 @@
 -- What is known of the records that come next, and what holds while records are placed. It serves private functions and proofs.
 use Rattle.std.specs.Prelude.{◌≡◌, ℕ, ◌+◌, ◌<◌, ◌≤◌, List, Some, All, take, length, slice_index, slice_index_or, Vec}
 use Rattle.std.specs.Global.{Global}
-use Rattle.kc_model.specs.declared.footprint.Seen.{Seen}
-use Rattle.kc_model.specs.declared.footprint.Put.{Put}
-use Rattle.kc_model.specs.declared.footprint.Footprint.{Footprint}
-use Rattle.kc_history.specs.declared.record.Record.{Record}
-use Rattle.kc_history.specs.declared.record.Place.{Place}
-use Rattle.kc_history.specs.declared.placing.Tested.{Tested}
-use Rattle.kc_history.specs.Order.{Chooses}
 use Rattle.kc_history.specs.Counts.{Counted, foot_at, records_in, slot, total}
+use Rattle.kc_history.specs.Order.{Chooses}
+use Rattle.kc_history.specs.declared.placing.Tested.{Tested}
+use Rattle.kc_history.specs.declared.record.Place.{Place}
+use Rattle.kc_history.specs.declared.record.Record.{Record}
+use Rattle.kc_model.specs.declared.footprint.Footprint.{Footprint}
+use Rattle.kc_model.specs.declared.footprint.Put.{Put}
+use Rattle.kc_model.specs.declared.footprint.Seen.{Seen}
 
 -- the read's version stands
 abbrev pub Finds : List ℕ → Seen → Type 0

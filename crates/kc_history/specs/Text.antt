@@ -9,9 +9,9 @@ use Rattle.kc_model.specs.declared.reply.Answer.{Answer}
 use Rattle.kc_model.specs.declared.reply.Answer.TheVariants as answer
 use Rattle.kc_history.specs.declared.record.Mark.{Mark}
 use Rattle.kc_history.specs.declared.record.Mark.TheVariants as mark
-use Rattle.kc_history.specs.declared.record.Record.{Record}
-use Rattle.kc_history.specs.declared.record.Place.{Place}
 use Rattle.kc_history.specs.Records.{record_at}
+use Rattle.kc_history.specs.declared.record.Place.{Place}
+use Rattle.kc_history.specs.declared.record.Record.{Record}
 
 abbrev pub item_text : Item → List ℕ
 item_text item.Unit = codes "ok"

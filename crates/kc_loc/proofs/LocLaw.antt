@@ -1,19 +1,19 @@
 -- Each operation's program keeps to its locations, and touches one before it retries.
 use Rattle.std.proofs.Common.{◌≡◌, ◌+◌, arith, subst}
 use Rattle.std.specs.Prelude.{Result, ◌==◌}
+use Rattle.kc_loc.specs.Kinds.{holds}
+use Rattle.kc_loc.specs.Meaning.{loc_program, loc_meaning, loc_begin, loc_last, loc_end, LocIsFit}
+use Rattle.kc_loc.specs.declared.operation.LocOp.{LocOp}
 use Rattle.kc_model.specs.declared.reply.Reply.{Reply}
-use Rattle.kc_xt.specs.declared.stop.Stop.{Stop}
+use Rattle.kc_xt.proofs.Laws.{TouchesFirst}
+use Rattle.kc_xt.proofs.Stay.{stays_if, stays_law}
 use Rattle.kc_xt.specs.Law.{Obeys}
 use Rattle.kc_xt.specs.Log.{Log}
 use Rattle.kc_xt.specs.Peeks.{Gives}
 use Rattle.kc_xt.specs.Program.{replies}
 use Rattle.kc_xt.specs.Stays.{Stays}
 use Rattle.kc_xt.specs.Steps.{Does}
-use Rattle.kc_xt.proofs.Laws.{TouchesFirst}
-use Rattle.kc_xt.proofs.Stay.{stays_if, stays_law}
-use Rattle.kc_loc.specs.Kinds.{holds}
-use Rattle.kc_loc.specs.Meaning.{loc_program, loc_meaning, loc_begin, loc_last, loc_end, LocIsFit}
-use Rattle.kc_loc.specs.declared.operation.LocOp.{LocOp}
+use Rattle.kc_xt.specs.declared.stop.Stop.{Stop}
 use Rattle.kc_loc.specs.declared.operation.LocOp.TheVariants as op
 
 pub loc_stays : (o : LocOp) → Stays (loc_begin o) (loc_last o + 1) (loc_program o replies)

@@ -3,14 +3,14 @@ use Rattle.std.proofs.Common.{◌≡◌, ◌≢◌, ℕ, Bool, true, false, cond
 use Rattle.std.specs.Prelude.{◌==◌}
 use Rattle.kc_model.specs.declared.reply.Reply.{Reply}
 use Rattle.kc_model.specs.declared.reply.Reply.TheVariants as reply
-use Rattle.kc_xt.specs.Meaning.{too_large, replied, retried, map_after, put}
-use Rattle.kc_xt.specs.Program.{Program, Plain, plain, replies, retries, write}
-use Rattle.kc_xt.specs.Structure.{goes_on}
-use Rattle.kc_xt.proofs.PlainRuns.{plain-meaning}
-use Rattle.kc_xt.proofs.Structures.{alone}
 use Rattle.kc_loc.specs.Kinds.{holds}
 use Rattle.kc_loc.specs.Meaning.{loc_program, loc_meaning, loc_value}
 use Rattle.kc_loc.specs.declared.operation.LocOp.{LocOp}
+use Rattle.kc_xt.proofs.PlainRuns.{plain-meaning}
+use Rattle.kc_xt.proofs.Structures.{alone}
+use Rattle.kc_xt.specs.Meaning.{too_large, replied, retried, map_after, put}
+use Rattle.kc_xt.specs.Program.{Program, Plain, plain, replies, retries, write}
+use Rattle.kc_xt.specs.Structure.{goes_on}
 use Rattle.kc_loc.specs.declared.operation.LocOp.TheVariants as op
 
 -- a set where a test holds

@@ -4,9 +4,9 @@ use Rattle.kc_model.specs.declared.footprint.Loc.{Loc}
 use Rattle.kc_model.specs.declared.plain_store.TheConstants.{MOST_LOCATIONS}
 use Rattle.kc_model.specs.declared.reply.Reply.{Reply}
 use Rattle.kc_model.specs.declared.reply.Reply.TheVariants as reply
+use Rattle.kc_loc.specs.declared.operation.LocOp.{LocOp}
 use Rattle.kc_xt.specs.Meaning.{Outcome, replied, retried, Meaning, put}
 use Rattle.kc_xt.specs.Program.{Program, read, write, retries, replies, meaning, Plain, wrapped}
-use Rattle.kc_loc.specs.declared.operation.LocOp.{LocOp}
 use Rattle.kc_loc.specs.declared.operation.LocOp.TheVariants as op
 use Rattle.kc_loc.specs.Kinds.{result_of, holds}
 

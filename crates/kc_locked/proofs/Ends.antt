@@ -10,20 +10,20 @@ use borrow.Author.Tests.{ne_eqb, eqb-true}
 use Rattle.atomic_table.specs.Table as table
 use Rattle.atomic_table.specs.Table.{Me, Allows, Enters, Joins, Splits, keeps}
 use Rattle.atomic_table.proofs.Lists.{at_set, at_snoc}
-use Rattle.kc_model.specs.Store.{opened}
-use Rattle.kc_model.specs.declared.footprint.Entry.{Entry}
+use Rattle.kc_history.specs.Callers.{of_caller}
+use Rattle.kc_locked.specs.Held.{HeldView, held}
+use Rattle.kc_locked.specs.Locked.{part, free_view, shared_out, first_view, times, left_of, AllFit, FitsView, Kept, spent, gathered, dealt, undealt, first_part, other_parts, Ended}
+use Rattle.kc_locked.specs.Origin.{Origin, origin}
 use Rattle.kc_locked.specs.declared.held.TheConstants.{MOST_COMMITS}
 use Rattle.kc_locked.specs.declared.rule.Part.{Part}
 use Rattle.kc_locked.specs.declared.rule.View.{View}
-use Rattle.kc_locked.specs.Held.{HeldView, held}
-use Rattle.kc_locked.specs.Origin.{Origin, origin}
-use Rattle.kc_locked.specs.Locked.{part, free_view, shared_out, first_view, times, left_of, AllFit, FitsView, Kept, spent, gathered, dealt, undealt, first_part, other_parts, Ended}
-use Rattle.kc_history.specs.Callers.{of_caller}
+use Rattle.kc_model.specs.Store.{opened}
+use Rattle.kc_model.specs.declared.footprint.Entry.{Entry}
 use Rattle.atomic_table.specs.Seated.{TableId}
-use Rattle.kc_locked.specs.Passes.{PassView, pass_of, passes_of}
-use Rattle.kc_locked.specs.Locked.{Matches}
 use Rattle.kc_locked.proofs.Sound.{sound_first}
 use Rattle.kc_locked.proofs.Views.{total_set, total_snoc, times-append, left_of-append, AllFit-append}
+use Rattle.kc_locked.specs.Locked.{Matches}
+use Rattle.kc_locked.specs.Passes.{PassView, pass_of, passes_of}
 
 off : {A : Type 0} → false ≡ true → A
 off e = absurd (true≢false (sym e))

@@ -2,15 +2,15 @@
 use Rattle.std.proofs.Common.{◌≡◌, ℕ, List, [], ◌∷◌, Option, Some, None, Result, Ok, Err, refl, sym, ap, subst, ◌∙◌, arith, append-nil}
 use Rattle.std.specs.Prelude.{IfOk, OnErr}
 use Rattle.atomic_table.specs.Table.{Me, rest}
-use Rattle.kc_model.specs.declared.reply.Answer.{Answer}
-use Rattle.kc_xt.specs.Meaning.{Meaning}
-use Rattle.kc_model.specs.declared.footprint.Entry.{Entry}
-use Rattle.kc_locked.specs.declared.held.Waits.{Waits}
-use Rattle.kc_locked.specs.declared.rule.View.{View}
+use Rattle.kc_locked.proofs.Sound.{sound_more}
 use Rattle.kc_locked.specs.Held.{HeldView, IsSound, Adds, Commits}
 use Rattle.kc_locked.specs.Locked.{Grown, part, free_view}
 use Rattle.kc_locked.specs.Locked.{made_by, own_first}
-use Rattle.kc_locked.proofs.Sound.{sound_more}
+use Rattle.kc_locked.specs.declared.held.Waits.{Waits}
+use Rattle.kc_locked.specs.declared.rule.View.{View}
+use Rattle.kc_model.specs.declared.footprint.Entry.{Entry}
+use Rattle.kc_model.specs.declared.reply.Answer.{Answer}
+use Rattle.kc_xt.specs.Meaning.{Meaning}
 
 head_is : (x y : ℕ × Option HeldView) (xs ys : List (ℕ × Option HeldView)) → x ∷ xs ≡ y ∷ ys → x ≡ y
 head_is x y xs ys e = cc

@@ -2,19 +2,19 @@
 use Rattle.std.proofs.Common.{◌≡◌, ℕ, zero, suc, ◌+◌, ◌≤◌, List, [], ◌∷◌, ◌++◌, length, Some, None, Option, refl, sym, ap, subst, ◌∙◌, arith, length-append}
 use Rattle.std.proofs.Math.Path.{fun_ext}
 use Rattle.std.proofs.lemmas.List.{ext_get_or}
+use Rattle.kc_locked.specs.Held.{HeldView, held, IsSound}
+use Rattle.kc_locked.specs.declared.held.TheConstants.{MOST_COMMITS}
 use Rattle.kc_model.proofs.Stores.{opened_length}
+use Rattle.kc_model.specs.Footprint.{put_at}
+use Rattle.kc_model.specs.Legal.{IsLegal}
+use Rattle.kc_model.specs.Store.{Store, store_of, opened, zero_cell, Finds, after, cell_after}
 use Rattle.kc_model.specs.declared.footprint.Entry.{Entry}
 use Rattle.kc_model.specs.declared.footprint.Footprint.{Footprint}
 use Rattle.kc_model.specs.declared.footprint.Put.{Put}
 use Rattle.kc_model.specs.declared.plain_store.Cell.{Cell}
 use Rattle.kc_model.specs.declared.reply.Answer.{Answer}
-use Rattle.kc_model.specs.Footprint.{put_at}
-use Rattle.kc_model.specs.Legal.{IsLegal}
-use Rattle.kc_model.specs.Store.{Store, store_of, opened, zero_cell, Finds, after, cell_after}
-use Rattle.kc_xt.specs.Meaning.{Meaning, retried}
 use Rattle.kc_xt.specs.Commit.{Answers, Wears, run_on, answer_of}
-use Rattle.kc_locked.specs.declared.held.TheConstants.{MOST_COMMITS}
-use Rattle.kc_locked.specs.Held.{HeldView, held, IsSound}
+use Rattle.kc_xt.specs.Meaning.{Meaning, retried}
 
 -- one entry more
 legal_more : (s mid e : Store) (es : List Entry) (x : Entry) → IsLegal s es mid → Finds x.footprint mid → e ≡ after x.footprint mid → IsLegal s (es ++ x ∷ []) e

@@ -10,13 +10,13 @@ use borrow.Author.Tests.{eqb-true, eqb-false}
 use Rattle.atomic_table.specs.Table as table
 use Rattle.atomic_table.specs.Table.{Me, Allows, keeps, takes, gives, stepped}
 use Rattle.atomic_table.proofs.Lists.{at_set, set_here, set_again}
-use Rattle.kc_model.specs.declared.footprint.Entry.{Entry}
-use Rattle.kc_locked.specs.declared.rule.View.{View}
-use Rattle.kc_locked.specs.Held.{HeldView}
-use Rattle.kc_locked.specs.Origin.{Origin}
-use Rattle.kc_locked.specs.Locked.{AllFit, part, free_view, lock_view, times, left_of, total, FitsView, Kept, Took, Gave, Grown, Holds, committed}
 use Rattle.kc_history.specs.Callers.{of_caller, IsBelowCallers}
 use Rattle.kc_locked.proofs.Views.{total_set, total_one, total_two, own_more, times-hit, all_other, all_below}
+use Rattle.kc_locked.specs.Held.{HeldView}
+use Rattle.kc_locked.specs.Locked.{AllFit, part, free_view, lock_view, times, left_of, total, FitsView, Kept, Took, Gave, Grown, Holds, committed}
+use Rattle.kc_locked.specs.Origin.{Origin}
+use Rattle.kc_locked.specs.declared.rule.View.{View}
+use Rattle.kc_model.specs.declared.footprint.Entry.{Entry}
 
 abbrev Mine : Type 0
 Mine = Me (Option HeldView) View

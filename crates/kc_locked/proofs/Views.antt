@@ -3,11 +3,11 @@ use Rattle.std.proofs.Common.{◌≡◌, ◌≢◌, ℕ, zero, suc, ◌+◌, ◌
 use mathlib.Core.Option.{some, some-injective, some-ne-none}
 use lib.ListN.{get_elem?}
 use borrow.Author.Tests.{eq-eqb, ne_eqb}
-use Rattle.kc_model.specs.declared.footprint.Entry.{Entry}
+use Rattle.kc_history.specs.Callers.{of_caller, IsBelowCallers}
+use Rattle.kc_locked.specs.Locked.{AllOf, times, left_of, total, AllFit}
 use Rattle.kc_locked.specs.declared.rule.Part.{Part}
 use Rattle.kc_locked.specs.declared.rule.View.{View}
-use Rattle.kc_locked.specs.Locked.{AllOf, times, left_of, total, AllFit}
-use Rattle.kc_history.specs.Callers.{of_caller, IsBelowCallers}
+use Rattle.kc_model.specs.declared.footprint.Entry.{Entry}
 
 pub total_set : (f : View → ℕ) (views : List View) (i : ℕ) (v w : View) → get_elem? views i ≡ some v → total f (set views i w) + f v ≡ total f views + f w
 total_set f [] i v w at = absurd (some-ne-none v (sym at))

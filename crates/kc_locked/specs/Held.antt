@@ -1,13 +1,13 @@
 -- What is seen of the value under the lock, and what a commit does to it.
 use Rattle.std.specs.Prelude.{◌≡◌, ℕ, ◌+◌, ◌≤◌, List, [], ◌∷◌, ◌++◌, length}
+use Rattle.kc_locked.specs.declared.held.TheConstants.{MOST_COMMITS}
+use Rattle.kc_model.specs.Legal.{IsLegal}
+use Rattle.kc_model.specs.Store.{store_of, opened, Finds, after}
 use Rattle.kc_model.specs.declared.footprint.Entry.{Entry}
 use Rattle.kc_model.specs.declared.plain_store.Cell.{Cell}
 use Rattle.kc_model.specs.declared.reply.Answer.{Answer}
-use Rattle.kc_model.specs.Legal.{IsLegal}
-use Rattle.kc_model.specs.Store.{store_of, opened, Finds, after}
-use Rattle.kc_xt.specs.Meaning.{Meaning}
 use Rattle.kc_xt.specs.Commit.{Answers}
-use Rattle.kc_locked.specs.declared.held.TheConstants.{MOST_COMMITS}
+use Rattle.kc_xt.specs.Meaning.{Meaning}
 
 -- the opening values, all commits since, what they made, and how many more there may be
 pub record HeldView : Type 0 where

@@ -4,14 +4,14 @@ use mathlib.Core.Option.{some}
 use lib.ListN.{get_elem?}
 use Rattle.atomic_table.specs.Table as table
 use Rattle.atomic_table.specs.Table.{Me}
-use Rattle.kc_model.specs.declared.footprint.Entry.{Entry}
-use Rattle.kc_locked.specs.Origin.{Origin}
-use Rattle.kc_locked.specs.declared.rule.Part.{Part}
-use Rattle.kc_locked.specs.declared.rule.View.{View}
-use Rattle.kc_locked.specs.Held.{HeldView, held, IsSound}
 use Rattle.kc_history.specs.Callers.{of_caller, IsBelowCallers}
+use Rattle.kc_locked.specs.Held.{HeldView, held, IsSound}
+use Rattle.kc_locked.specs.Origin.{Origin}
 use Rattle.kc_locked.specs.Passes.{PassView}
 use Rattle.kc_locked.specs.declared.held.Waits.{Waits}
+use Rattle.kc_locked.specs.declared.rule.Part.{Part}
+use Rattle.kc_locked.specs.declared.rule.View.{View}
+use Rattle.kc_model.specs.declared.footprint.Entry.{Entry}
 use Rattle.kc_model.specs.declared.reply.Answer.{Answer}
 
 -- all are of this caller

@@ -1,12 +1,12 @@
 -- What is seen of a store, of a pass and of the past.
 use Rattle.std.specs.Prelude.{◌≡◌, ℕ, ◌+◌, List, [], ◌∷◌, ◌++◌, All, length}
 use Rattle.atomic_table.specs.Seated.{TableId}
+use Rattle.kc_history.specs.Callers.{IsLegalFrom, IsBelowCallers, entry_of, of_caller}
 use Rattle.kc_model.specs.declared.footprint.Entry.{Entry}
 use Rattle.kc_model.specs.declared.footprint.Footprint.{Footprint}
 use Rattle.kc_model.specs.declared.reply.Answer.{Answer}
-use Rattle.kc_xt.specs.Meaning.{Meaning}
 use Rattle.kc_xt.specs.Commit.{Answers}
-use Rattle.kc_history.specs.Callers.{IsLegalFrom, IsBelowCallers, entry_of, of_caller}
+use Rattle.kc_xt.specs.Meaning.{Meaning}
 
 -- which store it is, its opening values, and how many passes it has
 pub record StoreView : Type 0 where

@@ -5,25 +5,25 @@ use Rattle.std.proofs.lemmas.List.{length-set, get_or-set_same, length-map, leng
 use Rattle.std.specs.Prelude.{nat_lt}
 use borrow.Author.Tests.{eqb-true, eqb-false, ltb-true}
 use Rattle.std.proofs.lemmas.Bool.Decides.{nat_tests}
-use Rattle.kc_model.specs.declared.word.Word.{Word}
-use Rattle.kc_words.specs.declared.words.Control.{Control}
-use Rattle.kc_words.specs.declared.words.Status.{Status}
-use Rattle.kc_words.specs.declared.words.Owner.{Owner}
-use Rattle.kc_words.specs.declared.words.First.{First}
-use Rattle.kc_words.specs.declared.words.Second.{Second}
-use Rattle.kc_machine.specs.declared.words.Location.{Location}
+use Rattle.kc_machine.proofs.Functions.{put_here, put_else, put_cases, set_seen, set_left}
+use Rattle.kc_machine.specs.Lists.{seat_at, opened_location, opened_locations}
+use Rattle.kc_machine.specs.Machine.{State, World, put, put_some, put_line, with_seat, possible, found_at, touched, stepped, happened, event_of, seat_of, opened, opening, pool_size}
+use Rattle.kc_machine.specs.Seats.{fresh, access_of, answer_of}
+use Rattle.kc_machine.specs.Views.{state_of, first_of_line, second_of_line}
+use Rattle.kc_machine.specs.Words.{word_at, awaiters_at, control_at, status_at, owner_at, first_at, second_at, with_word_at, with_awaiters_at, with_control_at, with_status_at, with_owner_at, with_first_at, with_second_at, blank_location, blank_descriptor, blank_line}
+use Rattle.kc_machine.specs.declared.seat.Seat.{Seat}
 use Rattle.kc_machine.specs.declared.words.Descriptor.{Descriptor}
 use Rattle.kc_machine.specs.declared.words.LineWords.{LineWords}
-use Rattle.kc_machine.specs.declared.seat.Seat.{Seat}
-use Rattle.kc_machine.specs.Words.{word_at, awaiters_at, control_at, status_at, owner_at, first_at, second_at, with_word_at, with_awaiters_at, with_control_at, with_status_at, with_owner_at, with_first_at, with_second_at, blank_location, blank_descriptor, blank_line}
-use Rattle.kc_words.specs.declared.access.Access.{Access}
-use Rattle.kc_words.specs.declared.access.Found.{Found}
-use Rattle.kc_steps.specs.declared.task.Event.{Event}
-use Rattle.kc_machine.specs.Seats.{fresh, access_of, answer_of}
-use Rattle.kc_machine.specs.Machine.{State, World, put, put_some, put_line, with_seat, possible, found_at, touched, stepped, happened, event_of, seat_of, opened, opening, pool_size}
-use Rattle.kc_machine.specs.Lists.{seat_at, opened_location, opened_locations}
-use Rattle.kc_machine.specs.Views.{state_of, first_of_line, second_of_line}
-use Rattle.kc_machine.proofs.Functions.{put_here, put_else, put_cases, set_seen, set_left}
+use Rattle.kc_machine.specs.declared.words.Location.{Location}
+use Rattle.kc_machine_steps.specs.declared.task.Event.{Event}
+use Rattle.kc_machine_words.specs.declared.access.Access.{Access}
+use Rattle.kc_machine_words.specs.declared.access.Found.{Found}
+use Rattle.kc_machine_words.specs.declared.words.Control.{Control}
+use Rattle.kc_machine_words.specs.declared.words.First.{First}
+use Rattle.kc_machine_words.specs.declared.words.Owner.{Owner}
+use Rattle.kc_machine_words.specs.declared.words.Second.{Second}
+use Rattle.kc_machine_words.specs.declared.words.Status.{Status}
+use Rattle.kc_model.specs.declared.word.Word.{Word}
 
 -- the state, with the words w
 abbrev with : State → World → State

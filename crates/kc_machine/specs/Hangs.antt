@@ -2,17 +2,17 @@
 use Rattle.std.specs.Prelude.{ℕ, ◌==◌, List, false, Option, None, Some, if◌then◌else◌, slice_get}
 use Rattle.kc_model.specs.declared.footprint.Loc.{Loc}
 use Rattle.kc_model.specs.declared.footprint.Seen.{Seen}
-use Rattle.kc_words.specs.declared.access.Bits.TheVariants as bits
-use Rattle.kc_words.specs.declared.access.Access.{Access}
-use Rattle.kc_words.specs.declared.access.Access.TheVariants as access
-use Rattle.kc_words.specs.declared.access.Found.{Found}
-use Rattle.kc_steps.specs.declared.task.Told.TheVariants as told
-use Rattle.kc_steps.specs.declared.look.LookStep.{LookStep}
-use Rattle.kc_steps.specs.declared.look.LookStep.TheVariants as look
-use Rattle.kc_steps.specs.declared.look.LookNext.{LookNext}
-use Rattle.kc_steps.specs.declared.look.LookNext.TheVariants as looking
-use Rattle.kc_steps.specs.declared.task.Onward.{Onward}
-use Rattle.kc_steps.specs.declared.task.Onward.TheVariants as onward
+use Rattle.kc_machine_words.specs.declared.access.Bits.TheVariants as bits
+use Rattle.kc_machine_words.specs.declared.access.Access.{Access}
+use Rattle.kc_machine_words.specs.declared.access.Access.TheVariants as access
+use Rattle.kc_machine_words.specs.declared.access.Found.{Found}
+use Rattle.kc_machine_steps.specs.declared.task.Told.TheVariants as told
+use Rattle.kc_machine_steps.specs.declared.look.LookStep.{LookStep}
+use Rattle.kc_machine_steps.specs.declared.look.LookStep.TheVariants as look
+use Rattle.kc_machine_steps.specs.declared.look.LookNext.{LookNext}
+use Rattle.kc_machine_steps.specs.declared.look.LookNext.TheVariants as looking
+use Rattle.kc_machine_steps.specs.declared.task.Onward.{Onward}
+use Rattle.kc_machine_steps.specs.declared.task.Onward.TheVariants as onward
 use Rattle.kc_machine.specs.Waits.{Hang, Leave}
 use Rattle.kc_machine.specs.declared.hang.HangStep.{HangStep}
 use Rattle.kc_machine.specs.declared.hang.HangStep.TheVariants as hang
@@ -20,8 +20,8 @@ use Rattle.kc_machine.specs.declared.hang.HangNext.{HangNext}
 use Rattle.kc_machine.specs.declared.hang.HangNext.TheVariants.{Goes, Tells}
 use Rattle.kc_machine.specs.declared.hang.LeaveStep.{LeaveStep}
 use Rattle.kc_machine.specs.declared.hang.LeaveStep.TheVariants as leave
-use Rattle.kc_steps.specs.Lines.{after_line}
-use Rattle.kc_steps.specs.Looks.{look_access, look_next}
+use Rattle.kc_machine_steps.specs.Lines.{after_line}
+use Rattle.kc_machine_steps.specs.Looks.{look_access, look_next}
 
 -- ---- hangs
 

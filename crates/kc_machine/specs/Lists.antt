@@ -1,9 +1,9 @@
 -- Lists of locations and of seats.
 use Rattle.std.specs.Prelude.{ℕ, ◌*◌, List, map, get_or}
-use Rattle.kc_model.specs.declared.word.Word.TheVariants.{Plain}
-use Rattle.kc_machine.specs.declared.words.Location.{Location}
-use Rattle.kc_machine.specs.declared.seat.Seat.{Seat}
 use Rattle.kc_machine.specs.Seats.{fresh}
+use Rattle.kc_machine.specs.declared.seat.Seat.{Seat}
+use Rattle.kc_machine.specs.declared.words.Location.{Location}
+use Rattle.kc_model.specs.declared.word.Word.TheVariants.{Plain}
 
 abbrev pub opened_location : ℕ → Location
 opened_location value = record { word = Plain 0 value; awaiters = 0 }

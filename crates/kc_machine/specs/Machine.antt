@@ -1,25 +1,25 @@
 -- The machine: its state, its events, and its runs.
 use Rattle.std.specs.Prelude.{ℕ, ◌+◌, ◌*◌, ◌==◌, ◌&&◌, List, [], ◌∷◌, Bool, true, false, Option, None, Some, if◌then◌else◌, nat_lt, length, get_or}
 use Rattle.kc_machine.specs.declared.words.TheConstants.{MOST_HOLDS}
+use Rattle.kc_machine_words.specs.declared.access.Grip.{Grip}
+use Rattle.kc_machine_words.specs.declared.words.Control.{Control}
+use Rattle.kc_machine_words.specs.declared.words.First.{First}
+use Rattle.kc_machine_words.specs.declared.words.Owner.{Owner}
+use Rattle.kc_machine_words.specs.declared.words.Phase.TheVariants.{Halted}
+use Rattle.kc_machine_words.specs.declared.words.Second.{Second}
+use Rattle.kc_machine_words.specs.declared.words.Status.{Status}
 use Rattle.kc_model.specs.declared.word.Word.{Word}
 use Rattle.kc_model.specs.declared.word.Word.TheVariants.{Plain}
-use Rattle.kc_words.specs.declared.words.Control.{Control}
-use Rattle.kc_words.specs.declared.words.Phase.TheVariants.{Halted}
-use Rattle.kc_words.specs.declared.words.Status.{Status}
-use Rattle.kc_words.specs.declared.words.Owner.{Owner}
-use Rattle.kc_words.specs.declared.words.First.{First}
-use Rattle.kc_words.specs.declared.words.Second.{Second}
-use Rattle.kc_words.specs.declared.access.Grip.{Grip}
-use Rattle.kc_words.specs.declared.access.Grip.TheVariants as grip
-use Rattle.kc_words.specs.declared.access.Access.{Access}
-use Rattle.kc_words.specs.declared.access.Access.TheVariants as access
-use Rattle.kc_words.specs.declared.access.Found.{Found}
-use Rattle.kc_words.specs.declared.access.Found.TheVariants as found
-use Rattle.kc_steps.specs.declared.task.Event.{Event}
-use Rattle.kc_steps.specs.declared.task.Event.TheVariants.{Begin, Step, Halt}
-use Rattle.kc_machine.specs.declared.seat.Seat.{Seat}
-use Rattle.kc_machine.specs.Words.{control, stored_word, stored_status, stored_owner, stored_first, stored_second, gripped, bits_after, blank_owner}
+use Rattle.kc_machine_words.specs.declared.access.Grip.TheVariants as grip
+use Rattle.kc_machine_words.specs.declared.access.Access.{Access}
+use Rattle.kc_machine_words.specs.declared.access.Access.TheVariants as access
+use Rattle.kc_machine_words.specs.declared.access.Found.{Found}
+use Rattle.kc_machine_words.specs.declared.access.Found.TheVariants as found
 use Rattle.kc_machine.specs.Seats.{fresh, access_of, answer_of, begun, halted}
+use Rattle.kc_machine.specs.Words.{control, stored_word, stored_status, stored_owner, stored_first, stored_second, gripped, bits_after, blank_owner}
+use Rattle.kc_machine.specs.declared.seat.Seat.{Seat}
+use Rattle.kc_machine_steps.specs.declared.task.Event.{Event}
+use Rattle.kc_machine_steps.specs.declared.task.Event.TheVariants.{Begin, Step, Halt}
 
 -- f, with a at i
 unfoldable pub put : {A : Type 0} → (ℕ → A) → ℕ → A → ℕ → A

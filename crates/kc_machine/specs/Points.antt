@@ -1,15 +1,15 @@
 -- Where a commit has come to that no seat was written for, and the seat there.
 use Rattle.std.specs.Prelude.{ℕ, List, None, Some}
-use Rattle.kc_words.specs.declared.words.Mode.{Mode}
-use Rattle.kc_steps.specs.declared.line.Line.{Line}
-use Rattle.kc_steps.specs.declared.task.Told.{Told}
-use Rattle.kc_commits.specs.declared.commit.Stage.{Stage}
-use Rattle.kc_commits.specs.declared.commit.Stage.TheVariants.{Scan}
-use Rattle.kc_steps.specs.Lines.{one_more}
-use Rattle.kc_commits.specs.Nexts.{Next, Goes, Takes, Tells}
-use Rattle.kc_commits.specs.Commits.{commit_at}
 use Rattle.kc_machine.specs.declared.point.Point.{Point}
 use Rattle.kc_machine.specs.declared.seat.Seat.{Seat}
+use Rattle.kc_machine_commits.specs.Commits.{commit_at}
+use Rattle.kc_machine_commits.specs.Nexts.{Next, Goes, Takes, Tells}
+use Rattle.kc_machine_commits.specs.declared.commit.Stage.{Stage}
+use Rattle.kc_machine_commits.specs.declared.commit.Stage.TheVariants.{Scan}
+use Rattle.kc_machine_steps.specs.Lines.{one_more}
+use Rattle.kc_machine_steps.specs.declared.line.Line.{Line}
+use Rattle.kc_machine_steps.specs.declared.task.Told.{Told}
+use Rattle.kc_machine_words.specs.declared.words.Mode.{Mode}
 use Rattle.kc_machine.specs.Works as work
 use Rattle.kc_machine.specs.Seats.{blocked_by}
 

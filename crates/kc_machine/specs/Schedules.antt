@@ -1,15 +1,15 @@
 -- For which openings and schedules a machine is meant.
 use Rattle.std.specs.Prelude.{◌≢◌, ℕ, ◌^◌, ◌<◌, ◌≤◌, List, [], All, length}
-use Rattle.kc_model.specs.declared.plain_store.TheConstants.{MOST_LOCATIONS}
-use Rattle.kc_model.specs.declared.footprint.TheConstants.{LAST_VERSION, MOST}
-use Rattle.kc_model.specs.declared.footprint.Seen.{Seen}
+use Rattle.kc_machine_steps.specs.declared.task.Task.{Task}
+use Rattle.kc_machine_words.specs.declared.words.TheConstants.{LAST_GENERATION}
 use Rattle.kc_model.specs.Footprint.{IsWellMade, IsBelow}
-use Rattle.kc_words.specs.declared.words.TheConstants.{LAST_GENERATION}
-use Rattle.kc_steps.specs.declared.task.Task.{Task}
-use Rattle.kc_steps.specs.declared.task.Task.TheVariants as task
-use Rattle.kc_steps.specs.declared.task.Event.{Event}
-use Rattle.kc_steps.specs.declared.task.Event.TheVariants.{Begin, Step, Halt}
+use Rattle.kc_model.specs.declared.footprint.Seen.{Seen}
+use Rattle.kc_model.specs.declared.footprint.TheConstants.{LAST_VERSION, MOST}
+use Rattle.kc_model.specs.declared.plain_store.TheConstants.{MOST_LOCATIONS}
+use Rattle.kc_machine_steps.specs.declared.task.Task.TheVariants as task
 use Rattle.kc_machine.specs.Machine.{Opening}
+use Rattle.kc_machine_steps.specs.declared.task.Event.{Event}
+use Rattle.kc_machine_steps.specs.declared.task.Event.TheVariants.{Begin, Step, Halt}
 
 pub record IsInRange (o : Opening) : Type 0 where
   pub locations : o.locations ≤ MOST_LOCATIONS

@@ -3,8 +3,8 @@ use Rattle.kc_machine.specs.Works.{Work}
 use Rattle.kc_machine.specs.Works as work
 use Rattle.kc_machine.specs.declared.seat.Kind.{Kind}
 use Rattle.kc_machine.specs.declared.seat.Kind.TheVariants as kind
-use Rattle.kc_machine.specs.declared.seat.Seat.TheInside.{Inside}
 use Rattle.kc_machine.specs.SeatValue.{SeatValue}
+use Rattle.kc_machine.specs.declared.seat.Seat.TheInside.{Inside}
 
 abbrev pub work_at : Inside → Kind → Work
 work_at s kind.Idle = work.Idle

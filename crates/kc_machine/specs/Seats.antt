@@ -1,31 +1,31 @@
 -- Seats.
 use Rattle.std.specs.Prelude.{ℕ, List, Bool, true, false, Option, None, Some, if◌then◌else◌}
+use Rattle.kc_machine_words.specs.declared.access.Access.{Access}
+use Rattle.kc_machine_words.specs.declared.words.Mode.{Mode}
 use Rattle.kc_model.specs.declared.footprint.Seen.{Seen}
-use Rattle.kc_words.specs.declared.words.Mode.{Mode}
-use Rattle.kc_words.specs.declared.access.Access.{Access}
-use Rattle.kc_words.specs.declared.access.Access.TheVariants as access
-use Rattle.kc_words.specs.declared.access.Found.{Found}
-use Rattle.kc_steps.specs.declared.task.Task.{Task}
-use Rattle.kc_steps.specs.declared.task.Task.TheVariants as task
-use Rattle.kc_steps.specs.declared.task.Told.{Told}
-use Rattle.kc_steps.specs.declared.task.Told.TheVariants as told
-use Rattle.kc_steps.specs.declared.line.Line.{Line}
-use Rattle.kc_steps.specs.declared.look.LookStep.TheVariants as look
-use Rattle.kc_commits.specs.declared.commit.Stage.{Stage}
-use Rattle.kc_commits.specs.declared.commit.Stage.TheVariants.{Scan, Take, Own}
-use Rattle.kc_steps.specs.declared.task.Onward.{Onward}
-use Rattle.kc_steps.specs.declared.task.Onward.TheVariants as onward
+use Rattle.kc_machine_words.specs.declared.access.Access.TheVariants as access
+use Rattle.kc_machine_steps.specs.declared.task.Task.{Task}
+use Rattle.kc_machine_words.specs.declared.access.Found.{Found}
+use Rattle.kc_machine_steps.specs.declared.task.Task.TheVariants as task
+use Rattle.kc_machine_steps.specs.declared.task.Told.{Told}
+use Rattle.kc_machine_steps.specs.declared.task.Told.TheVariants as told
+use Rattle.kc_machine_steps.specs.declared.line.Line.{Line}
+use Rattle.kc_machine_steps.specs.declared.look.LookStep.TheVariants as look
+use Rattle.kc_machine_commits.specs.declared.commit.Stage.{Stage}
+use Rattle.kc_machine_commits.specs.declared.commit.Stage.TheVariants.{Scan, Take, Own}
+use Rattle.kc_machine_steps.specs.declared.task.Onward.{Onward}
+use Rattle.kc_machine_steps.specs.declared.task.Onward.TheVariants as onward
 use Rattle.kc_machine.specs.declared.hang.HangStep.TheVariants as hang
 use Rattle.kc_machine.specs.declared.hang.LeaveStep.TheVariants as leave
 use Rattle.kc_machine.specs.Works.{Work}
 use Rattle.kc_machine.specs.Works as work
-use Rattle.kc_machine.specs.declared.seat.Seat.{Seat}
-use Rattle.kc_steps.specs.Aids.{no_copy}
-use Rattle.kc_steps.specs.Lines.{one_more, lines_of}
-use Rattle.kc_steps.specs.Looks.{look_access, look_after, look_tells, look_halted, halts_at_once}
-use Rattle.kc_commits.specs.Commits.{commit_access, commit_after, commit_onward}
 use Rattle.kc_machine.specs.Hangs.{hang_access, hang_after, hang_onward, leave_access, leave_after, leave_onward}
-use Rattle.kc_commits.specs.Halts.{unowned, commit_halted}
+use Rattle.kc_machine.specs.declared.seat.Seat.{Seat}
+use Rattle.kc_machine_commits.specs.Commits.{commit_access, commit_after, commit_onward}
+use Rattle.kc_machine_commits.specs.Halts.{unowned, commit_halted}
+use Rattle.kc_machine_steps.specs.Aids.{no_copy}
+use Rattle.kc_machine_steps.specs.Lines.{one_more, lines_of}
+use Rattle.kc_machine_steps.specs.Looks.{look_access, look_after, look_tells, look_halted, halts_at_once}
 
 abbrev pub fresh : ℕ → ℕ → ℕ → Seat
 fresh caller descriptors first = record { caller = caller; descriptors = descriptors; first = first; calls = 0; made = 0; blocked = false; told = None; work = work.Idle }

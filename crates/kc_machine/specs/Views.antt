@@ -1,15 +1,15 @@
 -- The state that a machine's lists stand for.
 use Rattle.std.specs.Prelude.{ℕ, ◌+◌, ◌*◌, List, length, get_or, Bool, false, if◌then◌else◌, nat_lt}
-use Rattle.kc_words.specs.declared.words.First.{First}
-use Rattle.kc_words.specs.declared.words.Second.{Second}
-use Rattle.kc_machine.specs.declared.words.Location.{Location}
-use Rattle.kc_machine.specs.declared.words.Descriptor.{Descriptor}
-use Rattle.kc_machine.specs.declared.words.LineWords.{LineWords}
-use Rattle.kc_machine.specs.declared.seat.Seat.{Seat}
-use Rattle.kc_machine.specs.declared.machine.Machine.{Machine}
-use Rattle.kc_machine.specs.Words.{word_at, awaiters_at, control_at, status_at, owner_at, first_at, second_at, blank_line}
 use Rattle.kc_machine.specs.Lists.{seat_at}
 use Rattle.kc_machine.specs.Machine.{State}
+use Rattle.kc_machine.specs.Words.{word_at, awaiters_at, control_at, status_at, owner_at, first_at, second_at, blank_line}
+use Rattle.kc_machine.specs.declared.machine.Machine.{Machine}
+use Rattle.kc_machine.specs.declared.seat.Seat.{Seat}
+use Rattle.kc_machine.specs.declared.words.Descriptor.{Descriptor}
+use Rattle.kc_machine.specs.declared.words.LineWords.{LineWords}
+use Rattle.kc_machine.specs.declared.words.Location.{Location}
+use Rattle.kc_machine_words.specs.declared.words.First.{First}
+use Rattle.kc_machine_words.specs.declared.words.Second.{Second}
 
 -- 64 lines to a descriptor
 abbrev pub first_of_line : List LineWords → ℕ → ℕ → First

@@ -1,9 +1,9 @@
 -- A hang and a leave: the reads, and where it stands.
 use Rattle.std.specs.Prelude.{List}
 use Rattle.arrayvec.specs.ArrayVec.{ArrayVec as Items}
-use Rattle.kc_model.specs.declared.footprint.Seen.{Seen}
 use Rattle.kc_machine.specs.declared.hang.HangStep.{HangStep}
 use Rattle.kc_machine.specs.declared.hang.LeaveStep.{LeaveStep}
+use Rattle.kc_model.specs.declared.footprint.Seen.{Seen}
 
 pub record Hang : Type 0 where
   pub reads : Items Seen

@@ -2,26 +2,26 @@
 use Rattle.std.specs.Prelude.{ℕ, ◌+◌, ◌-◌, ◌*◌, ◌%◌, ◌^◌, ◌==◌, ◌&&◌, List, get_or, set, Bool, true, false, Option, None, Some, if◌then◌else◌, nat_lt, bit_and, bit_or}
 use Rattle.std.specs.Int.{bit_not, w64}
 use Rattle.kc_machine.specs.declared.words.TheConstants.{MOST_HOLDS}
-use Rattle.kc_words.specs.declared.words.TheConstants.{LAST_GENERATION}
+use Rattle.kc_machine_words.specs.declared.access.Grip.{Grip}
+use Rattle.kc_machine_words.specs.declared.access.Touch.{Touch}
+use Rattle.kc_machine_words.specs.declared.access.Touch.TheVariants.{Load, Store, CompareExchange}
+use Rattle.kc_machine_words.specs.declared.words.Control.{Control}
+use Rattle.kc_machine_words.specs.declared.words.First.{First}
+use Rattle.kc_machine_words.specs.declared.words.Mode.TheVariants.{Light}
+use Rattle.kc_machine_words.specs.declared.words.Owner.{Owner}
+use Rattle.kc_machine_words.specs.declared.words.Phase.{Phase}
+use Rattle.kc_machine_words.specs.declared.words.Phase.TheVariants.{Active, Succeeded, Failed, Crossed, Halted}
+use Rattle.kc_machine_words.specs.declared.words.Second.{Second}
+use Rattle.kc_machine_words.specs.declared.words.Status.{Status}
+use Rattle.kc_machine_words.specs.declared.words.TheConstants.{LAST_GENERATION}
 use Rattle.kc_model.specs.declared.word.Word.{Word}
 use Rattle.kc_model.specs.declared.word.Word.TheVariants.{Plain, Ref}
-use Rattle.kc_words.specs.declared.words.Control.{Control}
-use Rattle.kc_words.specs.declared.words.Phase.{Phase}
-use Rattle.kc_words.specs.declared.words.Phase.TheVariants.{Active, Succeeded, Failed, Crossed, Halted}
-use Rattle.kc_words.specs.declared.words.Mode.TheVariants.{Light}
-use Rattle.kc_words.specs.declared.words.Status.{Status}
-use Rattle.kc_words.specs.declared.words.Owner.{Owner}
-use Rattle.kc_words.specs.declared.words.First.{First}
-use Rattle.kc_words.specs.declared.words.Second.{Second}
-use Rattle.kc_words.specs.declared.access.Touch.{Touch}
-use Rattle.kc_words.specs.declared.access.Touch.TheVariants.{Load, Store, CompareExchange}
-use Rattle.kc_words.specs.declared.access.Grip.{Grip}
-use Rattle.kc_words.specs.declared.access.Grip.TheVariants as grip
-use Rattle.kc_words.specs.declared.access.Bits.{Bits}
-use Rattle.kc_words.specs.declared.access.Bits.TheVariants as bits
-use Rattle.kc_machine.specs.declared.words.Location.{Location}
+use Rattle.kc_machine_words.specs.declared.access.Grip.TheVariants as grip
+use Rattle.kc_machine_words.specs.declared.access.Bits.{Bits}
+use Rattle.kc_machine_words.specs.declared.access.Bits.TheVariants as bits
 use Rattle.kc_machine.specs.declared.words.Descriptor.{Descriptor}
 use Rattle.kc_machine.specs.declared.words.LineWords.{LineWords}
+use Rattle.kc_machine.specs.declared.words.Location.{Location}
 
 -- ---- whether the same stands
 

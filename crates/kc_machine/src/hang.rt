@@ -4,9 +4,9 @@ ghost use Rattle.std.specs.Prelude.{◌≡◌};
 ghost use Rattle.kc_machine.specs.Waits.{hang_at, leave_at};
 ghost use Rattle.kc_machine.specs.Hangs.{read_of, hang_access, hang_next, hang_after, hang_onward, look_or_hung, after_set, after_clear, leave_access, leave_after, leave_onward, looked};
 
+use kc_machine_steps::{LookNext, LookStep, Onward, Told, after_line, look_access, look_next};
+use kc_machine_words::{Access, Bits, Found};
 use kc_model::Seen;
-use kc_steps::{LookNext, LookStep, Onward, Told, after_line, look_access, look_next};
-use kc_words::{Access, Bits, Found};
 
 /// Where a hang stands.
 #[derive(Clone, Copy)]

@@ -10,8 +10,8 @@ mod tests;
 mod words;
 
 pub use hang::{HangStep, LeaveStep};
-pub use kc_commits::{Commit, OwnStep, Stage};
-pub use kc_steps::{
+pub use kc_machine_commits::{Commit, OwnStep, Stage};
+pub use kc_machine_steps::{
     AfterCheck, AidStep, Aided, Event, Intent, Line, Look, LookStep, PassStep, Task, Told,
 };
 pub use machine::Machine;

@@ -12,9 +12,9 @@ use crate::words::{
     Descriptor, LineWords, Location, MOST_HOLDS, touch_awaiters, touch_control, touch_first,
     touch_owner, touch_second, touch_status, touch_word,
 };
+use kc_machine_steps::{Event, Task};
+use kc_machine_words::{Access, Control, First, Found, Grip, Mode, Owner, Phase, Second, Status};
 use kc_model::{MOST_LOCATIONS, OpenError, Word};
-use kc_steps::{Event, Task};
-use kc_words::{Access, Control, First, Found, Grip, Mode, Owner, Phase, Second, Status};
 use std::alloc::{AllocError, Global};
 
 /// The most callers of a machine.

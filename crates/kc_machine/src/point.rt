@@ -1,17 +1,17 @@
 //! A commit that runs while its seat stays as it was: whoever carries it on names where it has come to.
 
 ghost use Rattle.std.specs.Prelude.{◌≡◌, List, true, false};
-ghost use Rattle.kc_words.specs.declared.words.Mode.{Mode};
-ghost use Rattle.kc_words.specs.declared.access.Found.{Found};
+ghost use Rattle.kc_machine_words.specs.declared.words.Mode.{Mode};
+ghost use Rattle.kc_machine_words.specs.declared.access.Found.{Found};
 ghost use Rattle.kc_model.specs.declared.footprint.Footprint.{Footprint};
-ghost use Rattle.kc_steps.specs.declared.task.Task.TheVariants as task;
-ghost use Rattle.kc_steps.specs.declared.line.Line.{Line};
-ghost use Rattle.kc_steps.specs.Lines.{lines_of};
-ghost use Rattle.kc_commits.specs.Commits.{commit_at, stage_access, stage_next, aids};
+ghost use Rattle.kc_machine_steps.specs.declared.task.Task.TheVariants as task;
+ghost use Rattle.kc_machine_steps.specs.declared.line.Line.{Line};
+ghost use Rattle.kc_machine_steps.specs.Lines.{lines_of};
+ghost use Rattle.kc_machine_commits.specs.Commits.{commit_at, stage_access, stage_next, aids};
 ghost use Rattle.kc_machine.specs.declared.seat.Seat.{Seat};
 ghost use Rattle.kc_machine.specs.Seats.{access_of, answer_of, begun, is_idle};
 
-use kc_commits::Stage;
+use kc_machine_commits::Stage;
 
 /// The steps that a seat has made, the descriptors that it has taken, and the stage of its commit.
 #[derive(Clone, Copy)]

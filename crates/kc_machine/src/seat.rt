@@ -6,10 +6,10 @@ ghost use Rattle.kc_machine.specs.Seats.{fresh, access_of, answer_of, begun, hal
 use crate::hang::{HangStep, LeaveStep};
 use crate::point::Point;
 use arrayvec::ArrayVec;
-use kc_commits::Commit;
+use kc_machine_commits::Commit;
+use kc_machine_steps::{Line, Look, LookStep, Onward, Task, Told, copy_reads, one_more};
+use kc_machine_words::{Access, Found, Mode};
 use kc_model::{Loc, MOST, Seen};
-use kc_steps::{Line, Look, LookStep, Onward, Task, Told, copy_reads, one_more};
-use kc_words::{Access, Found, Mode};
 use std::marker::Model;
 
 /// Which task runs.

@@ -3,8 +3,10 @@
 ghost use Rattle.std.specs.Prelude.{◌≡◌, ◌<◌, ◌+◌, ◌*◌, length, Ok, Err};
 ghost use Rattle.kc_machine.specs.Words.{stored_word, stored_status, stored_owner, stored_first, stored_second, gripped, bits_after, bit_of, word_is, phase_is, status_is, word_at, awaiters_at, control_at, status_at, owner_at, first_at, second_at, with_word_at, with_awaiters_at, with_control_at, with_status_at, with_owner_at, with_first_at, with_second_at};
 
+use kc_machine_words::{
+    Bits, Control, First, Grip, LAST_GENERATION, Owner, Phase, Second, Status, Touch,
+};
 use kc_model::Word;
-use kc_words::{Bits, Control, First, Grip, LAST_GENERATION, Owner, Phase, Second, Status, Touch};
 
 /// The most holds that a control word counts.
 pub const MOST_HOLDS: u32 = 0xff_ffff;

@@ -2,8 +2,8 @@
 use Rattle.std.proofs.Common.{◌≡◌, ℕ, ◌≤◌, ◌<◌, zero, suc, Bool, List, [], ◌∷◌, ◌++◌, ◌+◌, length, take, map, get_or, slice_get, All, Option, Some, Result, Ok, Err, refl, sym, ap, subst, ◌∙◌, arith}
 use Rattle.std.proofs.lemmas.List.{take-map, take_more, map-append}
 use Rattle.std.specs.Global.{Vec}
-use Rattle.kc_model.specs.declared.outside.ShelfError.{ShelfError}
 use Rattle.kc_model.specs.Shelves.{all_items, Has, HasEach, no_call, call, Fetched}
+use Rattle.kc_model.specs.declared.outside.ShelfError.{ShelfError}
 
 has_one_more : (told : Option (List (List ℕ × List ℕ))) (names files : List (List ℕ)) (name bytes : List ℕ) → HasEach told names files → Has told name bytes → HasEach told (names ++ name ∷ []) (files ++ bytes ∷ [])
 has_one_more told [] [] name bytes each has = (has, tt)

@@ -1,9 +1,9 @@
 -- The reads of a footprint, by location.
 use Rattle.std.proofs.Common.{◌≡◌, ℕ, zero, suc, ◌<◌, ◌==◌, true, false, List, [], ◌∷◌, map, Contains, Some, refl, ap, subst, arith}
 use Rattle.std.proofs.lemmas.Bool.Decides.{nat_tests}
-use Rattle.kc_model.specs.declared.footprint.Seen.{Seen}
-use Rattle.kc_model.specs.Rising.{IsRising, IsRisingAbove}
 use Rattle.kc_model.specs.Footprint.{read_at, read_location}
+use Rattle.kc_model.specs.Rising.{IsRising, IsRisingAbove}
+use Rattle.kc_model.specs.declared.footprint.Seen.{Seen}
 
 -- the later of rising reads are above the first
 above : (n : ℕ) (reads : List Seen) → IsRisingAbove n (map read_location reads) → (r : Seen) → Contains reads r → n < r.loc.0

@@ -3,11 +3,11 @@ use Rattle.std.proofs.Common.{◌≡◌, ℕ, ◌+◌, ◌≤◌, ◌<◌, Bool,
 use Rattle.std.proofs.lemmas.List.{append-nil, drop_more, drop_all}
 use Rattle.std.specs.List.{flat_map}
 use Rattle.std.specs.Prelude.{Result, Ok, Err, OnOk, OnErr}
-use Rattle.kc_model.specs.declared.outside.Failed.{Failed}
-use Rattle.kc_model.specs.declared.pen.Pen.{Pen}
+use Rattle.kc_model.proofs.Writes.{took_none, took_then, front_longer, front_after}
 use Rattle.kc_model.specs.Outside.{Took, TookFront}
 use Rattle.kc_model.specs.Pen.{Sheet, sheet, Hands, Asks, Owes, Puts, Prints}
-use Rattle.kc_model.proofs.Writes.{took_none, took_then, front_longer, front_after}
+use Rattle.kc_model.specs.declared.outside.Failed.{Failed}
+use Rattle.kc_model.specs.declared.pen.Pen.{Pen}
 
 -- where a pen has not failed, it had not failed before
 not_before : (p q : Bool) (A : Type 0) → (p ≡ true → (q ≡ true) × A) → q ≡ false → p ≡ false

@@ -1,9 +1,9 @@
 -- Calls of read, one after another.
 use Rattle.std.proofs.Common.{◌≡◌, ℕ, ◌<◌, ◌≤◌, List, ◌++◌, [], length, take, Option, Result, Ok, refl, sym, ap, subst, ◌∙◌}
 use Rattle.std.proofs.lemmas.List.{take-append-le}
-use Rattle.kc_model.specs.declared.outside.Failed.{Failed}
-use Rattle.kc_model.specs.Outside.{ahead, IsSpent, nothing, further, Came, ReadsEnd}
 use Rattle.kc_model.proofs.Bytes.{ahead-none, ahead-append}
+use Rattle.kc_model.specs.Outside.{ahead, IsSpent, nothing, further, Came, ReadsEnd}
+use Rattle.kc_model.specs.declared.outside.Failed.{Failed}
 
 -- only what a call filled was put behind the bytes that had come
 pub filled_only : (all bytes filled rest : List ℕ) (n : ℕ) → n ≤ length filled → all ≡ bytes ++ take n (filled ++ rest) → all ≡ bytes ++ take n filled

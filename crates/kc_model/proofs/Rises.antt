@@ -1,12 +1,12 @@
 -- Lists that rise, by their neighbours; footprints that are well made, test by test.
 use Rattle.std.proofs.Common.{ℕ, zero, suc, ◌<◌, ◌≤◌, List, [], ◌∷◌, map, length, slice_index_or, All, arith}
 use Rattle.std.proofs.lemmas.List.Elements.{All-contains, Contains-get_or}
-use Rattle.kc_model.specs.declared.footprint.TheConstants.{LAST_VERSION}
-use Rattle.kc_model.specs.declared.footprint.Seen.{Seen}
-use Rattle.kc_model.specs.declared.footprint.Put.{Put}
-use Rattle.kc_model.specs.declared.footprint.Footprint.{Footprint}
-use Rattle.kc_model.specs.Rising.{IsRising}
 use Rattle.kc_model.specs.Footprint.{read_location, put_location, IsRead, IsWellMade}
+use Rattle.kc_model.specs.Rising.{IsRising}
+use Rattle.kc_model.specs.declared.footprint.Footprint.{Footprint}
+use Rattle.kc_model.specs.declared.footprint.Put.{Put}
+use Rattle.kc_model.specs.declared.footprint.Seen.{Seen}
+use Rattle.kc_model.specs.declared.footprint.TheConstants.{LAST_VERSION}
 
 module _ {X : Type 0} (at : X → ℕ) where
   -- each of the first so many lies below the next

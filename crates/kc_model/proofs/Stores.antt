@@ -6,15 +6,15 @@ use Rattle.std.proofs.lemmas.Bool.Decides.{nat_tests}
 use Rattle.std.proofs.lemmas.List.{drop_more, drop_all}
 use Rattle.std.proofs.lemmas.List.Elements.{All-set}
 use Rattle.kc_model.proofs.Lists.{written_over}
-use Rattle.kc_model.specs.declared.footprint.TheConstants.{LAST_VERSION}
-use Rattle.kc_model.specs.declared.footprint.Seen.{Seen}
-use Rattle.kc_model.specs.declared.footprint.Put.{Put}
-use Rattle.kc_model.specs.declared.footprint.Footprint.{Footprint}
-use Rattle.kc_model.specs.declared.plain_store.Cell.{Cell}
-use Rattle.kc_model.specs.Rising.{IsRising, IsRisingAbove}
-use Rattle.kc_model.specs.Footprint.{IsWellMade, IsBelow, put_at, put_location}
-use Rattle.kc_model.specs.Store.{Store, opened, zero_cell, store_of, Finds, stands, stale, cell_after, after}
 use Rattle.kc_model.specs.Cells.{AllFit, PutsFit, all_put}
+use Rattle.kc_model.specs.Footprint.{IsWellMade, IsBelow, put_at, put_location}
+use Rattle.kc_model.specs.Rising.{IsRising, IsRisingAbove}
+use Rattle.kc_model.specs.Store.{Store, opened, zero_cell, store_of, Finds, stands, stale, cell_after, after}
+use Rattle.kc_model.specs.declared.footprint.Footprint.{Footprint}
+use Rattle.kc_model.specs.declared.footprint.Put.{Put}
+use Rattle.kc_model.specs.declared.footprint.Seen.{Seen}
+use Rattle.kc_model.specs.declared.footprint.TheConstants.{LAST_VERSION}
+use Rattle.kc_model.specs.declared.plain_store.Cell.{Cell}
 
 -- a list holds its first element
 pub Contains-first : {X : Type 0} (x : X) (xs : List X) → Contains (x ∷ xs) x

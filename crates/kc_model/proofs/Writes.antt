@@ -2,9 +2,9 @@
 use Rattle.std.proofs.Common.{◌≡◌, ℕ, ◌+◌, ◌<◌, List, ◌++◌, [], length, take, Option, Result, Ok, refl, sym, ap, subst, ◌∙◌, append_assoc, arith, length-append}
 use Rattle.std.proofs.lemmas.List.{append-nil, take-append-le}
 use Rattle.std.proofs.Math.Seq.{take-append-add}
-use Rattle.kc_model.specs.declared.outside.Failed.{Failed}
-use Rattle.kc_model.specs.Outside.{behind, Takes, none, more, Took, TookFront}
 use Rattle.kc_model.proofs.Bytes.{behind-append, behind-nil}
+use Rattle.kc_model.specs.Outside.{behind, Takes, none, more, Took, TookFront}
+use Rattle.kc_model.specs.declared.outside.Failed.{Failed}
 
 module _ {K : Type 0} {gives : K → List ℕ → Result ℕ Failed → K → Type 0} where
   -- calls that took something, and then more of them

@@ -1,8 +1,8 @@
 -- What was asked of a pen, and what of it the sink has.
 use Rattle.std.specs.Prelude.{◌≡◌, ℕ, List, ◌++◌, Option, Bool, true, false, Result, OnOk, OnErr}
+use Rattle.kc_model.specs.Outside.{Took, TookFront}
 use Rattle.kc_model.specs.declared.outside.Failed.{Failed}
 use Rattle.kc_model.specs.declared.pen.Pen.{Pen}
-use Rattle.kc_model.specs.Outside.{Took, TookFront}
 
 -- the sink, the bytes that are still to be handed to it, and whether it has failed
 pub record Sheet (K : Type 0) : Type 0 where

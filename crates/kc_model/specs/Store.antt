@@ -1,12 +1,12 @@
 -- The plain store: a version and a value at each location.
 use Rattle.std.specs.Prelude.{◌≡◌, ℕ, ◌+◌, List, Option, Some, None, Bool, map, find, not, ◌==◌, ◌&&◌, slice_index_or}
 use Rattle.std.specs.Option.{option_map}
-use Rattle.kc_model.specs.declared.footprint.Seen.{Seen}
-use Rattle.kc_model.specs.declared.footprint.Put.{Put}
+use Rattle.kc_model.specs.Footprint.{Reads, put_at}
 use Rattle.kc_model.specs.declared.footprint.Footprint.{Footprint}
+use Rattle.kc_model.specs.declared.footprint.Put.{Put}
+use Rattle.kc_model.specs.declared.footprint.Seen.{Seen}
 use Rattle.kc_model.specs.declared.plain_store.Cell.{Cell}
 use Rattle.kc_model.specs.declared.plain_store.Stale.{Stale}
-use Rattle.kc_model.specs.Footprint.{Reads, put_at}
 
 -- what each location has
 abbrev pub Store : Type 0

@@ -4,18 +4,18 @@ use Rattle.std.specs.Prelude.{Result, ◌==◌, nat_lt}
 use Rattle.std.proofs.lemmas.Nat.{mod_below}
 use Rattle.std.proofs.lemmas.Bool.{ltb-true}
 use Rattle.kc_model.specs.declared.reply.Reply.{Reply}
-use Rattle.kc_xt.specs.declared.stop.Stop.{Stop}
-use Rattle.kc_xt.specs.Log.{Log}
-use Rattle.kc_xt.specs.Steps.{Does}
-use Rattle.kc_xt.specs.Peeks.{Gives}
-use Rattle.kc_xt.specs.Law.{Obeys}
-use Rattle.kc_xt.specs.Program.{replies}
-use Rattle.kc_xt.specs.Stays.{Stays}
+use Rattle.kc_queue.specs.Meaning.{queue_program, queue_meaning, queue_begin, queue_end, deq_program, counted, head_in, cells_end}
+use Rattle.kc_queue.specs.declared.operation.QueueAct.{QueueAct}
+use Rattle.kc_queue.specs.declared.queue.Queue.{Queue}
 use Rattle.kc_xt.proofs.Laws.{TouchesFirst}
 use Rattle.kc_xt.proofs.Stay.{stays_if, stays_law}
-use Rattle.kc_queue.specs.Meaning.{queue_program, queue_meaning, queue_begin, queue_end, deq_program, counted, head_in, cells_end}
-use Rattle.kc_queue.specs.declared.queue.Queue.{Queue}
-use Rattle.kc_queue.specs.declared.operation.QueueAct.{QueueAct}
+use Rattle.kc_xt.specs.Law.{Obeys}
+use Rattle.kc_xt.specs.Log.{Log}
+use Rattle.kc_xt.specs.Peeks.{Gives}
+use Rattle.kc_xt.specs.Program.{replies}
+use Rattle.kc_xt.specs.Stays.{Stays}
+use Rattle.kc_xt.specs.Steps.{Does}
+use Rattle.kc_xt.specs.declared.stop.Stop.{Stop}
 use Rattle.kc_queue.specs.declared.operation.QueueAct.TheVariants as act
 use Rattle.kc_queue.specs.declared.operation.QueueOp.{QueueOp}
 

@@ -2,9 +2,9 @@
 use Rattle.std.proofs.Common.{◌≡◌, ◌+◌, ◌%◌, ◌<◌, [], length, get_or, sym, ap, ◌∙◌, subst, arith}
 use Rattle.std.proofs.lemmas.List.{ext_get_or}
 use Rattle.std.proofs.lemmas.Nat.{mod_below}
-use Rattle.kc_xt.specs.Structure.{ContentIsOne, DependsOnItsCells, Opens}
-use Rattle.kc_queue.specs.declared.queue.Queue.{Queue}
 use Rattle.kc_queue.specs.Meaning.{cells_end, head_cell, count_cell, ring_cell, queue_cells, queue_opening, StandsFor}
+use Rattle.kc_queue.specs.declared.queue.Queue.{Queue}
+use Rattle.kc_xt.specs.Structure.{ContentIsOne, DependsOnItsCells, Opens}
 
 -- it depends on these cells alone
 pub queue_own : (q : Queue) → DependsOnItsCells (StandsFor q) q.base.0 (cells_end q)

@@ -9,17 +9,17 @@ use Rattle.std.proofs.lemmas.Bool.Decides.{nat_tests}
 use Rattle.std.proofs.lemmas.Nat.{mod_below}
 use Rattle.kc_model.specs.declared.reply.Reply.{Reply}
 use Rattle.kc_model.specs.declared.reply.Reply.TheVariants as reply
+use Rattle.kc_queue.specs.declared.operation.QueueAct.{QueueAct}
+use Rattle.kc_queue.specs.declared.queue.Queue.{Queue}
+use Rattle.kc_xt.proofs.Inside.{GoesTo, runs_to}
+use Rattle.kc_xt.proofs.Structures.{runs_means}
 use Rattle.kc_xt.specs.Meaning.{Outcome, replied, retried, put}
 use Rattle.kc_xt.specs.Program.{Program, plain, retries, read, write}
 use Rattle.kc_xt.specs.Structure.{Value, comes_to, goes_on, RunsInsideOthers, MeansItsValue}
-use Rattle.kc_xt.proofs.Inside.{GoesTo, runs_to}
-use Rattle.kc_xt.proofs.Structures.{runs_means}
-use Rattle.kc_queue.specs.declared.queue.Queue.{Queue}
-use Rattle.kc_queue.specs.declared.operation.QueueAct.{QueueAct}
 use Rattle.kc_queue.specs.declared.operation.QueueAct.TheVariants as act
-use Rattle.kc_queue.specs.declared.operation.QueueOp.{QueueOp}
-use Rattle.kc_queue.specs.Meaning.{queue_program, queue_meaning, queue_value, queue_begin, queue_end, StandsFor, front_taken, front_reply, counted, head_in, back_of, second_of, head_cell, count_cell, ring_cell}
 use Rattle.kc_queue.proofs.QueueLaw.{queue_stays}
+use Rattle.kc_queue.specs.Meaning.{queue_program, queue_meaning, queue_value, queue_begin, queue_end, StandsFor, front_taken, front_reply, counted, head_in, back_of, second_of, head_cell, count_cell, ring_cell}
+use Rattle.kc_queue.specs.declared.operation.QueueOp.{QueueOp}
 
 -- ---- places in a ring
 

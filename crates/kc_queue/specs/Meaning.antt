@@ -2,11 +2,11 @@
 use Rattle.std.specs.Prelude.{◌≡◌, ℕ, ◌+◌, ◌-◌, ◌%◌, ◌<◌, ◌≤◌, ◌==◌, nat_lt, min, Bool, true, false, cond, List, [], ◌∷◌, ◌++◌, length, slice_index}
 use Rattle.kc_model.specs.declared.reply.Reply.{Reply}
 use Rattle.kc_model.specs.declared.reply.Reply.TheVariants as reply
+use Rattle.kc_queue.specs.declared.operation.QueueAct.{QueueAct}
+use Rattle.kc_queue.specs.declared.queue.Queue.{Queue}
 use Rattle.kc_xt.specs.Meaning.{Outcome, replied, retried, Meaning}
 use Rattle.kc_xt.specs.Program.{Program, read, write, retries, replies, meaning}
 use Rattle.kc_xt.specs.Structure.{Value, comes_to}
-use Rattle.kc_queue.specs.declared.queue.Queue.{Queue}
-use Rattle.kc_queue.specs.declared.operation.QueueAct.{QueueAct}
 use Rattle.kc_queue.specs.declared.operation.QueueAct.TheVariants as act
 use Rattle.kc_queue.specs.declared.operation.QueueOp.{QueueOp}
 

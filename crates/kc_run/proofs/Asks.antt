@@ -3,19 +3,19 @@ use Rattle.std.proofs.Common.{◌≡◌, ◌≢◌, ℕ, ◌+◌, ◌≤◌, ◌
 use Rattle.kc_model.specs.declared.reply.Reply.{Reply}
 use Rattle.kc_model.specs.declared.reply.Reply.TheVariants as reply
 use Rattle.kc_model.specs.Rising.{IsRising}
-use Rattle.kc_xt.specs.declared.stop.Stop.{Stop}
-use Rattle.kc_xt.specs.declared.stop.Stop.TheVariants.{Retry}
+use Rattle.kc_run.specs.Ask.{ask_end}
+use Rattle.kc_script_bundle.specs.Meaning.{command_meaning, command_end, alone_program, thread_meaning}
+use Rattle.kc_script_bundle.specs.declared.operation.Command.{Command}
+use Rattle.kc_xt.proofs.Composed.{obeys_first_stays, obeys_first_else, obeys_wider}
+use Rattle.kc_xt.proofs.Laws.{below_if, law_of}
+use Rattle.kc_xt.specs.Law.{Obeys}
 use Rattle.kc_xt.specs.Lines.{locations, rolled_back}
 use Rattle.kc_xt.specs.Log.{Log}
 use Rattle.kc_xt.specs.Peeks.{Gives}
 use Rattle.kc_xt.specs.Program.{Program, read, retries, meaning}
 use Rattle.kc_xt.specs.Steps.{Does}
-use Rattle.kc_xt.specs.Law.{Obeys}
-use Rattle.kc_xt.proofs.Laws.{below_if, law_of}
-use Rattle.kc_xt.proofs.Composed.{obeys_first_stays, obeys_first_else, obeys_wider}
-use Rattle.kc_bundle.specs.declared.operation.Command.{Command}
-use Rattle.kc_bundle.specs.Meaning.{command_meaning, command_end, alone_program, thread_meaning}
-use Rattle.kc_run.specs.Ask.{ask_end}
+use Rattle.kc_xt.specs.declared.stop.Stop.{Stop}
+use Rattle.kc_xt.specs.declared.stop.Stop.TheVariants.{Retry}
 
 -- what comes of a command that would wait, and what comes behind its reply
 abbrev pub alone : ℕ → (Reply → Program) → Program

@@ -4,10 +4,10 @@ use Rattle.std.proofs.lemmas.List.{take_more, map-append}
 use Rattle.std.proofs.lemmas.List.Sums.{sum_by-le, sum-map}
 use Rattle.std.specs.Prelude.{All, sum}
 use Rattle.std.specs.Global.{Vec}
-use Rattle.kc_bundle.specs.declared.operation.Command.{Command}
 use Rattle.kc_locked.specs.Passes.{StoreView, PassView, passes_of}
 use Rattle.kc_run.specs.Jobs.{AllMayRun}
 use Rattle.kc_run.specs.Locked.{AllDealt, shares_of}
+use Rattle.kc_script_bundle.specs.declared.operation.Command.{Command}
 
 pub shares_more : (threads : List (Vec Command)) (i n : ℕ) (v : Vec Command) (shares shares' : List ℕ) → i < length threads → v ≡ get_or threads i v → n ≡ length v.items + 1 → shares ≡ shares_of (take i threads) → shares' ≡ shares ++ n ∷ [] → shares' ≡ shares_of (take (i + 1) threads)
 shares_more threads i n v shares shares' lt is count was pushed =

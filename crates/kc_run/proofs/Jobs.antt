@@ -4,15 +4,15 @@ use Rattle.std.proofs.lemmas.List.{take_more, length-take-le, length-map}
 use Rattle.std.specs.Prelude.{All}
 use Rattle.std.specs.Global.{Vec}
 use Rattle.crossbeam_utils.specs.Padded.{padded_value}
-use Rattle.kc_model.specs.declared.footprint.Entry.{Entry}
-use Rattle.kc_bundle.specs.declared.operation.Command.{Command}
-use Rattle.kc_history.specs.Records.{lists_of}
 use Rattle.kc_history.specs.Callers.{of_caller}
-use Rattle.kc_run.specs.declared.job.Job.{Job}
-use Rattle.kc_runs.specs.Labels.{label, labels}
-use Rattle.kc_run.specs.Shared.{count_from}
-use Rattle.kc_runs.specs.Threads.{AreRun}
+use Rattle.kc_history.specs.Records.{lists_of}
+use Rattle.kc_model.specs.declared.footprint.Entry.{Entry}
 use Rattle.kc_run.specs.Jobs.{Room, Rooms, paired, pass_of, list_of, row_at, Ready, Ran, JobRan, AllMayRun}
+use Rattle.kc_run.specs.Shared.{count_from}
+use Rattle.kc_run.specs.declared.job.Job.{Job}
+use Rattle.kc_script_bundle.specs.declared.operation.Command.{Command}
+use Rattle.kc_script_runs.specs.Labels.{label, labels}
+use Rattle.kc_script_runs.specs.Threads.{AreRun}
 
 -- ---- rooms
 

@@ -3,17 +3,17 @@ use Rattle.std.proofs.Common.{◌≡◌, ℕ, suc, ◌+◌, ◌≤◌, ◌<◌, 
 use Rattle.std.proofs.lemmas.List.{take_more, take_more_set, drop_more, map-append, length-map, take_all}
 use Rattle.std.proofs.Math.Seq.{map-set_same}
 use Rattle.kc_model.specs.declared.footprint.Entry.{Entry}
-use Rattle.kc_bundle.specs.declared.operation.Command.{Command}
-use Rattle.kc_bundle.specs.declared.operation.Command.TheVariants as command
-use Rattle.kc_bundle.specs.declared.operation.Op.TheVariants as op
-use Rattle.kc_bundle.specs.Meaning.{thread_meaning, end_meaning}
+use Rattle.kc_script_bundle.specs.declared.operation.Command.{Command}
+use Rattle.kc_script_bundle.specs.declared.operation.Command.TheVariants as command
+use Rattle.kc_script_bundle.specs.declared.operation.Op.TheVariants as op
+use Rattle.kc_script_bundle.specs.Meaning.{thread_meaning, end_meaning}
 use Rattle.kc_loc.specs.declared.operation.LocOp.TheVariants as loc
 use Rattle.kc_history.specs.declared.record.Record.{Record}
 use Rattle.kc_history.specs.declared.record.Mark.TheVariants as mark
 use Rattle.kc_history.specs.Callers.{entry_of, entries_of}
+use Rattle.kc_script_runs.specs.Labels.{Label, label, labels}
+use Rattle.kc_script_runs.specs.Threads.{AreAnswered, IsAnswered, meanings}
 use Rattle.kc_xt.specs.Meaning.{Meaning}
-use Rattle.kc_runs.specs.Labels.{Label, label, labels}
-use Rattle.kc_runs.specs.Threads.{AreAnswered, IsAnswered, meanings}
 
 -- ---- commits
 

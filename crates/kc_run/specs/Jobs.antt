@@ -3,13 +3,13 @@ use Rattle.std.specs.Prelude.{◌≡◌, ℕ, zero, suc, ◌+◌, ◌≤◌, Lis
 use Rattle.std.specs.Global.{Vec}
 use Rattle.crossbeam_utils.specs.declared.cache_padded.CachePadded.{CachePadded}
 use Rattle.crossbeam_utils.specs.Padded.{padded_value}
-use Rattle.kc_model.specs.declared.footprint.Entry.{Entry}
-use Rattle.kc_bundle.specs.declared.operation.Command.{Command}
-use Rattle.kc_history.specs.declared.record.Record.{Record}
-use Rattle.kc_run.specs.declared.job.Job.{Job}
-use Rattle.kc_runs.specs.Labels.{label, labels}
 use Rattle.kc_history.specs.Callers.{entries_of}
-use Rattle.kc_runs.specs.Threads.{AreAnswered, meanings}
+use Rattle.kc_history.specs.declared.record.Record.{Record}
+use Rattle.kc_model.specs.declared.footprint.Entry.{Entry}
+use Rattle.kc_run.specs.declared.job.Job.{Job}
+use Rattle.kc_script_bundle.specs.declared.operation.Command.{Command}
+use Rattle.kc_script_runs.specs.Labels.{label, labels}
+use Rattle.kc_script_runs.specs.Threads.{AreAnswered, meanings}
 
 -- the commands of the thread at this place
 abbrev pub row_at : List (Vec Command) → ℕ → List Command

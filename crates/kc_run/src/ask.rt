@@ -4,11 +4,11 @@ ghost use Rattle.std.specs.Prelude.{◌≡◌, ◌≤◌, ◌+◌, ◌↔◌, Er
 ghost use Rattle.kc_model.specs.declared.plain_store.TheConstants.{MOST_LOCATIONS};
 ghost use Rattle.kc_xt.specs.Law.{Obeys};
 ghost use Rattle.kc_xt.specs.Program.{meaning};
-ghost use Rattle.kc_bundle.specs.Meaning.{CommandIsFit, alone_program, thread_meaning};
+ghost use Rattle.kc_script_bundle.specs.Meaning.{CommandIsFit, alone_program, thread_meaning};
 ghost use Rattle.kc_run.specs.Ask.{ask_end};
 
-use kc_bundle::Command;
 use kc_model::{Loc, Reply};
+use kc_script_bundle::Command;
 use kc_xt::{Peek, Stop, Transact, Xt};
 
 /// A thread's command, with the location that counts the live threads. Where the command would wait, its puts are

@@ -1,12 +1,12 @@
 //! Passes with their threads' records, and apart again.
 
 ghost use Rattle.std.specs.Prelude.{◌≡◌, ◌+◌, ◌≤◌, ◌<◌, [], length, map, vec_len, vec_capacity, All, IfOk};
-ghost use Rattle.kc_runs.specs.Labels.{label, labels};
+ghost use Rattle.kc_script_runs.specs.Labels.{label, labels};
 ghost use Rattle.kc_run.specs.Jobs.{Rooms, paired, pass_of, list_of};
 
 use crossbeam_utils::CachePadded;
-use kc_bundle::{Command, MOST_COMMANDS};
 use kc_history::{Mark, Record};
+use kc_script_bundle::{Command, MOST_COMMANDS};
 use std::alloc::{AllocError, Global};
 
 /// A pass, and the records of its thread.

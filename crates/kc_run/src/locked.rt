@@ -6,9 +6,9 @@ ghost use Rattle.kc_run.specs.Shared.{count_from};
 ghost use Rattle.kc_run.specs.Locked.{AllDealt, shares_of};
 
 use crate::shared::Shared;
-use kc_bundle::{Command, MOST_COMMANDS};
 use kc_locked::{LockPass, LockPast, LockedStore};
 use kc_model::{Answer, Footprint, MOST_LOCATIONS, NoMemory};
+use kc_script_bundle::{Command, MOST_COMMANDS};
 use kc_xt::Transact;
 use std::alloc::Global;
 use std::sync::Wait;

@@ -3,8 +3,8 @@
 ghost use Rattle.std.specs.Prelude.{◌≡◌, ◌+◌, ◌≤◌, ◌<◌, ℕ, All, length, map, slice_index_or, vec_capacity, IfOk, IfErr};
 ghost use Rattle.kc_history.specs.Callers.{IsBelowCallers, IsLegalFrom};
 ghost use Rattle.kc_history.specs.Records.{lists_of};
-ghost use Rattle.kc_runs.specs.Labels.{AreThreads};
-ghost use Rattle.kc_runs.specs.Threads.{AreRun};
+ghost use Rattle.kc_script_runs.specs.Labels.{AreThreads};
+ghost use Rattle.kc_script_runs.specs.Threads.{AreRun};
 ghost use Rattle.kc_run.specs.Run.{CanRunAll};
 ghost use Rattle.kc_run.specs.Jobs.{AllMayRun, JobRan, Ready, row_at};
 
@@ -12,8 +12,8 @@ use crate::gate::Gate;
 use crate::job::{Job, pair, part, rooms};
 use crate::shared::Shared;
 use crate::thread::run_thread;
-use kc_bundle::Command;
 use kc_history::Record;
+use kc_script_bundle::Command;
 use std::alloc::Global;
 use std::sync::Wait;
 use std::thread;

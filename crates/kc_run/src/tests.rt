@@ -1,13 +1,13 @@
 ghost use Rattle.std.specs.Prelude.{◌≡◌, ◌<◌, ◌≤◌, All, IfOk, length};
-ghost use Rattle.kc_bundle.specs.Meaning.{OpIsFit, op_end};
+ghost use Rattle.kc_script_bundle.specs.Meaning.{OpIsFit, op_end};
 ghost use Rattle.kc_run.specs.Run.{CanRunAll};
 
 use crate::{OpenGate, open_locked, run_threads};
-use kc_bundle::{Command, Op};
 use kc_history::{Mark, Record};
 use kc_loc::LocOp;
 use kc_model::{Answer, Item, Loc, NoMemory, Reply};
 use kc_queue::{Queue, QueueAct, QueueOp};
+use kc_script_bundle::{Command, Op};
 use std::alloc::Global;
 use std::sync::Wait;
 use std::test::Fail;

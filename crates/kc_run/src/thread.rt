@@ -1,19 +1,19 @@
 //! One thread's commands on a shared store.
 
 ghost use Rattle.std.specs.Prelude.{◌≡◌, ◌+◌, ◌<◌, ◌≤◌, ◌++◌, ◌∷◌, [], length, map, take, All};
-ghost use Rattle.kc_bundle.specs.Meaning.{thread_meaning};
+ghost use Rattle.kc_script_bundle.specs.Meaning.{thread_meaning};
 ghost use Rattle.kc_history.specs.Callers.{entry_of, entries_of};
-ghost use Rattle.kc_runs.specs.Labels.{label, labels};
-ghost use Rattle.kc_runs.specs.Threads.{AreAnswered, IsAnswered, meanings};
+ghost use Rattle.kc_script_runs.specs.Labels.{label, labels};
+ghost use Rattle.kc_script_runs.specs.Threads.{AreAnswered, IsAnswered, meanings};
 ghost use Rattle.kc_run.specs.Run.{CanRunAll};
 
 use crate::ask::Ask;
 use crate::gate::Gate;
 use crate::shared::Shared;
-use kc_bundle::Command;
 use kc_history::Record;
 use kc_loc::LocOp;
 use kc_model::Loc;
+use kc_script_bundle::Command;
 use kc_xt::Transact;
 use std::sync::Wait;
 

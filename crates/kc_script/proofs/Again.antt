@@ -7,19 +7,19 @@ use Rattle.std.specs.Str.{bytes_eq}
 use Rattle.std.proofs.lemmas.List.{append-nil}
 use Rattle.std.proofs.lemmas.Bool.Decides.{nat_tests}
 use Rattle.std.proofs.lemmas.Slice.Eq.{bytes_eq-Decides}
-use Rattle.kc_lines.specs.Words.{is_skipped}
+use Rattle.kc_script_bundle.specs.declared.object.Object.{Object}
+use Rattle.kc_script_lines.specs.Words.{is_skipped}
 use Rattle.kc_term.specs.Tree.{Tree, op, seq, first, trees}
-use Rattle.kc_bundle.specs.declared.object.Object.{Object}
-use Rattle.kc_bundle.specs.declared.object.Object.TheVariants as object
-use Rattle.kc_bundle.specs.declared.operation.Op.{Op}
-use Rattle.kc_bundle.specs.declared.operation.Command.{Command}
-use Rattle.kc_bundle.specs.Script.{Names, Script, base, cells, IsSized, AreSized, LieFrom}
-use Rattle.kc_verbs.specs.Objects.{object_of}
-use Rattle.kc_verbs.specs.Canonical.{Part, words_of, declaring, Stands, Respells, Says}
-use Rattle.kc_script.specs.Spells.{Line, header, atomic_line, or_line, end_line, Declare, Block, Say, Threads, Spells}
-use Rattle.kc_script.specs.Canonical.{name_at, part_word, line_of, op_line, block_lines, parts_lines, part_lines, command_lines, thread_lines, declaration_lines, script_lines, canonical_text}
-use Rattle.kc_script.proofs.TextLines.{IsWord, Counts, AllCount, all_both, all_join, contents_count, contents_back, decimal_word, decimal_counts, decimal_numeral}
+use Rattle.kc_script_bundle.specs.declared.object.Object.TheVariants as object
 use Rattle.kc_script.proofs.Spelled.{spelled_lies, spelled_sized}
+use Rattle.kc_script.proofs.TextLines.{IsWord, Counts, AllCount, all_both, all_join, contents_count, contents_back, decimal_word, decimal_counts, decimal_numeral}
+use Rattle.kc_script.specs.Canonical.{name_at, part_word, line_of, op_line, block_lines, parts_lines, part_lines, command_lines, thread_lines, declaration_lines, script_lines, canonical_text}
+use Rattle.kc_script.specs.Spells.{Line, header, atomic_line, or_line, end_line, Declare, Block, Say, Threads, Spells}
+use Rattle.kc_script_bundle.specs.Script.{Names, Script, base, cells, IsSized, AreSized, LieFrom}
+use Rattle.kc_script_bundle.specs.declared.operation.Command.{Command}
+use Rattle.kc_script_bundle.specs.declared.operation.Op.{Op}
+use Rattle.kc_script_verbs.specs.Canonical.{Part, words_of, declaring, Stands, Respells, Says}
+use Rattle.kc_script_verbs.specs.Objects.{object_of}
 
 -- ---- names
 

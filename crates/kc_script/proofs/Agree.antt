@@ -2,33 +2,33 @@
 use Rattle.std.proofs.Common.{◌≡◌, ℕ, ◌+◌, ◌≤◌, ◌<◌, Bool, true, ltb, leb, List, [], ◌∷◌, ◌++◌, length, Option, Some, None, Result, Ok, refl, sym, ap, subst, ◌∙◌, append_assoc, arith, length-append}
 use Rattle.std.proofs.lemmas.List.{append-nil}
 use Rattle.std.proofs.lemmas.Bool.{lt-ltb, le-leb}
-use Rattle.kc_lines.specs.declared.fault.Why.{Why}
-use Rattle.kc_lines.specs.Words.{lines}
-use Rattle.kc_lines.specs.Tests.{◌>>=◌}
+use Rattle.kc_script_bundle.specs.declared.object.Object.{Object}
+use Rattle.kc_script_bundle.specs.declared.operation.Command.{Command}
+use Rattle.kc_script_bundle.specs.declared.operation.Op.{Op}
+use Rattle.kc_script_lines.specs.Tests.{◌>>=◌}
+use Rattle.kc_script_lines.specs.Words.{lines}
+use Rattle.kc_script_lines.specs.declared.fault.Why.{Why}
 use Rattle.kc_term.specs.Tree.{Tree, op, seq, trees}
-use Rattle.kc_bundle.specs.declared.object.Object.{Object}
-use Rattle.kc_bundle.specs.declared.operation.Op.{Op}
-use Rattle.kc_bundle.specs.declared.operation.Command.{Command}
-use Rattle.kc_bundle.specs.declared.operation.Command.TheVariants as command
-use Rattle.kc_bundle.specs.Script.{Names, Script}
-use Rattle.kc_verbs.specs.declared.verb.Verb.{Verb}
-use Rattle.kc_verbs.specs.declared.word.Kind.{Kind}
-use Rattle.kc_verbs.specs.declared.word.Word.{Word}
-use Rattle.kc_verbs.specs.declared.word.Word.TheVariants as word
-use Rattle.kc_verbs.specs.Words.{structure_word, word_of}
-use Rattle.kc_verbs.specs.Declaring.{declare, declared_by, declared}
-use Rattle.kc_verbs.specs.Saying.{say, said_by, said}
-use Rattle.kc_verbs.proofs.Rows.{says_said}
-use Rattle.kc_verbs.proofs.ObjectRows.{declares_declared}
-use Rattle.kc_script.specs.Spells.{Line, header, thread_line, atomic_line, or_line, end_line, Declare, Block, Say, Threads, Spells}
+use Rattle.kc_script_bundle.specs.declared.operation.Command.TheVariants as command
+use Rattle.kc_script_bundle.specs.Script.{Names, Script}
+use Rattle.kc_script_verbs.specs.declared.verb.Verb.{Verb}
+use Rattle.kc_script_verbs.specs.declared.word.Kind.{Kind}
+use Rattle.kc_script_verbs.specs.declared.word.Word.{Word}
+use Rattle.kc_script_verbs.specs.declared.word.Word.TheVariants as word
+use Rattle.kc_script.proofs.Numbered.{is_part}
+use Rattle.kc_script.proofs.Spelled.{block_small}
+use Rattle.kc_script.proofs.Took.{outside, at, inside, all_contents, skipping}
+use Rattle.kc_script.proofs.Trees.{nested, nested_push, nest_ok, IsSmall}
 use Rattle.kc_script.specs.Blocks.{OpenBlock, Place, sequence, nest, op_line, counted_up, or_at, end_at}
 use Rattle.kc_script.specs.Blocks.{atomic_line as atomic_at}
 use Rattle.kc_script.specs.Reading.{State, opening, declared_line, said_line, begun_block, worded_line, header_line, content_line, ended, script_at, spelled}
 use Rattle.kc_script.specs.Reading.{thread_line as opened_thread}
-use Rattle.kc_script.proofs.Trees.{nested, nested_push, nest_ok, IsSmall}
-use Rattle.kc_script.proofs.Took.{outside, at, inside, all_contents, skipping}
-use Rattle.kc_script.proofs.Numbered.{is_part}
-use Rattle.kc_script.proofs.Spelled.{block_small}
+use Rattle.kc_script.specs.Spells.{Line, header, thread_line, atomic_line, or_line, end_line, Declare, Block, Say, Threads, Spells}
+use Rattle.kc_script_verbs.proofs.ObjectRows.{declares_declared}
+use Rattle.kc_script_verbs.proofs.Rows.{says_said}
+use Rattle.kc_script_verbs.specs.Declaring.{declare, declared_by, declared}
+use Rattle.kc_script_verbs.specs.Saying.{say, said_by, said}
+use Rattle.kc_script_verbs.specs.Words.{structure_word, word_of}
 
 -- a line was read, and then the others
 read_on : (s next : State) (line : Line) (ls : List Line) → content_line s line ≡ Ok next → all_contents s (line ∷ ls) ≡ all_contents next ls

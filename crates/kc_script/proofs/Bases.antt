@@ -3,10 +3,10 @@ use Rattle.std.proofs.Common.{◌≡◌, ℕ, zero, suc, ◌+◌, ◌≤◌, ◌
 use Rattle.std.specs.Prelude.{◌⊎◌, map, slice_get}
 use Rattle.std.proofs.lemmas.Bool.{cases_lt}
 use Rattle.std.proofs.lemmas.Bool.Decides.{nat_tests}
-use Rattle.kc_bundle.specs.declared.object.Object.{Object}
-use Rattle.kc_bundle.specs.Script.{Names, base, cells, AreSized, LieFrom}
-use Rattle.kc_script.specs.Canonical.{name_at}
 use Rattle.kc_script.proofs.Again.{some_cells}
+use Rattle.kc_script.specs.Canonical.{name_at}
+use Rattle.kc_script_bundle.specs.Script.{Names, base, cells, AreSized, LieFrom}
+use Rattle.kc_script_bundle.specs.declared.object.Object.{Object}
 
 same_some : {A : Type 0} (x y : A) → Some x ≡ Some y → x ≡ y
 same_some x y e = cc

@@ -6,41 +6,41 @@ use Rattle.std.specs.Str.{bytes_eq}
 use Rattle.std.proofs.lemmas.Bool.{eqb-true}
 use Rattle.std.proofs.lemmas.Bool.Decides.{nat_tests}
 use Rattle.std.proofs.lemmas.List.{map-append}
-use Rattle.kc_lines.specs.declared.fault.Why.{Why}
-use Rattle.kc_lines.specs.declared.fault.Why.TheVariants.{Header, UnknownWord, UnknownName, RepeatedName, BadName, BadNumber, WrongKind, MissingWord, ExtraWord, UnclosedBlock, StrayWord, TooMany}
-use Rattle.kc_lines.specs.declared.fault.Limit.TheVariants.{Locations, Threads as ThreadsLimit, Commands as CommandsLimit, Block as BlockLimit, Depth}
-use Rattle.kc_lines.specs.Words.{lines, words, is_skipped}
-use Rattle.kc_lines.specs.Tests.{◌>>=◌, wants, counted, word_at, first_failing, fault_of, count_tests}
-use Rattle.kc_lines.proofs.Given.{given, bind_ok, ok_is}
-use Rattle.kc_lines.proofs.Faults.{Tested, then_fault, made_fault, wants_fault, counted_fault}
+use Rattle.kc_script_bundle.specs.declared.object.Object.{Object}
+use Rattle.kc_script_bundle.specs.declared.operation.Command.{Command}
+use Rattle.kc_script_bundle.specs.declared.operation.Op.{Op}
+use Rattle.kc_script_lines.proofs.Faults.{Tested, then_fault, made_fault, wants_fault, counted_fault}
+use Rattle.kc_script_lines.proofs.Given.{given, bind_ok, ok_is}
+use Rattle.kc_script_lines.specs.Tests.{◌>>=◌, wants, counted, word_at, first_failing, fault_of, count_tests}
+use Rattle.kc_script_lines.specs.Words.{lines, words, is_skipped}
+use Rattle.kc_script_lines.specs.declared.fault.Limit.TheVariants.{Locations, Threads as ThreadsLimit, Commands as CommandsLimit, Block as BlockLimit, Depth}
+use Rattle.kc_script_lines.specs.declared.fault.Why.{Why}
+use Rattle.kc_script_lines.specs.declared.fault.Why.TheVariants.{Header, UnknownWord, UnknownName, RepeatedName, BadName, BadNumber, WrongKind, MissingWord, ExtraWord, UnclosedBlock, StrayWord, TooMany}
 use Rattle.kc_term.specs.Tree.{Tree}
-use Rattle.kc_bundle.specs.declared.object.Object.{Object}
-use Rattle.kc_bundle.specs.declared.operation.Op.{Op}
-use Rattle.kc_bundle.specs.declared.operation.Command.{Command}
-use Rattle.kc_bundle.specs.declared.operation.Command.TheVariants as command
-use Rattle.kc_lines.specs.declared.fault.ScriptError.{ScriptError}
-use Rattle.kc_lines.specs.declared.fault.ScriptError.TheVariants as error
-use Rattle.kc_bundle.specs.declared.bundle.Bundle.{Bundle}
-use Rattle.kc_bundle.specs.Script.{Names, Script, script_of, cells, next_from}
-use Rattle.kc_verbs.specs.declared.verb.Verb.{Verb}
-use Rattle.kc_verbs.specs.declared.word.Kind.{Kind}
-use Rattle.kc_verbs.specs.declared.word.Word.{Word}
-use Rattle.kc_verbs.specs.declared.word.Word.TheVariants as word
-use Rattle.kc_verbs.specs.Words.{word_of}
-use Rattle.kc_verbs.specs.Declaring.{declare}
-use Rattle.kc_verbs.specs.Saying.{say}
-use Rattle.kc_verbs.specs.Fields.{Kinds, object_kind, kinds_of, kind_fields, size_of, args_tests}
-use Rattle.kc_verbs.proofs.Tested.{say_fault, declare_fault, declare_is}
-use Rattle.kc_script.specs.Spells.{Line}
-use Rattle.kc_script.specs.Blocks.{OpenBlock, Place, block_of, in_block, counted_up, with_op, with_block, op_line, level_here, atomic_line, or_at, end_at}
-use Rattle.kc_script.specs.Reading.{State, opening, begun_thread, next_thread, no_block, with_object, placed, declared_line, said_line, begun_block, thread_line, worded_line, header_line, content_line, any_line, all_lines, ended, script_at, atomics_behind, atomics_after, nearest, place_of_fault, at_line, then_read, read_from, part_read, spelled, Spelled}
-use Rattle.kc_script.specs.FirstFault.{Fault, OpenAt, Context, start, is_open, level_below, innermost, thread_after, is_header, room_tests, limit_tests, word_tests, tests, end_tests, one_more, deeper, ended_block, behind_word, next, line_of, fault_in, first_fault_from, first_fault}
-use Rattle.kc_script.proofs.Objects.{next_from_more}
-use Rattle.kc_script.specs.Spells.{Spells}
-use Rattle.kc_script.specs.Refused.{SpellNone, Refused}
-use Rattle.kc_script.proofs.ReadLines.{header_read, spelled_spells}
+use Rattle.kc_script_bundle.specs.declared.operation.Command.TheVariants as command
+use Rattle.kc_script_lines.specs.declared.fault.ScriptError.{ScriptError}
+use Rattle.kc_script_lines.specs.declared.fault.ScriptError.TheVariants as error
+use Rattle.kc_script_bundle.specs.Script.{Names, Script, script_of, cells, next_from}
+use Rattle.kc_script_bundle.specs.declared.bundle.Bundle.{Bundle}
+use Rattle.kc_script_verbs.specs.declared.verb.Verb.{Verb}
+use Rattle.kc_script_verbs.specs.declared.word.Kind.{Kind}
+use Rattle.kc_script_verbs.specs.declared.word.Word.{Word}
+use Rattle.kc_script_verbs.specs.declared.word.Word.TheVariants as word
 use Rattle.kc_script.proofs.Agree.{spells_spelled}
 use Rattle.kc_script.proofs.Kept.{MakesBlocks, opening_makes}
+use Rattle.kc_script.proofs.Objects.{next_from_more}
+use Rattle.kc_script.proofs.ReadLines.{header_read, spelled_spells}
+use Rattle.kc_script.specs.Blocks.{OpenBlock, Place, block_of, in_block, counted_up, with_op, with_block, op_line, level_here, atomic_line, or_at, end_at}
+use Rattle.kc_script.specs.FirstFault.{Fault, OpenAt, Context, start, is_open, level_below, innermost, thread_after, is_header, room_tests, limit_tests, word_tests, tests, end_tests, one_more, deeper, ended_block, behind_word, next, line_of, fault_in, first_fault_from, first_fault}
+use Rattle.kc_script.specs.Reading.{State, opening, begun_thread, next_thread, no_block, with_object, placed, declared_line, said_line, begun_block, thread_line, worded_line, header_line, content_line, any_line, all_lines, ended, script_at, atomics_behind, atomics_after, nearest, place_of_fault, at_line, then_read, read_from, part_read, spelled, Spelled}
+use Rattle.kc_script.specs.Refused.{SpellNone, Refused}
+use Rattle.kc_script.specs.Spells.{Line}
+use Rattle.kc_script.specs.Spells.{Spells}
+use Rattle.kc_script_verbs.proofs.Tested.{say_fault, declare_fault, declare_is}
+use Rattle.kc_script_verbs.specs.Declaring.{declare}
+use Rattle.kc_script_verbs.specs.Fields.{Kinds, object_kind, kinds_of, kind_fields, size_of, args_tests}
+use Rattle.kc_script_verbs.specs.Saying.{say}
+use Rattle.kc_script_verbs.specs.Words.{word_of}
 
 -- ---- the context of a state
 

@@ -1,20 +1,20 @@
 -- The blocks that the reader has open are within the limits of terms, so that each is made where it ends.
 use Rattle.std.proofs.Common.{◌≡◌, ℕ, Bool, false, ◌+◌, ◌-◌, ◌≤◌, ◌<◌, max, List, [], ◌∷◌, ◌++◌, length, Ok, refl, sym, ap, subst, ◌∙◌, arith, length-append, inl, inr}
 use Rattle.std.specs.Prelude.{map}
-use Rattle.kc_lines.specs.Words.{words}
-use Rattle.kc_lines.proofs.Given.{bind_ok, ok_is}
+use Rattle.kc_script_bundle.specs.declared.operation.Command.{Command}
+use Rattle.kc_script_bundle.specs.declared.operation.Op.{Op}
+use Rattle.kc_script_lines.proofs.Given.{bind_ok, ok_is}
+use Rattle.kc_script_lines.specs.Words.{words}
 use Rattle.kc_term.specs.Tree.{Tree, op, seq, trees, operations, all_operations, nesting, greatest_nesting}
-use Rattle.kc_bundle.specs.declared.operation.Op.{Op}
-use Rattle.kc_bundle.specs.declared.operation.Command.{Command}
-use Rattle.kc_bundle.specs.declared.operation.Command.TheVariants as command
-use Rattle.kc_bundle.specs.Script.{Names}
-use Rattle.kc_script.specs.Spells.{Line}
-use Rattle.kc_script.specs.Blocks.{OpenBlock, block_of, level_here, with_block}
-use Rattle.kc_script.specs.Reading.{State, opening, nowhere, content_line, all_lines}
-use Rattle.kc_script.proofs.Trees.{nested, nest_ok, IsSmall}
+use Rattle.kc_script_bundle.specs.declared.operation.Command.TheVariants as command
+use Rattle.kc_script.proofs.ReadLines.{outside_took, header_read}
 use Rattle.kc_script.proofs.Spelled.{operations_more, nesting_more}
 use Rattle.kc_script.proofs.Took.{outside, at, inside, all_contents, counting, skipping, thread_took, one_took, block_took, part_took, inner_took, other_took, ends_took, out_took, in_took}
-use Rattle.kc_script.proofs.ReadLines.{outside_took, header_read}
+use Rattle.kc_script.proofs.Trees.{nested, nest_ok, IsSmall}
+use Rattle.kc_script.specs.Blocks.{OpenBlock, block_of, level_here, with_block}
+use Rattle.kc_script.specs.Reading.{State, opening, nowhere, content_line, all_lines}
+use Rattle.kc_script.specs.Spells.{Line}
+use Rattle.kc_script_bundle.specs.Script.{Names}
 
 -- ---- alternatives in one another
 

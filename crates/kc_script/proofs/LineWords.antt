@@ -1,9 +1,9 @@
 -- The words that begin lines of threads and blocks.
 use Rattle.std.proofs.Common.{◌≡◌, ℕ, List, [], ◌∷◌, Some}
 use Rattle.std.specs.Prelude.{codes}
-use Rattle.kc_verbs.specs.declared.word.Word.TheVariants as word
-use Rattle.kc_verbs.specs.Words.{word_of}
-use Rattle.kc_verbs.proofs.Texts.{word_has}
+use Rattle.kc_script_verbs.specs.declared.word.Word.TheVariants as word
+use Rattle.kc_script_verbs.proofs.Texts.{word_has}
+use Rattle.kc_script_verbs.specs.Words.{word_of}
 
 -- a line of one word
 pub lone : (first w : List ℕ) (args : List (List ℕ)) → first ≡ w → args ≡ [] → first ∷ args ≡ w ∷ []

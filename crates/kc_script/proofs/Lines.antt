@@ -2,9 +2,9 @@
 use Rattle.std.proofs.Common.{◌≡◌, ℕ, ◌+◌, ◌<◌, ◌≤◌, List, length, get_or, drop, Result, Ok, sym, ap, ◌∙◌}
 use Rattle.std.specs.Prelude.{map}
 use Rattle.std.proofs.lemmas.List.{drop_more, drop_all}
-use Rattle.kc_lines.specs.Words.{words}
-use Rattle.kc_lines.specs.declared.fault.ScriptError.{ScriptError}
-use Rattle.kc_lines.specs.declared.fault.ScriptError.TheVariants as error
+use Rattle.kc_script_lines.specs.Words.{words}
+use Rattle.kc_script_lines.specs.declared.fault.ScriptError.{ScriptError}
+use Rattle.kc_script_lines.specs.declared.fault.ScriptError.TheVariants as error
 use Rattle.kc_script.specs.FirstFault.{Fault}
 use Rattle.kc_script.specs.Reading.{State, any_line, ended, nearest, atomics_next, at_line, then_read, read_from, Stops}
 

@@ -1,13 +1,13 @@
 -- Numbers of lines make no difference to what is read.
 use Rattle.std.proofs.Common.{◌≡◌, ℕ, ◌+◌, Bool, true, false, not, List, [], ◌∷◌, Result, Ok, Err, refl, sym, ap, subst, ◌∙◌}
-use Rattle.kc_lines.specs.declared.fault.Why.{Why}
-use Rattle.kc_lines.specs.declared.fault.Why.TheVariants.{Header, UnclosedBlock}
-use Rattle.kc_lines.specs.Tests.{◌>>=◌, wants}
-use Rattle.kc_lines.proofs.Given.{given, bind_ok, wants_ok, ok_is}
-use Rattle.kc_lines.specs.Words.{lines, words}
+use Rattle.kc_script.specs.Blocks.{in_block}
 use Rattle.kc_script.specs.FirstFault.{Fault}
 use Rattle.kc_script.specs.Reading.{State, any_line, all_lines, no_block, ended, at_line, then_read, nearest, atomics_next, read_from, part_read}
-use Rattle.kc_script.specs.Blocks.{in_block}
+use Rattle.kc_script_lines.proofs.Given.{given, bind_ok, wants_ok, ok_is}
+use Rattle.kc_script_lines.specs.Tests.{◌>>=◌, wants}
+use Rattle.kc_script_lines.specs.Words.{lines, words}
+use Rattle.kc_script_lines.specs.declared.fault.Why.{Why}
+use Rattle.kc_script_lines.specs.declared.fault.Why.TheVariants.{Header, UnclosedBlock}
 
 -- what was read, and what followed
 pub then_ok : {A B E : Type 0} (r : Result A E) (f : A → Result B E) (y : B) → then_read r f ≡ Ok y → (x : A) × (r ≡ Ok x) × (f x ≡ Ok y)

@@ -1,7 +1,7 @@
 -- One more object behind others.
 use Rattle.std.proofs.Common.{◌≡◌, ℕ, ◌+◌, List, [], ◌∷◌, ◌++◌, refl}
-use Rattle.kc_bundle.specs.declared.object.Object.{Object}
-use Rattle.kc_bundle.specs.Script.{Names, base, cells, next_from, LieFrom, IsSized, AreSized}
+use Rattle.kc_script_bundle.specs.Script.{Names, base, cells, next_from, LieFrom, IsSized, AreSized}
+use Rattle.kc_script_bundle.specs.declared.object.Object.{Object}
 
 -- the first location behind them
 pub next_from_more : (at : ℕ) (names : Names) (entry : List ℕ × Object) → next_from at (names ++ entry ∷ []) ≡ next_from at names + cells entry.1

@@ -2,21 +2,21 @@
 use Rattle.std.proofs.Common.{◌≡◌, ℕ, ◌+◌, ◌≤◌, Bool, true, false, cond, List, [], ◌∷◌, ◌++◌, length, Option, Some, None, Result, Ok, Err, refl, sym, ap, ◌∙◌}
 use Rattle.std.specs.Prelude.{IfOk, IfErr}
 use Rattle.std.specs.Option.{option_or}
-use Rattle.kc_lines.specs.Words.{lines, words, is_skipped}
-use Rattle.kc_lines.proofs.Given.{given, bind_ok, ok_is}
-use Rattle.kc_bundle.specs.declared.bundle.Bundle.{Bundle}
-use Rattle.kc_bundle.specs.declared.operation.Command.{Command}
-use Rattle.kc_bundle.specs.Script.{Names, Script, script_of, next_from}
 use Rattle.kc_script.specs.declared.part_error.PartError.{PartError}
+use Rattle.kc_script_bundle.specs.Script.{Names, Script, script_of, next_from}
+use Rattle.kc_script_bundle.specs.declared.bundle.Bundle.{Bundle}
+use Rattle.kc_script_bundle.specs.declared.operation.Command.{Command}
+use Rattle.kc_script_lines.proofs.Given.{given, bind_ok, ok_is}
+use Rattle.kc_script_lines.specs.Words.{lines, words, is_skipped}
 use Rattle.kc_script.specs.declared.part_error.PartError.TheVariants as error
+use Rattle.kc_script.proofs.FirstFaults.{context_of, fault_at, line_comes, part_first, opening_first}
+use Rattle.kc_script.proofs.Kept.{file_makes}
+use Rattle.kc_script.proofs.Numbered.{part_is}
+use Rattle.kc_script.proofs.PartLines.{Stands, setup_read, file_read, parts_spelled, spelled_is_read}
+use Rattle.kc_script.proofs.Took.{outside, inside}
 use Rattle.kc_script.specs.FirstFault.{Fault, Context, start, next, first_fault_from}
 use Rattle.kc_script.specs.Parts.{SpellsParts, PartFault, in_part, behind_lines, in_file, first_fault_in_files, first_fault_in_parts, PartsSpellNone, PartsRefused}
 use Rattle.kc_script.specs.Reading.{State, opening, nowhere, begun_thread, script_at, content_line, any_line, all_lines, atomics_after, then_read, part_read, of_part, files_read, parts_read, spelled_parts, PartsSpelled}
-use Rattle.kc_script.proofs.Took.{outside, inside}
-use Rattle.kc_script.proofs.Numbered.{part_is}
-use Rattle.kc_script.proofs.Kept.{file_makes}
-use Rattle.kc_script.proofs.FirstFaults.{context_of, fault_at, line_comes, part_first, opening_first}
-use Rattle.kc_script.proofs.PartLines.{Stands, setup_read, file_read, parts_spelled, spelled_is_read}
 
 -- ---- behind a setup
 

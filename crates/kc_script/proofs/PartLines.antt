@@ -1,19 +1,19 @@
 -- What the reader reads of parts, the grammar has them spell, and the other way round.
 use Rattle.std.proofs.Common.{◌≡◌, ℕ, ◌+◌, ◌≤◌, false, List, [], ◌∷◌, ◌++◌, length, Result, Ok, Err, refl, sym, ap, subst, ◌∙◌, append_assoc, arith}
 use Rattle.std.proofs.lemmas.List.{append-nil}
-use Rattle.kc_lines.specs.Words.{lines}
-use Rattle.kc_bundle.specs.declared.operation.Command.{Command}
-use Rattle.kc_bundle.specs.Script.{Names, Script}
-use Rattle.kc_script.specs.Spells.{Line, contents, header, thread_line, Declare, Say, Threads, Spells}
+use Rattle.kc_script.proofs.Agree.{say_read, front_read}
+use Rattle.kc_script.proofs.Numbered.{then_ok, then_made, part_is, is_part}
+use Rattle.kc_script.proofs.ReadLines.{place_read, opening_part}
+use Rattle.kc_script.proofs.TextLines.{AllCount, all_join, contents_count, contents_back}
+use Rattle.kc_script.proofs.Took.{outside, at, inside, all_contents, skipping}
+use Rattle.kc_script.specs.Canonical.{text_of_lines}
 use Rattle.kc_script.specs.FirstFault.{Fault}
 use Rattle.kc_script.specs.Parts.{Files, SpellsParts, PartFault}
 use Rattle.kc_script.specs.Reading.{State, opening, nowhere, begun_thread, ended, script_at, then_read, part_read, of_part, files_read, parts_read, spelled_parts}
-use Rattle.kc_script.specs.Canonical.{text_of_lines}
-use Rattle.kc_script.proofs.Took.{outside, at, inside, all_contents, skipping}
-use Rattle.kc_script.proofs.Numbered.{then_ok, then_made, part_is, is_part}
-use Rattle.kc_script.proofs.ReadLines.{place_read, opening_part}
-use Rattle.kc_script.proofs.Agree.{say_read, front_read}
-use Rattle.kc_script.proofs.TextLines.{AllCount, all_join, contents_count, contents_back}
+use Rattle.kc_script.specs.Spells.{Line, contents, header, thread_line, Declare, Say, Threads, Spells}
+use Rattle.kc_script_bundle.specs.Script.{Names, Script}
+use Rattle.kc_script_bundle.specs.declared.operation.Command.{Command}
+use Rattle.kc_script_lines.specs.Words.{lines}
 
 -- ---- where the reader stands between parts
 

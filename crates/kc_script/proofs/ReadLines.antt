@@ -5,31 +5,31 @@ use Rattle.std.specs.Str.{bytes_eq}
 use Rattle.std.proofs.lemmas.List.{append-nil}
 use Rattle.std.proofs.lemmas.Bool.{eqb-true}
 use Rattle.std.proofs.lemmas.Slice.Eq.{bytes_eq-Decides}
-use Rattle.kc_lines.specs.declared.fault.Why.TheVariants.{Header, StrayWord}
-use Rattle.kc_lines.specs.Words.{lines}
-use Rattle.kc_lines.specs.Tests.{◌>>=◌, wants, counted, word_at}
-use Rattle.kc_lines.proofs.Given.{given, bind_ok, wants_ok, ok_is, none_counted}
+use Rattle.kc_script_bundle.specs.declared.object.Object.{Object}
+use Rattle.kc_script_bundle.specs.declared.operation.Command.{Command}
+use Rattle.kc_script_bundle.specs.declared.operation.Op.{Op}
+use Rattle.kc_script_lines.proofs.Given.{given, bind_ok, wants_ok, ok_is, none_counted}
+use Rattle.kc_script_lines.specs.Tests.{◌>>=◌, wants, counted, word_at}
+use Rattle.kc_script_lines.specs.Words.{lines}
+use Rattle.kc_script_lines.specs.declared.fault.Why.TheVariants.{Header, StrayWord}
 use Rattle.kc_term.specs.Tree.{Tree, op, seq, first, trees}
-use Rattle.kc_bundle.specs.declared.object.Object.{Object}
-use Rattle.kc_bundle.specs.declared.operation.Op.{Op}
-use Rattle.kc_bundle.specs.declared.operation.Command.{Command}
-use Rattle.kc_bundle.specs.declared.operation.Command.TheVariants as command
-use Rattle.kc_bundle.specs.Script.{Names, Script}
-use Rattle.kc_verbs.specs.declared.word.Word.{Word}
-use Rattle.kc_verbs.specs.declared.word.Word.TheVariants as word
-use Rattle.kc_verbs.specs.Words.{word_of}
-use Rattle.kc_verbs.specs.Declaring.{declare, declared_by, declared}
-use Rattle.kc_verbs.specs.Saying.{said}
-use Rattle.kc_verbs.proofs.Rows.{said_says}
-use Rattle.kc_verbs.proofs.ObjectRows.{declared_declares}
-use Rattle.kc_script.specs.Spells.{Line, contents, header, thread_line, atomic_line, or_line, end_line, Declare, Block, Say, Threads, Spells}
+use Rattle.kc_script_bundle.specs.declared.operation.Command.TheVariants as command
+use Rattle.kc_script_bundle.specs.Script.{Names, Script}
+use Rattle.kc_script_verbs.specs.declared.word.Word.{Word}
+use Rattle.kc_script_verbs.specs.declared.word.Word.TheVariants as word
+use Rattle.kc_script.proofs.LineWords.{lone, thread_word}
+use Rattle.kc_script.proofs.Numbered.{then_made, part_is}
+use Rattle.kc_script.proofs.Took.{outside, at, inside, all_contents, skipping, thread_took, one_took, block_took, part_took, inner_took, other_took, ends_took, out_took, in_took}
+use Rattle.kc_script.proofs.Trees.{nested, nested_push}
 use Rattle.kc_script.specs.Blocks.{OpenBlock, in_block, with_block, or_at, end_at}
 use Rattle.kc_script.specs.Reading.{State, opening, nowhere, declared_line, said_line, begun_block, worded_line, header_line, content_line, script_at, part_read, spelled}
 use Rattle.kc_script.specs.Reading.{thread_line as opened_thread}
-use Rattle.kc_script.proofs.Numbered.{then_made, part_is}
-use Rattle.kc_script.proofs.Trees.{nested, nested_push}
-use Rattle.kc_script.proofs.LineWords.{lone, thread_word}
-use Rattle.kc_script.proofs.Took.{outside, at, inside, all_contents, skipping, thread_took, one_took, block_took, part_took, inner_took, other_took, ends_took, out_took, in_took}
+use Rattle.kc_script.specs.Spells.{Line, contents, header, thread_line, atomic_line, or_line, end_line, Declare, Block, Say, Threads, Spells}
+use Rattle.kc_script_verbs.proofs.ObjectRows.{declared_declares}
+use Rattle.kc_script_verbs.proofs.Rows.{said_says}
+use Rattle.kc_script_verbs.specs.Declaring.{declare, declared_by, declared}
+use Rattle.kc_script_verbs.specs.Saying.{said}
+use Rattle.kc_script_verbs.specs.Words.{word_of}
 
 -- ---- the lines that were read from a place in a thread
 

@@ -1,15 +1,15 @@
 -- What holds of a script that bytes spell.
 use Rattle.std.proofs.Common.{◌≡◌, ℕ, zero, suc, ◌+◌, ◌≤◌, ◌<◌, max, List, [], ◌∷◌, ◌++◌, length, get_or, refl, sym, append_assoc, ap, subst, ◌∙◌, arith, length-append}
-use Rattle.kc_term.specs.Tree.{Tree, op, trees, operations, all_operations, nesting, greatest_nesting}
-use Rattle.kc_bundle.specs.declared.operation.Op.{Op}
-use Rattle.kc_bundle.specs.declared.operation.Command.{Command}
-use Rattle.kc_bundle.specs.Script.{Names, Script, next_from, LieFrom, LiesInOrder, AreSized}
-use Rattle.kc_bundle.specs.On.{AllOn, CommandIsOn, CommandsAreOn}
-use Rattle.kc_verbs.proofs.Rows.{says_on}
+use Rattle.kc_script.proofs.Objects.{next_from_more, lies_more, sized_more}
+use Rattle.kc_script.proofs.Trees.{IsSmall}
 use Rattle.kc_script.specs.Spells.{Line, Declare, Block, Say, Threads, Spells}
 use Rattle.kc_script.specs.Threads.{AreThreads}
-use Rattle.kc_script.proofs.Trees.{IsSmall}
-use Rattle.kc_script.proofs.Objects.{next_from_more, lies_more, sized_more}
+use Rattle.kc_script_bundle.specs.On.{AllOn, CommandIsOn, CommandsAreOn}
+use Rattle.kc_script_bundle.specs.Script.{Names, Script, next_from, LieFrom, LiesInOrder, AreSized}
+use Rattle.kc_script_bundle.specs.declared.operation.Command.{Command}
+use Rattle.kc_script_bundle.specs.declared.operation.Op.{Op}
+use Rattle.kc_script_verbs.proofs.Rows.{says_on}
+use Rattle.kc_term.specs.Tree.{Tree, op, trees, operations, all_operations, nesting, greatest_nesting}
 
 -- ---- objects
 

@@ -8,10 +8,10 @@ use Rattle.std.proofs.lemmas.List.Splits.{slice_split_at, slice_split_none, slic
 use Rattle.std.proofs.lemmas.List.Elements.{All-from_recursion}
 use Rattle.std.proofs.lemmas.Str.Parse.{IsNumeralModel, numerals_by_fold}
 use Rattle.std.proofs.lemmas.Fmt.{digits_decimal, digits_value-decimal, length-decimal-le, decimal_nonempty}
-use Rattle.kc_lines.specs.Words.{is_blank, words, lines, is_skipped, is_digit, value_on}
-use Rattle.kc_verbs.specs.Canonical.{IsNumeral}
-use Rattle.kc_script.specs.Spells.{Line, contents}
 use Rattle.kc_script.specs.Canonical.{line_text, text_of_lines}
+use Rattle.kc_script.specs.Spells.{Line, contents}
+use Rattle.kc_script_lines.specs.Words.{is_blank, words, lines, is_skipped, is_digit, value_on}
+use Rattle.kc_script_verbs.specs.Canonical.{IsNumeral}
 
 -- ---- words
 

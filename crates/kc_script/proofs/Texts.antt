@@ -3,15 +3,15 @@ use Rattle.std.proofs.Common.{◌≡◌, ℕ, ◌+◌, ◌<◌, List, [], ◌∷
 use Rattle.std.specs.Prelude.{map, codes}
 use Rattle.std.specs.List.{flat_map}
 use Rattle.std.proofs.lemmas.List.{drop_more}
+use Rattle.kc_script_bundle.specs.declared.object.Object.{Object}
+use Rattle.kc_script_bundle.specs.declared.operation.Command.{Command}
+use Rattle.kc_script_bundle.specs.declared.operation.Op.{Op}
 use Rattle.kc_term.specs.Tree.{Tree, trees}
-use Rattle.kc_bundle.specs.declared.object.Object.{Object}
-use Rattle.kc_bundle.specs.declared.operation.Op.{Op}
-use Rattle.kc_bundle.specs.declared.operation.Command.{Command}
-use Rattle.kc_bundle.specs.declared.operation.Command.TheVariants as command
-use Rattle.kc_bundle.specs.Script.{Names}
-use Rattle.kc_verbs.specs.Canonical.{declaring}
-use Rattle.kc_script.specs.Spells.{Line, atomic_line, end_line}
+use Rattle.kc_script_bundle.specs.declared.operation.Command.TheVariants as command
 use Rattle.kc_script.specs.Canonical.{line_of, block_lines, parts_lines, part_lines, command_lines, thread_lines, declaration_lines, line_text, text_of_lines}
+use Rattle.kc_script.specs.Spells.{Line, atomic_line, end_line}
+use Rattle.kc_script_bundle.specs.Script.{Names}
+use Rattle.kc_script_verbs.specs.Canonical.{declaring}
 
 pub texts_join : (xs ys : List Line) → text_of_lines (xs ++ ys) ≡ text_of_lines xs ++ text_of_lines ys
 texts_join [] ys = refl

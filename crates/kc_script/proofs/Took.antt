@@ -2,28 +2,28 @@
 use Rattle.std.proofs.Common.{◌≡◌, ℕ, ◌+◌, ◌<◌, Bool, true, false, cond, not, ltb, leb, List, [], ◌∷◌, ◌++◌, length, Option, Some, None, Result, Ok, Err, refl, sym, ap, ◌∙◌, arith}
 use Rattle.std.specs.Prelude.{filter, map, codes}
 use Rattle.std.proofs.lemmas.Bool.{ltb-true, leb-true}
-use Rattle.kc_lines.specs.declared.fault.Why.{Why}
-use Rattle.kc_lines.specs.declared.fault.Why.TheVariants.{StrayWord, TooMany}
-use Rattle.kc_lines.specs.declared.fault.Limit.TheVariants.{Threads as ThreadsLimit, Commands as CommandsLimit, Block as BlockLimit, Depth}
-use Rattle.kc_lines.specs.Words.{words, lines, is_skipped}
-use Rattle.kc_lines.specs.Tests.{◌>>=◌, wants, counted}
-use Rattle.kc_lines.proofs.Given.{given, bind_ok, wants_ok, ok_is, none_counted}
+use Rattle.kc_script_bundle.specs.declared.operation.Command.{Command}
+use Rattle.kc_script_bundle.specs.declared.operation.Op.{Op}
+use Rattle.kc_script_lines.proofs.Given.{given, bind_ok, wants_ok, ok_is, none_counted}
+use Rattle.kc_script_lines.specs.Tests.{◌>>=◌, wants, counted}
+use Rattle.kc_script_lines.specs.Words.{words, lines, is_skipped}
+use Rattle.kc_script_lines.specs.declared.fault.Limit.TheVariants.{Threads as ThreadsLimit, Commands as CommandsLimit, Block as BlockLimit, Depth}
+use Rattle.kc_script_lines.specs.declared.fault.Why.{Why}
+use Rattle.kc_script_lines.specs.declared.fault.Why.TheVariants.{StrayWord, TooMany}
 use Rattle.kc_term.specs.Tree.{Tree, op, seq, trees}
-use Rattle.kc_bundle.specs.declared.operation.Op.{Op}
-use Rattle.kc_bundle.specs.declared.operation.Command.{Command}
-use Rattle.kc_bundle.specs.declared.operation.Command.TheVariants as command
-use Rattle.kc_bundle.specs.Script.{Names}
-use Rattle.kc_verbs.specs.declared.word.Word.{Word}
-use Rattle.kc_verbs.specs.declared.word.Word.TheVariants as word
-use Rattle.kc_verbs.specs.Words.{word_of}
-use Rattle.kc_verbs.specs.Saying.{say, said_by, said}
-use Rattle.kc_script.specs.Spells.{Line, thread_line, atomic_line, or_line, end_line}
+use Rattle.kc_script_bundle.specs.declared.operation.Command.TheVariants as command
+use Rattle.kc_script_bundle.specs.Script.{Names}
+use Rattle.kc_script_verbs.specs.declared.word.Word.{Word}
+use Rattle.kc_script_verbs.specs.declared.word.Word.TheVariants as word
+use Rattle.kc_script.proofs.LineWords.{lone, thread_word, atomic_word, or_word, end_word}
+use Rattle.kc_script.proofs.Trees.{nested, nest_is}
 use Rattle.kc_script.specs.Blocks.{OpenBlock, Place, block_of, counted_up, with_block, op_line, or_at, end_at}
 use Rattle.kc_script.specs.Blocks.{atomic_line as atomic_at}
 use Rattle.kc_script.specs.Reading.{State, nowhere, declared_line, said_line, begun_block, worded_line, content_line, any_line, all_lines}
 use Rattle.kc_script.specs.Reading.{thread_line as opened_thread}
-use Rattle.kc_script.proofs.Trees.{nested, nest_is}
-use Rattle.kc_script.proofs.LineWords.{lone, thread_word, atomic_word, or_word, end_word}
+use Rattle.kc_script.specs.Spells.{Line, thread_line, atomic_line, or_line, end_line}
+use Rattle.kc_script_verbs.specs.Saying.{say, said_by, said}
+use Rattle.kc_script_verbs.specs.Words.{word_of}
 
 -- behind the header, no thread is open and none was; a whole script is read, or a part of one
 abbrev pub outside : Bool → Names → State

@@ -3,18 +3,18 @@ use Rattle.std.proofs.Common.{◌≡◌, ◌≤◌, List, [], ◌∷◌, ◌++�
 use Rattle.std.proofs.lemmas.Bool.{le-leb}
 use Rattle.std.specs.Global.{Vec}
 use Rattle.std.proofs.lemmas.List.{map-append}
-use Rattle.kc_lines.specs.declared.fault.Why.{Why}
-use Rattle.kc_lines.specs.declared.fault.Why.TheVariants.{TooMany}
-use Rattle.kc_lines.specs.declared.fault.Limit.TheVariants.{Block as BlockLimit, Depth}
-use Rattle.kc_lines.specs.Tests.{◌>>=◌, wants}
-use Rattle.kc_lines.proofs.Given.{given, bind_ok, ok_is}
-use Rattle.kc_lines.specs.declared.complaint.Complaint.{Complaint}
-use Rattle.kc_lines.specs.declared.complaint.Complaint.TheVariants as complaint
-use Rattle.kc_lines.specs.Gives.{Fails}
-use Rattle.kc_script.specs.Reading.{lists}
-use Rattle.kc_term.specs.Tree.{Tree, seq, first, trees, operations, all_operations, nesting}
-use Rattle.kc_bundle.specs.declared.operation.Op.{Op}
+use Rattle.kc_script_lines.proofs.Given.{given, bind_ok, ok_is}
+use Rattle.kc_script_lines.specs.Tests.{◌>>=◌, wants}
+use Rattle.kc_script_lines.specs.declared.complaint.Complaint.{Complaint}
+use Rattle.kc_script_lines.specs.declared.fault.Limit.TheVariants.{Block as BlockLimit, Depth}
+use Rattle.kc_script_lines.specs.declared.fault.Why.{Why}
+use Rattle.kc_script_lines.specs.declared.fault.Why.TheVariants.{TooMany}
+use Rattle.kc_script_lines.specs.declared.complaint.Complaint.TheVariants as complaint
 use Rattle.kc_script.specs.Blocks.{sequence, either, in_front, nest}
+use Rattle.kc_script.specs.Reading.{lists}
+use Rattle.kc_script_bundle.specs.declared.operation.Op.{Op}
+use Rattle.kc_script_lines.specs.Gives.{Fails}
+use Rattle.kc_term.specs.Tree.{Tree, seq, first, trees, operations, all_operations, nesting}
 
 -- first of the first and the rest
 abbrev pub nested : List (List (Tree Op)) → Tree Op → Tree Op

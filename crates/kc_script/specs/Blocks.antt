@@ -1,14 +1,14 @@
 -- The lines of blocks, as the parser reads them; private to this crate. The block that is open innermost stands first.
 use Rattle.std.specs.Prelude.{ℕ, ◌+◌, Bool, true, false, List, [], ◌∷◌, ◌++◌, length, Result, Ok, Err, nat_le, nat_lt}
-use Rattle.kc_bundle.specs.declared.bundle.TheConstants.{MOST_COMMANDS}
-use Rattle.kc_lines.specs.declared.fault.Why.{Why}
-use Rattle.kc_lines.specs.declared.fault.Why.TheVariants.{StrayWord, TooMany}
-use Rattle.kc_lines.specs.declared.fault.Limit.TheVariants.{Commands as CommandsLimit, Block as BlockLimit, Depth}
-use Rattle.kc_lines.specs.Tests.{◌>>=◌, wants, counted}
+use Rattle.kc_script_bundle.specs.declared.bundle.TheConstants.{MOST_COMMANDS}
+use Rattle.kc_script_bundle.specs.declared.operation.Command.{Command}
+use Rattle.kc_script_bundle.specs.declared.operation.Op.{Op}
+use Rattle.kc_script_lines.specs.Tests.{◌>>=◌, wants, counted}
+use Rattle.kc_script_lines.specs.declared.fault.Limit.TheVariants.{Commands as CommandsLimit, Block as BlockLimit, Depth}
+use Rattle.kc_script_lines.specs.declared.fault.Why.{Why}
+use Rattle.kc_script_lines.specs.declared.fault.Why.TheVariants.{StrayWord, TooMany}
 use Rattle.kc_term.specs.Tree.{Tree, op, seq, first, trees, all_operations, nesting}
-use Rattle.kc_bundle.specs.declared.operation.Op.{Op}
-use Rattle.kc_bundle.specs.declared.operation.Command.{Command}
-use Rattle.kc_bundle.specs.declared.operation.Command.TheVariants as command
+use Rattle.kc_script_bundle.specs.declared.operation.Command.TheVariants as command
 
 -- a block that is open: the level where its lines stand, the alternatives that are done, and the parts of the one that is not
 pub record OpenBlock : Type 0 where

@@ -1,13 +1,13 @@
 -- The canonical text of a script: one space between words, no line that is skipped, numbers without leading zeros.
 use Rattle.std.specs.Prelude.{ℕ, ◌==◌, List, [], ◌∷◌, ◌++◌, map, decimal, if◌then◌else◌}
 use Rattle.std.specs.List.{flat_map}
+use Rattle.kc_script_bundle.specs.declared.operation.Command.{Command}
+use Rattle.kc_script_bundle.specs.declared.operation.Op.{Op}
 use Rattle.kc_term.specs.Tree.{Tree, op, seq, first, Trees, none, more}
-use Rattle.kc_bundle.specs.declared.operation.Op.{Op}
-use Rattle.kc_bundle.specs.declared.operation.Command.{Command}
-use Rattle.kc_bundle.specs.declared.operation.Command.TheVariants as command
-use Rattle.kc_bundle.specs.Script.{Names, Script, base}
-use Rattle.kc_verbs.specs.Canonical.{Part, words_of, declaring}
+use Rattle.kc_script_bundle.specs.declared.operation.Command.TheVariants as command
 use Rattle.kc_script.specs.Spells.{Line, header, thread_line, atomic_line, or_line, end_line}
+use Rattle.kc_script_bundle.specs.Script.{Names, Script, base}
+use Rattle.kc_script_verbs.specs.Canonical.{Part, words_of, declaring}
 
 -- the name of the object that begins at a location
 abbrev pub name_at : Names → ℕ → List ℕ

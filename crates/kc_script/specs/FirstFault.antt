@@ -2,17 +2,17 @@
 use Rattle.std.specs.Prelude.{ℕ, ◌+◌, Bool, true, false, not, ◌&&◌, List, [], ◌∷◌, ◌++◌, codes, Option, Some, None, is_some, nat_le, nat_lt, if◌then◌else◌}
 use Rattle.std.specs.Option.{option_or, option_map}
 use Rattle.std.specs.Str.{bytes_eq}
-use Rattle.kc_bundle.specs.declared.bundle.TheConstants.{MOST_COMMANDS}
-use Rattle.kc_lines.specs.declared.fault.Why.{Why}
-use Rattle.kc_lines.specs.declared.fault.Why.TheVariants.{Header, UnknownWord, StrayWord, UnclosedBlock, TooMany}
-use Rattle.kc_lines.specs.declared.fault.Limit.TheVariants.{Locations, Threads as ThreadsLimit, Commands as CommandsLimit, Block as BlockLimit, Depth}
-use Rattle.kc_lines.specs.Words.{lines, words, is_skipped}
-use Rattle.kc_lines.specs.Tests.{word_at, first_failing}
-use Rattle.kc_verbs.specs.declared.word.Word.{Word}
-use Rattle.kc_verbs.specs.declared.word.Word.TheVariants as word
-use Rattle.kc_verbs.specs.Words.{word_of}
-use Rattle.kc_verbs.specs.Fields.{Field, Kinds, kind_fields, verb_fields, args_tests, size_of}
+use Rattle.kc_script_bundle.specs.declared.bundle.TheConstants.{MOST_COMMANDS}
+use Rattle.kc_script_lines.specs.Tests.{word_at, first_failing}
+use Rattle.kc_script_lines.specs.Words.{lines, words, is_skipped}
+use Rattle.kc_script_lines.specs.declared.fault.Limit.TheVariants.{Locations, Threads as ThreadsLimit, Commands as CommandsLimit, Block as BlockLimit, Depth}
+use Rattle.kc_script_lines.specs.declared.fault.Why.{Why}
+use Rattle.kc_script_lines.specs.declared.fault.Why.TheVariants.{Header, UnknownWord, StrayWord, UnclosedBlock, TooMany}
+use Rattle.kc_script_verbs.specs.declared.word.Word.{Word}
+use Rattle.kc_script_verbs.specs.declared.word.Word.TheVariants as word
 use Rattle.kc_script.specs.Spells.{Line}
+use Rattle.kc_script_verbs.specs.Fields.{Field, Kinds, kind_fields, verb_fields, args_tests, size_of}
+use Rattle.kc_script_verbs.specs.Words.{word_of}
 
 -- a fault: its line, counted from 1, and its reason
 abbrev pub Fault : Type 0

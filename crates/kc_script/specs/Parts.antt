@@ -1,14 +1,14 @@
 -- A script in parts: a setup, which declares its objects, and for each thread a file of its commands.
 use Rattle.std.specs.Prelude.{◌≡◌, ℕ, ◌+◌, ◌≤◌, ◌<◌, false, List, [], ◌∷◌, length, Option, Some, None, if◌then◌else◌}
 use Rattle.std.specs.Option.{option_or, option_map}
-use Rattle.kc_bundle.specs.declared.bundle.TheConstants.{MOST_COMMANDS}
-use Rattle.kc_lines.specs.Words.{lines, words, is_skipped}
-use Rattle.kc_bundle.specs.declared.operation.Command.{Command}
-use Rattle.kc_bundle.specs.Script.{Names, Script}
 use Rattle.kc_script.specs.declared.part_error.PartError.{PartError}
+use Rattle.kc_script_bundle.specs.Script.{Names, Script}
+use Rattle.kc_script_bundle.specs.declared.bundle.TheConstants.{MOST_COMMANDS}
+use Rattle.kc_script_bundle.specs.declared.operation.Command.{Command}
+use Rattle.kc_script_lines.specs.Words.{lines, words, is_skipped}
 use Rattle.kc_script.specs.declared.part_error.PartError.TheVariants as error
-use Rattle.kc_script.specs.Spells.{Line, contents, header, Declare, Say}
 use Rattle.kc_script.specs.FirstFault.{Fault, Context, start, next, first_fault_from}
+use Rattle.kc_script.specs.Spells.{Line, contents, header, Declare, Say}
 
 -- behind so many threads, each file says the commands of one
 pub data Files (names : Names) : ℕ → List (List ℕ) → List (List Command) → Type 0 where

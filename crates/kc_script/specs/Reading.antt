@@ -2,35 +2,35 @@
 use Rattle.std.specs.Prelude.{◌≡◌, ℕ, ◌+◌, Bool, true, false, not, List, [], ◌∷◌, ◌++◌, length, drop, map, reverse, codes, Option, Some, None, is_some, Result, Ok, Err, nat_lt, ◌==◌, if◌then◌else◌}
 use Rattle.std.specs.Str.{bytes_eq}
 use Rattle.std.specs.Global.{Vec}
-use Rattle.kc_lines.specs.declared.fault.Why.{Why}
-use Rattle.kc_lines.specs.declared.fault.Why.TheVariants.{Header, UnknownWord, StrayWord, UnclosedBlock, TooMany}
-use Rattle.kc_lines.specs.declared.fault.Limit.TheVariants.{Threads}
-use Rattle.kc_lines.specs.declared.complaint.Complaint.{Complaint}
-use Rattle.kc_lines.specs.declared.complaint.Complaint.TheVariants as complaint
-use Rattle.kc_lines.specs.declared.fault.ScriptError.{ScriptError}
-use Rattle.kc_lines.specs.declared.fault.ScriptError.TheVariants as error
-use Rattle.kc_lines.specs.Words.{lines, words, is_skipped}
-use Rattle.kc_lines.specs.Tests.{◌>>=◌, wants, found, counted, word_at}
+use Rattle.kc_script_lines.specs.declared.complaint.Complaint.{Complaint}
+use Rattle.kc_script_lines.specs.declared.fault.Limit.TheVariants.{Threads}
+use Rattle.kc_script_lines.specs.declared.fault.Why.{Why}
+use Rattle.kc_script_lines.specs.declared.fault.Why.TheVariants.{Header, UnknownWord, StrayWord, UnclosedBlock, TooMany}
+use Rattle.kc_script_lines.specs.declared.complaint.Complaint.TheVariants as complaint
+use Rattle.kc_script_lines.specs.declared.fault.ScriptError.{ScriptError}
+use Rattle.kc_script_lines.specs.declared.fault.ScriptError.TheVariants as error
+use Rattle.kc_script_bundle.specs.Script.{Names, Script, names_of}
+use Rattle.kc_script_bundle.specs.declared.object.Object.{Object}
+use Rattle.kc_script_bundle.specs.declared.operation.Command.{Command}
+use Rattle.kc_script_bundle.specs.declared.operation.Op.{Op}
+use Rattle.kc_script_lines.specs.Tests.{◌>>=◌, wants, found, counted, word_at}
+use Rattle.kc_script_lines.specs.Words.{lines, words, is_skipped}
+use Rattle.kc_script_verbs.specs.declared.verb.Verb.{Verb}
+use Rattle.kc_script_verbs.specs.declared.word.Kind.{Kind}
+use Rattle.kc_script_verbs.specs.declared.word.Word.{Word}
 use Rattle.kc_term.specs.Tree.{Tree}
-use Rattle.kc_bundle.specs.declared.object.Object.{Object}
-use Rattle.kc_bundle.specs.declared.operation.Op.{Op}
-use Rattle.kc_bundle.specs.declared.operation.Command.{Command}
-use Rattle.kc_bundle.specs.Script.{Names, Script, names_of}
-use Rattle.kc_verbs.specs.declared.verb.Verb.{Verb}
-use Rattle.kc_verbs.specs.declared.word.Kind.{Kind}
-use Rattle.kc_verbs.specs.declared.word.Word.{Word}
-use Rattle.kc_verbs.specs.declared.word.Word.TheVariants as word
-use Rattle.kc_verbs.specs.Words.{word_of}
-use Rattle.kc_verbs.specs.Declaring.{declare}
-use Rattle.kc_verbs.specs.Saying.{say}
+use Rattle.kc_script_verbs.specs.declared.word.Word.TheVariants as word
 use Rattle.kc_script.specs.FirstFault.{Fault}
 use Rattle.kc_script.specs.Parts.{PartFault}
 use Rattle.kc_script.specs.declared.part_error.PartError.{PartError}
+use Rattle.kc_script_verbs.specs.Declaring.{declare}
+use Rattle.kc_script_verbs.specs.Saying.{say}
+use Rattle.kc_script_verbs.specs.Words.{word_of}
 use Rattle.kc_script.specs.declared.part_error.PartError.TheVariants as part_error
-use Rattle.kc_script.specs.declared.reader.Open.{Open}
-use Rattle.kc_script.specs.declared.reader.Thread.{Thread}
-use Rattle.kc_script.specs.declared.reader.Reader.{Reader}
 use Rattle.kc_script.specs.Blocks.{OpenBlock, Place, in_block, op_line, atomic_line, or_at, end_at}
+use Rattle.kc_script.specs.declared.reader.Open.{Open}
+use Rattle.kc_script.specs.declared.reader.Reader.{Reader}
+use Rattle.kc_script.specs.declared.reader.Thread.{Thread}
 
 -- ---- what the lines so far have declared and said
 

@@ -1,10 +1,10 @@
 -- Why bytes are refused.
 use Rattle.std.specs.Prelude.{◌≡◌, ℕ, List, Some}
-use Rattle.kc_lines.specs.declared.fault.ScriptError.{ScriptError}
-use Rattle.kc_lines.specs.declared.fault.ScriptError.TheVariants as error
-use Rattle.kc_bundle.specs.Script.{Script}
-use Rattle.kc_script.specs.Spells.{Spells}
+use Rattle.kc_script_lines.specs.declared.fault.ScriptError.{ScriptError}
+use Rattle.kc_script_lines.specs.declared.fault.ScriptError.TheVariants as error
 use Rattle.kc_script.specs.FirstFault.{first_fault}
+use Rattle.kc_script.specs.Spells.{Spells}
+use Rattle.kc_script_bundle.specs.Script.{Script}
 
 -- they spell no script
 abbrev pub SpellNone : List ℕ → Type 0

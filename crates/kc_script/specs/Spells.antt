@@ -1,14 +1,14 @@
 -- The grammar of bundles: which script bytes spell.
 use Rattle.std.specs.Prelude.{◌≡◌, ℕ, ◌+◌, ◌≤◌, ◌<◌, not, List, [], ◌∷◌, ◌++◌, length, filter, map, codes}
-use Rattle.kc_bundle.specs.declared.bundle.TheConstants.{MOST_COMMANDS}
-use Rattle.kc_lines.specs.Words.{lines, words, is_skipped}
+use Rattle.kc_script_bundle.specs.declared.bundle.TheConstants.{MOST_COMMANDS}
+use Rattle.kc_script_bundle.specs.declared.object.Object.{Object}
+use Rattle.kc_script_bundle.specs.declared.operation.Command.{Command}
+use Rattle.kc_script_bundle.specs.declared.operation.Op.{Op}
+use Rattle.kc_script_lines.specs.Words.{lines, words, is_skipped}
 use Rattle.kc_term.specs.Tree.{Tree, op, seq, first, trees}
-use Rattle.kc_bundle.specs.declared.object.Object.{Object}
-use Rattle.kc_bundle.specs.declared.operation.Op.{Op}
-use Rattle.kc_bundle.specs.declared.operation.Command.{Command}
-use Rattle.kc_bundle.specs.declared.operation.Command.TheVariants as command
-use Rattle.kc_bundle.specs.Script.{Names, Script}
-use Rattle.kc_verbs.specs.Canonical.{Says, Declares}
+use Rattle.kc_script_bundle.specs.declared.operation.Command.TheVariants as command
+use Rattle.kc_script_bundle.specs.Script.{Names, Script}
+use Rattle.kc_script_verbs.specs.Canonical.{Says, Declares}
 
 -- the words of a line
 abbrev pub Line : Type 0

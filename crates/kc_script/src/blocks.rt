@@ -2,13 +2,13 @@
 
 ghost use Rattle.std.specs.Prelude.{◌≡◌, ◌≤◌, ◌∷◌, [], reverse, map, IfOk, OnOk, IfSome, IfNone, Ok};
 ghost use Rattle.kc_term.specs.Tree.{op, seq, first, trees};
-ghost use Rattle.kc_lines.specs.Gives.{Gives, Reads, Reaches};
+ghost use Rattle.kc_script_lines.specs.Gives.{Gives, Reads, Reaches};
 ghost use Rattle.kc_script.specs.Blocks.{good, sequence, either, nest, block_of, in_block, counted_up, with_op, with_block, op_line, level_here, atomic_line, or_at, end_at};
 ghost use Rattle.kc_script.specs.Reading.{lists, open_of, place_of, nowhere};
 
 use crate::reader::{Open, Thread};
-use kc_bundle::{Command, MOST_COMMANDS, Op};
-use kc_lines::{Complaint, Limit, Why, counted, wants};
+use kc_script_bundle::{Command, MOST_COMMANDS, Op};
+use kc_script_lines::{Complaint, Limit, Why, counted, wants};
 use kc_term::{Term, TermError};
 use std::alloc::{AllocError, Global};
 use std::mem;

@@ -2,14 +2,14 @@
 
 ghost use Rattle.std.specs.Prelude.{◌≡◌, ◌++◌, ◌∷◌, [], drop};
 ghost use Rattle.kc_model.specs.Pen.{Puts};
-ghost use Rattle.kc_bundle.specs.Script.{names_of};
-ghost use Rattle.kc_verbs.specs.Canonical.{declaring};
+ghost use Rattle.kc_script_bundle.specs.Script.{names_of};
+ghost use Rattle.kc_script_verbs.specs.Canonical.{declaring};
 ghost use Rattle.kc_script.specs.Canonical.{declaration_lines, line_of, line_text, text_of_lines};
 
 use crate::shapes::{put_named, put_number, put_numbers};
 use indexmap::IndexMap;
-use kc_bundle::Object;
 use kc_model::{Pen, Sink};
+use kc_script_bundle::Object;
 
 // The line that declares an object, without its end.
 fn put_declaration<K: Sink>(pen: &mut Pen<K>, name: &[u8], object: Object)

@@ -1,10 +1,10 @@
 //! What holds of the grammar.
 
 ghost use Rattle.std.specs.Prelude.{◌≡◌, ◌≤◌, ℕ, List, ◌∷◌, length, true, Some, None, Result, Ok, IfOk, IfErr};
-ghost use Rattle.kc_lines.specs.declared.fault.ScriptError.{ScriptError};
-ghost use Rattle.kc_lines.specs.declared.fault.ScriptError.TheVariants.{NoMemory};
-ghost use Rattle.kc_bundle.specs.declared.bundle.Bundle.{Bundle};
-ghost use Rattle.kc_bundle.specs.Script.{Script, script_of, LiesInOrder, AreSized};
+ghost use Rattle.kc_script_lines.specs.declared.fault.ScriptError.{ScriptError};
+ghost use Rattle.kc_script_lines.specs.declared.fault.ScriptError.TheVariants.{NoMemory};
+ghost use Rattle.kc_script_bundle.specs.declared.bundle.Bundle.{Bundle};
+ghost use Rattle.kc_script_bundle.specs.Script.{Script, script_of, LiesInOrder, AreSized};
 ghost use Rattle.kc_script.specs.Spells.{Spells};
 ghost use Rattle.kc_script.specs.Canonical.{canonical_text};
 ghost use Rattle.kc_script.specs.FirstFault.{Fault, first_fault};
@@ -14,7 +14,7 @@ ghost use Rattle.kc_script.specs.Threads.{AreThreads};
 ghost use Rattle.kc_script.specs.Blocks.{OpenBlock, block_of};
 ghost use Rattle.kc_script.specs.Reading.{State, opening, all_lines};
 ghost use Rattle.kc_term.specs.Tree.{Tree};
-ghost use Rattle.kc_bundle.specs.declared.operation.Op.{Op};
+ghost use Rattle.kc_script_bundle.specs.declared.operation.Op.{Op};
 
 /// Bytes spell at most one bundle.
 pub fn bytes_spell_one()

@@ -1,11 +1,11 @@
 //! The names of objects, by where they lie.
 
 ghost use Rattle.std.specs.Prelude.{◌≡◌};
-ghost use Rattle.kc_bundle.specs.Script.{names_of, base, LieFrom, AreSized};
+ghost use Rattle.kc_script_bundle.specs.Script.{names_of, base, LieFrom, AreSized};
 ghost use Rattle.kc_script.specs.Canonical.{name_at};
 
 use indexmap::IndexMap;
-use kc_bundle::Object;
+use kc_script_bundle::Object;
 
 // The first location of an object.
 fn base_of(object: Object) -> u32

@@ -1,13 +1,13 @@
 //! Reading a bundle.
 
 ghost use Rattle.std.specs.Prelude.{◌≤◌, length, IfOk, IfErr};
-ghost use Rattle.kc_bundle.specs.Script.{script_of};
+ghost use Rattle.kc_script_bundle.specs.Script.{script_of};
 ghost use Rattle.kc_script.specs.Spells.{Spells};
 ghost use Rattle.kc_script.specs.Refused.{Refused};
 
 use crate::reading::read;
-use kc_bundle::Bundle;
-use kc_lines::ScriptError;
+use kc_script_bundle::Bundle;
+use kc_script_lines::ScriptError;
 use std::alloc::Global;
 
 /// How many bytes a bundle may have.

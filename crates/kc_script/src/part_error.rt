@@ -1,7 +1,7 @@
 ghost use Rattle.std.specs.Prelude.{◌≡◌};
 ghost use Rattle.kc_script.specs.declared.part_error.PartError.TheVariants.{NoMemory};
 
-use kc_lines::Why;
+use kc_script_lines::Why;
 use std::alloc::AllocError;
 
 /// Why the parts of a script were not read as a bundle. The setup is part 0, the files are the parts from 1 on, and a line is

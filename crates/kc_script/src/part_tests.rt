@@ -1,9 +1,9 @@
 use crate::*;
-use kc_bundle::{Bundle, Command, Op};
 use kc_cells::{AccAct, AccOp, Accumulator};
-use kc_lines::{Limit, Why};
 use kc_loc::LocOp;
 use kc_model::Loc;
+use kc_script_bundle::{Bundle, Command, Op};
+use kc_script_lines::{Limit, Why};
 use std::test::Fail;
 
 // What is read of a setup and two files.

@@ -1,13 +1,13 @@
 //! Reading a bundle from parts.
 
 ghost use Rattle.std.specs.Prelude.{◌≤◌, length, map, All, IfOk, IfErr};
-ghost use Rattle.kc_bundle.specs.Script.{script_of};
+ghost use Rattle.kc_script_bundle.specs.Script.{script_of};
 ghost use Rattle.kc_script.specs.Parts.{SpellsParts, PartsRefused};
 
 use crate::parser::MOST_BYTES;
 use crate::part_error::PartError;
 use crate::reading::read_parts;
-use kc_bundle::Bundle;
+use kc_script_bundle::Bundle;
 use std::alloc::Global;
 
 /// The bundle that a setup and files spell, a file for each thread. Parts that spell none are refused with their first fault:

@@ -2,14 +2,14 @@
 
 ghost use Rattle.std.specs.Prelude.{ℕ, List};
 ghost use Rattle.kc_model.specs.Pen.{Prints};
-ghost use Rattle.kc_bundle.specs.Script.{script_of};
+ghost use Rattle.kc_script_bundle.specs.Script.{script_of};
 ghost use Rattle.kc_script.specs.Spells.{Spells};
 ghost use Rattle.kc_script.specs.Canonical.{canonical_text};
 
 use crate::declared::put_declarations;
 use crate::printing::put_threads;
-use kc_bundle::Bundle;
 use kc_model::{Failed, Pen, Sink};
+use kc_script_bundle::Bundle;
 
 /// Writes the canonical text of a bundle that some bytes spell: one space between words, no line that is skipped, numbers
 /// without leading zeros. It spells the bundle too. After a failed write no further one is made.

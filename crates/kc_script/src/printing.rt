@@ -3,15 +3,15 @@
 ghost use Rattle.std.specs.Prelude.{◌++◌, ◌∷◌, [], map};
 ghost use Rattle.kc_model.specs.Pen.{Puts};
 ghost use Rattle.kc_term.specs.Tree.{first, trees};
-ghost use Rattle.kc_bundle.specs.Script.{names_of, LieFrom, AreSized};
-ghost use Rattle.kc_bundle.specs.declared.operation.Command.TheVariants as command;
+ghost use Rattle.kc_script_bundle.specs.Script.{names_of, LieFrom, AreSized};
+ghost use Rattle.kc_script_bundle.specs.declared.operation.Command.TheVariants as command;
 ghost use Rattle.kc_script.specs.Spells.{atomic_line, end_line};
 ghost use Rattle.kc_script.specs.Canonical.{op_line, block_lines, parts_lines, part_lines, command_lines, thread_lines, text_of_lines};
 
 use crate::said::put_op;
 use indexmap::IndexMap;
-use kc_bundle::{Command, Object, Op};
 use kc_model::{Pen, Sink};
+use kc_script_bundle::{Command, Object, Op};
 use kc_term::{Node, Term};
 
 fn put_op_line<K: Sink>(pen: &mut Pen<K>, objects: &IndexMap<String, Object>, operation: Op)

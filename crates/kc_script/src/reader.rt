@@ -1,10 +1,10 @@
 ghost use Rattle.std.specs.Prelude.{◌≡◌, ◌≤◌, ◌<◌, IfSome};
 ghost use Rattle.std.proofs.Props.{props};
 ghost use Rattle.kc_model.specs.declared.plain_store.TheConstants.{MOST_LOCATIONS};
-ghost use Rattle.kc_bundle.specs.Script.{next_from, names_of};
+ghost use Rattle.kc_script_bundle.specs.Script.{next_from, names_of};
 
 use indexmap::IndexMap;
-use kc_bundle::{Command, Object, Op};
+use kc_script_bundle::{Command, Object, Op};
 use kc_term::Term;
 use std::alloc::Global;
 

@@ -1,11 +1,11 @@
 //! Reading line by line.
 
 ghost use Rattle.std.specs.Prelude.{◌≡◌, ◌≤◌, ◌<◌, ◌+◌, length, map, reverse, All, None, IfOk, OnOk};
-ghost use Rattle.kc_bundle.specs.Script.{script_of, names_of};
-ghost use Rattle.kc_lines.specs.Words.{words};
-ghost use Rattle.kc_lines.specs.Gives.{Arrives, Reaches};
-ghost use Rattle.kc_verbs.specs.Objects.{object_of};
-ghost use Rattle.kc_verbs.specs.Declaring.{IsAt};
+ghost use Rattle.kc_script_bundle.specs.Script.{script_of, names_of};
+ghost use Rattle.kc_script_lines.specs.Words.{words};
+ghost use Rattle.kc_script_lines.specs.Gives.{Arrives, Reaches};
+ghost use Rattle.kc_script_verbs.specs.Objects.{object_of};
+ghost use Rattle.kc_script_verbs.specs.Declaring.{IsAt};
 ghost use Rattle.kc_script.specs.Blocks.{in_block};
 ghost use Rattle.kc_script.specs.Reading.{state_of, opening, with_object, closed, begun_thread, next_thread, no_block, placed, declared_line, said_line, begun_block, thread_line, worded_line, header_line, content_line, any_line, ended, script_at, atomics_behind, atomics_after, atomics_next, nearest, at_line, read_from, part_read, spelled, files_read, parts_read, spelled_parts, of_part, in_a_part, complained, Comes, Ends, Spelled, PartComes, PartsSpelled};
 
@@ -14,18 +14,18 @@ use crate::parser::MOST_BYTES;
 use crate::part_error::PartError;
 use crate::reader::Reader;
 use indexmap::IndexMap;
-use kc_bundle::{Bundle, Object, cells};
-use kc_lines::{
+use kc_script_bundle::{Bundle, Object, cells};
+use kc_script_lines::{
     Complaint, Limit, ScriptError, Why, counted, is_skipped, lines_of, wants, word_at, words_of,
 };
-use kc_verbs::{Kind, Verb, Word, add, declare, say, word_of};
+use kc_script_verbs::{Kind, Verb, Word, add, declare, say, word_of};
 use std::alloc::{AllocError, Global};
 use std::mem;
 
 /// How many threads a bundle may have.
 const MOST_THREADS: u32 = 16;
 
-#[tactic(auto, unfolding(kc_bundle::specs::Script::next_from))]
+#[tactic(auto, unfolding(kc_script_bundle::specs::Script::next_from))]
 fn open(alloc: Global, whole: bool) -> Reader
     ensures { state_of result ≡ opening whole }
 {

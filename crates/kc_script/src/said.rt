@@ -2,20 +2,20 @@
 
 ghost use Rattle.std.specs.Prelude.{◌≡◌, ◌++◌, ◌∷◌, [], codes};
 ghost use Rattle.kc_model.specs.Pen.{Puts};
-ghost use Rattle.kc_bundle.specs.Script.{names_of, LieFrom, AreSized};
-ghost use Rattle.kc_verbs.specs.Canonical.{fun_words, rel_word, loc_words, stack_words, queue_words, table_words, mvar_words, promise_words, acc_words, cache_words};
+ghost use Rattle.kc_script_bundle.specs.Script.{names_of, LieFrom, AreSized};
+ghost use Rattle.kc_script_verbs.specs.Canonical.{fun_words, rel_word, loc_words, stack_words, queue_words, table_words, mvar_words, promise_words, acc_words, cache_words};
 ghost use Rattle.kc_script.specs.Canonical.{line_of, op_line, line_text};
 
 use crate::naming::name_at;
 use crate::shapes::{put_choice, put_named, put_number, put_numbers};
 use indexmap::IndexMap;
-use kc_bundle::{Object, Op};
 use kc_cache::{CacheAct, CacheOp};
 use kc_cells::{AccAct, AccOp, MvarAct, MvarOp, PromiseAct, PromiseOp};
 use kc_hash::{HashAct, HashOp};
 use kc_loc::{Fun, LocOp, Rel};
 use kc_model::{Pen, Sink};
 use kc_queue::{QueueAct, QueueOp};
+use kc_script_bundle::{Object, Op};
 use kc_stack::{StackAct, StackOp};
 
 fn rel_word(rel: Rel) -> &'static [u8]

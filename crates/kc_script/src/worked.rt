@@ -1,7 +1,7 @@
 //! What the definitions come to, on scripts small enough to work by hand.
 
 ghost use Rattle.std.specs.Prelude.{◌≡◌, ◌∷◌, [], codes, Some, None};
-ghost use Rattle.kc_lines.specs.declared.fault.Why.TheVariants.{Header, StrayWord, UnclosedBlock, UnknownName};
+ghost use Rattle.kc_script_lines.specs.declared.fault.Why.TheVariants.{Header, StrayWord, UnclosedBlock, UnknownName};
 ghost use Rattle.kc_script.specs.Parts.{first_fault_in_parts};
 
 /// A setup with one location and two files. Where both add to it nothing is wrong; where the second adds to another location,

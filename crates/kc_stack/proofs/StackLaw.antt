@@ -3,19 +3,19 @@ use Rattle.std.proofs.Common.{arith, true, false, Bool, ◌≢◌}
 use Rattle.std.specs.Prelude.{Result, ◌==◌}
 use borrow.Author.Tests.{eqb-false}
 use Rattle.kc_model.specs.declared.reply.Reply.{Reply}
-use Rattle.kc_xt.specs.declared.stop.Stop.{Stop}
-use Rattle.kc_xt.specs.Log.{Log}
-use Rattle.kc_xt.specs.Steps.{Does}
-use Rattle.kc_xt.specs.Peeks.{Gives}
-use Rattle.kc_xt.specs.Law.{Obeys}
-use Rattle.kc_xt.specs.Program.{replies}
-use Rattle.kc_xt.specs.Stays.{Stays}
+use Rattle.kc_stack.specs.Meaning.{pop_program, stack_program, stack_meaning, stack_begin, stack_end, cells_end, counted}
+use Rattle.kc_stack.specs.declared.operation.StackAct.{StackAct}
+use Rattle.kc_stack.specs.declared.operation.StackOp.{StackOp}
+use Rattle.kc_stack.specs.declared.stack.Stack.{Stack}
 use Rattle.kc_xt.proofs.Laws.{TouchesFirst}
 use Rattle.kc_xt.proofs.Stay.{stays_if, stays_test, stays_law}
-use Rattle.kc_stack.specs.Meaning.{pop_program, stack_program, stack_meaning, stack_begin, stack_end, cells_end, counted}
-use Rattle.kc_stack.specs.declared.stack.Stack.{Stack}
-use Rattle.kc_stack.specs.declared.operation.StackOp.{StackOp}
-use Rattle.kc_stack.specs.declared.operation.StackAct.{StackAct}
+use Rattle.kc_xt.specs.Law.{Obeys}
+use Rattle.kc_xt.specs.Log.{Log}
+use Rattle.kc_xt.specs.Peeks.{Gives}
+use Rattle.kc_xt.specs.Program.{replies}
+use Rattle.kc_xt.specs.Stays.{Stays}
+use Rattle.kc_xt.specs.Steps.{Does}
+use Rattle.kc_xt.specs.declared.stop.Stop.{Stop}
 use Rattle.kc_stack.specs.declared.operation.StackAct.TheVariants as act
 
 pop_stays : (s : Stack) (w : Bool) → Stays s.base.0 (cells_end s) (pop_program s w replies)

@@ -1,10 +1,10 @@
 -- What the cells of a stack stand for.
 use Rattle.std.proofs.Common.{◌≡◌, ◌+◌, [], length, sym, ap, ◌∙◌, arith}
 use Rattle.std.proofs.lemmas.List.{ext_get_or}
-use Rattle.kc_xt.specs.Structure.{ContentIsOne, DependsOnItsCells, Opens}
-use Rattle.kc_stack.specs.declared.stack.Stack.{Stack}
-use Rattle.kc_stack.specs.Meaning.{cells_end, stack_cells}
 use Rattle.kc_stack.specs.Content.{StandsFor, stack_opening}
+use Rattle.kc_stack.specs.Meaning.{cells_end, stack_cells}
+use Rattle.kc_stack.specs.declared.stack.Stack.{Stack}
+use Rattle.kc_xt.specs.Structure.{ContentIsOne, DependsOnItsCells, Opens}
 
 -- it depends on these cells alone
 pub stack_own : (s : Stack) → DependsOnItsCells (StandsFor s) s.base.0 (cells_end s)

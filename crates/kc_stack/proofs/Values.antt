@@ -9,18 +9,18 @@ use Rattle.std.proofs.Math.Seq.{get_or-append_seam}
 use borrow.Author.Tests.{eqb-false}
 use Rattle.kc_model.specs.declared.reply.Reply.{Reply}
 use Rattle.kc_model.specs.declared.reply.Reply.TheVariants as reply
+use Rattle.kc_stack.specs.declared.operation.StackAct.{StackAct}
+use Rattle.kc_stack.specs.declared.stack.Stack.{Stack}
+use Rattle.kc_xt.proofs.Inside.{GoesTo, runs_to}
+use Rattle.kc_xt.proofs.Structures.{runs_means}
 use Rattle.kc_xt.specs.Meaning.{Outcome, replied, retried, put}
 use Rattle.kc_xt.specs.Program.{Program, plain, retries, read, write}
 use Rattle.kc_xt.specs.Structure.{Value, comes_to, goes_on, RunsInsideOthers, MeansItsValue}
-use Rattle.kc_xt.proofs.Inside.{GoesTo, runs_to}
-use Rattle.kc_xt.proofs.Structures.{runs_means}
-use Rattle.kc_stack.specs.declared.stack.Stack.{Stack}
-use Rattle.kc_stack.specs.declared.operation.StackAct.{StackAct}
 use Rattle.kc_stack.specs.declared.operation.StackAct.TheVariants as act
-use Rattle.kc_stack.specs.declared.operation.StackOp.{StackOp}
-use Rattle.kc_stack.specs.Meaning.{stack_program, stack_meaning, stack_begin, stack_end, counted}
-use Rattle.kc_stack.specs.Content.{StandsFor, stack_value, top_of}
 use Rattle.kc_stack.proofs.StackLaw.{stack_stays}
+use Rattle.kc_stack.specs.Content.{StandsFor, stack_value, top_of}
+use Rattle.kc_stack.specs.Meaning.{stack_program, stack_meaning, stack_begin, stack_end, counted}
+use Rattle.kc_stack.specs.declared.operation.StackOp.{StackOp}
 
 module _ (s : Stack) (m : ℕ → ℕ) (items : List ℕ) (stands : StandsFor s m items) where
   counts : counted s (m s.base.0) ≡ length items

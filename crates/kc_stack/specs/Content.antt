@@ -1,10 +1,10 @@
 -- A stack as the list of its items, the top last.
 use Rattle.std.specs.Prelude.{◌≡◌, ℕ, ◌+◌, ◌-◌, ◌<◌, ◌≤◌, ◌==◌, cond, List, [], ◌∷◌, ◌++◌, length, take, slice_index}
 use Rattle.kc_model.specs.declared.reply.Reply.TheVariants as reply
+use Rattle.kc_stack.specs.declared.operation.StackAct.{StackAct}
+use Rattle.kc_stack.specs.declared.stack.Stack.{Stack}
 use Rattle.kc_xt.specs.Meaning.{Outcome, replied, retried}
 use Rattle.kc_xt.specs.Structure.{Value, comes_to}
-use Rattle.kc_stack.specs.declared.stack.Stack.{Stack}
-use Rattle.kc_stack.specs.declared.operation.StackAct.{StackAct}
 use Rattle.kc_stack.specs.declared.operation.StackAct.TheVariants as act
 
 -- the cells stand for these items

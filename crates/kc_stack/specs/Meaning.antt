@@ -2,11 +2,11 @@
 use Rattle.std.specs.Prelude.{ℕ, ◌+◌, ◌-◌, ◌==◌, min, Bool, true, false, cond}
 use Rattle.kc_model.specs.declared.reply.Reply.{Reply}
 use Rattle.kc_model.specs.declared.reply.Reply.TheVariants as reply
+use Rattle.kc_stack.specs.declared.operation.StackAct.{StackAct}
+use Rattle.kc_stack.specs.declared.operation.StackOp.{StackOp}
+use Rattle.kc_stack.specs.declared.stack.Stack.{Stack}
 use Rattle.kc_xt.specs.Meaning.{Meaning}
 use Rattle.kc_xt.specs.Program.{Program, read, write, retries, replies, meaning}
-use Rattle.kc_stack.specs.declared.stack.Stack.{Stack}
-use Rattle.kc_stack.specs.declared.operation.StackOp.{StackOp}
-use Rattle.kc_stack.specs.declared.operation.StackAct.{StackAct}
 use Rattle.kc_stack.specs.declared.operation.StackAct.TheVariants as act
 
 -- how many cells it has

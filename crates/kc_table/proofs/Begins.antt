@@ -4,31 +4,31 @@ use Rattle.std.proofs.lemmas.List.Elements.{All-push}
 use borrow.Author.Tests.{eqb-true, eqb-false}
 use Rattle.atomic_table.specs.Seated.{TableId}
 use Rattle.atomic_table.specs.Table.{Me}
-use Rattle.kc_steps.specs.declared.task.Task.{Task}
-use Rattle.kc_steps.specs.declared.task.Event.{Event}
-use Rattle.kc_steps.specs.declared.task.Event.TheVariants.{Begin, Halt}
-use Rattle.kc_machine.specs.declared.seat.Seat.{Seat}
-use Rattle.kc_machine.specs.Seats.{begun, halted, is_idle}
 use Rattle.kc_machine.specs.Machine.{Opening, run}
 use Rattle.kc_machine.specs.Schedules.{BeginsWellMade, IsWellMadeTask}
-use Rattle.kc_seats.specs.Seated.{SeatsStay}
-use Rattle.kc_claims.specs.Histories.{Grows}
-use Rattle.kc_claims.specs.Traces.{first_store, BeginsHonestly}
-use Rattle.kc_traces.specs.Moments.{BeginsNothing}
-use Rattle.kc_traces.specs.Parts.{NoneOf}
-use Rattle.kc_views.specs.Pending.{AllWait, applied, HonestAt, BeginsAsMarked, Pends}
-use Rattle.kc_views.specs.Known.{IsMeant, IsPrefix, known}
-use Rattle.kc_views.proofs.Pendings.{all_front, waits_push, waits_front, waits_back, honest_push, honest_before, nothing_push, applied-append, waits_seat}
-use Rattle.kc_views.proofs.Knowing.{grows_on}
-use Rattle.kc_views.proofs.Beginnings.{begun_again}
-use Rattle.kc_layout.specs.Cells.{place, signal_bit}
-use Rattle.kc_layout.specs.Cells.Cell.{signal}
-use Rattle.kc_moves.specs.Origins.{opening_of}
-use Rattle.kc_moves.specs.declared.view.View.{View}
-use Rattle.kc_moves.specs.Rule.{part, view, number_of, past_of, Ready, Merged, Heard}
-use Rattle.kc_moves.specs.Views.{TableView, SeatView, NoteView, KnowsReads, Starts, Learns, Joined, Signalled}
-use Rattle.kc_moves.specs.Views.{seen_as}
-use Rattle.kc_moves.proofs.Allowed.{pends_on}
+use Rattle.kc_machine.specs.Seats.{begun, halted, is_idle}
+use Rattle.kc_machine.specs.declared.seat.Seat.{Seat}
+use Rattle.kc_machine_claims.specs.Histories.{Grows}
+use Rattle.kc_machine_claims.specs.Traces.{first_store, BeginsHonestly}
+use Rattle.kc_machine_seats.specs.Seated.{SeatsStay}
+use Rattle.kc_machine_steps.specs.declared.task.Event.{Event}
+use Rattle.kc_machine_steps.specs.declared.task.Event.TheVariants.{Begin, Halt}
+use Rattle.kc_machine_steps.specs.declared.task.Task.{Task}
+use Rattle.kc_machine_traces.specs.Moments.{BeginsNothing}
+use Rattle.kc_machine_traces.specs.Parts.{NoneOf}
+use Rattle.kc_table_layout.specs.Cells.{place, signal_bit}
+use Rattle.kc_table_layout.specs.Cells.Cell.{signal}
+use Rattle.kc_table_moves.proofs.Allowed.{pends_on}
+use Rattle.kc_table_moves.specs.Origins.{opening_of}
+use Rattle.kc_table_moves.specs.Rule.{part, view, number_of, past_of, Ready, Merged, Heard}
+use Rattle.kc_table_moves.specs.Views.{TableView, SeatView, NoteView, KnowsReads, Starts, Learns, Joined, Signalled}
+use Rattle.kc_table_moves.specs.Views.{seen_as}
+use Rattle.kc_table_moves.specs.declared.view.View.{View}
+use Rattle.kc_table_views.proofs.Beginnings.{begun_again}
+use Rattle.kc_table_views.proofs.Knowing.{grows_on}
+use Rattle.kc_table_views.proofs.Pendings.{all_front, waits_push, waits_front, waits_back, honest_push, honest_before, nothing_push, applied-append, waits_seat}
+use Rattle.kc_table_views.specs.Known.{IsMeant, IsPrefix, known}
+use Rattle.kc_table_views.specs.Pending.{AllWait, applied, HonestAt, BeginsAsMarked, Pends}
 
 -- ---- beginnings and halts
 

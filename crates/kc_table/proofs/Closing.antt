@@ -6,26 +6,26 @@ use mathlib.Core.Option.{some}
 use lib.ListN.{get_elem?}
 use Rattle.std.specs.Option.{is_some}
 use Rattle.atomic_table.specs.Table as table
-use Rattle.kc_model.specs.declared.word.Word.TheVariants.{Plain}
-use Rattle.kc_model.specs.Word.{IsPackable, packed, unpacked}
-use Rattle.kc_steps.specs.declared.task.Event.{Event}
-use Rattle.kc_machine.specs.declared.seat.Seat.{Seat}
-use Rattle.kc_machine.specs.Seats.{own_of}
 use Rattle.kc_machine.specs.Machine.{Opening}
-use Rattle.kc_claims.specs.Histories.{ending}
-use Rattle.kc_claims.specs.Traces.{first_store}
-use Rattle.kc_traces.proofs.Others.{others_leave}
-use Rattle.kc_views.specs.Known.{known, IsMeant, IsWhole, OwnsNone}
-use Rattle.kc_views.proofs.Knowing.{plain_words}
-use Rattle.kc_layout.specs.Cells.{place}
-use Rattle.kc_layout.specs.Cells.Cell.{word}
-use Rattle.kc_moves.specs.Origins.{Origin, opening_of}
-use Rattle.kc_moves.specs.declared.view.Part.{Part}
-use Rattle.kc_moves.specs.declared.view.View.{View}
-use Rattle.kc_moves.specs.Rule.{EachFits, Kept}
-use Rattle.kc_moves.specs.Views.{TableView, SeatView, ClosedView, AreAll, IsClosed, IsPart, Matches, numbers, count_from, seen_at, seen_in, seen_of}
-use Rattle.kc_table.proofs.Loads.{unpacked_plain}
+use Rattle.kc_machine.specs.Seats.{own_of}
+use Rattle.kc_machine.specs.declared.seat.Seat.{Seat}
+use Rattle.kc_machine_claims.specs.Histories.{ending}
+use Rattle.kc_machine_claims.specs.Traces.{first_store}
+use Rattle.kc_machine_steps.specs.declared.task.Event.{Event}
+use Rattle.kc_machine_traces.proofs.Others.{others_leave}
+use Rattle.kc_model.specs.Word.{IsPackable, packed, unpacked}
+use Rattle.kc_model.specs.declared.word.Word.TheVariants.{Plain}
 use Rattle.kc_table.proofs.Gathered.{is_past}
+use Rattle.kc_table.proofs.Loads.{unpacked_plain}
+use Rattle.kc_table_layout.specs.Cells.{place}
+use Rattle.kc_table_layout.specs.Cells.Cell.{word}
+use Rattle.kc_table_moves.specs.Origins.{Origin, opening_of}
+use Rattle.kc_table_moves.specs.Rule.{EachFits, Kept}
+use Rattle.kc_table_moves.specs.Views.{TableView, SeatView, ClosedView, AreAll, IsClosed, IsPart, Matches, numbers, count_from, seen_at, seen_in, seen_of}
+use Rattle.kc_table_moves.specs.declared.view.Part.{Part}
+use Rattle.kc_table_moves.specs.declared.view.View.{View}
+use Rattle.kc_table_views.proofs.Knowing.{plain_words}
+use Rattle.kc_table_views.specs.Known.{known, IsMeant, IsWhole, OwnsNone}
 
 -- no seat owns anything
 none_owned : (o : Opening) (es : List Event) (ps : List Part) (ss : List SeatView) (j n k : ℕ) → EachFits o es ps → Matches o ps ss → numbers ss ≡ count_from j n → j ≤ k → k < j + n → OwnsNone o k es

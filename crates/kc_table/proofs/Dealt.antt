@@ -1,21 +1,21 @@
 -- Seats as they are opened.
 use Rattle.std.proofs.Common.{false, ◌≡◌, ℕ, zero, suc, ◌+◌, ◌-◌, ◌*◌, ◌<◌, ◌≤◌, List, [], ◌∷◌, ◌++◌, length, get_or, sym, ap, ◌∙◌, subst, arith}
 use Rattle.atomic_table.specs.Table.{Me}
-use Rattle.kc_machine.specs.declared.seat.Seat.{Seat}
-use Rattle.kc_machine.specs.Seats.{fresh}
 use Rattle.kc_machine.specs.Machine.{pool_size, opened}
-use Rattle.kc_model.specs.declared.word.Word.TheVariants.{Plain}
+use Rattle.kc_machine.specs.Seats.{fresh}
+use Rattle.kc_machine.specs.declared.seat.Seat.{Seat}
 use Rattle.kc_model.specs.Word.{unpacked}
-use Rattle.kc_layout.specs.Opened.{opening_at}
-use Rattle.kc_layout.specs.Cells.{Stores}
-use Rattle.kc_layout.specs.Cells.Cell.{word}
+use Rattle.kc_model.specs.declared.word.Word.TheVariants.{Plain}
+use Rattle.kc_table_layout.specs.Cells.{Stores}
+use Rattle.kc_table_layout.specs.Cells.Cell.{word}
+use Rattle.kc_table_layout.specs.Opened.{opening_at}
 use Rattle.atomic_table.specs.Seated.{TableId}
-use Rattle.kc_moves.specs.Origins.{Origin, Opens, word_in, version_in, value_in}
-use Rattle.kc_moves.specs.declared.view.View.{View}
-use Rattle.kc_moves.specs.Rule.{number_of, past_of, part, view, fresh_parts, Ready}
-use Rattle.kc_moves.specs.Views.{TableView, SeatView, OpensAt, opened_seats}
-use Rattle.kc_moves.specs.Views.{seen_as}
 use Rattle.kc_table.proofs.Loads.{in_range, opening_words, unpacked_plain}
+use Rattle.kc_table_moves.specs.Origins.{Origin, Opens, word_in, version_in, value_in}
+use Rattle.kc_table_moves.specs.Rule.{number_of, past_of, part, view, fresh_parts, Ready}
+use Rattle.kc_table_moves.specs.Views.{TableView, SeatView, OpensAt, opened_seats}
+use Rattle.kc_table_moves.specs.Views.{seen_as}
+use Rattle.kc_table_moves.specs.declared.view.View.{View}
 
 pub parts_next : (k e : ℕ) → k < e → fresh_parts k (e - k) ≡ part k [] ∷ fresh_parts (k + 1) (e - (k + 1))
 parts_next k e lt =

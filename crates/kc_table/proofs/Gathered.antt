@@ -4,18 +4,18 @@ use Rattle.std.specs.Prelude.{All}
 use Rattle.std.proofs.lemmas.List.Elements.{All-head, All-tail}
 use Rattle.atomic_table.specs.Seated.{TableId}
 use Rattle.atomic_table.specs.Table.{Me}
-use Rattle.kc_steps.specs.declared.task.Event.{Event}
-use Rattle.kc_machine.specs.declared.seat.Seat.{Seat}
-use Rattle.kc_machine.specs.Seats.{is_idle}
 use Rattle.kc_machine.specs.Machine.{Opening}
-use Rattle.kc_views.specs.Known.{known, IsMeant, GoesOn, KnowsAPart, OwnsNone}
-use Rattle.kc_views.proofs.Knowing.{idle_owns_none, knows_a_part, whole}
-use Rattle.kc_moves.specs.Origins.{Origin, opening_of}
-use Rattle.kc_moves.specs.declared.view.Part.{Part}
-use Rattle.kc_moves.specs.declared.view.View.{View}
-use Rattle.kc_moves.specs.Rule.{number_of, past_of, part, Fits, EachFits, Ready}
-use Rattle.kc_moves.specs.Views.{TableView, SeatView, Matches, IsPart, IsPast, AreAll}
-use Rattle.kc_moves.specs.Views.{seen_as}
+use Rattle.kc_machine.specs.Seats.{is_idle}
+use Rattle.kc_machine.specs.declared.seat.Seat.{Seat}
+use Rattle.kc_machine_steps.specs.declared.task.Event.{Event}
+use Rattle.kc_table_moves.specs.Origins.{Origin, opening_of}
+use Rattle.kc_table_moves.specs.Rule.{number_of, past_of, part, Fits, EachFits, Ready}
+use Rattle.kc_table_moves.specs.Views.{TableView, SeatView, Matches, IsPart, IsPast, AreAll}
+use Rattle.kc_table_moves.specs.Views.{seen_as}
+use Rattle.kc_table_moves.specs.declared.view.Part.{Part}
+use Rattle.kc_table_moves.specs.declared.view.View.{View}
+use Rattle.kc_table_views.proofs.Knowing.{idle_owns_none, knows_a_part, whole}
+use Rattle.kc_table_views.specs.Known.{known, IsMeant, GoesOn, KnowsAPart, OwnsNone}
 
 matches-more : (o : Opening) (ps : List Part) (ss : List SeatView) (p : Part) (s : SeatView) → Matches o ps ss → p.number ≡ s.number → p.past ≡ s.past → OwnsNone o p.number p.past → Matches o (ps ++ p ∷ []) (ss ++ s ∷ [])
 matches-more o [] [] p s m e f n = (e, f, n, tt)

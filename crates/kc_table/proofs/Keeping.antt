@@ -1,29 +1,29 @@
 -- What a seat knew it knows, and what it was told.
 use Rattle.std.proofs.Common.{◌≡◌, ◌≤◌, ℕ, List, [], ◌∷◌, ◌++◌, Some, true, sym, ap, ◌∙◌, subst, append_assoc, arith}
+use Rattle.kc_machine_steps.specs.declared.task.Event.{Event}
+use Rattle.kc_machine_steps.specs.declared.task.Event.TheVariants.{Begin, Step}
+use Rattle.kc_machine_steps.specs.declared.task.Task.{Task}
 use Rattle.kc_model.specs.declared.footprint.Loc.{Loc}
 use Rattle.kc_model.specs.declared.footprint.Seen.{Seen}
-use Rattle.kc_steps.specs.declared.task.Event.{Event}
-use Rattle.kc_steps.specs.declared.task.Event.TheVariants.{Begin, Step}
-use Rattle.kc_steps.specs.declared.task.Task.{Task}
-use Rattle.kc_steps.specs.declared.task.Task.TheVariants as task
-use Rattle.kc_steps.specs.declared.task.Told.TheVariants as told
-use Rattle.kc_machine.specs.declared.seat.Seat.{Seat}
-use Rattle.kc_machine.specs.Seats.{is_idle}
+use Rattle.kc_machine_steps.specs.declared.task.Task.TheVariants as task
+use Rattle.kc_machine_steps.specs.declared.task.Told.TheVariants as told
 use Rattle.kc_machine.specs.Machine.{Opening, run}
-use Rattle.kc_claims.specs.Histories.{Grows, IsKnown, ending}
-use Rattle.kc_claims.specs.Traces.{first_store}
-use Rattle.kc_traces.specs.Entries.{by}
-use Rattle.kc_traces.specs.Outcomes.{GainsAsTold}
-use Rattle.kc_traces.proofs.Joins.{made_parts, honest_parts}
-use Rattle.kc_traces.proofs.Others.{history_kept}
-use Rattle.kc_views.specs.Known.{IsMeant, known}
-use Rattle.kc_views.specs.Tasks.{ran}
-use Rattle.kc_views.proofs.Pendings.{waits_no_step}
-use Rattle.kc_views.proofs.Knowing.{grows_on, known_on, versions_on, gains_none}
-use Rattle.kc_views.proofs.Taught.{look_taught, own_as_told}
-use Rattle.kc_moves.specs.Origins.{opening_of}
-use Rattle.kc_moves.specs.Views.{SeatView, Learns, Stepped, knows, opening_at_seat}
+use Rattle.kc_machine.specs.Seats.{is_idle}
+use Rattle.kc_machine.specs.declared.seat.Seat.{Seat}
+use Rattle.kc_machine_claims.specs.Histories.{Grows, IsKnown, ending}
+use Rattle.kc_machine_claims.specs.Traces.{first_store}
+use Rattle.kc_machine_traces.proofs.Joins.{made_parts, honest_parts}
+use Rattle.kc_machine_traces.proofs.Others.{history_kept}
+use Rattle.kc_machine_traces.specs.Entries.{by}
+use Rattle.kc_machine_traces.specs.Outcomes.{GainsAsTold}
 use Rattle.kc_table.specs.Tasks.{Does, Keeps, Saw}
+use Rattle.kc_table_moves.specs.Origins.{opening_of}
+use Rattle.kc_table_moves.specs.Views.{SeatView, Learns, Stepped, knows, opening_at_seat}
+use Rattle.kc_table_views.proofs.Knowing.{grows_on, known_on, versions_on, gains_none}
+use Rattle.kc_table_views.proofs.Pendings.{waits_no_step}
+use Rattle.kc_table_views.proofs.Taught.{look_taught, own_as_told}
+use Rattle.kc_table_views.specs.Known.{IsMeant, known}
+use Rattle.kc_table_views.specs.Tasks.{ran}
 
 -- a seat whose schedule goes on
 goes_on : (v w : SeatView) (more : List Event) → w.of ≡ v.of → w.number ≡ v.number → w.past ≡ v.past ++ more → IsMeant (opening_at_seat v) w.past → Keeps v w

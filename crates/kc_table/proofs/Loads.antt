@@ -9,23 +9,23 @@ use borrow.Author.Tests.{ne_eqb, eqb-true, ltb-true}
 use Rattle.atomic_table.specs.Table as table
 use Rattle.atomic_table.specs.Table.{Me, Allows, Enters, Splits, Joins, keeps, stepped}
 use Rattle.atomic_table.proofs.Lists.{at_set, at_snoc}
-use Rattle.kc_model.specs.declared.word.Word.TheVariants.{Plain}
-use Rattle.kc_model.specs.Word.{packed, unpacked, unpacked_reference}
-use Rattle.kc_model.specs.declared.footprint.TheConstants.{LAST_VERSION}
-use Rattle.kc_words.specs.declared.words.TheConstants.{LAST_GENERATION}
-use Rattle.kc_steps.specs.declared.task.Event.{Event}
 use Rattle.kc_machine.specs.Machine.{Opening, opened, run, pool_size}
 use Rattle.kc_machine.specs.Schedules.{IsInRange}
-use Rattle.kc_traces.specs.Parts.{NoneOf}
-use Rattle.kc_views.specs.Known.{IsMeant, IsPrefix}
-use Rattle.kc_layout.specs.Cells.{AllFit, Cell, IsThere, place, bits, signal_bit, Stores}
-use Rattle.kc_layout.specs.Cells.Cell.{none, word, awaiters, control, status, owner, first, second, signal}
-use Rattle.kc_layout.specs.Opened.{opening_at}
-use Rattle.kc_moves.specs.Origins.{Origin, version_in, value_in, word_in, opening_of}
-use Rattle.kc_moves.specs.declared.view.Part.{Part}
-use Rattle.kc_moves.specs.declared.view.View.{View}
-use Rattle.kc_moves.specs.Rule.{part, view, fresh_parts, everyone, Fits, EachFits, FitsView, times, Kept, past_of, first_part, other_parts, dealt, undealt, noted, spent, nothing, hearing, gathered, Merged, Heard, Ended}
-use Rattle.kc_moves.proofs.Views.{total_set, total_two, total_snoc}
+use Rattle.kc_machine_steps.specs.declared.task.Event.{Event}
+use Rattle.kc_machine_traces.specs.Parts.{NoneOf}
+use Rattle.kc_machine_words.specs.declared.words.TheConstants.{LAST_GENERATION}
+use Rattle.kc_model.specs.Word.{packed, unpacked, unpacked_reference}
+use Rattle.kc_model.specs.declared.footprint.TheConstants.{LAST_VERSION}
+use Rattle.kc_model.specs.declared.word.Word.TheVariants.{Plain}
+use Rattle.kc_table_layout.specs.Cells.{AllFit, Cell, IsThere, place, bits, signal_bit, Stores}
+use Rattle.kc_table_layout.specs.Cells.Cell.{none, word, awaiters, control, status, owner, first, second, signal}
+use Rattle.kc_table_layout.specs.Opened.{opening_at}
+use Rattle.kc_table_moves.proofs.Views.{total_set, total_two, total_snoc}
+use Rattle.kc_table_moves.specs.Origins.{Origin, version_in, value_in, word_in, opening_of}
+use Rattle.kc_table_moves.specs.Rule.{part, view, fresh_parts, everyone, Fits, EachFits, FitsView, times, Kept, past_of, first_part, other_parts, dealt, undealt, noted, spent, nothing, hearing, gathered, Merged, Heard, Ended}
+use Rattle.kc_table_moves.specs.declared.view.Part.{Part}
+use Rattle.kc_table_moves.specs.declared.view.View.{View}
+use Rattle.kc_table_views.specs.Known.{IsMeant, IsPrefix}
 
 -- views after another's change
 views_set : (q : Origin) (es : List Event) (views : List View) (id : ℕ) (w : View) → ((j : ℕ) (u : View) → get_elem? views j ≡ some u → FitsView q es u) → FitsView q es w

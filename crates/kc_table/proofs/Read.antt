@@ -6,7 +6,7 @@ use borrow.Author.Tests.{eqb-true, eqb-false}
 use mathlib.Core.Option.{some, some-injective, some-ne-none}
 use lib.ListN.{get_elem?}
 use Rattle.kc_model.specs.declared.footprint.Seen.{Seen}
-use Rattle.kc_moves.specs.Views.{seen_in}
+use Rattle.kc_table_moves.specs.Views.{seen_in}
 
 pub elem_index : (ws : List ℕ) (i x : ℕ) → get_elem? ws i ≡ some x → slice_index ws i ≡ x
 elem_index [] i x e = absurd (some-ne-none x (sym e))

@@ -2,20 +2,20 @@
 use Rattle.std.proofs.Common.{◌≡◌, ◌<◌, ◌≤◌, ℕ, List, [], ◌∷◌, length, get_or, Some, true, false, refl, sym, ap, ◌∙◌, subst, arith}
 use Rattle.std.specs.Prelude.{All, Contains}
 use Rattle.std.proofs.lemmas.List.Elements.{All-contains, All-push}
+use Rattle.kc_machine_steps.specs.declared.task.Task.{Task}
+use Rattle.kc_machine_words.specs.declared.words.Mode.{Mode}
+use Rattle.kc_model.specs.Footprint.{IsWellMade, Reads}
 use Rattle.kc_model.specs.declared.footprint.Footprint.{Footprint}
 use Rattle.kc_model.specs.declared.footprint.Loc.{Loc}
 use Rattle.kc_model.specs.declared.footprint.Seen.{Seen}
-use Rattle.kc_model.specs.Footprint.{IsWellMade, Reads}
-use Rattle.kc_words.specs.declared.words.Mode.{Mode}
-use Rattle.kc_steps.specs.declared.task.Task.{Task}
-use Rattle.kc_steps.specs.declared.task.Task.TheVariants as task
-use Rattle.kc_steps.specs.declared.task.Told.TheVariants as told
-use Rattle.kc_machine.specs.Seats.{begun, is_idle}
+use Rattle.kc_machine_steps.specs.declared.task.Task.TheVariants as task
+use Rattle.kc_machine_steps.specs.declared.task.Told.TheVariants as told
 use Rattle.kc_machine.specs.Schedules.{IsWellMadeTask}
-use Rattle.kc_moves.specs.Views.{TableView, SeatView, Learns, Starts, Stepped, KnowsReads, AreAll, count_from}
-use Rattle.kc_table.specs.Tasks.{Does, Keeps, KnowsRead}
+use Rattle.kc_machine.specs.Seats.{begun, is_idle}
 use Rattle.kc_table.proofs.Following.{does_first, does_further}
 use Rattle.kc_table.proofs.Keeping.{steps_keep, loads_keep, looks_saw}
+use Rattle.kc_table.specs.Tasks.{Does, Keeps, KnowsRead}
+use Rattle.kc_table_moves.specs.Views.{TableView, SeatView, Learns, Starts, Stepped, KnowsReads, AreAll, count_from}
 
 one_kept : (v w : SeatView) (r : Seen) → Keeps v w → KnowsRead v r → KnowsRead w r
 one_kept v w r k x = (subst (λ z. r.loc.0 < z.origin.locations) (sym k.of) x.0, k.reads r x.1)

@@ -1,11 +1,11 @@
 -- A seat that waits for its signal.
 use Rattle.std.proofs.Common.{Bool, ◌++◌, ap, ◌∙◌, subst, append_assoc}
 use Rattle.kc_machine.specs.Machine.{run}
-use Rattle.kc_traces.specs.Parts.{NoneOf}
-use Rattle.kc_views.specs.Known.{IsMeant}
-use Rattle.kc_views.proofs.Pendings.{none_append}
-use Rattle.kc_moves.specs.Origins.{opening_of}
-use Rattle.kc_moves.specs.Views.{SeatView, Learns, Signalled}
+use Rattle.kc_machine_traces.specs.Parts.{NoneOf}
+use Rattle.kc_table_moves.specs.Origins.{opening_of}
+use Rattle.kc_table_moves.specs.Views.{SeatView, Learns, Signalled}
+use Rattle.kc_table_views.proofs.Pendings.{none_append}
+use Rattle.kc_table_views.specs.Known.{IsMeant}
 
 -- as it was, or knowing more
 pub data Waited (s : SeatView) : SeatView → Type 0 where

@@ -3,38 +3,38 @@ use Rattle.std.proofs.lemmas.List.{length-map}
 use Rattle.std.proofs.Common.{◌≡◌, ℕ, ◌<◌, ◌≤◌, arith, Bool, true, false, if◌then◌else◌, List, length, map, Option, None, Some, refl, sym, ap, ◌∙◌, subst}
 use Rattle.atomic_table.specs.Seated.{TableId}
 use Rattle.atomic_table.specs.Table.{Me}
+use Rattle.kc_machine_words.specs.declared.words.Mode.{Mode}
+use Rattle.kc_model.specs.Word.{IsPackable, packed}
 use Rattle.kc_model.specs.declared.footprint.Loc.{Loc}
 use Rattle.kc_model.specs.declared.word.Word.{Word}
 use Rattle.kc_model.specs.declared.word.Word.TheVariants.{Plain, Ref}
-use Rattle.kc_model.specs.Word.{IsPackable, packed}
-use Rattle.kc_words.specs.declared.words.Mode.{Mode}
-use Rattle.kc_words.specs.declared.access.Access.TheVariants as access
-use Rattle.kc_words.specs.declared.access.Found.TheVariants as found
-use Rattle.kc_words.specs.declared.access.Touch.TheVariants as touch
-use Rattle.kc_steps.specs.declared.line.Line.{Line}
-use Rattle.kc_steps.specs.declared.task.Task.{Task}
-use Rattle.kc_steps.specs.declared.task.Task.TheVariants as task
-use Rattle.kc_steps.specs.Lines.{line_of, lines_of}
-use Rattle.kc_machine.specs.declared.seat.Seat.{Seat}
+use Rattle.kc_machine_words.specs.declared.access.Access.TheVariants as access
+use Rattle.kc_machine_words.specs.declared.access.Found.TheVariants as found
+use Rattle.kc_machine_words.specs.declared.access.Touch.TheVariants as touch
+use Rattle.kc_machine_steps.specs.declared.line.Line.{Line}
+use Rattle.kc_machine_steps.specs.declared.task.Task.{Task}
+use Rattle.kc_machine_steps.specs.declared.task.Task.TheVariants as task
+use Rattle.kc_machine.specs.Machine.{World, run, found_at}
 use Rattle.kc_machine.specs.Points.{first_point, seat_at}
 use Rattle.kc_machine.specs.Schedules.{IsWellMadeTask}
 use Rattle.kc_machine.specs.Seats.{access_of, answer_of, begun, is_idle}
-use Rattle.kc_machine.specs.Machine.{World, run, found_at}
-use Rattle.kc_layout.specs.declared.change.Change.TheVariants as change
-use Rattle.kc_layout.specs.Cells.{CellFits, base_of, bits, cell_of, place}
-use Rattle.kc_layout.specs.Cells.Cell.{word}
-use Rattle.kc_moves.specs.Origins.{Origin, opening_of}
-use Rattle.kc_moves.specs.declared.view.View.{View}
-use Rattle.kc_moves.specs.declared.atoms.Run.{Run}
-use Rattle.kc_moves.specs.declared.atoms.Stop.{Stop}
-use Rattle.kc_moves.specs.Rule.{number_of, past_of, Ready, Moved}
-use Rattle.kc_moves.specs.Views.{SeatView, KnowsReads, Starts, Stepped, seen_as}
-use Rattle.kc_moves.specs.Straight.{StepsTo, here, further, Aims, Commits, Here, On, Ran, StandsAt, StoppedAt, begun_at, seat_in}
-use Rattle.kc_table.specs.Tasks.{Does}
+use Rattle.kc_machine.specs.declared.seat.Seat.{Seat}
+use Rattle.kc_machine_steps.specs.Lines.{line_of, lines_of}
+use Rattle.kc_table_layout.specs.declared.change.Change.TheVariants as change
 use Rattle.kc_table.proofs.Begins.{ready_begun}
 use Rattle.kc_table.proofs.Following.{does_first, does_further}
-use Rattle.kc_moves.proofs.Allowed.{answered, ready_after}
-use Rattle.kc_moves.proofs.Straights.{stepped_view, went_on}
+use Rattle.kc_table.specs.Tasks.{Does}
+use Rattle.kc_table_layout.specs.Cells.{CellFits, base_of, bits, cell_of, place}
+use Rattle.kc_table_layout.specs.Cells.Cell.{word}
+use Rattle.kc_table_moves.proofs.Allowed.{answered, ready_after}
+use Rattle.kc_table_moves.proofs.Straights.{stepped_view, went_on}
+use Rattle.kc_table_moves.specs.Origins.{Origin, opening_of}
+use Rattle.kc_table_moves.specs.Rule.{number_of, past_of, Ready, Moved}
+use Rattle.kc_table_moves.specs.Straight.{StepsTo, here, further, Aims, Commits, Here, On, Ran, StandsAt, StoppedAt, begun_at, seat_in}
+use Rattle.kc_table_moves.specs.Views.{SeatView, KnowsReads, Starts, Stepped, seen_as}
+use Rattle.kc_table_moves.specs.declared.atoms.Run.{Run}
+use Rattle.kc_table_moves.specs.declared.atoms.Stop.{Stop}
+use Rattle.kc_table_moves.specs.declared.view.View.{View}
 
 -- ---- the beginning
 

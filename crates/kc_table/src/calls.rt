@@ -2,25 +2,25 @@
 
 ghost use Rattle.std.specs.Prelude.{◌≡◌, ◌≤◌, ◌<◌, true, false, length, IfOk, IfErr, IfSome, IfNone, Some};
 ghost use Rattle.kc_model.specs.declared.word.Word.TheVariants.{Plain};
-ghost use Rattle.kc_words.specs.declared.access.Found.TheVariants as found;
-ghost use Rattle.kc_steps.specs.declared.task.Task.TheVariants.{Look};
-ghost use Rattle.kc_steps.specs.declared.task.Told.TheVariants as told;
+ghost use Rattle.kc_machine_words.specs.declared.access.Found.TheVariants as found;
+ghost use Rattle.kc_machine_steps.specs.declared.task.Task.TheVariants.{Look};
+ghost use Rattle.kc_machine_steps.specs.declared.task.Told.TheVariants as told;
 ghost use Rattle.kc_machine.specs.Points.{first_point, seat_told};
 ghost use Rattle.kc_machine.specs.Schedules.{IsWellMadeTask};
 ghost use Rattle.kc_machine.specs.Seats.{answer_of, begun, is_idle};
-ghost use Rattle.kc_layout.specs.declared.change.Change.TheVariants as change;
-ghost use Rattle.kc_moves.specs.Rule.{Moved, Ready};
-ghost use Rattle.kc_moves.specs.Views.{KnowsReads};
-ghost use Rattle.kc_moves.specs.Straight.{Aims, Commits, Here, On, Ran, StandsAt, Stopped, seat_in};
+ghost use Rattle.kc_table_layout.specs.declared.change.Change.TheVariants as change;
+ghost use Rattle.kc_table_moves.specs.Rule.{Moved, Ready};
+ghost use Rattle.kc_table_moves.specs.Views.{KnowsReads};
+ghost use Rattle.kc_table_moves.specs.Straight.{Aims, Commits, Here, On, Ran, StandsAt, Stopped, seat_in};
 
 use crate::seat::KcSeat;
 use crate::table::KcTable;
-use kc_layout::{base_at, location_at, shown};
 use kc_machine::Seat;
+use kc_machine_steps::{Line, Task, Told, one_more};
+use kc_machine_words::{Found, Mode};
 use kc_model::{Loc, Seen, Word};
-use kc_moves::{Chain, Ended, Now, Run, Stop, Token, Words, load, run_commit};
-use kc_steps::{Line, Task, Told, one_more};
-use kc_words::{Found, Mode};
+use kc_table_layout::{base_at, location_at, shown};
+use kc_table_moves::{Chain, Ended, Now, Run, Stop, Token, Words, load, run_commit};
 use std::marker::Brand;
 
 impl KcTable {

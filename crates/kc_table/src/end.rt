@@ -2,17 +2,17 @@
 
 ghost use Rattle.std.specs.Prelude.{◌≡◌, ◌<◌, ◌≤◌, ℕ, true, All, IfErr, IfOk, get_or, length, slice_get};
 ghost use Rattle.std.specs.Mem.Slots.{IsFull, slots_items, slots_len};
-ghost use Rattle.kc_layout.specs.Cells.{base_of};
+ghost use Rattle.kc_table_layout.specs.Cells.{base_of};
 ghost use Rattle.kc_model.specs.declared.footprint.Seen.{Seen};
 ghost use Rattle.kc_machine.specs.Seats.{is_idle};
-ghost use Rattle.kc_moves.specs.Origins.{opening_of};
-ghost use Rattle.kc_moves.specs.Views.{AreAll, IsClosed, IsPast, Matches, seen_in, seen_of};
+ghost use Rattle.kc_table_moves.specs.Origins.{opening_of};
+ghost use Rattle.kc_table_moves.specs.Views.{AreAll, IsClosed, IsPast, Matches, seen_in, seen_of};
 
 use crate::seat::KcSeat;
 use crate::table::KcTable;
-use kc_layout::location_at;
 use kc_model::{Loc, Seen, Word};
-use kc_moves::{Empty, Gathers, Shows, Token, Words};
+use kc_table_layout::location_at;
+use kc_table_moves::{Empty, Gathers, Shows, Token, Words};
 use std::alloc::Global;
 use std::marker::Model;
 
@@ -23,7 +23,7 @@ pub struct Past {
 }
 
 impl Model for Past {
-    ghost use Rattle.kc_moves.specs.Views.{PastView};
+    ghost use Rattle.kc_table_moves.specs.Views.{PastView};
 
     ghost Value = { PastView };
 
@@ -82,7 +82,7 @@ pub struct Closed {
 }
 
 impl Model for Closed {
-    ghost use Rattle.kc_moves.specs.Views.{ClosedView};
+    ghost use Rattle.kc_table_moves.specs.Views.{ClosedView};
 
     ghost Value = { ClosedView };
 

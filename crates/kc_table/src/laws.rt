@@ -3,17 +3,17 @@
 ghost use Rattle.std.specs.Prelude.{◌≡◌, true, false, Some};
 ghost use Rattle.kc_model.specs.declared.footprint.Loc.{Loc};
 ghost use Rattle.kc_model.specs.declared.footprint.Seen.{Seen};
-ghost use Rattle.kc_steps.specs.declared.task.Task.{Task};
-ghost use Rattle.kc_steps.specs.declared.task.Task.TheVariants as task;
-ghost use Rattle.kc_steps.specs.declared.task.Told.TheVariants as told;
+ghost use Rattle.kc_machine_steps.specs.declared.task.Task.{Task};
+ghost use Rattle.kc_machine_steps.specs.declared.task.Task.TheVariants as task;
+ghost use Rattle.kc_machine_steps.specs.declared.task.Told.TheVariants as told;
 ghost use Rattle.kc_machine.specs.declared.seat.Seat.{Seat};
 ghost use Rattle.kc_machine.specs.Schedules.{IsWellMadeTask};
 ghost use Rattle.kc_machine.specs.Seats.{begun, is_idle};
-ghost use Rattle.kc_traces.specs.Entries.{by};
-ghost use Rattle.kc_traces.specs.Outcomes.{GainsAsTold};
-ghost use Rattle.kc_moves.specs.Straight.{Ran};
+ghost use Rattle.kc_machine_traces.specs.Entries.{by};
+ghost use Rattle.kc_machine_traces.specs.Outcomes.{GainsAsTold};
+ghost use Rattle.kc_table_moves.specs.Straight.{Ran};
 ghost use Rattle.kc_table.specs.Tasks.{Does, Keeps, Saw};
-ghost use Rattle.kc_moves.specs.Views.{Learns, SeatView, Starts, Stepped, knows};
+ghost use Rattle.kc_table_moves.specs.Views.{Learns, SeatView, Starts, Stepped, knows};
 
 /// The first step of a seat that has begun a task shows this task.
 pub fn what_was_begun_is_known()

@@ -1,15 +1,15 @@
 //! A table and its seats as they are made.
 
 ghost use Rattle.std.specs.Prelude.{◌≡◌, IfOk, []};
-ghost use Rattle.kc_moves.specs.Origins.{Opens};
-ghost use Rattle.kc_moves.specs.Rule.{everyone};
-ghost use Rattle.kc_moves.specs.Views.{opened_seats};
+ghost use Rattle.kc_table_moves.specs.Origins.{Opens};
+ghost use Rattle.kc_table_moves.specs.Rule.{everyone};
+ghost use Rattle.kc_table_moves.specs.Views.{opened_seats};
 
 use crate::seat::KcSeat;
 use crate::table::KcTable;
 use atomic_table::Table;
 use kc_machine::Seat;
-use kc_moves::{Deals, Origin, Token};
+use kc_table_moves::{Deals, Origin, Token};
 use std::alloc::{AllocError, Global};
 
 pub(crate) fn make_table(alloc: Global, origin: &Origin) -> Result<(KcTable, Token), AllocError>

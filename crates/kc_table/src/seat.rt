@@ -3,11 +3,11 @@
 ghost use Rattle.std.specs.Prelude.{◌≡◌, not, true};
 ghost use Rattle.kc_machine.specs.Schedules.{IsWellMadeTask};
 ghost use Rattle.kc_machine.specs.Seats.{begun, halted, is_idle, own_of, steps_of, told_of};
-ghost use Rattle.kc_moves.specs.Views.{KnowsReads, Starts};
+ghost use Rattle.kc_table_moves.specs.Views.{KnowsReads, Starts};
 
 use kc_machine::Seat;
-use kc_moves::Token;
-use kc_steps::{Task, Told};
+use kc_machine_steps::{Task, Told};
+use kc_table_moves::Token;
 use std::marker::Model;
 
 /// A seat of the machine, held by one thread. Contracts see of which table it is, its number, the schedule as it stood after the
@@ -22,8 +22,8 @@ pub struct KcSeat {
 }
 
 impl Model for KcSeat {
-    ghost use Rattle.kc_moves.specs.Views.{SeatView};
-    ghost use Rattle.kc_moves.specs.Rule.{Ready, number_of, past_of};
+    ghost use Rattle.kc_table_moves.specs.Views.{SeatView};
+    ghost use Rattle.kc_table_moves.specs.Rule.{Ready, number_of, past_of};
 
     ghost Value = { SeatView };
 
@@ -89,8 +89,8 @@ pub struct KcNote {
 
 impl Model for KcNote {
     ghost use Rattle.std.specs.Prelude.{◌≡◌, []};
-    ghost use Rattle.kc_moves.specs.Views.{NoteView};
-    ghost use Rattle.kc_moves.specs.Rule.{note_view};
+    ghost use Rattle.kc_table_moves.specs.Views.{NoteView};
+    ghost use Rattle.kc_table_moves.specs.Rule.{note_view};
 
     ghost Value = { NoteView };
 

@@ -2,15 +2,15 @@
 
 ghost use Rattle.std.specs.Prelude.{◌≡◌, ◌≤◌, ◌<◌, ◌↔◌, ◌⊎◌, true, false, length, replicate, All, IfOk, Err};
 ghost use Rattle.kc_machine.specs.Seats.{is_idle};
-ghost use Rattle.kc_moves.specs.Views.{Joined, OpensAt, Signalled, Stepped, opened_seats};
+ghost use Rattle.kc_table_moves.specs.Views.{Joined, OpensAt, Signalled, Stepped, opened_seats};
 
 use crate::open::{deal_seats, make_table};
 use crate::seat::{KcNote, KcSeat};
 use atomic_table::Table;
-use kc_layout::{base_at, open_words, shown, signal_at};
+use kc_machine_words::{Access, LAST_GENERATION};
 use kc_model::{LAST_VERSION, MOST_LOCATIONS, OpenError};
-use kc_moves::{Hears, Merges, Notes, Origin, Rule, View, touch_seat};
-use kc_words::{Access, LAST_GENERATION};
+use kc_table_layout::{base_at, open_words, shown, signal_at};
+use kc_table_moves::{Hears, Merges, Notes, Origin, Rule, View, touch_seat};
 use std::alloc::Global;
 use std::marker::{Brand, Model};
 use std::sync::Wait;
@@ -24,9 +24,9 @@ pub struct KcTable {
 
 impl Model for KcTable {
     ghost use Rattle.std.specs.Prelude.{◌≡◌, ◌≤◌};
-    ghost use Rattle.kc_layout.specs.Cells.{size_of};
+    ghost use Rattle.kc_table_layout.specs.Cells.{size_of};
     ghost use Rattle.kc_machine.specs.Machine.{pool_size};
-    ghost use Rattle.kc_moves.specs.Views.{TableView};
+    ghost use Rattle.kc_table_moves.specs.Views.{TableView};
 
     ghost Value = { TableView };
 

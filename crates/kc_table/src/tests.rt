@@ -2,13 +2,13 @@ ghost use Rattle.std.specs.Prelude.{◌≡◌, ◌<◌, ◌≤◌, [], false, Al
 ghost use Rattle.kc_model.specs.Footprint.{Reads};
 ghost use Rattle.kc_model.specs.declared.footprint.Seen.{Seen};
 ghost use Rattle.kc_table.specs.Tasks.{IsSameSeat, KnowsRead};
-ghost use Rattle.kc_moves.specs.Views.{AreAll};
+ghost use Rattle.kc_table_moves.specs.Views.{AreAll};
 
 use crate::{KcSeat, KcTable};
 use arrayvec::ArrayVec;
+use kc_machine_steps::{Task, Told, fill_lines};
+use kc_machine_words::Mode;
 use kc_model::{Footprint, Loc, OpenError, Put, Seen};
-use kc_steps::{Task, Told, fill_lines};
-use kc_words::Mode;
 use std::test::Fail;
 use std::thread;
 

@@ -3,15 +3,15 @@ use Rattle.std.proofs.Common.{◌≡◌, ◌≢◌, ℕ, ◌≤◌, List, [], �
 use Rattle.kc_model.specs.declared.reply.Item.{Item}
 use Rattle.kc_model.specs.declared.reply.Reply.{Reply}
 use Rattle.kc_model.specs.declared.reply.Reply.TheVariants as reply
-use Rattle.kc_xt.specs.Meaning.{Outcome, replied, retried, too_large, Meaning, Touch, Run, AllBelow, map_with, map_after, last_written, then_run, then_meaning, given_up, else_run, first_meaning}
-use Rattle.kc_xt.specs.Program.{replies, meaning}
-use Rattle.kc_xt.proofs.Spared.{spared-append, spared-first}
-use Rattle.kc_xt.proofs.Touching.{map_after-given_up, below-append, below-wider, below-given_up}
-use Rattle.kc_term.specs.Tree.{Tree, Trees, op, seq, first, none, more, operations, all_operations}
-use Rattle.kc_term.specs.Meaning.{items_of, term_meaning, parts_meaning, greatest_end}
+use Rattle.kc_term.proofs.Parts.{each-left, each-right}
 use Rattle.kc_term.specs.Fit.{Each}
 use Rattle.kc_term.specs.Laws.{Preserves, LeavesAlone, StaysBelow}
-use Rattle.kc_term.proofs.Parts.{each-left, each-right}
+use Rattle.kc_term.specs.Meaning.{items_of, term_meaning, parts_meaning, greatest_end}
+use Rattle.kc_term.specs.Tree.{Tree, Trees, op, seq, first, none, more, operations, all_operations}
+use Rattle.kc_xt.proofs.Spared.{spared-append, spared-first}
+use Rattle.kc_xt.proofs.Touching.{map_after-given_up, below-append, below-wider, below-given_up}
+use Rattle.kc_xt.specs.Meaning.{Outcome, replied, retried, too_large, Meaning, Touch, Run, AllBelow, map_with, map_after, last_written, then_run, then_meaning, given_up, else_run, first_meaning}
+use Rattle.kc_xt.specs.Program.{replies, meaning}
 
 -- a property of meanings that sequences and alternatives keep
 pub record IsClosed (Q : Meaning → Type 0) : Type 0 where

@@ -1,11 +1,11 @@
 -- Transactions that reply one item.
 use Rattle.std.proofs.Common.{◌≤◌, List, [], ◌∷◌, length}
+use Rattle.kc_term.specs.Fit.{Each, AreFit}
+use Rattle.kc_term.specs.declared.term.TheConstants.{MOST_OPERATIONS}
+use Rattle.kc_xt.proofs.Singles.{one-meaning}
 use Rattle.kc_xt.specs.Meaning.{Meaning}
 use Rattle.kc_xt.specs.Program.{Program, meaning}
 use Rattle.kc_xt.specs.Single.{EndsInOne}
-use Rattle.kc_xt.proofs.Singles.{one-meaning}
-use Rattle.kc_term.specs.declared.term.TheConstants.{MOST_OPERATIONS}
-use Rattle.kc_term.specs.Fit.{Each, AreFit}
 use Rattle.kc_xt.specs.Structure.{RepliesOneItem}
 
 -- a program whose ends are one item each means one

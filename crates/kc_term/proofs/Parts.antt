@@ -4,10 +4,10 @@ use Rattle.kc_xt.specs.Meaning.{Meaning}
 use Rattle.std.specs.Global.{Vec, Box}
 use Rattle.kc_term.specs.declared.term.Node.{Node}
 use Rattle.kc_term.specs.declared.term.Node.TheVariants as node
+use Rattle.kc_term.specs.Fit.{Each, AreFit}
+use Rattle.kc_term.specs.Meaning.{greatest_end}
 use Rattle.kc_term.specs.Shape.{tree_of}
 use Rattle.kc_term.specs.Tree.{Tree, op, seq, first, trees, operations, all_operations, nesting, greatest_nesting, tree_size, trees_size}
-use Rattle.kc_term.specs.Meaning.{greatest_end}
-use Rattle.kc_term.specs.Fit.{Each, AreFit}
 
 pub each-left : {X : Type 0} (P : X → Type 0) (xs ys : List X) → Each P (xs ++ ys) → Each P xs
 each-left P [] ys h = tt

@@ -8,20 +8,20 @@ use Rattle.kc_model.specs.declared.reply.Item.{Item}
 use Rattle.kc_model.specs.declared.reply.Reply.{Reply}
 use Rattle.kc_model.specs.declared.reply.Reply.TheVariants as reply
 use Rattle.kc_model.specs.Store.{Store, zero_cell}
-use Rattle.kc_xt.specs.declared.line.Line.{Line}
-use Rattle.kc_xt.specs.declared.stop.Stop.{Stop}
+use Rattle.kc_term.specs.Meaning.{items_of, term_meaning, parts_meaning}
+use Rattle.kc_term.specs.Tree.{Tree, Trees, none, more}
+use Rattle.kc_xt.proofs.Chain.{does_reply}
+use Rattle.kc_xt.proofs.Composed.{obeys_then, obeys_then_stops}
+use Rattle.kc_xt.proofs.Laws.{law_of}
 use Rattle.kc_xt.specs.Law.{Obeys}
 use Rattle.kc_xt.specs.Lines.{seen_at, Agrees, overlaid, locations}
 use Rattle.kc_xt.specs.Log.{Log}
 use Rattle.kc_xt.specs.Meaning.{replied, retried, Meaning}
 use Rattle.kc_xt.specs.Peeks.{Gives}
-use Rattle.kc_xt.proofs.Chain.{does_reply}
-use Rattle.kc_xt.proofs.Composed.{obeys_then, obeys_then_stops}
-use Rattle.kc_xt.proofs.Laws.{law_of}
-use Rattle.kc_term.specs.Tree.{Tree, Trees, none, more}
-use Rattle.kc_term.specs.Meaning.{items_of, term_meaning, parts_meaning}
 use Rattle.kc_xt.specs.Single.{RepliesOne}
 use Rattle.kc_xt.specs.Structure.{RepliesOneItem}
+use Rattle.kc_xt.specs.declared.line.Line.{Line}
+use Rattle.kc_xt.specs.declared.stop.Stop.{Stop}
 
 replied≢retried : (a : Reply) → replied a ≡ retried → ⊥
 replied≢retried a e = cc

@@ -1,8 +1,8 @@
 -- Which terms may be run.
 use Rattle.std.specs.Prelude.{◌≤◌, List, [], ◌∷◌, length}
+use Rattle.kc_term.specs.declared.term.TheConstants.{MOST_OPERATIONS}
 use Rattle.kc_xt.specs.Meaning.{Meaning}
 use Rattle.kc_xt.specs.Structure.{RepliesOneItem}
-use Rattle.kc_term.specs.declared.term.TheConstants.{MOST_OPERATIONS}
 
 -- each of the list
 abbrev pub Each : {X : Type 0} → (X → Type 0) → List X → Type 0

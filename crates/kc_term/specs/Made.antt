@@ -1,11 +1,11 @@
 -- What the calls that make terms give.
 use Rattle.std.specs.Prelude.{◌≡◌, ◌≤◌, ◌<◌, nat_le, if◌then◌else◌, length, Result, Ok, Err}
 use Rattle.std.specs.Global.{Vec}
-use Rattle.kc_term.specs.declared.term.TheConstants.{MOST_NESTED, MOST_OPERATIONS}
+use Rattle.kc_term.specs.Tree.{Tree, seq, first, trees, all_operations, nesting}
 use Rattle.kc_term.specs.declared.errors.TermError.{TermError}
 use Rattle.kc_term.specs.declared.errors.TermError.TheVariants.{TooDeep, NoMemory}
 use Rattle.kc_term.specs.declared.errors.TooMany.{TooMany}
-use Rattle.kc_term.specs.Tree.{Tree, seq, first, trees, all_operations, nesting}
+use Rattle.kc_term.specs.declared.term.TheConstants.{MOST_NESTED, MOST_OPERATIONS}
 
 -- a sequence, or its parts where they have too many operations
 abbrev pub seq_made : {O : Type 0} → Vec (Tree O) → Result (Tree O) (TooMany O)

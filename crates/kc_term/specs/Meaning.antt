@@ -4,9 +4,9 @@ use Rattle.kc_model.specs.declared.reply.Item.{Item}
 use Rattle.kc_model.specs.declared.reply.Item.TheVariants as item
 use Rattle.kc_model.specs.declared.reply.Reply.{Reply}
 use Rattle.kc_model.specs.declared.reply.Reply.TheVariants as reply
+use Rattle.kc_term.specs.Tree.{Tree, Trees, op, seq, first, none, more}
 use Rattle.kc_xt.specs.Meaning.{Meaning, then_meaning, first_meaning}
 use Rattle.kc_xt.specs.Program.{replies, meaning}
-use Rattle.kc_term.specs.Tree.{Tree, Trees, op, seq, first, none, more}
 
 -- the items of a reply
 abbrev pub items_of : Reply → List Item

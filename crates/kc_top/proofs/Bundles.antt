@@ -3,37 +3,37 @@ use Rattle.std.proofs.Common.{◌≡◌, ℕ, zero, suc, ◌+◌, ◌<◌, ◌�
 use Rattle.std.specs.Prelude.{All, sum_by}
 use Rattle.std.proofs.lemmas.List.Sums.{sum_by-cons}
 use Rattle.std.specs.Global.{Vec}
-use Rattle.kc_model.specs.declared.plain_store.Cell.{Cell}
 use Rattle.kc_model.specs.Store.{Store, store_of, opened}
 use Rattle.kc_model.specs.declared.footprint.Entry.{Entry}
+use Rattle.kc_model.specs.declared.plain_store.Cell.{Cell}
 use Rattle.std.proofs.lemmas.List.{length-map}
-use Rattle.kc_model.proofs.Stores.{opened_length}
-use Rattle.kc_bundle.specs.declared.operation.Command.{Command}
-use Rattle.kc_bundle.specs.declared.bundle.Bundle.{Bundle}
-use Rattle.kc_bundle.specs.Script.{Script, script_of, next_from}
-use Rattle.kc_bundle.specs.State.{opening_values}
-use Rattle.kc_bundle.proofs.Places.{next_from-above, length-cells}
-use Rattle.kc_history.specs.declared.record.Record.{Record}
-use Rattle.kc_history.specs.Counts.{records_in}
-use Rattle.kc_history.specs.Records.{footprint_at, lists_of}
-use Rattle.kc_history.specs.declared.record.Place.{Place}
 use Rattle.kc_history.specs.Callers.{HasJust, IsBelowCallers, IsLegalFrom}
+use Rattle.kc_history.specs.Counts.{records_in}
 use Rattle.kc_history.specs.Ends.{AllCanStandIn}
 use Rattle.kc_history.specs.Moves.{placed_from}
 use Rattle.kc_history.specs.Order.{IsCanonical, Legal}
-use Rattle.kc_runs.specs.Run.{IsRun, opening_store}
-use Rattle.kc_runs.specs.Threads.{AreRun}
-use Rattle.kc_runs.proofs.Replayed.{opened_zero, run_just, run_list, run_made, run_of_order, run_threads_are}
-use Rattle.kc_run.specs.Run.{CanRunAll}
+use Rattle.kc_history.specs.Records.{footprint_at, lists_of}
+use Rattle.kc_history.specs.declared.record.Place.{Place}
+use Rattle.kc_history.specs.declared.record.Record.{Record}
+use Rattle.kc_model.proofs.Stores.{opened_length}
 use Rattle.kc_run.proofs.Threads.{room_length}
-use Rattle.kc_runs.specs.Labels.{AreThreads}
-use Rattle.kc_script.specs.Spells.{Spells}
-use Rattle.kc_script.specs.Parts.{SpellsParts}
+use Rattle.kc_run.specs.Run.{CanRunAll}
 use Rattle.kc_script.proofs.PartLines.{parts_whole}
-use Rattle.kc_script.specs.Threads.{AreThreads as AreOn}
 use Rattle.kc_script.proofs.Spelled.{spelled_lies, spelled_threads, spelled_threads_few, on_at}
-use Rattle.kc_top.specs.Runnable.{IsRunnable}
+use Rattle.kc_script.specs.Parts.{SpellsParts}
+use Rattle.kc_script.specs.Spells.{Spells}
+use Rattle.kc_script.specs.Threads.{AreThreads as AreOn}
+use Rattle.kc_script_bundle.proofs.Places.{next_from-above, length-cells}
+use Rattle.kc_script_bundle.specs.Script.{Script, script_of, next_from}
+use Rattle.kc_script_bundle.specs.State.{opening_values}
+use Rattle.kc_script_bundle.specs.declared.bundle.Bundle.{Bundle}
+use Rattle.kc_script_bundle.specs.declared.operation.Command.{Command}
+use Rattle.kc_script_runs.proofs.Replayed.{opened_zero, run_just, run_list, run_made, run_of_order, run_threads_are}
+use Rattle.kc_script_runs.specs.Labels.{AreThreads}
+use Rattle.kc_script_runs.specs.Run.{IsRun, opening_store}
+use Rattle.kc_script_runs.specs.Threads.{AreRun}
 use Rattle.kc_top.proofs.Asks.{ask_fit, ask_within}
+use Rattle.kc_top.specs.Runnable.{IsRunnable}
 
 -- a script has as many opening values as cells, and one for the live threads
 pub length-opening_values : (script : Script) → length (opening_values script) ≡ next_from 1 script.objects

@@ -1,11 +1,11 @@
 -- Why reading failed.
 use Rattle.std.proofs.Common.{◌≡◌, ℕ, zero, suc, ◌≤◌, ◌<◌, true, Bool, List, [], ◌∷◌, drop, Contains, slice_get, Option, Some, None, Result, refl, sym, subst, ◌∙◌, arith}
-use Rattle.kc_model.specs.declared.outside.Failed.{Failed}
-use Rattle.kc_model.specs.declared.outside.ShelfError.{ShelfError}
 use Rattle.kc_model.specs.Outside.{CameFront, Rises}
 use Rattle.kc_model.specs.Shelves.{FetchedUntil, FetchFails, FetchPasses, IsLonger, Lacks}
-use Rattle.kc_top.specs.declared.command_line.Command.{Command}
+use Rattle.kc_model.specs.declared.outside.Failed.{Failed}
+use Rattle.kc_model.specs.declared.outside.ShelfError.{ShelfError}
 use Rattle.kc_top.specs.Words.{command_of}
+use Rattle.kc_top.specs.declared.command_line.Command.{Command}
 
 -- words ask for one command
 pub one_command : (words : List (List ℕ)) {one other : Command} → command_of words ≡ Some one → command_of words ≡ Some other → one ≡ other

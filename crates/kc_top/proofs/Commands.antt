@@ -9,7 +9,7 @@ use Rattle.kc_top.proofs.Parts.{slice_on}
 use Rattle.kc_top.specs.declared.command_line.Command.{Command}
 use Rattle.kc_top.specs.declared.command_line.Command.TheVariants as command
 use Rattle.std.specs.Option.{option_map}
-use Rattle.kc_lines.specs.Words.{number}
+use Rattle.kc_script_lines.specs.Words.{number}
 use Rattle.kc_top.specs.Words.{storm_at, command_of, are_names, is_name, is_word, option_words}
 
 same_setup : (j k : ℕ) → Some (command.Files j) ≡ Some (command.Files k) → j ≡ k

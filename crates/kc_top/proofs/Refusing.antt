@@ -1,11 +1,11 @@
 -- What follows of what a command read.
 use Rattle.std.proofs.Common.{◌≡◌, ℕ, ◌≤◌, Bool, List, [], ◌∷◌, length, take, drop, Option, Some, Result, inl, inr, refl, sym, subst, arith}
 use Rattle.std.proofs.lemmas.List.{take_all}
+use Rattle.kc_model.specs.Shelves.{Fetched}
 use Rattle.kc_model.specs.declared.outside.Failed.{Failed}
 use Rattle.kc_model.specs.declared.outside.ShelfError.{ShelfError}
-use Rattle.kc_model.specs.Shelves.{Fetched}
-use Rattle.kc_bundle.specs.Script.{Script}
 use Rattle.kc_script.specs.declared.parser.TheConstants.{MOST_BYTES}
+use Rattle.kc_script_bundle.specs.Script.{Script}
 use Rattle.kc_top.specs.declared.command_line.Command.{Command}
 use Rattle.kc_top.specs.declared.command_line.Command.TheVariants as command
 use Rattle.kc_top.specs.Words.{command_of}
@@ -13,11 +13,11 @@ use Rattle.kc_top.specs.declared.served.Served.{Served}
 use Rattle.kc_top.specs.declared.served.Served.TheVariants as serving
 use Rattle.kc_top.specs.declared.status.Status.{Status}
 use Rattle.kc_top.specs.declared.status.Status.TheVariants as status
+use Rattle.kc_top.proofs.Bundles.{runnable, runnable_parts}
+use Rattle.kc_top.proofs.Stormed.{storm_runnable}
 use Rattle.kc_top.specs.Reading.{Reads, Refuses}
 use Rattle.kc_top.specs.Runnable.{IsRunnable}
 use Rattle.kc_top.specs.Statuses.{IsItsScript, Says, SaysOf}
-use Rattle.kc_top.proofs.Bundles.{runnable, runnable_parts}
-use Rattle.kc_top.proofs.Stormed.{storm_runnable}
 
 module _ {S F : Type 0} (left : S → Option (List ℕ)) (source_faults : S → ℕ) (read_gives : S → List ℕ → Result ℕ Failed → List ℕ → S → Type 0)
     (files : F → Option (List (List ℕ × List ℕ))) (shelf_faults : F → ℕ) (sure : F → Bool) (fetch_gives : F → List ℕ → ℕ → Result (List ℕ) ShelfError → F → Type 0) (words : List (List ℕ)) (s s' : S) (f f' : F) where

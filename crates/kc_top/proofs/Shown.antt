@@ -1,25 +1,25 @@
 -- What a run leaves can be shown.
 use Rattle.std.proofs.Common.{ℕ, List, Option, Result, Ok, Err, length, refl, sym, subst}
-use Rattle.kc_model.specs.Store.{store_of}
-use Rattle.kc_bundle.specs.Script.{Script, CellsWithin}
-use Rattle.kc_bundle.specs.State.{AllStand, AreWellFormed, Content}
-use Rattle.kc_bundle.proofs.Places.{cells_within}
 use Rattle.kc_history.specs.Records.{lists_of, NamesRecords}
 use Rattle.kc_history.specs.declared.record.Record.{Record}
-use Rattle.kc_model.specs.declared.outside.Failed.{Failed}
 use Rattle.kc_model.specs.Pen.{Prints}
-use Rattle.kc_runs.specs.Run.{IsText, opening_store, run_text}
-use Rattle.kc_top.specs.declared.command_line.Command.{Command}
-use Rattle.kc_top.specs.declared.served.Served.{Served}
-use Rattle.kc_top.specs.Served.{IsServed}
-use Rattle.kc_top.specs.Statuses.{IsShown, Shows}
-use Rattle.kc_runs.proofs.Formed.{run_formed}
-use Rattle.kc_runs.proofs.Named.{replays_named}
+use Rattle.kc_model.specs.Store.{store_of}
+use Rattle.kc_model.specs.declared.outside.Failed.{Failed}
 use Rattle.kc_script.proofs.Spelled.{thread_at}
-use Rattle.kc_xt.specs.Meaning.{values}
-use Rattle.kc_top.specs.declared.run.Ran.{Ran}
+use Rattle.kc_script_bundle.proofs.Places.{cells_within}
+use Rattle.kc_script_bundle.specs.Script.{Script, CellsWithin}
+use Rattle.kc_script_bundle.specs.State.{AllStand, AreWellFormed, Content}
+use Rattle.kc_script_runs.proofs.Formed.{run_formed}
+use Rattle.kc_script_runs.proofs.Named.{replays_named}
+use Rattle.kc_script_runs.specs.Run.{IsText, opening_store, run_text}
 use Rattle.kc_top.specs.Ran.{HasRun}
 use Rattle.kc_top.specs.Runnable.{IsRunnable}
+use Rattle.kc_top.specs.Served.{IsServed}
+use Rattle.kc_top.specs.Statuses.{IsShown, Shows}
+use Rattle.kc_top.specs.declared.command_line.Command.{Command}
+use Rattle.kc_top.specs.declared.run.Ran.{Ran}
+use Rattle.kc_top.specs.declared.served.Served.{Served}
+use Rattle.kc_xt.specs.Meaning.{values}
 
 -- what prints such a text shows the run
 pub shows_of : {K : Type 0} (written : K → Option (List ℕ)) (faults : K → ℕ) (gives : K → List ℕ → Result ℕ Failed → K → Type 0) (command : Command) (script : Script) (records : List (List Record)) (served : Served) (old new : K) (r : Result (Unit {0}) Failed) (text : List ℕ)

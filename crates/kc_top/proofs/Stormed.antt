@@ -1,19 +1,19 @@
 -- A storm can be run, and its run summed up.
 use Rattle.std.proofs.Common.{◌≡◌, ℕ, ◌<◌, ◌≤◌, ◌^◌, List, ap, sym, subst, arith, lit≤}
-use Rattle.kc_model.specs.Store.{store_of}
-use Rattle.kc_xt.specs.Meaning.{values}
-use Rattle.kc_bundle.specs.Script.{Names, Script}
-use Rattle.kc_bundle.specs.State.{state_text}
-use Rattle.kc_bundle.proofs.Standing.{all_show}
 use Rattle.kc_history.specs.Records.{lists_of}
-use Rattle.kc_storm.specs.Storm.{storm_script, storm_objects}
-use Rattle.kc_storm.specs.Summary.{commits, ok_commands, summary_lines, IsSummary}
-use Rattle.kc_storm.proofs.Drawn.{storm_commits}
-use Rattle.kc_storm.proofs.Lying.{storm_lies, thread_length, thread_on}
-use Rattle.kc_top.specs.declared.run.Ran.{Ran}
+use Rattle.kc_model.specs.Store.{store_of}
+use Rattle.kc_script_bundle.proofs.Standing.{all_show}
+use Rattle.kc_script_bundle.specs.Script.{Names, Script}
+use Rattle.kc_script_bundle.specs.State.{state_text}
+use Rattle.kc_script_storm.proofs.Drawn.{storm_commits}
+use Rattle.kc_script_storm.proofs.Lying.{storm_lies, thread_length, thread_on}
+use Rattle.kc_script_storm.specs.Storm.{storm_script, storm_objects}
+use Rattle.kc_script_storm.specs.Summary.{commits, ok_commands, summary_lines, IsSummary}
+use Rattle.kc_top.proofs.Shown.{shown_formed}
 use Rattle.kc_top.specs.Ran.{HasRun}
 use Rattle.kc_top.specs.Runnable.{IsRunnable}
-use Rattle.kc_top.proofs.Shown.{shown_formed}
+use Rattle.kc_top.specs.declared.run.Ran.{Ran}
+use Rattle.kc_xt.specs.Meaning.{values}
 
 few_commands : (k : ℕ) → k ≡ 2000 → k ≤ 4096
 few_commands k e = omega (arith, e)

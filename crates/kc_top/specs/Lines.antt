@@ -1,6 +1,6 @@
 -- The line on standard error for each status, without its newline.
 use Rattle.std.specs.Prelude.{ℕ, List, [], ◌++◌, codes, decimal}
-use Rattle.kc_lines.specs.Fault.{why_words}
+use Rattle.kc_script_lines.specs.Fault.{why_words}
 use Rattle.kc_top.specs.declared.status.Status.{Status}
 use Rattle.kc_top.specs.declared.status.Status.TheVariants as status
 

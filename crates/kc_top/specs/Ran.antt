@@ -1,12 +1,12 @@
 -- What a run leaves.
-use Rattle.kc_model.specs.Store.{store_of}
-use Rattle.kc_bundle.specs.Script.{Script}
 use Rattle.kc_history.specs.Records.{lists_of}
-use Rattle.kc_runs.specs.Run.{IsRun}
+use Rattle.kc_model.specs.Store.{store_of}
+use Rattle.kc_script_bundle.specs.Script.{Script}
+use Rattle.kc_script_runs.specs.Run.{IsRun}
 use Rattle.std.specs.Prelude.{◌≡◌, length}
-use Rattle.kc_bundle.specs.Script.{next_from}
-use Rattle.kc_top.specs.declared.run.Ran.{Ran}
+use Rattle.kc_script_bundle.specs.Script.{next_from}
 use Rattle.kc_top.specs.Served.{IsServed}
+use Rattle.kc_top.specs.declared.run.Ran.{Ran}
 
 -- its records in its order are a run of the script, to its store, and what it was served is this run's
 pub record HasRun (script : Script) (ran : Ran) : Type 0 where

@@ -1,17 +1,17 @@
 -- What a command reads.
 use Rattle.std.specs.Prelude.{◌≡◌, ◌⊎◌, ℕ, ◌≤◌, Bool, List, [], ◌∷◌, drop, length, Option, Result}
-use Rattle.kc_model.specs.declared.outside.Failed.{Failed}
-use Rattle.kc_model.specs.declared.outside.ShelfError.{ShelfError}
 use Rattle.kc_model.specs.Outside.{CameWhole, CamePast, CameSome, CameFront}
 use Rattle.kc_model.specs.Shelves.{Fetched, FetchFails, FetchPasses, FetchedUntil, FetchedPart}
-use Rattle.kc_bundle.specs.Script.{Script}
-use Rattle.kc_lines.specs.declared.fault.ScriptError.TheVariants as error
+use Rattle.kc_model.specs.declared.outside.Failed.{Failed}
+use Rattle.kc_model.specs.declared.outside.ShelfError.{ShelfError}
+use Rattle.kc_script_bundle.specs.Script.{Script}
+use Rattle.kc_script_lines.specs.declared.fault.ScriptError.TheVariants as error
 use Rattle.kc_script.specs.declared.part_error.PartError.TheVariants as part_error
-use Rattle.kc_script.specs.declared.parser.TheConstants.{MOST_BYTES}
-use Rattle.kc_script.specs.Spells.{Spells}
-use Rattle.kc_script.specs.Refused.{Refused}
 use Rattle.kc_script.specs.Parts.{SpellsParts, PartsRefused}
-use Rattle.kc_storm.specs.Storm.{storm_script}
+use Rattle.kc_script.specs.Refused.{Refused}
+use Rattle.kc_script.specs.Spells.{Spells}
+use Rattle.kc_script.specs.declared.parser.TheConstants.{MOST_BYTES}
+use Rattle.kc_script_storm.specs.Storm.{storm_script}
 use Rattle.kc_top.specs.declared.command_line.Command.{Command}
 use Rattle.kc_top.specs.declared.command_line.Command.TheVariants as command
 use Rattle.kc_top.specs.declared.status.Status.{Status}

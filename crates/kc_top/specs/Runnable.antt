@@ -1,7 +1,7 @@
 -- Which scripts can be run.
 use Rattle.std.specs.Prelude.{◌≤◌, length}
-use Rattle.kc_bundle.specs.Script.{Script, LiesInOrder}
 use Rattle.kc_script.specs.Threads.{AreThreads}
+use Rattle.kc_script_bundle.specs.Script.{Script, LiesInOrder}
 
 -- a script that threads can run
 pub record IsRunnable (s : Script) : Type 0 where

@@ -1,10 +1,10 @@
 -- Which commits a run was served.
 use Rattle.std.specs.Prelude.{◌≡◌, ◌<◌, List, [], length}
-use Rattle.kc_bundle.specs.Script.{Script}
-use Rattle.kc_bundle.specs.State.{opening_values}
-use Rattle.kc_history.specs.declared.record.Record.{Record}
 use Rattle.kc_history.specs.Callers.{HasJust, IsLegalFrom}
+use Rattle.kc_history.specs.declared.record.Record.{Record}
 use Rattle.kc_locked.specs.Passes.{PastView}
+use Rattle.kc_script_bundle.specs.Script.{Script}
+use Rattle.kc_script_bundle.specs.State.{opening_values}
 use Rattle.kc_top.specs.declared.served.Served.{Served}
 use Rattle.kc_top.specs.declared.served.Served.TheVariants as serving
 

@@ -1,22 +1,22 @@
 -- What each status of the top call says.
 use Rattle.std.specs.Prelude.{◌≡◌, ℕ, Bool, List, Option, Some, None, Result, Ok, Err}
+use Rattle.kc_history.specs.declared.record.Record.{Record}
+use Rattle.kc_model.specs.Outside.{Took, TookFront}
 use Rattle.kc_model.specs.declared.outside.Failed.{Failed}
 use Rattle.kc_model.specs.declared.outside.ShelfError.{ShelfError}
-use Rattle.kc_model.specs.Outside.{Took, TookFront}
-use Rattle.kc_bundle.specs.Script.{Script}
-use Rattle.kc_history.specs.declared.record.Record.{Record}
-use Rattle.kc_runs.specs.Run.{IsText}
-use Rattle.kc_storm.specs.Storm.{storm_script}
-use Rattle.kc_storm.specs.Summary.{IsSummary}
+use Rattle.kc_script_bundle.specs.Script.{Script}
+use Rattle.kc_script_runs.specs.Run.{IsText}
+use Rattle.kc_script_storm.specs.Storm.{storm_script}
+use Rattle.kc_script_storm.specs.Summary.{IsSummary}
 use Rattle.kc_top.specs.declared.command_line.Command.{Command}
 use Rattle.kc_top.specs.declared.command_line.Command.TheVariants as command
 use Rattle.kc_top.specs.declared.served.Served.{Served}
 use Rattle.kc_top.specs.declared.served.Served.TheVariants as serving
 use Rattle.kc_top.specs.declared.status.Status.{Status}
 use Rattle.kc_top.specs.declared.status.Status.TheVariants as status
+use Rattle.kc_top.specs.Reading.{Reads, Refuses}
 use Rattle.kc_top.specs.Served.{IsServed}
 use Rattle.kc_top.specs.Words.{command_of}
-use Rattle.kc_top.specs.Reading.{Reads, Refuses}
 
 -- a storm's script is that of its number
 abbrev pub IsItsScript : Command → Script → Type 0

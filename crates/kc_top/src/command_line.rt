@@ -5,7 +5,7 @@ ghost use Rattle.std.specs.List.{list_all};
 ghost use Rattle.std.specs.String.{string_bytes};
 ghost use Rattle.kc_top.specs.Words.{are_names, command_of, is_name, is_word, option_words, storm_at};
 
-use kc_lines::number_of;
+use kc_script_lines::number_of;
 
 /// The most files that a command may name beside the setup: one for each thread.
 const MOST_FILES: usize = 16;

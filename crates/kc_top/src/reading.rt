@@ -2,14 +2,14 @@
 
 ghost use Rattle.std.specs.Prelude.{◌≤◌, length, map, IfOk, IfErr};
 ghost use Rattle.std.specs.String.{string_bytes};
-ghost use Rattle.kc_bundle.specs.Script.{script_of};
+ghost use Rattle.kc_script_bundle.specs.Script.{script_of};
 ghost use Rattle.kc_top.specs.Reading.{SourceSpells, SourceRefuses, FilesSpell, FilesRefuse};
 
 use crate::status::Status;
-use kc_bundle::Bundle;
-use kc_lines::ScriptError;
 use kc_model::{ReadError, Shelf, ShelfError, Source, fetch_all, read_to_end};
 use kc_script::{MOST_BYTES, PartError, parse, parse_parts};
+use kc_script_bundle::Bundle;
+use kc_script_lines::ScriptError;
 use std::alloc::Global;
 
 /// The bundle that the source spells, read to its end.

@@ -8,9 +8,9 @@ ghost use Rattle.kc_history.specs.Ends.{AllCanStandIn};
 ghost use Rattle.kc_history.specs.Order.{IsCanonical, Legal};
 ghost use Rattle.kc_history.specs.Records.{footprint_at, lists_of};
 
-use kc_bundle::{Command, MOST_COMMANDS};
 use kc_history::{Record, Room, arrange, replay};
 use kc_model::{MOST_LOCATIONS, NoMemory, PlainStore};
+use kc_script_bundle::{Command, MOST_COMMANDS};
 use std::alloc::Global;
 
 /// Room for the order of these threads' records: one for each command and for each end.

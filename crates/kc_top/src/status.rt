@@ -5,8 +5,8 @@ ghost use Rattle.kc_top.specs.declared.status.Status.TheVariants as status;
 
 use arrayvec::ArrayString;
 use itoa::Buffer;
-use kc_lines::{LONGEST_WORDS, Why};
 use kc_model::NoMemory;
+use kc_script_lines::{LONGEST_WORDS, Why};
 
 /// The most bytes that a line on standard error has: 19 around two numbers of ten digits, and the words for a fault.
 pub const LONGEST_LINE: usize = 39 + LONGEST_WORDS;

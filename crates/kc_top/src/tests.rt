@@ -5,9 +5,9 @@ mod storms;
 mod threads;
 
 use crate::{Status, kcas_main};
-use kc_lines::{Limit, Why};
 use kc_model::{Failed, FrailSink, FrailSource, MemShelf, Sink, SureSource};
 use kc_run::{Gate, OpenGate};
+use kc_script_lines::{Limit, Why};
 use std::alloc::Global;
 use std::fmt::Write;
 use std::sync::Wait;

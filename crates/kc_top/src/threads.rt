@@ -4,13 +4,13 @@ ghost use Rattle.std.specs.Prelude.{◌≡◌, ◌<◌, ◌≤◌, All, IfOk, le
 ghost use Rattle.kc_history.specs.Callers.{IsBelowCallers, IsLegalFrom};
 ghost use Rattle.kc_history.specs.Records.{lists_of};
 ghost use Rattle.kc_run.specs.Run.{CanRunAll};
-ghost use Rattle.kc_runs.specs.Threads.{AreRun};
+ghost use Rattle.kc_script_runs.specs.Threads.{AreRun};
 
-use kc_bundle::Command;
 use kc_history::Record;
 use kc_locked::LockPast;
 use kc_model::{MOST_LOCATIONS, NoMemory};
 use kc_run::{Gate, open_locked, run_threads};
+use kc_script_bundle::Command;
 use std::alloc::Global;
 use std::sync::Wait;
 use std::thread::Threads;

@@ -2,7 +2,7 @@
 
 ghost use Rattle.std.specs.Prelude.{◌≡◌, Some, map, IfOk, IfErr};
 ghost use Rattle.std.specs.String.{string_bytes};
-ghost use Rattle.kc_bundle.specs.Script.{script_of};
+ghost use Rattle.kc_script_bundle.specs.Script.{script_of};
 ghost use Rattle.kc_top.specs.Words.{command_of};
 ghost use Rattle.kc_top.specs.Reading.{Reads, Refuses};
 ghost use Rattle.kc_top.specs.Statuses.{Says, SaysOf};
@@ -12,10 +12,10 @@ use crate::reading::{from_files, from_source};
 use crate::run::perform;
 use crate::served::Served;
 use crate::status::Status;
-use kc_bundle::Bundle;
 use kc_model::{Failed, NoMemory, Shelf, Sink, Source};
 use kc_run::Gate;
-use kc_storm::storm;
+use kc_script_bundle::Bundle;
+use kc_script_storm::storm;
 use std::alloc::Global;
 use std::sync::Wait;
 use std::thread::Threads;

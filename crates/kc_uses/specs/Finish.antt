@@ -2,12 +2,12 @@
 use Rattle.std.specs.Prelude.{ℕ, ◌*◌, ◌%◌, ◌^◌, max, Option, Some, None}
 use Rattle.kc_model.specs.declared.reply.Reply.{Reply}
 use Rattle.kc_model.specs.declared.reply.Reply.TheVariants as reply
+use Rattle.kc_queue.specs.declared.operation.QueueOp.{QueueOp}
 use Rattle.kc_xt.specs.Meaning.{Meaning, then_meaning}
 use Rattle.kc_xt.specs.Program.{meaning, replies}
-use Rattle.kc_queue.specs.declared.operation.QueueOp.{QueueOp}
 use Rattle.kc_queue.specs.declared.operation.QueueAct.TheVariants as queue
-use Rattle.kc_queue.specs.Meaning.{queue_meaning, queue_end}
 use Rattle.kc_cache.specs.declared.operation.CacheOp.{CacheOp}
+use Rattle.kc_queue.specs.Meaning.{queue_meaning, queue_end}
 use Rattle.kc_cache.specs.declared.operation.CacheAct.TheVariants as cache
 use Rattle.kc_cache.specs.Meaning.{cache_meaning, cache_end}
 use Rattle.kc_uses.specs.declared.finish_job.FinishJob.{FinishJob}

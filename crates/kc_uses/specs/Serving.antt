@@ -1,7 +1,7 @@
 -- A server, and a store that has it.
 use Rattle.std.specs.Prelude.{◌≡◌, ℕ, ◌≤◌}
-use Rattle.kc_uses.specs.declared.server.TheConstants.{CELLS}
 use Rattle.kc_uses.specs.declared.server.Server.{Server}
+use Rattle.kc_uses.specs.declared.server.TheConstants.{CELLS}
 
 -- where its parts lie
 pub record IsServer (s : Server) : Type 0 where

@@ -4,23 +4,23 @@ use Rattle.std.specs.Prelude.{◌==◌, Option, Some, None, option_map, Result, 
 use Rattle.std.proofs.Math.Path.{fun_ext}
 use Rattle.std.proofs.lemmas.Result.{err_from_is_err_and}
 use Rattle.std.proofs.lemmas.Bool.Decides.{nat_tests}
-use Rattle.kc_model.specs.declared.footprint.Seen.{Seen}
 use Rattle.kc_model.specs.Store.{Store}
-use Rattle.kc_xt.specs.declared.peek.PeekBusy.{PeekBusy}
+use Rattle.kc_model.specs.declared.footprint.Seen.{Seen}
+use Rattle.kc_xt.proofs.Chain.{stay, after, stops, follows}
+use Rattle.kc_xt.proofs.Lines.{seen_at-line_at, seen_at-with_line, seen_at-with_after, after_at-with_line, bare-with_line, bare-with_after, length-with_after}
+use Rattle.kc_xt.proofs.LogSteps.{on_log-read_some, on_log-read_none, on_log-read_full, on_log-write_some, on_log-write}
+use Rattle.kc_xt.proofs.Options.{some_is, none≢some}
+use Rattle.kc_xt.proofs.Places.{line_at-with_line, length-with_line}
+use Rattle.kc_xt.specs.Calls.{Touches, LooksAt, there, looked, no_room, no_answer, HasLine, having_set, having_set_some, Updates, Swaps, stops_at_first, stops_at_second, swaps_both, stop_of}
+use Rattle.kc_xt.specs.Lines.{look, line_at, seen_at, after_at, with_line, seen_line, with_after, Agrees, Keeps, SetsNothing, current, bare, ReadsAs}
+use Rattle.kc_xt.specs.Log.{Log}
+use Rattle.kc_xt.specs.Peeks.{Gives}
+use Rattle.kc_xt.specs.Program.{Program, read, write, writes, retries, exchanges, swaps, compares_and_sets, fetches_and_adds, wrapped}
+use Rattle.kc_xt.specs.Steps.{Comes, Stops, Does}
 use Rattle.kc_xt.specs.declared.line.Line.{Line}
+use Rattle.kc_xt.specs.declared.peek.PeekBusy.{PeekBusy}
 use Rattle.kc_xt.specs.declared.stop.Stop.{Stop}
 use Rattle.kc_xt.specs.declared.stop.Stop.TheVariants.{TooLarge, Busy}
-use Rattle.kc_xt.specs.Lines.{look, line_at, seen_at, after_at, with_line, seen_line, with_after, Agrees, Keeps, SetsNothing, current, bare, ReadsAs}
-use Rattle.kc_xt.specs.Program.{Program, read, write, writes, retries, exchanges, swaps, compares_and_sets, fetches_and_adds, wrapped}
-use Rattle.kc_xt.specs.Peeks.{Gives}
-use Rattle.kc_xt.specs.Log.{Log}
-use Rattle.kc_xt.specs.Calls.{Touches, LooksAt, there, looked, no_room, no_answer, HasLine, having_set, having_set_some, Updates, Swaps, stops_at_first, stops_at_second, swaps_both, stop_of}
-use Rattle.kc_xt.specs.Steps.{Comes, Stops, Does}
-use Rattle.kc_xt.proofs.Options.{some_is, none≢some}
-use Rattle.kc_xt.proofs.Lines.{seen_at-line_at, seen_at-with_line, seen_at-with_after, after_at-with_line, bare-with_line, bare-with_after, length-with_after}
-use Rattle.kc_xt.proofs.Places.{line_at-with_line, length-with_line}
-use Rattle.kc_xt.proofs.LogSteps.{on_log-read_some, on_log-read_none, on_log-read_full, on_log-write_some, on_log-write}
-use Rattle.kc_xt.proofs.Chain.{stay, after, stops, follows}
 
 -- one more line takes nothing away
 pub keeps-with_line : (ls : List Line) (e : Seen) → line_at ls e.loc.0 ≡ None → Keeps ls (with_line ls (seen_line e))

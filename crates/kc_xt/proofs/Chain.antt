@@ -3,15 +3,15 @@ use Rattle.std.proofs.Common.{◌≡◌, ℕ, Bool, true, false, cond, List, [],
 use Rattle.std.specs.Prelude.{Result, Ok, Err, MatchResult, IsErrAnd}
 use Rattle.std.proofs.lemmas.Result.{err_from_is_err_and}
 use Rattle.kc_model.specs.declared.footprint.Seen.{Seen}
+use Rattle.kc_xt.proofs.Lines.{grown-append}
+use Rattle.kc_xt.proofs.Rooms.{more, room_both, room_first, room_then, stops_first, stops_then}
+use Rattle.kc_xt.specs.Log.{Log}
+use Rattle.kc_xt.specs.Peeks.{Looks, Gives}
+use Rattle.kc_xt.specs.Program.{Program, ends, read, write, writes, retries}
+use Rattle.kc_xt.specs.Steps.{Ended, on_log, having_looked, LooksStop, stopping, Comes, Stops, Does, Goes}
+use Rattle.kc_xt.specs.declared.line.Line.{Line}
 use Rattle.kc_xt.specs.declared.stop.Stop.{Stop}
 use Rattle.kc_xt.specs.declared.stop.Stop.TheVariants.{Retry, TooLarge, Busy}
-use Rattle.kc_xt.specs.declared.line.Line.{Line}
-use Rattle.kc_xt.proofs.Rooms.{more, room_both, room_first, room_then, stops_first, stops_then}
-use Rattle.kc_xt.proofs.Lines.{grown-append}
-use Rattle.kc_xt.specs.Program.{Program, ends, read, write, writes, retries}
-use Rattle.kc_xt.specs.Peeks.{Looks, Gives}
-use Rattle.kc_xt.specs.Log.{Log}
-use Rattle.kc_xt.specs.Steps.{Ended, on_log, having_looked, LooksStop, stopping, Comes, Stops, Does, Goes}
 
 module _ {P : Type 0} (gives : Gives P) where
   -- looks, and then further ones

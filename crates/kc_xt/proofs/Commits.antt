@@ -3,32 +3,32 @@ use Rattle.std.proofs.Common.{◌≡◌, ◌≢◌, ℕ, zero, suc, ◌<◌, ◌
 use Rattle.std.specs.Prelude.{◌==◌, if◌then◌else◌, Option, Some, None, Contains, Result, Ok, Err, nat_lt}
 use Rattle.std.specs.Option.{option_or, option_map}
 use Rattle.std.proofs.lemmas.Bool.Decides.{nat_tests}
-use Rattle.kc_model.specs.declared.footprint.TheConstants.{LAST_VERSION, MOST}
-use Rattle.kc_model.specs.declared.footprint.Seen.{Seen}
-use Rattle.kc_model.specs.declared.footprint.Put.{Put}
+use Rattle.kc_model.specs.Footprint.{IsWellMade, read_at, put_at}
+use Rattle.kc_model.specs.Rising.{IsRising, IsRisingAbove}
+use Rattle.kc_model.specs.Store.{Store, store_of}
 use Rattle.kc_model.specs.declared.footprint.Footprint.{Footprint}
+use Rattle.kc_model.specs.declared.footprint.Put.{Put}
+use Rattle.kc_model.specs.declared.footprint.Seen.{Seen}
+use Rattle.kc_model.specs.declared.footprint.TheConstants.{LAST_VERSION, MOST}
 use Rattle.kc_model.specs.declared.plain_store.Cell.{Cell}
 use Rattle.kc_model.specs.declared.reply.Reply.{Reply}
-use Rattle.kc_model.specs.Rising.{IsRising, IsRisingAbove}
-use Rattle.kc_model.specs.Footprint.{IsWellMade, read_at, put_at}
-use Rattle.kc_model.specs.Store.{Store, store_of}
+use Rattle.kc_xt.proofs.Footprints.{puts_rise, first_put}
+use Rattle.kc_xt.proofs.Lines.{seen_at-line_at, seen_at-with_line, seen_at-with_after, after_at-with_line, after_at-with_after, locations-with_after}
+use Rattle.kc_xt.proofs.Options.{some_is, none≢some, or_assoc, or_test, or_none, or_nothing}
+use Rattle.kc_xt.proofs.Places.{rising-with_line, rising-tail}
+use Rattle.kc_xt.proofs.Rooms.{ends_under_own}
+use Rattle.kc_xt.proofs.Spared.{touched-given_up, written-given_up}
+use Rattle.kc_xt.proofs.Touching.{missing, line_at-looked_at, by_line, there_is}
+use Rattle.kc_xt.specs.Commit.{Shows, Filled}
+use Rattle.kc_xt.specs.Law.{Obeys, LooksTo, Commits, ending}
+use Rattle.kc_xt.specs.Lines.{look, locations, line_at, seen_at, after_at, with_line, seen_line, with_after, bare, with_looks, looked_at, with_wrote, with_touches, seens, puts, put_line, CanPut}
+use Rattle.kc_xt.specs.Log.{Log, empty_log}
+use Rattle.kc_xt.specs.Meaning.{Touch, Meaning, AllBelow, is_touched, last_written, values, Makes, CanMake, answers, given_up}
+use Rattle.kc_xt.specs.Peeks.{Gives, Looks, PlainLooks}
 use Rattle.kc_xt.specs.declared.line.Line.{Line}
 use Rattle.kc_xt.specs.declared.peek.PeekBusy.{PeekBusy}
 use Rattle.kc_xt.specs.declared.stop.Stop.{Stop}
 use Rattle.kc_xt.specs.declared.stop.Stop.TheVariants.{Retry, TooLarge, Busy}
-use Rattle.kc_xt.specs.Meaning.{Touch, Meaning, AllBelow, is_touched, last_written, values, Makes, CanMake, answers, given_up}
-use Rattle.kc_xt.specs.Lines.{look, locations, line_at, seen_at, after_at, with_line, seen_line, with_after, bare, with_looks, looked_at, with_wrote, with_touches, seens, puts, put_line, CanPut}
-use Rattle.kc_xt.specs.Log.{Log, empty_log}
-use Rattle.kc_xt.specs.Peeks.{Gives, Looks, PlainLooks}
-use Rattle.kc_xt.specs.Commit.{Shows, Filled}
-use Rattle.kc_xt.specs.Law.{Obeys, LooksTo, Commits, ending}
-use Rattle.kc_xt.proofs.Options.{some_is, none≢some, or_assoc, or_test, or_none, or_nothing}
-use Rattle.kc_xt.proofs.Lines.{seen_at-line_at, seen_at-with_line, seen_at-with_after, after_at-with_line, after_at-with_after, locations-with_after}
-use Rattle.kc_xt.proofs.Places.{rising-with_line, rising-tail}
-use Rattle.kc_xt.proofs.Footprints.{puts_rise, first_put}
-use Rattle.kc_xt.proofs.Rooms.{ends_under_own}
-use Rattle.kc_xt.proofs.Spared.{touched-given_up, written-given_up}
-use Rattle.kc_xt.proofs.Touching.{missing, line_at-looked_at, by_line, there_is}
 
 -- each line saw what the store shows
 abbrev pub AllShown : Store → List Line → Type 0

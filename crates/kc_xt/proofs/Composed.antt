@@ -2,23 +2,23 @@
 use Rattle.std.proofs.Common.{◌≡◌, ◌≢◌, ℕ, ◌≤◌, List, [], ◌∷◌, ◌++◌, length, refl, sym, ap, ap₂, ◌∙◌, subst}
 use Rattle.std.specs.Prelude.{Result, Ok, Err, IsErrAnd}
 use Rattle.std.proofs.lemmas.Result.{err_from_is_err_and}
-use Rattle.kc_model.specs.declared.reply.Reply.{Reply}
+use Rattle.kc_model.specs.Rising.{IsRising}
+use Rattle.kc_model.specs.Store.{Store}
 use Rattle.kc_model.specs.declared.footprint.Seen.{Seen}
+use Rattle.kc_model.specs.declared.reply.Reply.{Reply}
+use Rattle.kc_xt.proofs.Chain.{Looks-append, LooksStop-append}
+use Rattle.kc_xt.proofs.Lines.{grown-append, bare-rolled_back}
+use Rattle.kc_xt.proofs.Rooms.{more, room_both, ends_first, ends_then}
+use Rattle.kc_xt.proofs.Touching.{overlaid-with_touches, locations-with_touches, with_touches-append, looks-append, below-append, below-wider, below-given_up, looks-given_up, touched-given_up, map_after-given_up, rolled-with_touches, rolled-self, seen_at-rolled_back}
+use Rattle.kc_xt.specs.Law.{Obeys, IsRun, LooksTo, ending}
+use Rattle.kc_xt.specs.Lines.{locations, overlaid, Keeps, rolled_back, rolled_line, seen_at, bare, with_looks, with_touches, looks_of}
+use Rattle.kc_xt.specs.Log.{Log}
+use Rattle.kc_xt.specs.Meaning.{Outcome, replied, retried, too_large, Meaning, Touch, Run, AllBelow, map_after, touched_after, joined, then_run, then_meaning, given_up, else_run, first_meaning}
+use Rattle.kc_xt.specs.Peeks.{Looks, Gives}
+use Rattle.kc_xt.specs.Steps.{HasRoom, stopping}
 use Rattle.kc_xt.specs.declared.line.Line.{Line}
 use Rattle.kc_xt.specs.declared.stop.Stop.{Stop}
 use Rattle.kc_xt.specs.declared.stop.Stop.TheVariants.{Retry, TooLarge, Busy}
-use Rattle.kc_xt.specs.Law.{Obeys, IsRun, LooksTo, ending}
-use Rattle.kc_xt.proofs.Lines.{grown-append, bare-rolled_back}
-use Rattle.kc_xt.proofs.Chain.{Looks-append, LooksStop-append}
-use Rattle.kc_xt.proofs.Touching.{overlaid-with_touches, locations-with_touches, with_touches-append, looks-append, below-append, below-wider, below-given_up, looks-given_up, touched-given_up, map_after-given_up, rolled-with_touches, rolled-self, seen_at-rolled_back}
-use Rattle.kc_model.specs.Rising.{IsRising}
-use Rattle.kc_model.specs.Store.{Store}
-use Rattle.kc_xt.proofs.Rooms.{more, room_both, ends_first, ends_then}
-use Rattle.kc_xt.specs.Meaning.{Outcome, replied, retried, too_large, Meaning, Touch, Run, AllBelow, map_after, touched_after, joined, then_run, then_meaning, given_up, else_run, first_meaning}
-use Rattle.kc_xt.specs.Lines.{locations, overlaid, Keeps, rolled_back, rolled_line, seen_at, bare, with_looks, with_touches, looks_of}
-use Rattle.kc_xt.specs.Peeks.{Looks, Gives}
-use Rattle.kc_xt.specs.Log.{Log}
-use Rattle.kc_xt.specs.Steps.{HasRoom, stopping}
 use Rattle.std.proofs.lemmas.List.{length-map}
 
 -- looks, and then those of a run

@@ -2,15 +2,15 @@
 use Rattle.std.proofs.Common.{◌≡◌, ℕ, zero, suc, ◌<◌, ◌≤◌, List, [], ◌∷◌, map, refl, ap, subst, arith}
 use Rattle.std.specs.Prelude.{Option, Some, None, is_some, Contains, ◌==◌, ◌&&◌, Bool, true, false, cond}
 use Rattle.std.proofs.lemmas.Bool.Decides.{nat_tests}
-use Rattle.kc_model.specs.declared.footprint.TheConstants.{LAST_VERSION}
-use Rattle.kc_model.specs.declared.footprint.Seen.{Seen}
-use Rattle.kc_model.specs.declared.footprint.Put.{Put}
-use Rattle.kc_model.specs.declared.footprint.Footprint.{Footprint}
-use Rattle.kc_model.specs.Rising.{IsRising, IsRisingAbove}
-use Rattle.kc_model.specs.Footprint.{IsWellMade, read_location, put_location, put_at}
 use Rattle.kc_model.proofs.Stores.{Contains-first, Contains-later}
-use Rattle.kc_xt.specs.declared.line.Line.{Line}
+use Rattle.kc_model.specs.Footprint.{IsWellMade, read_location, put_location, put_at}
+use Rattle.kc_model.specs.Rising.{IsRising, IsRisingAbove}
+use Rattle.kc_model.specs.declared.footprint.Footprint.{Footprint}
+use Rattle.kc_model.specs.declared.footprint.Put.{Put}
+use Rattle.kc_model.specs.declared.footprint.Seen.{Seen}
+use Rattle.kc_model.specs.declared.footprint.TheConstants.{LAST_VERSION}
 use Rattle.kc_xt.specs.Lines.{locations, seens, puts, put_line, VersionsFit, CanPut, worn_of}
+use Rattle.kc_xt.specs.declared.line.Line.{Line}
 
 -- the locations of the reads are those of the lines
 locations-seens : (ls : List Line) → map read_location (seens ls) ≡ locations ls

@@ -3,12 +3,12 @@ use Rattle.std.proofs.Common.{◌≡◌, ◌≢◌, ℕ, refl, sym, ap, ◌∙�
 use Rattle.std.proofs.lemmas.Bool.Decides.{nat_tests}
 use Rattle.std.proofs.Common.{arith}
 use Rattle.kc_model.specs.declared.reply.Reply.{Reply}
+use Rattle.kc_xt.proofs.Spared.{Spares}
+use Rattle.kc_xt.proofs.Stay.{stays_spares}
 use Rattle.kc_xt.specs.Meaning.{Outcome, replied, retried, too_large, put}
 use Rattle.kc_xt.specs.Program.{Program, ends, read, write, plain, replies}
 use Rattle.kc_xt.specs.Stays.{Stays}
 use Rattle.kc_xt.specs.Structure.{Standing, Value, RunsTo, goes_on}
-use Rattle.kc_xt.proofs.Spared.{Spares}
-use Rattle.kc_xt.proofs.Stay.{stays_spares}
 
 -- what comes behind goes on with the outcome, on a map that stands for the content
 pub record GoesTo {C : Type 0} (stands : Standing C) (program : (Reply → Program) → Program) (m : ℕ → ℕ) (v : Value C) : Type 0 where

@@ -1,18 +1,18 @@
 -- From steps to the law of a transaction.
 use Rattle.std.proofs.Common.{◌≡◌, ◌≢◌, ℕ, ◌<◌, Bool, true, false, cond, List, [], ◌∷◌, sym, ap, ◌∙◌, append-nil}
 use Rattle.std.specs.Prelude.{Result, Ok, Err, MatchResult}
-use Rattle.kc_model.specs.declared.reply.Reply.{Reply}
+use Rattle.kc_model.specs.Store.{Store}
 use Rattle.kc_model.specs.declared.footprint.Seen.{Seen}
+use Rattle.kc_model.specs.declared.reply.Reply.{Reply}
+use Rattle.kc_xt.specs.Law.{Obeys, IsRun, ending}
+use Rattle.kc_xt.specs.Lines.{overlaid, locations}
+use Rattle.kc_xt.specs.Log.{Log}
+use Rattle.kc_xt.specs.Meaning.{replied, retried, Touch, Run, AllBelow}
+use Rattle.kc_xt.specs.Peeks.{Gives}
+use Rattle.kc_xt.specs.Program.{Program, ends, replies, read, write, meaning, full, touching, has_room}
+use Rattle.kc_xt.specs.Steps.{Ended, on_log, having_looked, Comes, Stops, Does}
 use Rattle.kc_xt.specs.declared.line.Line.{Line}
 use Rattle.kc_xt.specs.declared.stop.Stop.{Stop}
-use Rattle.kc_xt.specs.Law.{Obeys, IsRun, ending}
-use Rattle.kc_model.specs.Store.{Store}
-use Rattle.kc_xt.specs.Meaning.{replied, retried, Touch, Run, AllBelow}
-use Rattle.kc_xt.specs.Lines.{overlaid, locations}
-use Rattle.kc_xt.specs.Program.{Program, ends, replies, read, write, meaning, full, touching, has_room}
-use Rattle.kc_xt.specs.Peeks.{Gives}
-use Rattle.kc_xt.specs.Log.{Log}
-use Rattle.kc_xt.specs.Steps.{Ended, on_log, having_looked, Comes, Stops, Does}
 
 -- each cell of a program is below a bound
 abbrev pub Below : ℕ → Program → Type 0

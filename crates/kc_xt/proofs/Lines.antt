@@ -3,9 +3,9 @@ use Rattle.std.proofs.Common.{◌≡◌, ℕ, suc, Bool, true, false, cond, List
 use Rattle.std.specs.Prelude.{◌==◌, nat_lt, Some, None, option_map}
 use Rattle.std.proofs.lemmas.Bool.Decides.{nat_tests}
 use Rattle.kc_model.specs.declared.footprint.Seen.{Seen}
-use Rattle.kc_xt.specs.declared.line.Line.{Line}
-use Rattle.kc_xt.specs.Meaning.{insert_location, contains_location}
 use Rattle.kc_xt.specs.Lines.{locations, line_at, seen_at, after_at, with_line, seen_line, with_after, rolled_back, bare, with_looks}
+use Rattle.kc_xt.specs.Meaning.{insert_location, contains_location}
+use Rattle.kc_xt.specs.declared.line.Line.{Line}
 
 -- one more line is one more location
 pub locations-with_line : (ls : List Line) (a : Line) → locations (with_line ls a) ≡ insert_location (locations ls) a.seen.loc.0

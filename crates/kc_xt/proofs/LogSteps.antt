@@ -3,14 +3,14 @@ use Rattle.std.proofs.Common.{◌≡◌, ℕ, ◌<◌, ◌≤◌, Bool, true, fa
 use Rattle.std.specs.Prelude.{nat_lt, Some, None, option_map}
 use Rattle.std.proofs.Math.Path.{fun_ext}
 use Rattle.std.proofs.lemmas.Bool.Decides.{nat_tests}
-use Rattle.kc_model.specs.declared.footprint.Seen.{Seen}
-use Rattle.kc_xt.specs.declared.line.Line.{Line}
-use Rattle.kc_xt.proofs.Lines.{locations-with_line, locations-with_after, contains-none, contains-some, seen_at-line_at, after_at-with_line, after_at-none, after_at-some, after_at-with_after, length-locations, contains-insert}
 use Rattle.kc_model.specs.Store.{Store}
-use Rattle.kc_xt.specs.Meaning.{too_large, insert_location, contains_location, put}
+use Rattle.kc_model.specs.declared.footprint.Seen.{Seen}
+use Rattle.kc_xt.proofs.Lines.{locations-with_line, locations-with_after, contains-none, contains-some, seen_at-line_at, after_at-with_line, after_at-none, after_at-some, after_at-with_after, length-locations, contains-insert}
 use Rattle.kc_xt.specs.Lines.{look, locations, line_at, with_line, seen_line, with_after, overlaid, Agrees, current}
+use Rattle.kc_xt.specs.Meaning.{too_large, insert_location, contains_location, put}
 use Rattle.kc_xt.specs.Program.{Program, ends, read, write}
 use Rattle.kc_xt.specs.Steps.{on_log, having_looked}
+use Rattle.kc_xt.specs.declared.line.Line.{Line}
 
 -- a map with the lines' new values, as one more line or value changes it
 pub overlaid-with_line : (s : Store) (ls : List Line) (e : Seen) → line_at ls e.loc.0 ≡ None → overlaid s (with_line ls (seen_line e)) ≡ overlaid s ls

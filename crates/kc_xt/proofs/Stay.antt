@@ -3,6 +3,10 @@ use Rattle.std.proofs.Common.{◌≡◌, ℕ, ◌<◌, ◌≤◌, ◌==◌, ◌|
 use Rattle.std.specs.Prelude.{Result}
 use Rattle.std.proofs.lemmas.Bool.Decides.{nat_tests}
 use Rattle.kc_model.specs.declared.reply.Reply.{Reply}
+use Rattle.kc_xt.proofs.Laws.{Below, TouchesFirst, law_of}
+use Rattle.kc_xt.proofs.Singles.{one-meaning}
+use Rattle.kc_xt.proofs.Spared.{Spares, spared}
+use Rattle.kc_xt.proofs.Written.{map_after-at}
 use Rattle.kc_xt.specs.Law.{Obeys}
 use Rattle.kc_xt.specs.Log.{Log}
 use Rattle.kc_xt.specs.Meaning.{Touch, Run, is_touched, last_written, map_after, put, touch}
@@ -13,10 +17,6 @@ use Rattle.kc_xt.specs.Stays.{Stays}
 use Rattle.kc_xt.specs.Steps.{Does}
 use Rattle.kc_xt.specs.Structure.{IsOutside, TouchesItsOwnCells, RepliesOneItem}
 use Rattle.kc_xt.specs.declared.stop.Stop.{Stop}
-use Rattle.kc_xt.proofs.Laws.{Below, TouchesFirst, law_of}
-use Rattle.kc_xt.proofs.Singles.{one-meaning}
-use Rattle.kc_xt.proofs.Spared.{Spares, spared}
-use Rattle.kc_xt.proofs.Written.{map_after-at}
 
 module _ (lo hi : ℕ) where
   pub stays_below : (p : Program) → Stays lo hi p → Below hi p

@@ -1,10 +1,10 @@
 -- What runs inside others means its value.
 use Rattle.std.proofs.Common.{◌≡◌, ℕ, refl, sym, ap, ◌∙◌, subst}
 use Rattle.kc_model.specs.declared.reply.Reply.{Reply}
+use Rattle.kc_xt.proofs.PlainRuns.{plain-meaning}
 use Rattle.kc_xt.specs.Meaning.{Outcome, replied, retried, too_large, Meaning}
 use Rattle.kc_xt.specs.Program.{Program, Plain, plain, replies, meaning}
 use Rattle.kc_xt.specs.Structure.{Standing, Value, goes_on, RunsInsideOthers, MeansItsValue, KeepsWellFormed}
-use Rattle.kc_xt.proofs.PlainRuns.{plain-meaning}
 
 -- behind its reply nothing more is done
 pub alone : (o : Outcome) (left : ℕ → ℕ) → goes_on o replies left ≡ (let w : Plain = record { outcome = o; map = left } in w)

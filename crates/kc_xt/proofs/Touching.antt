@@ -2,17 +2,17 @@
 use Rattle.std.proofs.Common.{◌≡◌, ℕ, ◌≤◌, Bool, true, false, cond, List, [], ◌∷◌, ◌++◌, refl, sym, ap, ap₂, ◌∙◌, arith}
 use Rattle.std.specs.Prelude.{◌==◌, nat_lt, Option, Some, None, option_map}
 use Rattle.std.proofs.lemmas.Bool.Decides.{nat_tests}
-use Rattle.kc_model.specs.declared.footprint.Seen.{Seen}
-use Rattle.kc_xt.specs.declared.line.Line.{Line}
-use Rattle.kc_xt.proofs.Options.{none≢some}
-use Rattle.kc_xt.proofs.Lines.{locations-rolled_back, locations-with_line, locations-with_after, contains-none, seen_at-line_at, after_at-none, after_at-some, seen_at-with_after}
-use Rattle.kc_xt.proofs.Places.{rising-tail, line_at-with_line}
-use Rattle.kc_xt.proofs.LogSteps.{overlaid-with_line, overlaid-with_after}
-use Rattle.kc_xt.proofs.Calls.{keeps-with_line}
 use Rattle.kc_model.specs.Rising.{IsRising, IsRisingAbove}
 use Rattle.kc_model.specs.Store.{Store}
-use Rattle.kc_xt.specs.Meaning.{insert_location, contains_location, touch, put, Touch, AllBelow, map_with, map_after, touched_after, given_up}
+use Rattle.kc_model.specs.declared.footprint.Seen.{Seen}
+use Rattle.kc_xt.proofs.Calls.{keeps-with_line}
+use Rattle.kc_xt.proofs.Lines.{locations-rolled_back, locations-with_line, locations-with_after, contains-none, seen_at-line_at, after_at-none, after_at-some, seen_at-with_after}
+use Rattle.kc_xt.proofs.LogSteps.{overlaid-with_line, overlaid-with_after}
+use Rattle.kc_xt.proofs.Options.{none≢some}
+use Rattle.kc_xt.proofs.Places.{rising-tail, line_at-with_line}
 use Rattle.kc_xt.specs.Lines.{look, locations, line_at, seen_at, after_at, with_line, seen_line, with_after, overlaid, Keeps, rolled_back, rolled_line, with_touches, with_wrote, looked_at, looks_of}
+use Rattle.kc_xt.specs.Meaning.{insert_location, contains_location, touch, put, Touch, AllBelow, map_with, map_after, touched_after, given_up}
+use Rattle.kc_xt.specs.declared.line.Line.{Line}
 
 -- a location that is not among the locations has no line
 pub missing : (ls : List Line) (l : ℕ) → contains_location (locations ls) l ≡ false → line_at ls l ≡ None

@@ -2,32 +2,32 @@
 use Rattle.std.proofs.Common.{◌≡◌, ◌≢◌, ℕ, zero, suc, ◌<◌, ◌≤◌, Bool, true, false, cond, List, [], ◌∷◌, length, refl, sym, ap, ◌∙◌, subst, arith}
 use Rattle.std.specs.Prelude.{◌==◌, ◌&&◌, Option, Some, None, is_some, nat_lt, Contains, Result, Ok, Err}
 use Rattle.std.proofs.lemmas.Bool.Decides.{nat_tests}
-use Rattle.kc_model.specs.declared.footprint.TheConstants.{LAST_VERSION, MOST}
 use Rattle.kc_model.specs.declared.footprint.Footprint.{Footprint}
 use Rattle.kc_model.specs.declared.footprint.Loc.{Loc}
 use Rattle.kc_model.specs.declared.footprint.Seen.{Seen}
+use Rattle.kc_model.specs.declared.footprint.TheConstants.{LAST_VERSION, MOST}
 use Rattle.kc_model.specs.declared.plain_store.Cell.{Cell}
 use Rattle.kc_model.specs.declared.reply.Answer.TheVariants as answer
-use Rattle.kc_model.specs.declared.reply.Reply.{Reply}
+use Rattle.kc_model.proofs.Footprints.{read_at-contained}
 use Rattle.kc_model.specs.Footprint.{IsWellMade, IsBelow, read_at}
 use Rattle.kc_model.specs.Rising.{IsRising, IsRisingAbove}
 use Rattle.kc_model.specs.Store.{Store, Finds, store_of, zero_cell}
-use Rattle.kc_model.proofs.Footprints.{read_at-contained}
+use Rattle.kc_model.specs.declared.reply.Reply.{Reply}
 use Rattle.kc_xt.specs.declared.attempts.Tried.{Tried}
 use Rattle.kc_xt.specs.declared.attempts.Tried.TheVariants as tried
-use Rattle.kc_xt.specs.declared.line.Line.{Line}
-use Rattle.kc_xt.specs.declared.stop.Stop.{Stop}
-use Rattle.kc_xt.specs.declared.stop.Stop.TheVariants.{Retry, TooLarge, Busy}
+use Rattle.kc_xt.proofs.Commits.{makes_all, makes_reads, rises, written, AllShown, LinesBelow, shown-with_looks, shown-bare, shown_at, below-with_touches, reads_below, all_looked, err≢ok}
+use Rattle.kc_xt.proofs.Options.{some_is, none≢some}
+use Rattle.kc_xt.proofs.Places.{rising-tail}
+use Rattle.kc_xt.proofs.Rooms.{ends_under_own, length-bare, length-with_looks}
 use Rattle.kc_xt.specs.Commit.{Answers, Waits, Wears, Came, PutsWhereDone, Settles, Filled, Shows, Looked, LooksIn, room_of, run_on, answer_of}
 use Rattle.kc_xt.specs.Law.{Obeys, IsRun, EndsUnder}
 use Rattle.kc_xt.specs.Lines.{look, locations, line_at, after_at, bare, with_looks, seens, puts, worn_of}
 use Rattle.kc_xt.specs.Log.{Log, empty_log}
 use Rattle.kc_xt.specs.Meaning.{Meaning, values}
 use Rattle.kc_xt.specs.Peeks.{Gives, Looks, PlainLooks}
-use Rattle.kc_xt.proofs.Commits.{makes_all, makes_reads, rises, written, AllShown, LinesBelow, shown-with_looks, shown-bare, shown_at, below-with_touches, reads_below, all_looked, err≢ok}
-use Rattle.kc_xt.proofs.Options.{some_is, none≢some}
-use Rattle.kc_xt.proofs.Places.{rising-tail}
-use Rattle.kc_xt.proofs.Rooms.{ends_under_own, length-bare, length-with_looks}
+use Rattle.kc_xt.specs.declared.line.Line.{Line}
+use Rattle.kc_xt.specs.declared.stop.Stop.{Stop}
+use Rattle.kc_xt.specs.declared.stop.Stop.TheVariants.{Retry, TooLarge, Busy}
 
 -- ---- a store that has what a footprint read
 

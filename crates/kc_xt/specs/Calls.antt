@@ -1,13 +1,13 @@
 -- What each call of a log changes.
 use Rattle.std.specs.Prelude.{◌≡◌, ℕ, suc, ◌<◌, ◌≤◌, nat_lt, cond, List, [], ◌∷◌, length, slice_index_or, Option, Some, None, Result, Ok, Err, MatchResult}
 use Rattle.kc_model.specs.declared.footprint.Seen.{Seen}
-use Rattle.kc_xt.specs.declared.peek.PeekBusy.{PeekBusy}
+use Rattle.kc_xt.specs.Lines.{line_at, with_line, seen_line, with_after, ReadsAs}
+use Rattle.kc_xt.specs.Log.{Log}
+use Rattle.kc_xt.specs.Peeks.{Gives}
 use Rattle.kc_xt.specs.declared.line.Line.{Line}
+use Rattle.kc_xt.specs.declared.peek.PeekBusy.{PeekBusy}
 use Rattle.kc_xt.specs.declared.stop.Stop.{Stop}
 use Rattle.kc_xt.specs.declared.stop.Stop.TheVariants.{TooLarge, Busy}
-use Rattle.kc_xt.specs.Lines.{line_at, with_line, seen_line, with_after, ReadsAs}
-use Rattle.kc_xt.specs.Peeks.{Gives}
-use Rattle.kc_xt.specs.Log.{Log}
 
 -- why a call stopped, if it did
 abbrev pub stop_of : {A : Type 0} → Result A Stop → Option Stop

@@ -1,14 +1,14 @@
 -- What may be committed of a transaction, wherever what it read stands.
 use Rattle.std.specs.Prelude.{◌≡◌, ◌≢◌, ℕ, ◌≤◌, true, List, [], ◌∷◌, length, Option, Some, None, is_some, Result, Ok, Err}
-use Rattle.kc_model.specs.declared.footprint.TheConstants.{MOST, LAST_VERSION}
 use Rattle.kc_model.specs.declared.footprint.Footprint.{Footprint}
 use Rattle.kc_model.specs.declared.footprint.Put.{Put}
 use Rattle.kc_model.specs.declared.footprint.Seen.{Seen}
+use Rattle.kc_model.specs.declared.footprint.TheConstants.{MOST, LAST_VERSION}
 use Rattle.kc_model.specs.declared.reply.Answer.{Answer}
 use Rattle.kc_model.specs.declared.reply.Answer.TheVariants as answer
-use Rattle.kc_model.specs.declared.reply.Reply.{Reply}
 use Rattle.kc_model.specs.Footprint.{IsWellMade}
 use Rattle.kc_model.specs.Store.{Store, Finds}
+use Rattle.kc_model.specs.declared.reply.Reply.{Reply}
 use Rattle.kc_xt.specs.declared.attempts.Tried.{Tried}
 use Rattle.kc_xt.specs.declared.attempts.Tried.TheVariants as tried
 use Rattle.kc_xt.specs.declared.line.Line.{Line}

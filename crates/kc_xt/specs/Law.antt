@@ -1,18 +1,18 @@
 -- The law of a transaction.
 use Rattle.std.specs.Prelude.{◌≡◌, ◌≢◌, ℕ, List, [], Result, Ok, Err}
-use Rattle.kc_model.specs.declared.footprint.TheConstants.{MOST}
-use Rattle.kc_model.specs.declared.footprint.Footprint.{Footprint}
 use Rattle.kc_model.specs.Footprint.{IsBelow}
-use Rattle.kc_model.specs.declared.reply.Reply.{Reply}
-use Rattle.kc_model.specs.declared.footprint.Seen.{Seen}
 use Rattle.kc_model.specs.Store.{Store}
+use Rattle.kc_model.specs.declared.footprint.Footprint.{Footprint}
+use Rattle.kc_model.specs.declared.footprint.Seen.{Seen}
+use Rattle.kc_model.specs.declared.footprint.TheConstants.{MOST}
+use Rattle.kc_model.specs.declared.reply.Reply.{Reply}
+use Rattle.kc_xt.specs.Lines.{Agrees, Keeps, overlaid, locations, bare, with_looks, with_touches, looks_of}
+use Rattle.kc_xt.specs.Log.{Log}
+use Rattle.kc_xt.specs.Meaning.{Outcome, replied, retried, answers, Run, Meaning, AllBelow, Makes, CanMake, values}
+use Rattle.kc_xt.specs.Peeks.{Gives, Looks}
+use Rattle.kc_xt.specs.Steps.{LooksStop, HasRoom, StopsUnder, stopping}
 use Rattle.kc_xt.specs.declared.line.Line.{Line}
 use Rattle.kc_xt.specs.declared.stop.Stop.{Stop}
-use Rattle.kc_xt.specs.Meaning.{Outcome, replied, retried, answers, Run, Meaning, AllBelow, Makes, CanMake, values}
-use Rattle.kc_xt.specs.Lines.{Agrees, Keeps, overlaid, locations, bare, with_looks, with_touches, looks_of}
-use Rattle.kc_xt.specs.Peeks.{Gives, Looks}
-use Rattle.kc_xt.specs.Log.{Log}
-use Rattle.kc_xt.specs.Steps.{LooksStop, HasRoom, StopsUnder, stopping}
 
 -- the looks of a run: one more, which was given up, exactly at a Busy
 abbrev pub LooksTo : {P : Type 0} → Gives P → Result Reply Stop → List Line → P → List Seen → P → Type 0

@@ -1,12 +1,12 @@
 -- The lines of a log, as contracts see them.
 use Rattle.std.specs.Prelude.{◌≡◌, ℕ, ◌==◌, ◌≤◌, ◌<◌, nat_lt, cond, List, [], ◌∷◌, map, Option, Some, None, is_some, ◌&&◌, unwrap_or, Contains}
-use Rattle.kc_model.specs.declared.footprint.TheConstants.{LAST_VERSION}
-use Rattle.kc_model.specs.declared.footprint.Loc.{Loc}
-use Rattle.kc_model.specs.declared.footprint.Seen.{Seen}
-use Rattle.kc_model.specs.declared.footprint.Put.{Put}
 use Rattle.kc_model.specs.Store.{Store}
-use Rattle.kc_xt.specs.declared.line.Line.{Line}
+use Rattle.kc_model.specs.declared.footprint.Loc.{Loc}
+use Rattle.kc_model.specs.declared.footprint.Put.{Put}
+use Rattle.kc_model.specs.declared.footprint.Seen.{Seen}
+use Rattle.kc_model.specs.declared.footprint.TheConstants.{LAST_VERSION}
 use Rattle.kc_xt.specs.Meaning.{Touch, contains_location, touch}
+use Rattle.kc_xt.specs.declared.line.Line.{Line}
 
 -- what a store shows at a location
 abbrev pub look : Store → ℕ → Seen

@@ -1,11 +1,11 @@
 -- What transactions mean on a map from locations to values.
 use Rattle.std.specs.Prelude.{◌≡◌, ℕ, ◌<◌, ◌==◌, nat_lt, Bool, true, false, ◌||◌, cond, if◌then◌else◌, List, [], ◌∷◌, ◌++◌, map, Option, Some, None, Result, Ok, Err}
 use Rattle.std.specs.Option.{option_map, option_or}
-use Rattle.kc_model.specs.declared.footprint.TheConstants.{LAST_VERSION}
-use Rattle.kc_model.specs.declared.footprint.Footprint.{Footprint}
-use Rattle.kc_model.specs.declared.reply.Reply.{Reply}
 use Rattle.kc_model.specs.Footprint.{IsWellMade, read_at, put_at}
 use Rattle.kc_model.specs.Store.{Store}
+use Rattle.kc_model.specs.declared.footprint.Footprint.{Footprint}
+use Rattle.kc_model.specs.declared.footprint.TheConstants.{LAST_VERSION}
+use Rattle.kc_model.specs.declared.reply.Reply.{Reply}
 use Rattle.kc_xt.specs.declared.stop.Stop.{Stop}
 use Rattle.kc_xt.specs.declared.stop.Stop.TheVariants as stop
 

@@ -1,12 +1,12 @@
 -- What looks of a log answer.
 use Rattle.std.specs.Prelude.{◌≡◌, ℕ, ◌≤◌, List, [], ◌∷◌, None, Result, Ok, Err}
-use Rattle.kc_model.specs.declared.footprint.TheConstants.{LAST_VERSION}
-use Rattle.kc_model.specs.declared.footprint.Seen.{Seen}
-use Rattle.kc_model.specs.declared.plain_store.Cell.{Cell}
 use Rattle.kc_model.specs.Store.{store_of}
-use Rattle.kc_xt.specs.declared.peek.PeekBusy.{PeekBusy}
-use Rattle.kc_xt.specs.declared.line.Line.{Line}
+use Rattle.kc_model.specs.declared.footprint.Seen.{Seen}
+use Rattle.kc_model.specs.declared.footprint.TheConstants.{LAST_VERSION}
+use Rattle.kc_model.specs.declared.plain_store.Cell.{Cell}
 use Rattle.kc_xt.specs.Lines.{look, line_at}
+use Rattle.kc_xt.specs.declared.line.Line.{Line}
+use Rattle.kc_xt.specs.declared.peek.PeekBusy.{PeekBusy}
 
 -- what a look at a location may show
 pub record IsLook (loc : ℕ) (seen : Seen) : Type 0 where

@@ -1,15 +1,15 @@
 -- How a log comes from another while a program runs.
 use Rattle.std.specs.Prelude.{◌≡◌, ℕ, ◌<◌, ◌≤◌, List, ◌++◌, length, Result, MatchResult}
-use Rattle.kc_model.specs.declared.footprint.Seen.{Seen}
 use Rattle.kc_model.specs.Store.{Store}
+use Rattle.kc_model.specs.declared.footprint.Seen.{Seen}
+use Rattle.kc_xt.specs.Lines.{locations, overlaid, Agrees, Keeps, bare, with_looks, with_touches, looks_of}
+use Rattle.kc_xt.specs.Log.{Log}
+use Rattle.kc_xt.specs.Meaning.{Outcome, retried, too_large, Run}
+use Rattle.kc_xt.specs.Peeks.{Gives, Looks, LookFails}
+use Rattle.kc_xt.specs.Program.{Program, ends, meaning}
 use Rattle.kc_xt.specs.declared.line.Line.{Line}
 use Rattle.kc_xt.specs.declared.stop.Stop.{Stop}
 use Rattle.kc_xt.specs.declared.stop.Stop.TheVariants.{Retry, TooLarge, Busy}
-use Rattle.kc_xt.specs.Meaning.{Outcome, retried, too_large, Run}
-use Rattle.kc_xt.specs.Lines.{locations, overlaid, Agrees, Keeps, bare, with_looks, with_touches, looks_of}
-use Rattle.kc_xt.specs.Program.{Program, ends, meaning}
-use Rattle.kc_xt.specs.Peeks.{Gives, Looks, LookFails}
-use Rattle.kc_xt.specs.Log.{Log}
 
 -- how a program ends on a log: its outcome, the lines then, and what was looked at
 pub record Ended : Type 0 where

@@ -4,9 +4,9 @@ use Rattle.std.specs.Io.KnownBytes.{ReadConsumes, WriteAppends}
 use Rattle.kc_model.specs.declared.outside.Failed.{Failed}
 use Rattle.kc_model.specs.declared.outside.ShelfError.{ShelfError}
 use Rattle.kc_model.specs.declared.outside.ShelfError.TheVariants as error
+use Rattle.kc_top.specs.Statuses.{Says}
 use Rattle.kc_top.specs.declared.served.Served.{Served}
 use Rattle.kc_top.specs.declared.status.Status.{Status}
-use Rattle.kc_top.specs.Statuses.{Says}
 use Rattle.kcas.specs.declared.ends.StdinSource.{StdinSource}
 use Rattle.kcas.specs.declared.ends.StdoutSink.{StdoutSink}
 use Rattle.kcas.specs.declared.dir_shelf.DirShelf.{DirShelf}

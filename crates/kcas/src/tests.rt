@@ -1,6 +1,6 @@
 use crate::line::report;
 use crate::words::words_of;
-use kc_lines::Why;
+use kc_script_lines::Why;
 use kc_top::Status;
 use std::cell::RefCell;
 use std::env::{Env, FillError};

@@ -2,9 +2,9 @@ ghost use Rattle.std.specs.Prelude.{◌≤◌, IsTrue};
 ghost use Rattle.kc_model.specs.Forms.{are_calls};
 
 use crate::{Status, kcas_main};
-use kc_lines::Why;
 use kc_model::{FrailSink, FrailSource, MemShelf};
 use kc_run::OpenGate;
+use kc_script_lines::Why;
 use std::alloc::Global;
 use std::sync::Wait;
 use std::test::Fail;

@@ -1,5 +1,5 @@
-use Rattle.kc_xt.proofs.Chain.{exits, stop_call, then_call, does_true, does_reply, does_false, stop_read, then_read}
 use Rattle.kc_cache.specs.Meaning.{got_program}
+use Rattle.kc_xt.proofs.Chain.{exits, stop_call, then_call, does_true, does_reply, does_false, stop_read, then_read}
 use Rattle.std.proofs.Common.{eq-eqb, ne_eqb}
 use Rattle.kc_cache.proofs.acts.get.Goals as goal
 

@@ -1,5 +1,5 @@
-use Rattle.kc_xt.proofs.Chain.{exits, stop_call, then_call}
 use Rattle.kc_cache.specs.Meaning.{placed_program}
+use Rattle.kc_xt.proofs.Chain.{exits, stop_call, then_call}
 use Rattle.kc_cache.proofs.acts.put.Goals as goal
 
 pub returns-in_err-found-clause-goes : goal.returns-in_err-found-clause-goes

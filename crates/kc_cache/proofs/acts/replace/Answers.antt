@@ -1,5 +1,5 @@
-use Rattle.kc_xt.proofs.Chain.{exits, stop_call, then_call, does_reply, does_true, does_false}
 use Rattle.kc_cache.specs.Meaning.{dropped_program}
+use Rattle.kc_xt.proofs.Chain.{exits, stop_call, then_call, does_reply, does_true, does_false}
 use Rattle.std.proofs.Common.{eq-eqb, ne_eqb}
 use Rattle.kc_cache.proofs.acts.replace.Goals as goal
 

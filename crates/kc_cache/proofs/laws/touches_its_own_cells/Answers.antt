@@ -1,7 +1,7 @@
-use Rattle.kc_xt.specs.Program.{replies}
-use Rattle.kc_xt.proofs.Stay.{stays_touches, stays_one}
-use Rattle.kc_cache.specs.Meaning.{cache_program, cache_begin, cells_end}
 use Rattle.kc_cache.proofs.CacheLaw.{cache_stays}
+use Rattle.kc_cache.specs.Meaning.{cache_program, cache_begin, cells_end}
+use Rattle.kc_xt.proofs.Stay.{stays_touches, stays_one}
+use Rattle.kc_xt.specs.Program.{replies}
 use Rattle.kc_cache.proofs.laws.touches_its_own_cells.Goals as goal
 
 pub returns-clause-touches : goal.returns-clause-touches

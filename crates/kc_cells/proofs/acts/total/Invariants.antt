@@ -1,6 +1,6 @@
 use Rattle.std.proofs.Common.{◌≡◌, ◌+◌, ◌-◌}
-use Rattle.kc_xt.specs.Steps.{Goes}
 use Rattle.kc_cells.specs.Accumulator.{sums}
+use Rattle.kc_xt.specs.Steps.{Goes}
 use Rattle.kc_cells.proofs.acts.total.Given as goal
 
 -- so far the program has come to the sum of the cells before this one

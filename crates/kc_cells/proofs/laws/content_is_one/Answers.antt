@@ -1,5 +1,5 @@
-use Rattle.kc_cells.proofs.OnePlaces.{place_own, place_one}
 use Rattle.kc_cells.proofs.AccLaw.{acc_own, acc_one}
+use Rattle.kc_cells.proofs.OnePlaces.{place_own, place_one}
 use Rattle.kc_cells.proofs.laws.content_is_one.Goals as goal
 
 pub returns-clause-mvar : goal.returns-clause-mvar

@@ -1,10 +1,10 @@
-use Rattle.kc_xt.proofs.Structures.{means_keeps}
-use Rattle.kc_cells.specs.Mvar.{mvar_meaning, mvar_value}
-use Rattle.kc_cells.specs.Promise.{promise_meaning, promise_value}
-use Rattle.kc_cells.specs.Accumulator.{acc_meaning, acc_value}
+use Rattle.kc_cells.proofs.AccLaw.{acc_means}
 use Rattle.kc_cells.proofs.MvarLaw.{mvar_means}
 use Rattle.kc_cells.proofs.PromiseLaw.{promise_means}
-use Rattle.kc_cells.proofs.AccLaw.{acc_means}
+use Rattle.kc_cells.specs.Accumulator.{acc_meaning, acc_value}
+use Rattle.kc_cells.specs.Mvar.{mvar_meaning, mvar_value}
+use Rattle.kc_cells.specs.Promise.{promise_meaning, promise_value}
+use Rattle.kc_xt.proofs.Structures.{means_keeps}
 use Rattle.kc_cells.proofs.laws.keeps_well_formed.Goals as goal
 
 pub returns-clause-mvar : goal.returns-clause-mvar

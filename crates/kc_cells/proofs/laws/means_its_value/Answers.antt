@@ -1,6 +1,6 @@
+use Rattle.kc_cells.proofs.AccLaw.{acc_means}
 use Rattle.kc_cells.proofs.MvarLaw.{mvar_means}
 use Rattle.kc_cells.proofs.PromiseLaw.{promise_means}
-use Rattle.kc_cells.proofs.AccLaw.{acc_means}
 use Rattle.kc_cells.proofs.laws.means_its_value.Goals as goal
 
 pub returns-clause-mvar : goal.returns-clause-mvar

@@ -1,5 +1,5 @@
-use Rattle.kc_cells.proofs.OnePlaces.{place_opens}
 use Rattle.kc_cells.proofs.AccLaw.{acc_opens}
+use Rattle.kc_cells.proofs.OnePlaces.{place_opens}
 use Rattle.kc_cells.proofs.laws.opens_empty.Goals as goal
 
 pub returns-clause-mvar : goal.returns-clause-mvar

@@ -1,7 +1,7 @@
+use Rattle.kc_cells.proofs.AccLaw.{acc_inside}
+use Rattle.kc_cells.proofs.OnePlaces.{place_inside}
 use Rattle.kc_cells.specs.Mvar.{mvar_act}
 use Rattle.kc_cells.specs.Promise.{promise_act}
-use Rattle.kc_cells.proofs.OnePlaces.{place_inside}
-use Rattle.kc_cells.proofs.AccLaw.{acc_inside}
 use Rattle.kc_cells.proofs.laws.runs_inside_others.Goals as goal
 
 pub returns-clause-mvar : goal.returns-clause-mvar

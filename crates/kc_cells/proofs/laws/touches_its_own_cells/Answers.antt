@@ -1,11 +1,11 @@
-use Rattle.kc_xt.specs.Program.{replies}
-use Rattle.kc_xt.proofs.Stay.{stays_touches, stays_one}
-use Rattle.kc_cells.specs.Mvar.{mvar_program}
-use Rattle.kc_cells.specs.Promise.{promise_program}
-use Rattle.kc_cells.specs.Accumulator.{acc_program}
+use Rattle.kc_cells.proofs.AccLaw.{acc_stays}
 use Rattle.kc_cells.proofs.MvarLaw.{mvar_stays}
 use Rattle.kc_cells.proofs.PromiseLaw.{promise_stays}
-use Rattle.kc_cells.proofs.AccLaw.{acc_stays}
+use Rattle.kc_cells.specs.Accumulator.{acc_program}
+use Rattle.kc_cells.specs.Mvar.{mvar_program}
+use Rattle.kc_cells.specs.Promise.{promise_program}
+use Rattle.kc_xt.proofs.Stay.{stays_touches, stays_one}
+use Rattle.kc_xt.specs.Program.{replies}
 use Rattle.kc_cells.proofs.laws.touches_its_own_cells.Goals as goal
 
 pub returns-clause-mvar : goal.returns-clause-mvar

@@ -1,5 +1,5 @@
-use Rattle.kc_dllist.specs.Content.{dllist_value}
 use Rattle.kc_dllist.proofs.Values.{dllist_means}
+use Rattle.kc_dllist.specs.Content.{dllist_value}
 use Rattle.kc_dllist.proofs.laws.keeps_well_formed.Goals as goal
 
 pub returns : goal.returns

@@ -1,8 +1,8 @@
 use Rattle.std.proofs.Common.{◌≡◌, suc, ◌+◌, ◌-◌, arith, rules}
+use Rattle.kc_hash.proofs.WalkSteps.{walk_ends, walk_at_0, walk_stops_at_key, walk_finds, walk_stops_at_next, walk_goes}
+use Rattle.kc_hash.specs.Meaning.{walk_program, nodes_program, link_of, head_cell, bucket_of}
 use Rattle.kc_xt.proofs.Chain.{exits, goes_from, goes_read, goes_to, goes_on}
 use Rattle.kc_xt.specs.Steps.{Goes}
-use Rattle.kc_hash.specs.Meaning.{walk_program, nodes_program, link_of, head_cell, bucket_of}
-use Rattle.kc_hash.proofs.WalkSteps.{walk_ends, walk_at_0, walk_stops_at_key, walk_finds, walk_stops_at_next, walk_goes}
 use Rattle.kc_hash.proofs.walk.walk.Goals as goal
 use Rattle.kc_hash.proofs.walk.walk.Goals.{In-loop-step}
 

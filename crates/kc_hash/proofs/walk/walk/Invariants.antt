@@ -1,6 +1,6 @@
 use Rattle.std.proofs.Common.{◌≡◌, ◌<◌, ◌≤◌, ◌-◌}
-use Rattle.kc_xt.specs.Steps.{Goes}
 use Rattle.kc_hash.specs.Meaning.{walk_program, nodes_program, cells_end}
+use Rattle.kc_xt.specs.Steps.{Goes}
 use Rattle.kc_hash.proofs.walk.walk.Given as goal
 
 -- so far the program has come to the walk over the nodes that are left

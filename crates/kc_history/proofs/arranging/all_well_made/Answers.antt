@@ -1,8 +1,8 @@
 use Rattle.std.proofs.Common.{sym, subst, refl}
 use Rattle.std.proofs.lemmas.List.Elements.{All-more}
-use Rattle.kc_history.specs.declared.record.Record.{Record}
-use Rattle.kc_history.specs.Ends.{CanStand}
 use Rattle.kc_history.proofs.Tallies.{all_taken}
+use Rattle.kc_history.specs.Ends.{CanStand}
+use Rattle.kc_history.specs.declared.record.Record.{Record}
 use Rattle.kc_history.proofs.arranging.all_well_made.Goals as goal
 
 pub returns-then-not-can_stand : goal.returns-then-not-can_stand

@@ -1,6 +1,6 @@
 use Rattle.std.proofs.Common.{All, take}
-use Rattle.kc_history.specs.declared.record.Record.{Record}
 use Rattle.kc_history.specs.Ends.{CanStand}
+use Rattle.kc_history.specs.declared.record.Record.{Record}
 use Rattle.kc_history.proofs.arranging.all_well_made.Given as goal
 
 abbrev pub invariant-loop-commit : goal.invariant-loop-commit

@@ -1,11 +1,11 @@
 use Rattle.std.proofs.Common.{All, Vec, sym, subst, refl}
 use Rattle.std.proofs.lemmas.List.Elements.{All-more}
 use Rattle.std.specs.Global.{Global}
-use Rattle.kc_history.specs.declared.record.Record.{Record}
-use Rattle.kc_history.specs.Ends.{AreWellMade, CanStand}
 use Rattle.kc_history.proofs.Opening.{all_lists, by_lists}
 use Rattle.kc_history.proofs.Tallies.{all_taken}
 use Rattle.kc_history.proofs.Totals.{same_footprints}
+use Rattle.kc_history.specs.Ends.{AreWellMade, CanStand}
+use Rattle.kc_history.specs.declared.record.Record.{Record}
 use Rattle.kc_history.proofs.arranging.are_well_made.Goals as goal
 
 pub returns-then-not-all_well_made : goal.returns-then-not-all_well_made

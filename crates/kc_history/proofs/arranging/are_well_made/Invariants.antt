@@ -1,7 +1,7 @@
 use Rattle.std.proofs.Common.{All, take, Vec}
 use Rattle.std.specs.Global.{Global}
-use Rattle.kc_history.specs.declared.record.Record.{Record}
 use Rattle.kc_history.specs.Ends.{CanStand}
+use Rattle.kc_history.specs.declared.record.Record.{Record}
 use Rattle.kc_history.proofs.arranging.are_well_made.Given as goal
 
 abbrev pub invariant-loop-list : goal.invariant-loop-list

@@ -1,10 +1,10 @@
 use Rattle.std.proofs.Common.{◌≡◌, ℕ, arith, subst, sym, take, drop, length, ◌++◌}
 use Rattle.std.specs.Prelude.{IfErr}
-use Rattle.kc_history.specs.Order.{Footprints}
+use Rattle.kc_history.proofs.Opening.{put_back}
+use Rattle.kc_history.proofs.Totals.{same_footprints, all_well_made}
 use Rattle.kc_history.specs.Counts.{AllWellMade}
 use Rattle.kc_history.specs.Ends.{IsStuck, HasLegalList}
-use Rattle.kc_history.proofs.Totals.{same_footprints, all_well_made}
-use Rattle.kc_history.proofs.Opening.{put_back}
+use Rattle.kc_history.specs.Order.{Footprints}
 use Rattle.kc_history.proofs.arranging.arrange.Goals as goal
 
 pub find_order-placed-requires-clause-made : goal.find_order-placed-requires-clause-made

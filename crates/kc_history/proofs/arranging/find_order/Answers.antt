@@ -1,7 +1,7 @@
 use Rattle.std.proofs.Common.{◌<◌, ◌+◌, ◌^◌, slice_index, arith, rules}
-use Rattle.kc_history.specs.Counts.{foot_at}
 use Rattle.kc_history.proofs.Exchange.{choice_legal}
 use Rattle.kc_history.proofs.Placed.{few_records}
+use Rattle.kc_history.specs.Counts.{foot_at}
 use Rattle.kc_history.proofs.arranging.find_order.Goals as goal
 
 pub overflow_add-cycle-in-Some : goal.overflow_add-cycle-in-Some

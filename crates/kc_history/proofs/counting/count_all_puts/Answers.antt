@@ -1,8 +1,8 @@
 use Rattle.std.proofs.Common.{◌≡◌, ◌<◌, ℕ, length, sum_by, Vec, vec_len, ap, arith}
 use Rattle.std.specs.Global.{Global}
-use Rattle.kc_history.specs.declared.record.Record.{Record}
-use Rattle.kc_history.specs.Counts.{putters}
 use Rattle.kc_history.proofs.Tallies.{item_more}
+use Rattle.kc_history.specs.Counts.{putters}
+use Rattle.kc_history.specs.declared.record.Record.{Record}
 use Rattle.kc_history.proofs.counting.count_all_puts.Goals as goal
 
 pub loop-list-preserved : goal.loop-list-preserved

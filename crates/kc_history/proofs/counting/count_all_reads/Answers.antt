@@ -1,8 +1,8 @@
 use Rattle.std.proofs.Common.{◌≡◌, ℕ, sum_by, Vec, vec_len, ap, arith}
 use Rattle.std.specs.Global.{Global}
-use Rattle.kc_history.specs.declared.record.Record.{Record}
-use Rattle.kc_history.specs.Counts.{readers}
 use Rattle.kc_history.proofs.Tallies.{item_more, item_fits}
+use Rattle.kc_history.specs.Counts.{readers}
+use Rattle.kc_history.specs.declared.record.Record.{Record}
 use Rattle.kc_history.proofs.counting.count_all_reads.Goals as goal
 
 pub count_list_reads-requires-clause-room : goal.count_list_reads-requires-clause-room

@@ -1,6 +1,6 @@
 use Rattle.std.proofs.Common.{◌≡◌, ◌+◌, ◌*◌, ◌<◌, ◌≤◌, ℕ, length, take, slice_index, sum, sum_by}
-use Rattle.kc_history.specs.declared.record.Record.{Record}
 use Rattle.kc_history.specs.Counts.{putters}
+use Rattle.kc_history.specs.declared.record.Record.{Record}
 use Rattle.kc_history.proofs.counting.count_list_puts.Given as goal
 
 abbrev pub invariant-loop-commit : goal.invariant-loop-commit

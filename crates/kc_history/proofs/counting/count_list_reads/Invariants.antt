@@ -1,6 +1,6 @@
 use Rattle.std.proofs.Common.{◌≡◌, ◌+◌, ◌*◌, ◌<◌, ◌≤◌, ℕ, length, take, slice_index, sum_by}
-use Rattle.kc_history.specs.declared.record.Record.{Record}
 use Rattle.kc_history.specs.Counts.{readers, slot, width}
+use Rattle.kc_history.specs.declared.record.Record.{Record}
 use Rattle.kc_history.proofs.counting.count_list_reads.Given as goal
 
 abbrev pub invariant-loop-commit : goal.invariant-loop-commit

@@ -1,7 +1,7 @@
 use Rattle.std.proofs.Common.{◌+◌, ◌<◌, length, slice_index, slice_index_or, arith, ap, sym, ◌∙◌}
-use Rattle.kc_model.specs.declared.footprint.Seen.{Seen}
-use Rattle.kc_history.specs.Counts.{slot, Slots}
 use Rattle.kc_history.proofs.Tallies.{counted_more, uncounted, bumped_most, same_slots, slot_fits}
+use Rattle.kc_history.specs.Counts.{slot, Slots}
+use Rattle.kc_model.specs.declared.footprint.Seen.{Seen}
 use Rattle.kc_history.proofs.counting.count_reads.Goals as goal
 use Rattle.kc_history.proofs.counting.count_reads.Goals.{then-read-width, else-read-width}
 

@@ -1,9 +1,9 @@
 use Rattle.std.proofs.Common.{◌<◌, ◌+◌, ◌-◌, All, length, arith}
-use Rattle.kc_model.specs.declared.footprint.Seen.{Seen}
-use Rattle.kc_model.specs.declared.footprint.Put.{Put}
-use Rattle.kc_history.specs.Counts.{slot}
 use Rattle.kc_history.proofs.Opening.{all_lists, slots_of, opening_counts}
 use Rattle.kc_history.proofs.Passing.{puts_below}
+use Rattle.kc_history.specs.Counts.{slot}
+use Rattle.kc_model.specs.declared.footprint.Put.{Put}
+use Rattle.kc_model.specs.declared.footprint.Seen.{Seen}
 use Rattle.kc_history.proofs.counting.count_records.Goals as goal
 
 pub count_all_puts-requires-clause-below : goal.count_all_puts-requires-clause-below

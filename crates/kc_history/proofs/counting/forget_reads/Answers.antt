@@ -1,7 +1,7 @@
 use Rattle.std.proofs.Common.{◌<◌, length}
-use Rattle.kc_model.specs.declared.footprint.Seen.{Seen}
-use Rattle.kc_history.specs.Counts.{Slots}
 use Rattle.kc_history.proofs.Tallies.{counted_less, still_in, same_slots}
+use Rattle.kc_history.specs.Counts.{Slots}
+use Rattle.kc_model.specs.declared.footprint.Seen.{Seen}
 use Rattle.kc_history.proofs.counting.forget_reads.Goals as goal
 
 abbrev zero_seen : Seen

@@ -1,8 +1,8 @@
 use Rattle.std.proofs.Common.{arith}
 use Rattle.std.proofs.lemmas.List.Elements.{All-more}
-use Rattle.kc_model.specs.declared.footprint.Put.{Put}
-use Rattle.kc_history.specs.Tested.{IsAlone}
 use Rattle.kc_history.proofs.Tallies.{all_taken, taken_all}
+use Rattle.kc_history.specs.Tested.{IsAlone}
+use Rattle.kc_model.specs.declared.footprint.Put.{Put}
 use Rattle.kc_history.proofs.placing.count_alone.Goals as goal
 
 abbrev zero_put : Put

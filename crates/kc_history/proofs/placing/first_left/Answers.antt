@@ -1,8 +1,8 @@
 use Rattle.std.proofs.Common.{◌≡◌, ◌<◌, ◌≤◌, ℕ, length, slice_index, vec_len, Some, subst, sym, inl, inr, arith}
-use Rattle.kc_history.specs.Counts.{foot_at}
 use Rattle.kc_history.proofs.Opening.{left_at, none_left_at}
 use Rattle.kc_history.proofs.Passing.{at_or_below, below_end}
 use Rattle.kc_history.proofs.Totals.{no_thread}
+use Rattle.kc_history.specs.Counts.{foot_at}
 use Rattle.kc_history.proofs.placing.first_left.Goals as goal
 
 pub returns-then-next-thread : goal.returns-then-next-thread

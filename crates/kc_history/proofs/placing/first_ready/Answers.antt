@@ -1,10 +1,10 @@
 use Rattle.std.proofs.Common.{All, length, slice_index, subst, inl, inr, arith}
-use Rattle.kc_model.specs.declared.footprint.Footprint.{Footprint}
-use Rattle.kc_history.specs.Counts.{Passes}
-use Rattle.kc_history.specs.Tested.{Finds, IsAlone}
 use Rattle.kc_history.proofs.Passing.{puts_below, not_below, at_or_below, below_end}
 use Rattle.kc_history.proofs.Placed.{tested_set}
 use Rattle.kc_history.proofs.Totals.{record_is, record_past, no_thread, same_record}
+use Rattle.kc_history.specs.Counts.{Passes}
+use Rattle.kc_history.specs.Tested.{Finds, IsAlone}
+use Rattle.kc_model.specs.declared.footprint.Footprint.{Footprint}
 use Rattle.kc_history.proofs.placing.first_ready.Goals as goal
 use Rattle.kc_history.proofs.placing.first_ready.Goals.{then-index-list+else-may_stand, else-index-list}
 

@@ -1,7 +1,7 @@
 use Rattle.std.proofs.Common.{ℕ, ◌<◌}
-use Rattle.kc_model.specs.declared.footprint.Footprint.{Footprint}
 use Rattle.kc_history.specs.Counts.{Passes}
 use Rattle.kc_history.specs.Tested.{AllTested}
+use Rattle.kc_model.specs.declared.footprint.Footprint.{Footprint}
 use Rattle.kc_history.proofs.placing.first_ready.Given as goal
 
 abbrev pub invariant-loop-thread : goal.invariant-loop-thread

@@ -1,11 +1,11 @@
 use Rattle.std.proofs.Common.{◌≡◌, ◌<◌, ◌+◌, ◌^◌, length, slice_index, slice_set, subst, arith, rules}
 use Rattle.std.proofs.Math.Path.{fun_ext}
-use Rattle.kc_model.specs.declared.footprint.Footprint.{Footprint}
-use Rattle.kc_history.specs.Order.{more, raised}
-use Rattle.kc_history.specs.Counts.{Forgets}
 use Rattle.kc_history.proofs.Passing.{puts_below}
-use Rattle.kc_history.proofs.Totals.{same_record}
 use Rattle.kc_history.proofs.Placed.{set_more, in_list, few_records, reads_fit, reads_stand, reads_counted, puts_room, next_counted, next_passes}
+use Rattle.kc_history.proofs.Totals.{same_record}
+use Rattle.kc_history.specs.Counts.{Forgets}
+use Rattle.kc_history.specs.Order.{more, raised}
+use Rattle.kc_model.specs.declared.footprint.Footprint.{Footprint}
 use Rattle.kc_history.proofs.placing.let_stand.Goals as goal
 
 pub bounds-list-next : goal.bounds-list-next

@@ -1,10 +1,10 @@
 use Rattle.std.proofs.Common.{◌≡◌, ◌<◌, length, slice_index, slice_set, ap, sym, arith}
 use Rattle.std.proofs.Math.Path.{fun_ext}
-use Rattle.kc_history.specs.Order.{more}
-use Rattle.kc_history.specs.Counts.{total}
-use Rattle.kc_history.specs.Tested.{untested}
-use Rattle.kc_history.proofs.Totals.{total_step}
 use Rattle.kc_history.proofs.Placed.{all_records, placed_more, tested_more, ends, made_still}
+use Rattle.kc_history.proofs.Totals.{total_step}
+use Rattle.kc_history.specs.Counts.{total}
+use Rattle.kc_history.specs.Order.{more}
+use Rattle.kc_history.specs.Tested.{untested}
 use Rattle.kc_history.proofs.placing.place_all.Goals as goal
 
 pub loop-thread-init : goal.loop-thread-init

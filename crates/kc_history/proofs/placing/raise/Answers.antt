@@ -1,6 +1,6 @@
 use Rattle.std.proofs.Common.{◌≡◌, ◌<◌, length, slice_index, slice_index_or, arith, rules}
-use Rattle.kc_model.specs.declared.footprint.Put.{Put}
 use Rattle.kc_history.proofs.Tallies.{raised_more, unraised}
+use Rattle.kc_model.specs.declared.footprint.Put.{Put}
 use Rattle.kc_history.proofs.placing.raise.Goals as goal
 
 abbrev zero_put : Put

@@ -1,10 +1,10 @@
 use Rattle.std.proofs.Common.{rules, ◌≡◌, ◌∙◌, subst, sym}
-use Rattle.kc_model.specs.declared.footprint.Footprint.{Footprint}
-use Rattle.kc_model.specs.Store.{Finds, store_of, after}
-use Rattle.kc_history.specs.Records.{lists_of}
+use Rattle.kc_history.proofs.Applied.{some_record, footprint_read}
 use Rattle.kc_history.proofs.Choice.{some_is}
 use Rattle.kc_history.proofs.Places.{index_within}
-use Rattle.kc_history.proofs.Applied.{some_record, footprint_read}
+use Rattle.kc_history.specs.Records.{lists_of}
+use Rattle.kc_model.specs.Store.{Finds, store_of, after}
+use Rattle.kc_model.specs.declared.footprint.Footprint.{Footprint}
 use Rattle.kc_history.proofs.replaying.apply_at.Goals as goal
 
 pub index-commit-requires : goal.index-commit-requires

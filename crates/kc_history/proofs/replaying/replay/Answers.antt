@@ -1,7 +1,7 @@
 use Rattle.std.proofs.Common.{◌+◌, refl, sym, subst, ◌∙◌}
-use Rattle.kc_model.specs.Store.{Store, store_of}
-use Rattle.kc_history.specs.Records.{footprint_at, lists_of}
 use Rattle.kc_history.proofs.Applied.{Comes, comes_first, comes_next, comes_last}
+use Rattle.kc_history.specs.Records.{footprint_at, lists_of}
+use Rattle.kc_model.specs.Store.{Store, store_of}
 use Rattle.kc_history.proofs.replaying.replay.Goals as goal
 
 pub loop-i-init : goal.loop-i-init

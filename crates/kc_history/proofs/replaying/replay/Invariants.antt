@@ -1,7 +1,7 @@
 use Rattle.std.proofs.Common.{◌≡◌, length}
-use Rattle.kc_model.specs.Store.{store_of}
-use Rattle.kc_history.specs.Records.{footprint_at, lists_of}
 use Rattle.kc_history.proofs.Applied.{Comes}
+use Rattle.kc_history.specs.Records.{footprint_at, lists_of}
+use Rattle.kc_model.specs.Store.{store_of}
 use Rattle.kc_history.proofs.replaying.replay.Given as goal
 
 abbrev pub invariant-loop-i : goal.invariant-loop-i

@@ -1,5 +1,5 @@
-use Rattle.kc_model.proofs.Pens.{puts_then}
 use Rattle.kc_history.proofs.Lines.{first_item}
+use Rattle.kc_model.proofs.Pens.{puts_then}
 use Rattle.kc_history.proofs.text.put_items.Goals as goal
 
 pub returns : goal.returns

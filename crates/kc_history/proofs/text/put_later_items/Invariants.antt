@@ -1,6 +1,6 @@
 use Rattle.std.proofs.Common.{◌≡◌, drop}
-use Rattle.kc_model.specs.Pen.{sheet, Owes}
 use Rattle.kc_history.specs.Text.{spaced_items}
+use Rattle.kc_model.specs.Pen.{sheet, Owes}
 use Rattle.kc_history.proofs.text.put_later_items.Given as goal
 
 abbrev pub invariant-loop-i : goal.invariant-loop-i

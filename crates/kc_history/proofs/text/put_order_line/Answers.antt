@@ -1,6 +1,6 @@
 use Rattle.std.proofs.Common.{rules}
-use Rattle.kc_model.proofs.Pens.{puts_then}
 use Rattle.kc_history.proofs.Places.{index_within, record_read}
+use Rattle.kc_model.proofs.Pens.{puts_then}
 use Rattle.kc_history.proofs.text.put_order_line.Goals as goal
 
 pub index-commit-requires : goal.index-commit-requires

@@ -1,7 +1,7 @@
 use Rattle.std.proofs.Common.{◌≡◌, drop}
-use Rattle.kc_model.specs.Pen.{sheet, Owes}
 use Rattle.kc_history.specs.Records.{lists_of}
 use Rattle.kc_history.specs.Text.{reply_lines}
+use Rattle.kc_model.specs.Pen.{sheet, Owes}
 use Rattle.kc_history.proofs.text.put_replies.Given as goal
 
 abbrev pub invariant-loop-list : goal.invariant-loop-list

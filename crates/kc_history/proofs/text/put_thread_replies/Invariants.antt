@@ -1,7 +1,7 @@
 use Rattle.std.proofs.Common.{◌≡◌, drop}
 use Rattle.std.specs.List.{flat_map}
-use Rattle.kc_model.specs.Pen.{sheet, Owes}
 use Rattle.kc_history.specs.Text.{reply_line}
+use Rattle.kc_model.specs.Pen.{sheet, Owes}
 use Rattle.kc_history.proofs.text.put_thread_replies.Given as goal
 
 abbrev pub invariant-loop-commit : goal.invariant-loop-commit

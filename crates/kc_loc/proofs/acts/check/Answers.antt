@@ -1,5 +1,5 @@
-use Rattle.kc_xt.proofs.Chain.{exits, stop_read, then_read, does_true, does_reply, does_false, does_retry}
 use Rattle.kc_loc.specs.Meaning.{loc_program}
+use Rattle.kc_xt.proofs.Chain.{exits, stop_read, then_read, does_true, does_reply, does_false, does_retry}
 use Rattle.std.proofs.Common.{sym, ◌∙◌}
 use Rattle.kc_loc.proofs.acts.check.Goals as goal
 

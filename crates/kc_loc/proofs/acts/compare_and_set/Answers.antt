@@ -1,5 +1,5 @@
-use Rattle.kc_xt.proofs.Chain.{exits, stop_call, then_call, does_reply}
 use Rattle.kc_loc.specs.Meaning.{loc_program}
+use Rattle.kc_xt.proofs.Chain.{exits, stop_call, then_call, does_reply}
 use Rattle.kc_model.specs.declared.reply.Reply.TheVariants as reply
 use Rattle.kc_loc.proofs.acts.compare_and_set.Goals as goal
 

@@ -1,5 +1,5 @@
-use Rattle.kc_xt.proofs.Chain.{exits, stop_call, then_call, does_reply}
 use Rattle.kc_loc.specs.Meaning.{loc_program}
+use Rattle.kc_xt.proofs.Chain.{exits, stop_call, then_call, does_reply}
 use Rattle.kc_loc.proofs.acts.fetch_add.Goals as goal
 
 pub returns-in_err-before-clause-goes : goal.returns-in_err-before-clause-goes

@@ -1,5 +1,5 @@
-use Rattle.kc_xt.proofs.Chain.{exits, stop_read, then_read, does_reply}
 use Rattle.kc_loc.specs.Meaning.{loc_program}
+use Rattle.kc_xt.proofs.Chain.{exits, stop_read, then_read, does_reply}
 use Rattle.kc_loc.proofs.acts.get.Goals as goal
 
 pub returns-in_err-value-clause-goes : goal.returns-in_err-value-clause-goes

@@ -1,5 +1,5 @@
-use Rattle.kc_xt.proofs.Chain.{exits, stop_read, then_read, stop_write, then_write, does_reply}
 use Rattle.kc_loc.specs.Meaning.{loc_program}
+use Rattle.kc_xt.proofs.Chain.{exits, stop_read, then_read, stop_write, then_write, does_reply}
 use Rattle.kc_loc.proofs.acts.modify.Goals as goal
 
 pub returns-in_err-value-clause-goes : goal.returns-in_err-value-clause-goes

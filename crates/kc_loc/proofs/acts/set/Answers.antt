@@ -1,5 +1,5 @@
-use Rattle.kc_xt.proofs.Chain.{exits, stop_write, then_write, does_reply}
 use Rattle.kc_loc.specs.Meaning.{loc_program}
+use Rattle.kc_xt.proofs.Chain.{exits, stop_write, then_write, does_reply}
 use Rattle.kc_loc.proofs.acts.set.Goals as goal
 
 pub returns-in_err-set-clause-goes : goal.returns-in_err-set-clause-goes

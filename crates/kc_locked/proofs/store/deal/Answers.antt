@@ -1,7 +1,7 @@
 use Rattle.std.proofs.Common.{ap, arith, length, sym}
-use Rattle.kc_locked.specs.Locked.{own_first}
-use Rattle.kc_locked.proofs.Enters.{pass_is}
 use Rattle.kc_locked.proofs.Ends.{deals, dealt_is, share_fits}
+use Rattle.kc_locked.proofs.Enters.{pass_is}
+use Rattle.kc_locked.specs.Locked.{own_first}
 use Rattle.kc_locked.proofs.store.deal.Goals as goal
 
 pub split_seat-token-requires : goal.split_seat-token-requires

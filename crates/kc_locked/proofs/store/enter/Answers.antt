@@ -1,10 +1,10 @@
 use Rattle.std.proofs.Common.{◌∷◌, Some, ap, subst, ◌∙◌, sym}
 use Rattle.atomic_table.specs.Table.{rest}
+use Rattle.kc_history.specs.Callers.{entry_of}
+use Rattle.kc_locked.proofs.Enters.{found_is, entered, back}
 use Rattle.kc_locked.specs.Held.{IsSound}
 use Rattle.kc_locked.specs.Locked.{Grown}
 use Rattle.kc_locked.specs.Locked.{made_by}
-use Rattle.kc_history.specs.Callers.{entry_of}
-use Rattle.kc_locked.proofs.Enters.{found_is, entered, back}
 use Rattle.kc_locked.proofs.store.enter.Goals as goal
 
 pub exchange-requires : goal.exchange-requires

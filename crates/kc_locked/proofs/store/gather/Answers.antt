@@ -1,8 +1,8 @@
 use Rattle.std.proofs.Common.{◌≡◌, arith, sym, ap, ◌∙◌, rules, subst, append_assoc, ◌++◌, ◌∷◌, []}
 use Rattle.std.specs.Prelude.{All}
-use Rattle.kc_locked.specs.Passes.{PassView}
-use Rattle.kc_locked.specs.Locked.{Matches}
 use Rattle.kc_locked.proofs.Ends.{arrives, gathers, all_at, pass_part}
+use Rattle.kc_locked.specs.Locked.{Matches}
+use Rattle.kc_locked.specs.Passes.{PassView}
 use Rattle.kc_locked.proofs.store.gather.Goals as goal
 
 pub load_new_seat-requires : goal.load_new_seat-requires

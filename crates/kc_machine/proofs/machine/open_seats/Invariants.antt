@@ -1,6 +1,6 @@
 use Rattle.std.proofs.Common.{◌≡◌, ◌*◌, ℕ, length}
-use Rattle.kc_machine.specs.Seats.{fresh}
 use Rattle.kc_machine.specs.Lists.{seat_at}
+use Rattle.kc_machine.specs.Seats.{fresh}
 use Rattle.kc_machine.proofs.machine.open_seats.Given as goal
 
 abbrev pub invariant-loop-caller : goal.invariant-loop-caller

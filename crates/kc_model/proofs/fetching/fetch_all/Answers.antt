@@ -3,8 +3,8 @@ use Rattle.std.proofs.lemmas.List.{length-map}
 use Rattle.std.specs.Global.{Global}
 use Rattle.kc_model.specs.declared.outside.ShelfError.{ShelfError}
 use Rattle.kc_model.specs.declared.outside.ShelfError.TheVariants as error
-use Rattle.kc_model.specs.Shelves.{all_items}
 use Rattle.kc_model.proofs.Fetches.{error_is, fetched_none, fetched_more, next_is, one_more, one_more_file}
+use Rattle.kc_model.specs.Shelves.{all_items}
 use Rattle.kc_model.proofs.fetching.fetch_all.Goals as goal
 
 pub loop-name-init : goal.loop-name-init

@@ -1,8 +1,8 @@
 use Rattle.std.proofs.Common.{◌<◌, All, subst, take_all, refl, arith}
 use Rattle.std.proofs.lemmas.List.Elements.{All-more}
-use Rattle.kc_model.specs.declared.footprint.TheConstants.{LAST_VERSION}
-use Rattle.kc_model.specs.declared.footprint.Put.{Put}
 use Rattle.kc_model.specs.Footprint.{IsRead}
+use Rattle.kc_model.specs.declared.footprint.Put.{Put}
+use Rattle.kc_model.specs.declared.footprint.TheConstants.{LAST_VERSION}
 use Rattle.kc_model.proofs.well_made.puts_end_reads.Goals as goal
 
 abbrev zeros : Put

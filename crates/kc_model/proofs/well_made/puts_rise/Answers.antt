@@ -1,7 +1,7 @@
 use Rattle.std.proofs.Common.{◌≡◌, ◌-◌, suc, ap, arith, rules, slice_index_or}
-use Rattle.kc_model.specs.declared.footprint.Put.{Put}
-use Rattle.kc_model.specs.Footprint.{put_location}
 use Rattle.kc_model.proofs.Rises.{rising_climbs, climbs_rising}
+use Rattle.kc_model.specs.Footprint.{put_location}
+use Rattle.kc_model.specs.declared.footprint.Put.{Put}
 use Rattle.kc_model.proofs.well_made.puts_rise.Goals as goal
 
 abbrev zeros : Put

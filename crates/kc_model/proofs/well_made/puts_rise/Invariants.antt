@@ -1,5 +1,5 @@
-use Rattle.kc_model.specs.Footprint.{put_location}
 use Rattle.kc_model.proofs.Rises.{Climbs}
+use Rattle.kc_model.specs.Footprint.{put_location}
 use Rattle.kc_model.proofs.well_made.puts_rise.Given as goal
 
 abbrev pub invariant-loop-i : goal.invariant-loop-i

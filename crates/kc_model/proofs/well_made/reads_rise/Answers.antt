@@ -1,7 +1,7 @@
 use Rattle.std.proofs.Common.{◌≡◌, ◌-◌, suc, ap, arith, rules, slice_index_or}
-use Rattle.kc_model.specs.declared.footprint.Seen.{Seen}
-use Rattle.kc_model.specs.Footprint.{read_location}
 use Rattle.kc_model.proofs.Rises.{rising_climbs, climbs_rising}
+use Rattle.kc_model.specs.Footprint.{read_location}
+use Rattle.kc_model.specs.declared.footprint.Seen.{Seen}
 use Rattle.kc_model.proofs.well_made.reads_rise.Goals as goal
 
 abbrev zeros : Seen

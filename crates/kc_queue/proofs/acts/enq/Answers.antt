@@ -1,5 +1,5 @@
-use Rattle.kc_xt.proofs.Chain.{exits, stop_read, then_read, does_true, does_reply, does_false, stop_write, then_write}
 use Rattle.kc_queue.specs.Meaning.{queue_program}
+use Rattle.kc_xt.proofs.Chain.{exits, stop_read, then_read, does_true, does_reply, does_false, stop_write, then_write}
 use Rattle.std.proofs.Common.{eq-eqb, ne_eqb}
 use Rattle.kc_queue.proofs.acts.enq.Goals as goal
 

@@ -1,5 +1,5 @@
-use Rattle.kc_xt.proofs.Chain.{exits, stop_read, then_read, does_reply}
 use Rattle.kc_queue.specs.Meaning.{queue_program}
+use Rattle.kc_xt.proofs.Chain.{exits, stop_read, then_read, does_reply}
 use Rattle.kc_queue.proofs.acts.len.Goals as goal
 
 pub returns-in_err-held-clause-goes : goal.returns-in_err-held-clause-goes

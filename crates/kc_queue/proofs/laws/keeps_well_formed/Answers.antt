@@ -1,7 +1,7 @@
-use Rattle.kc_xt.proofs.Structures.{means_keeps}
+use Rattle.kc_queue.proofs.Values.{queue_means}
 use Rattle.kc_queue.specs.Meaning.{queue_value}
 use Rattle.kc_queue.specs.Meaning.{queue_meaning}
-use Rattle.kc_queue.proofs.Values.{queue_means}
+use Rattle.kc_xt.proofs.Structures.{means_keeps}
 use Rattle.kc_queue.proofs.laws.keeps_well_formed.Goals as goal
 
 pub returns : goal.returns

@@ -1,7 +1,7 @@
 use Rattle.std.proofs.Common.{◌≡◌, ◌==◌, true, false, arith}
 use Rattle.std.proofs.lemmas.Bool.Decides.{nat_tests}
-use Rattle.kc_xt.proofs.Chain.{exits, stop_read, then_read, does_true, does_false, does_reply, does_retry}
 use Rattle.kc_run.proofs.Asks.{alone_law}
+use Rattle.kc_xt.proofs.Chain.{exits, stop_read, then_read, does_true, does_false, does_reply, does_retry}
 use Rattle.kc_run.proofs.ask.run_alone.Goals as goal
 
 pub returns-in_err-get-clause-law : goal.returns-in_err-get-clause-law

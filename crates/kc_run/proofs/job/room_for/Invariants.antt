@@ -1,5 +1,5 @@
 use Rattle.std.proofs.Common.{◌≡◌, ◌+◌, ◌++◌, map, drop}
-use Rattle.kc_runs.specs.Labels.{label, labels}
+use Rattle.kc_script_runs.specs.Labels.{label, labels}
 use Rattle.kc_run.proofs.job.room_for.Given as goal
 
 abbrev pub invariant-loop-i : goal.invariant-loop-i

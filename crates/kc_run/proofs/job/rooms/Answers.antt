@@ -1,6 +1,6 @@
 use Rattle.std.proofs.Common.{◌+◌, map, ap, ◌∙◌}
-use Rattle.kc_runs.specs.Labels.{label, labels}
 use Rattle.kc_run.proofs.Jobs.{rooms_next}
+use Rattle.kc_script_runs.specs.Labels.{label, labels}
 use Rattle.kc_run.proofs.job.rooms.Goals as goal
 
 pub loop-i-preserved : goal.loop-i-preserved

@@ -1,8 +1,8 @@
 use Rattle.std.proofs.Common.{◌≡◌, List, sym, subst, ◌∙◌}
 use Rattle.crossbeam_utils.specs.Padded.{padded_value}
-use Rattle.kc_bundle.specs.declared.operation.Command.{Command}
-use Rattle.kc_run.specs.Jobs.{Ran, Ready, row_at}
 use Rattle.kc_run.proofs.Jobs.{row_is}
+use Rattle.kc_run.specs.Jobs.{Ran, Ready, row_at}
+use Rattle.kc_script_bundle.specs.declared.operation.Command.{Command}
 use Rattle.kc_run.proofs.run.run_at.Goals as goal
 
 pub run_job-requires-clause-ready : goal.run_job-requires-clause-ready

@@ -1,14 +1,14 @@
 use Rattle.std.proofs.Common.{◌≡◌, List, length, map, refl, sym, ap, subst, ◌∙◌, arith}
 use Rattle.std.specs.Prelude.{All}
 use Rattle.std.specs.Global.{Vec}
-use Rattle.kc_bundle.specs.declared.operation.Command.{Command}
-use Rattle.kc_history.specs.declared.record.Record.{Record}
-use Rattle.kc_history.specs.Records.{lists_of}
 use Rattle.kc_history.specs.Callers.{of_caller}
-use Rattle.kc_runs.proofs.Replayed.{run_threads_are}
-use Rattle.kc_runs.specs.Threads.{AreRun}
-use Rattle.kc_run.specs.Jobs.{paired}
+use Rattle.kc_history.specs.Records.{lists_of}
+use Rattle.kc_history.specs.declared.record.Record.{Record}
 use Rattle.kc_run.proofs.Jobs.{jobs_ready, ran_done}
+use Rattle.kc_run.specs.Jobs.{paired}
+use Rattle.kc_script_bundle.specs.declared.operation.Command.{Command}
+use Rattle.kc_script_runs.proofs.Replayed.{run_threads_are}
+use Rattle.kc_script_runs.specs.Threads.{AreRun}
 use Rattle.kc_run.proofs.run.run_threads.Goals as goal
 
 pub pair-requires-clause-same : goal.pair-requires-clause-same

@@ -1,8 +1,8 @@
 use Rattle.std.proofs.Common.{ap, length, rules}
 use Rattle.std.specs.Global.{Vec}
 use Rattle.std.proofs.lemmas.List.Elements.{All-nil, All-push, All-same}
-use Rattle.kc_bundle.specs.declared.operation.Command.{Command}
 use Rattle.kc_run.specs.Run.{CanRunAll}
+use Rattle.kc_script_bundle.specs.declared.operation.Command.{Command}
 use Rattle.kc_run.proofs.tests.team.Goals as goal
 
 abbrev can : Vec Command → Type 0

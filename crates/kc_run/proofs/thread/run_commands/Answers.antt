@@ -1,11 +1,11 @@
 use Rattle.std.proofs.Common.{◌≡◌, ◌<◌, length, refl, sym, ap, subst, ◌∙◌, arith}
 use Rattle.std.proofs.lemmas.List.{length-map}
-use Rattle.kc_bundle.specs.declared.operation.Command.{Command}
-use Rattle.kc_bundle.specs.Meaning.{thread_meaning}
-use Rattle.kc_runs.specs.Threads.{IsAnswered}
-use Rattle.kc_run.specs.Run.{CanRun}
-use Rattle.kc_runs.specs.Labels.{label}
 use Rattle.kc_run.proofs.Threads.{ran_more}
+use Rattle.kc_run.specs.Run.{CanRun}
+use Rattle.kc_script_bundle.specs.Meaning.{thread_meaning}
+use Rattle.kc_script_bundle.specs.declared.operation.Command.{Command}
+use Rattle.kc_script_runs.specs.Labels.{label}
+use Rattle.kc_script_runs.specs.Threads.{IsAnswered}
 use Rattle.kc_run.proofs.thread.run_commands.Goals as goal
 
 pub loop-i-init : goal.loop-i-init

@@ -1,7 +1,7 @@
 use Rattle.std.proofs.Common.{◌≡◌, ◌+◌, length, ◌∙◌, arith}
 use Rattle.std.proofs.Math.Seq.{map-set_same}
-use Rattle.kc_runs.specs.Labels.{label}
 use Rattle.kc_run.proofs.Threads.{thread_ends}
+use Rattle.kc_script_runs.specs.Labels.{label}
 use Rattle.kc_run.proofs.thread.run_thread.Goals as goal
 
 pub returns-clause-own : goal.returns-clause-own

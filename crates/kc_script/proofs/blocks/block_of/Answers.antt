@@ -1,9 +1,9 @@
 use Rattle.std.proofs.Common.{◌≡◌, ◌++◌, ◌∷◌, [], rules}
 use Rattle.std.proofs.lemmas.Result.{err_from_is_err_and}
-use Rattle.kc_lines.specs.declared.complaint.Complaint.TheVariants.{Here}
+use Rattle.kc_script.proofs.Trees.{nest_fails, goes_on, first_fails, second_fails, nest_last}
 use Rattle.kc_script.specs.Blocks.{sequence}
 use Rattle.kc_script.specs.Reading.{lists}
-use Rattle.kc_script.proofs.Trees.{nest_fails, goes_on, first_fails, second_fails, nest_last}
+use Rattle.kc_script_lines.specs.declared.complaint.Complaint.TheVariants.{Here}
 use Rattle.kc_script.proofs.blocks.block_of.Goals as goal
 
 pub returns-in_err-term : goal.returns-in_err-term

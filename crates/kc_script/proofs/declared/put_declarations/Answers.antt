@@ -1,9 +1,9 @@
 use Rattle.std.proofs.Common.{◌∙◌, ◌<◌, ◌≤◌, length, refl, arith}
 use Rattle.std.proofs.lemmas.List.{length-map}
 use Rattle.kc_model.proofs.Pens.{puts_then, owes_all, owes_next, owes_last}
-use Rattle.kc_bundle.specs.Script.{named, names_of}
-use Rattle.kc_bundle.proofs.Entries.{entry_at}
 use Rattle.kc_script.proofs.Texts.{declaration_text, declarations_text}
+use Rattle.kc_script_bundle.proofs.Entries.{entry_at}
+use Rattle.kc_script_bundle.specs.Script.{named, names_of}
 use Rattle.kc_script.proofs.declared.put_declarations.Goals as goal
 
 pub loop-i-init : goal.loop-i-init

@@ -1,8 +1,8 @@
 use Rattle.std.proofs.Common.{◌≡◌, drop}
 use Rattle.std.specs.List.{flat_map}
 use Rattle.kc_model.specs.Pen.{Owes, sheet}
-use Rattle.kc_bundle.specs.Script.{names_of}
 use Rattle.kc_script.proofs.Texts.{declaration_text}
+use Rattle.kc_script_bundle.specs.Script.{names_of}
 use Rattle.kc_script.proofs.declared.put_declarations.Given as goal
 
 abbrev pub invariant-loop-i : goal.invariant-loop-i

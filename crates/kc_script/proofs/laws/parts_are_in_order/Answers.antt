@@ -1,6 +1,6 @@
-use Rattle.kc_script.proofs.Spelled.{spelled_lies, spelled_sized, spelled_threads_few, spelled_threads}
 use Rattle.kc_script.proofs.Again.{canonical_spells}
 use Rattle.kc_script.proofs.PartLines.{parts_whole, files_each}
+use Rattle.kc_script.proofs.Spelled.{spelled_lies, spelled_sized, spelled_threads_few, spelled_threads}
 use Rattle.kc_script.proofs.laws.parts_are_in_order.Goals as goal
 
 pub returns-clause-lies : goal.returns-clause-lies

@@ -1,7 +1,7 @@
 use Rattle.std.proofs.Common.{◌+◌, ◌-◌, ◌/◌, sym, ap, ◌∙◌, arith}
-use Rattle.kc_bundle.specs.Script.{named, names_of}
-use Rattle.kc_script.specs.Canonical.{name_at}
 use Rattle.kc_script.proofs.Bases.{entry_seen, name_found, go_up, go_down, searched_none}
+use Rattle.kc_script.specs.Canonical.{name_at}
+use Rattle.kc_script_bundle.specs.Script.{named, names_of}
 use Rattle.kc_script.proofs.naming.name_at.Goals as goal
 
 pub returns-then-base-at : goal.returns-then-base-at

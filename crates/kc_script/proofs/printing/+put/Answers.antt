@@ -1,9 +1,9 @@
 use Rattle.std.proofs.Common.{◌<◌, ◌≤◌, length, refl, ◌∙◌, arith}
 use Rattle.std.proofs.lemmas.List.{drop_all}
 use Rattle.kc_model.proofs.Pens.{puts_then, owes_all, owes_then, owes_none}
-use Rattle.kc_term.proofs.Parts.{size_at}
-use Rattle.kc_bundle.specs.Script.{names_of}
 use Rattle.kc_script.proofs.Texts.{texts_join, parts_next}
+use Rattle.kc_script_bundle.specs.Script.{names_of}
+use Rattle.kc_term.proofs.Parts.{size_at}
 use Rattle.kc_script.proofs.printing.+put.Goals as goal
 
 pub put_alternatives-returns : goal.put_alternatives-returns

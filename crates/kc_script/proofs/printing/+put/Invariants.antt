@@ -1,8 +1,8 @@
 use Rattle.std.proofs.Common.{◌≡◌, ◌+◌, ◌*◌, drop}
 use Rattle.kc_model.specs.Pen.{Owes, sheet}
-use Rattle.kc_term.specs.Tree.{trees, tree_size, trees_size}
-use Rattle.kc_bundle.specs.Script.{names_of}
 use Rattle.kc_script.specs.Canonical.{parts_lines, text_of_lines}
+use Rattle.kc_script_bundle.specs.Script.{names_of}
+use Rattle.kc_term.specs.Tree.{trees, tree_size, trees_size}
 use Rattle.kc_script.proofs.printing.+put.Given as goal
 
 abbrev pub invariant-put_parts-loop-part : goal.invariant-put_parts-loop-part

@@ -1,8 +1,8 @@
 use Rattle.std.proofs.Common.{◌<◌, ◌≤◌, length, refl, ◌∙◌, arith}
 use Rattle.std.proofs.lemmas.List.{drop_all}
 use Rattle.kc_model.proofs.Pens.{owes_all, owes_then, owes_none}
-use Rattle.kc_bundle.specs.Script.{names_of}
 use Rattle.kc_script.proofs.Texts.{commands_next}
+use Rattle.kc_script_bundle.specs.Script.{names_of}
 use Rattle.kc_script.proofs.printing.put_commands.Goals as goal
 
 pub loop-command-init : goal.loop-command-init

@@ -1,7 +1,7 @@
 use Rattle.std.proofs.Common.{◌≡◌, drop}
 use Rattle.kc_model.specs.Pen.{Owes, sheet}
-use Rattle.kc_bundle.specs.Script.{names_of}
 use Rattle.kc_script.specs.Canonical.{command_lines, text_of_lines}
+use Rattle.kc_script_bundle.specs.Script.{names_of}
 use Rattle.kc_script.proofs.printing.put_commands.Given as goal
 
 abbrev pub invariant-loop-command : goal.invariant-loop-command

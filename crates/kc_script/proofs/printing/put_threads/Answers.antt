@@ -1,7 +1,7 @@
 use Rattle.std.proofs.Common.{◌<◌, ◌≤◌, length, refl, ap, ◌∙◌, arith}
 use Rattle.kc_model.proofs.Pens.{puts_then, owes_all, owes_next, owes_last}
-use Rattle.kc_bundle.specs.Script.{names_of}
 use Rattle.kc_script.proofs.Texts.{thread_text, threads_text, flat_map_seen}
+use Rattle.kc_script_bundle.specs.Script.{names_of}
 use Rattle.kc_script.proofs.printing.put_threads.Goals as goal
 
 pub loop-commands-init : goal.loop-commands-init

@@ -1,8 +1,8 @@
 use Rattle.std.proofs.Common.{◌≡◌, drop}
 use Rattle.std.specs.List.{flat_map}
 use Rattle.kc_model.specs.Pen.{Owes, sheet}
-use Rattle.kc_bundle.specs.Script.{names_of}
 use Rattle.kc_script.proofs.Texts.{thread_text}
+use Rattle.kc_script_bundle.specs.Script.{names_of}
 use Rattle.kc_script.proofs.printing.put_threads.Given as goal
 
 abbrev pub invariant-loop-commands : goal.invariant-loop-commands

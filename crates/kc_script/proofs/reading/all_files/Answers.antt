@@ -1,7 +1,7 @@
 use Rattle.std.proofs.Common.{ap, ◌∙◌, arith}
 use Rattle.std.proofs.lemmas.Result.{err_from_is_err_and}
-use Rattle.kc_script.specs.Reading.{state_of}
 use Rattle.kc_script.proofs.Files.{goes_on, ends, is_done}
+use Rattle.kc_script.specs.Reading.{state_of}
 use Rattle.kc_script.proofs.reading.all_files.Goals as goal
 
 pub returns-in_err-read_numbered : goal.returns-in_err-read_numbered

@@ -1,8 +1,8 @@
 use Rattle.std.proofs.Common.{◌+◌, [], arith}
 use Rattle.std.specs.Prelude.{reverse}
 use Rattle.std.proofs.lemmas.Result.{err_from_is_err_and}
-use Rattle.kc_script.specs.Reading.{state_of}
 use Rattle.kc_script.proofs.Lines.{goes_on, ends, is_done}
+use Rattle.kc_script.specs.Reading.{state_of}
 use Rattle.kc_script.proofs.reading.all_lines.Goals as goal
 
 pub loop-text-preserved : goal.loop-text-preserved

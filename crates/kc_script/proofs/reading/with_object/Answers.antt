@@ -1,6 +1,6 @@
 use Rattle.std.proofs.Common.{ap, arith}
-use Rattle.kc_bundle.specs.Script.{next_from, names_of}
 use Rattle.kc_script.proofs.Objects.{next_from_more}
+use Rattle.kc_script_bundle.specs.Script.{next_from, names_of}
 use Rattle.kc_script.proofs.reading.with_object.Goals as goal
 
 pub invariant_of-reader-2-clause-follows : goal.invariant_of-reader-2-clause-follows

@@ -1,7 +1,7 @@
-use Rattle.kc_xt.specs.Program.{replies}
-use Rattle.kc_xt.proofs.Stay.{stays_touches, stays_one}
-use Rattle.kc_stack.specs.Meaning.{stack_program}
 use Rattle.kc_stack.proofs.StackLaw.{stack_stays}
+use Rattle.kc_stack.specs.Meaning.{stack_program}
+use Rattle.kc_xt.proofs.Stay.{stays_touches, stays_one}
+use Rattle.kc_xt.specs.Program.{replies}
 use Rattle.kc_stack.proofs.laws.touches_its_own_cells.Goals as goal
 
 pub returns-clause-touches : goal.returns-clause-touches

@@ -1,10 +1,10 @@
 use Rattle.std.proofs.Common.{◌≡◌, true, sym, ap, ◌∙◌, subst, append_assoc, append-nil, ◌++◌, ◌∷◌, []}
 use Rattle.std.specs.Prelude.{All}
 use Rattle.kc_machine.specs.Seats.{is_idle}
-use Rattle.kc_moves.specs.Origins.{opening_of}
-use Rattle.kc_moves.specs.Views.{SeatView, Matches}
-use Rattle.kc_table.proofs.Loads.{arrives, gathers}
 use Rattle.kc_table.proofs.Gathered.{none_left, all_at, ready_part}
+use Rattle.kc_table.proofs.Loads.{arrives, gathers}
+use Rattle.kc_table_moves.specs.Origins.{opening_of}
+use Rattle.kc_table_moves.specs.Views.{SeatView, Matches}
 use Rattle.kc_table.proofs.end.gather.Goals as goal
 
 pub load_new_seat-requires : goal.load_new_seat-requires

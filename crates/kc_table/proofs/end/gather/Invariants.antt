@@ -1,6 +1,6 @@
 use Rattle.std.proofs.Common.{◌≡◌, ◌++◌}
-use Rattle.kc_moves.specs.Origins.{opening_of}
-use Rattle.kc_moves.specs.Views.{Matches}
+use Rattle.kc_table_moves.specs.Origins.{opening_of}
+use Rattle.kc_table_moves.specs.Views.{Matches}
 use Rattle.kc_table.proofs.end.gather.Given as goal
 
 abbrev pub invariant-loop-seat : goal.invariant-loop-seat

@@ -3,10 +3,10 @@ use Rattle.std.proofs.lemmas.List.{length-set}
 use Rattle.std.specs.Prelude.{slice_index}
 use Rattle.std.specs.Mem.Slots.{slots_items}
 use Rattle.kc_model.specs.Word.{unpacked}
-use Rattle.kc_layout.specs.Cells.{place}
-use Rattle.kc_layout.specs.Cells.Cell.{word}
-use Rattle.kc_moves.specs.Views.{seen_of}
 use Rattle.kc_table.proofs.Read.{elem_index, read_more}
+use Rattle.kc_table_layout.specs.Cells.{place}
+use Rattle.kc_table_layout.specs.Cells.Cell.{word}
+use Rattle.kc_table_moves.specs.Views.{seen_of}
 use Rattle.kc_table.proofs.end.read_words.Goals as goal
 
 pub loop-l-preserved : goal.loop-l-preserved

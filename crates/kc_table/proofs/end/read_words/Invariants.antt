@@ -1,7 +1,7 @@
 use Rattle.std.proofs.Common.{◌≡◌, ◌<◌, ℕ, length, get_or}
 use Rattle.std.specs.Mem.Slots.{slots_items}
 use Rattle.kc_model.specs.declared.footprint.Seen.{Seen}
-use Rattle.kc_moves.specs.Views.{seen_in}
+use Rattle.kc_table_moves.specs.Views.{seen_in}
 use Rattle.kc_table.proofs.end.read_words.Given as goal
 
 abbrev pub invariant-loop-l : goal.invariant-loop-l

@@ -1,7 +1,7 @@
 use Rattle.std.proofs.Common.{[], sym, ap, ◌∙◌, arith}
-use Rattle.kc_moves.specs.Rule.{view, undealt, dealt}
-use Rattle.kc_table.proofs.Loads.{deals}
 use Rattle.kc_table.proofs.Dealt.{parts_next, seats_pushed, dealt_view}
+use Rattle.kc_table.proofs.Loads.{deals}
+use Rattle.kc_table_moves.specs.Rule.{view, undealt, dealt}
 use Rattle.kc_table.proofs.open.deal_seats.Goals as goal
 
 pub split_seat-token-requires : goal.split_seat-token-requires

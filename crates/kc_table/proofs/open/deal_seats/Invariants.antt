@@ -1,6 +1,6 @@
 use Rattle.std.proofs.Common.{◌≡◌, ◌-◌, []}
-use Rattle.kc_moves.specs.Rule.{view, fresh_parts}
-use Rattle.kc_moves.specs.Views.{opened_seats}
+use Rattle.kc_table_moves.specs.Rule.{view, fresh_parts}
+use Rattle.kc_table_moves.specs.Views.{opened_seats}
 use Rattle.kc_table.proofs.open.deal_seats.Given as goal
 
 abbrev pub invariant-loop-number : goal.invariant-loop-number

@@ -1,7 +1,7 @@
 use Rattle.std.proofs.Common.{[], sym, subst, ap, ◌∙◌}
 use Rattle.atomic_table.specs.Table as table
-use Rattle.kc_moves.specs.Rule.{Kept, everyone}
 use Rattle.kc_table.proofs.Loads.{opens}
+use Rattle.kc_table_moves.specs.Rule.{Kept, everyone}
 use Rattle.kc_table.proofs.open.make_table.Goals as goal
 
 pub of_words-requires : goal.of_words-requires

@@ -1,4 +1,4 @@
-use Rattle.kc_steps.specs.declared.task.Task.TheVariants as task
+use Rattle.kc_machine_steps.specs.declared.task.Task.TheVariants as task
 use Rattle.kc_table.proofs.Trying.{commit_known, commit_made, reads_begun}
 use Rattle.kc_table.proofs.tests.begin.Goals as goal
 

@@ -1,5 +1,5 @@
 use Rattle.std.proofs.Common.{Some, sym, ap, ◌∙◌, rules}
-use Rattle.kc_steps.specs.declared.task.Task.TheVariants as task
+use Rattle.kc_machine_steps.specs.declared.task.Task.TheVariants as task
 use Rattle.kc_table.proofs.Trying.{first_looks, next_looks, saw_known, reads_begun, reads_step}
 use Rattle.kc_table.proofs.tests.look.Goals as goal
 

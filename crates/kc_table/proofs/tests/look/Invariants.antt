@@ -1,5 +1,5 @@
 use Rattle.std.proofs.Common.{◌≡◌, false, All}
-use Rattle.kc_steps.specs.declared.task.Task.TheVariants as task
+use Rattle.kc_machine_steps.specs.declared.task.Task.TheVariants as task
 use Rattle.kc_table.specs.Tasks.{Does, KnowsRead}
 use Rattle.kc_table.proofs.tests.look.Given as goal
 

@@ -1,6 +1,6 @@
 use Rattle.std.proofs.Common.{◌≡◌, drop, max}
-use Rattle.kc_term.specs.Tree.{trees, all_operations, tree_size, trees_size}
 use Rattle.kc_term.specs.Meaning.{greatest_end}
+use Rattle.kc_term.specs.Tree.{trees, all_operations, tree_size, trees_size}
 use Rattle.kc_term.proofs.bound.+bound.Given as goal
 
 abbrev pub invariant-parts_bound-loop-part : goal.invariant-parts_bound-loop-part

@@ -1,10 +1,10 @@
 use Rattle.std.proofs.Common.{◌≡◌, ◌+◌, [], drop, arith, sym, ap, ◌∙◌, refl, length-append, drop_of_length-le, true≢false}
-use Rattle.kc_xt.specs.Log.{Log}
-use Rattle.kc_xt.proofs.Composed.{obeys_first_stays, obeys_first_else, obeys_wider, obeys_exits}
-use Rattle.kc_term.specs.Tree.{trees, operations}
-use Rattle.kc_term.specs.Meaning.{term_meaning, greatest_end}
 use Rattle.kc_term.proofs.Parts.{fit-left, fit-right, fit_at, end-append, end_at, part-cons, left-cons, size_at, is_op, is_seq, is_first}
 use Rattle.kc_term.proofs.TermLaw.{obeys_nothing, obeys_part, obeys_part_stops, answers_one}
+use Rattle.kc_term.specs.Meaning.{term_meaning, greatest_end}
+use Rattle.kc_term.specs.Tree.{trees, operations}
+use Rattle.kc_xt.proofs.Composed.{obeys_first_stays, obeys_first_else, obeys_wider, obeys_exits}
+use Rattle.kc_xt.specs.Log.{Log}
 use Rattle.kc_term.proofs.run.+run.Goals as goal
 
 -- ---- a sequence

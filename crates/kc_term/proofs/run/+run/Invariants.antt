@@ -1,11 +1,11 @@
 use Rattle.std.proofs.Common.{◌≡◌, ◌≤◌, ◌+◌, ◌*◌, [], drop, length}
 use Rattle.std.specs.Prelude.{Result}
 use Rattle.kc_model.specs.declared.reply.Reply.{Reply}
-use Rattle.kc_xt.specs.declared.stop.Stop.{Stop}
-use Rattle.kc_xt.specs.Log.{Log}
-use Rattle.kc_xt.specs.Law.{Obeys}
-use Rattle.kc_term.specs.Tree.{first, trees, all_operations, tree_size, trees_size}
 use Rattle.kc_term.specs.Meaning.{parts_meaning, greatest_end}
+use Rattle.kc_term.specs.Tree.{first, trees, all_operations, tree_size, trees_size}
+use Rattle.kc_xt.specs.Law.{Obeys}
+use Rattle.kc_xt.specs.Log.{Log}
+use Rattle.kc_xt.specs.declared.stop.Stop.{Stop}
 use Rattle.kc_term.proofs.run.+run.Given as goal
 
 -- What is left has room for its items. Where what is left obeys its meaning behind them, all parts do.

@@ -1,7 +1,7 @@
 use Rattle.std.proofs.Common.{refl, arith}
-use Rattle.kc_term.specs.Tree.{operations}
-use Rattle.kc_term.proofs.Worked.{add_one_item}
 use Rattle.kc_term.proofs.Ones.{few_are_fit}
+use Rattle.kc_term.proofs.Worked.{add_one_item}
+use Rattle.kc_term.specs.Tree.{operations}
 use Rattle.kc_term.proofs.tests.answer.Goals as goal
 
 pub run-requires : goal.run-requires

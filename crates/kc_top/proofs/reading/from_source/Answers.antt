@@ -1,6 +1,6 @@
 use Rattle.std.proofs.Common.{List, ℕ, refl, subst, arith}
-use Rattle.kc_lines.specs.declared.fault.ScriptError.{ScriptError}
 use Rattle.kc_script.specs.Refused.{Refused}
+use Rattle.kc_script_lines.specs.declared.fault.ScriptError.{ScriptError}
 use Rattle.kc_top.proofs.reading.from_source.Goals as goal
 
 pub returns-in-Err-Fault-clause-refuses : goal.returns-in-Err-Fault-clause-refuses

@@ -5,10 +5,10 @@ use Rattle.std.specs.Global.{Vec}
 use Rattle.kc_history.specs.Callers.{IsLegalFrom}
 use Rattle.kc_history.specs.Counts.{records_in}
 use Rattle.kc_model.specs.Store.{store_of, opened}
-use Rattle.kc_bundle.specs.declared.operation.Command.{Command}
-use Rattle.kc_bundle.specs.Script.{script_of, next_from}
-use Rattle.kc_bundle.specs.State.{opening_values}
 use Rattle.kc_run.specs.Run.{CanRunAll}
+use Rattle.kc_script_bundle.specs.Script.{script_of, next_from}
+use Rattle.kc_script_bundle.specs.State.{opening_values}
+use Rattle.kc_script_bundle.specs.declared.operation.Command.{Command}
 use Rattle.kc_top.proofs.Bundles.{length-opening_values, store_length, all_few, all_can_run, settles, run_of_none, no_thread}
 use Rattle.kc_top.proofs.run.run_bundle.Goals as goal
 

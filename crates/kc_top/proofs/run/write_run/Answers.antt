@@ -1,9 +1,9 @@
 use Rattle.std.proofs.Common.{rules}
-use Rattle.kc_model.specs.Store.{store_of}
 use Rattle.kc_model.proofs.Pens.{prints_sink}
+use Rattle.kc_model.specs.Store.{store_of}
+use Rattle.kc_script_bundle.proofs.Standing.{all_show}
+use Rattle.kc_script_bundle.specs.Script.{names_of}
 use Rattle.kc_xt.specs.Meaning.{values}
-use Rattle.kc_bundle.specs.Script.{names_of}
-use Rattle.kc_bundle.proofs.Standing.{all_show}
 use Rattle.kc_top.proofs.run.write_run.Goals as goal
 
 pub returns : goal.returns

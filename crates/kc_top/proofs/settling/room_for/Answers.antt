@@ -1,7 +1,7 @@
 use Rattle.std.proofs.Common.{◌+◌, ◌≤◌, length, arith, subst, sym}
 use Rattle.std.specs.Global.{Vec}
 use Rattle.std.proofs.lemmas.List.Sums.{sum_by-le, sum_by-take-le}
-use Rattle.kc_bundle.specs.declared.operation.Command.{Command}
+use Rattle.kc_script_bundle.specs.declared.operation.Command.{Command}
 use Rattle.kc_top.proofs.settling.room_for.Goals as goal
 
 pub overflow_add-records-in-loop-i : goal.overflow_add-records-in-loop-i

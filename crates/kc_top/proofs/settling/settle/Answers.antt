@@ -1,9 +1,9 @@
 use Rattle.std.proofs.Common.{rules, sym, subst, arith, List}
-use Rattle.kc_model.specs.Store.{store_of}
-use Rattle.kc_history.specs.declared.record.Place.{Place}
+use Rattle.kc_history.proofs.Exchange.{canonical_legal}
 use Rattle.kc_history.specs.Order.{Legal, IsCanonical}
 use Rattle.kc_history.specs.Records.{footprint_at, lists_of}
-use Rattle.kc_history.proofs.Exchange.{canonical_legal}
+use Rattle.kc_history.specs.declared.record.Place.{Place}
+use Rattle.kc_model.specs.Store.{store_of}
 use Rattle.kc_top.proofs.settling.settle.Goals as goal
 
 pub arrange-requires-clause-made : goal.arrange-requires-clause-made

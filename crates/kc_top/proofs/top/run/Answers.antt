@@ -1,5 +1,5 @@
 use Rattle.std.proofs.Common.{map, string_bytes, refl}
-use Rattle.kc_bundle.specs.Script.{script_of}
+use Rattle.kc_script_bundle.specs.Script.{script_of}
 use Rattle.kc_top.proofs.Refusing.{read_own, read_runnable, read_starved, refused_ends}
 use Rattle.kc_top.proofs.top.run.Goals as goal
 

@@ -2,10 +2,10 @@ use Rattle.std.proofs.Common.{ℕ, ◌+◌, refl, sym, ap, ◌∙◌, ◌≡◌,
 use Rattle.std.proofs.lemmas.Bool.Decides.{nat_tests}
 use Rattle.kc_xt.specs.Meaning.{put}
 use Rattle.kc_model.specs.declared.reply.Reply.TheVariants as reply
+use Rattle.kc_xt.proofs.Structures.{runs_means, means_keeps}
 use Rattle.kc_xt.specs.Program.{replies, meaning, plain}
 use Rattle.kc_xt.specs.Structure.{RunsInsideOthers}
 use Rattle.kc_xt.specs.Worked.{CounterStands, counts_on, counted_on}
-use Rattle.kc_xt.proofs.Structures.{runs_means, means_keeps}
 use Rattle.kc_xt.proofs.structure.counter_keeps_the_laws.Goals as goal
 
 inside : (l c : ℕ) → RunsInsideOthers (CounterStands l) l (l + 1) (counts_on l) c (counted_on c)

@@ -1,6 +1,6 @@
 use Rattle.std.proofs.Common.{◌≡◌, suc, ◌+◌, ◌-◌, arith, rules}
-use Rattle.kc_xt.specs.Worked.{clears}
 use Rattle.kc_xt.proofs.Chain.{exits, goes_from, goes_write, goes_to, goes_on, stop_write, does_reply}
+use Rattle.kc_xt.specs.Worked.{clears}
 use Rattle.kc_xt.proofs.tests.clear_range.Goals as goal
 
 -- out of the loop by `?`: a location is left, and its set stopped

@@ -1,10 +1,10 @@
 use Rattle.std.proofs.Common.{arith, sym, subst, Ok}
+use Rattle.kc_bank.proofs.PayLemmas.{as_meant, credited_other, obeys_reply}
+use Rattle.kc_bank.specs.Bank.{credit_end, credited, find_of}
 use Rattle.kc_hash.specs.Meaning.{hash_end, hash_meaning}
 use Rattle.kc_model.specs.declared.Reply.TheVariants.{Empty}
-use Rattle.kc_xt.specs.Law.{Obeys}
 use Rattle.kc_xt.proofs.Composed.{obeys_exits, obeys_then, obeys_then_stops}
-use Rattle.kc_bank.specs.Bank.{credit_end, credited, find_of}
-use Rattle.kc_bank.proofs.PayLemmas.{as_meant, credited_other, obeys_reply}
+use Rattle.kc_xt.specs.Law.{Obeys}
 use Rattle.kc_bank.proofs.bank.CreditTransact.run.Goals as goal
 
 pub returns-in_err-balance-clause-law : goal.returns-in_err-balance-clause-law

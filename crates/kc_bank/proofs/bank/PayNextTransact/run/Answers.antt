@@ -1,10 +1,10 @@
 use Rattle.std.proofs.Common.{arith, sym, subst, Ok}
-use Rattle.kc_queue.specs.Meaning.{queue_end, queue_meaning}
-use Rattle.kc_model.specs.declared.Reply.TheVariants.{Empty}
-use Rattle.kc_xt.specs.Law.{Obeys}
-use Rattle.kc_xt.proofs.Composed.{obeys_exits, obeys_then, obeys_then_stops}
-use Rattle.kc_bank.specs.Bank.{credit_end, credit_meaning, next_of, paid, pay_end}
 use Rattle.kc_bank.proofs.PayLemmas.{as_meant, paid_other, obeys_reply}
+use Rattle.kc_bank.specs.Bank.{credit_end, credit_meaning, next_of, paid, pay_end}
+use Rattle.kc_model.specs.declared.Reply.TheVariants.{Empty}
+use Rattle.kc_queue.specs.Meaning.{queue_end, queue_meaning}
+use Rattle.kc_xt.proofs.Composed.{obeys_exits, obeys_then, obeys_then_stops}
+use Rattle.kc_xt.specs.Law.{Obeys}
 use Rattle.kc_bank.proofs.bank.PayNextTransact.run.Goals as goal
 
 pub returns-in_err-account-clause-law : goal.returns-in_err-account-clause-law

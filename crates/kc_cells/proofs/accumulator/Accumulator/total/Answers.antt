@@ -1,8 +1,8 @@
 use Rattle.std.proofs.Common.{arith, rules}
 use Rattle.std.proofs.lemmas.Option.{slice_get-get_or}
+use Rattle.kc_cells.proofs.Sums.{total_more}
 use Rattle.kc_model.specs.Store.{store_of}
 use Rattle.kc_xt.specs.Meaning.{values}
-use Rattle.kc_cells.proofs.Sums.{total_more}
 use Rattle.kc_cells.proofs.accumulator.Accumulator.total.Goals as goal
 
 -- round the loop: one cell more

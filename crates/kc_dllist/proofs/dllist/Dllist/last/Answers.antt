@@ -1,5 +1,5 @@
-use Rattle.kc_xt.proofs.Chain.{exits, stop_read, then_read, does_true, does_reply, does_false}
 use Rattle.kc_dllist.specs.Meaning.{dllist_program}
+use Rattle.kc_xt.proofs.Chain.{exits, stop_read, then_read, does_true, does_reply, does_false}
 use Rattle.std.proofs.Common.{eq-eqb, ne_eqb}
 use Rattle.kc_dllist.proofs.dllist.Dllist.last.Goals as goal
 

@@ -1,9 +1,9 @@
 use Rattle.std.proofs.Common.{◌∙◌, ap}
+use Rattle.kc_dllist.proofs.Walks.{walk_listed, walk_nodes}
+use Rattle.kc_dllist.specs.Content.{listed_from}
+use Rattle.kc_dllist.specs.Meaning.{node_in}
 use Rattle.kc_model.specs.Store.{store_of}
 use Rattle.kc_xt.specs.Meaning.{values}
-use Rattle.kc_dllist.specs.Meaning.{node_in}
-use Rattle.kc_dllist.specs.Content.{listed_from}
-use Rattle.kc_dllist.proofs.Walks.{walk_listed, walk_nodes}
 use Rattle.kc_dllist.proofs.dllist.Dllist.nodes.Goals as goal
 
 pub returns-clause-content : goal.returns-clause-content

@@ -1,5 +1,5 @@
-use Rattle.kc_xt.proofs.Chain.{exits, stop_read, then_read, does_true, does_reply, does_false, stop_write, then_write, stop_call, then_call}
 use Rattle.kc_dllist.specs.Meaning.{dllist_program}
+use Rattle.kc_xt.proofs.Chain.{exits, stop_read, then_read, does_true, does_reply, does_false, stop_write, then_write, stop_call, then_call}
 use Rattle.kc_model.specs.declared.reply.Reply.TheVariants as reply
 use Rattle.std.proofs.Common.{eq-eqb, ne_eqb}
 use Rattle.kc_dllist.proofs.dllist.Dllist.push_front.Goals as goal

@@ -1,6 +1,6 @@
-use Rattle.kc_xt.proofs.Chain.{exits, stop_call, then_call, stop_read, then_read, stop_write, then_write, does_reply}
 use Rattle.kc_dllist.specs.Meaning.{dllist_program}
 use Rattle.kc_dllist.specs.Meaning.{release_program}
+use Rattle.kc_xt.proofs.Chain.{exits, stop_call, then_call, stop_read, then_read, stop_write, then_write, does_reply}
 use Rattle.kc_dllist.proofs.dllist.Dllist.remove.Goals as goal
 
 pub returns-in_err-unlink-clause-goes : goal.returns-in_err-unlink-clause-goes

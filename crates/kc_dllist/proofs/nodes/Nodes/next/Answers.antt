@@ -1,9 +1,9 @@
 use Rattle.std.proofs.Common.{◌≡◌, ◌+◌, ◌-◌, ◌∙◌, ap, sym, arith, drop, Some}
+use Rattle.kc_dllist.proofs.Walks.{walk_none, walk_out, walk_some}
+use Rattle.kc_dllist.specs.Content.{listed_from, first_listed}
+use Rattle.kc_dllist.specs.Meaning.{node_in}
 use Rattle.kc_model.specs.Store.{store_of}
 use Rattle.kc_xt.specs.Meaning.{values}
-use Rattle.kc_dllist.specs.Meaning.{node_in}
-use Rattle.kc_dllist.specs.Content.{listed_from, first_listed}
-use Rattle.kc_dllist.proofs.Walks.{walk_none, walk_out, walk_some}
 use Rattle.kc_dllist.proofs.nodes.Nodes.next.Goals as goal
 
 pub returns-then-self-eq0-clause-first : goal.returns-then-self-eq0-clause-first

@@ -1,5 +1,5 @@
-use Rattle.kc_xt.proofs.Chain.{exits, stop_call, then_call, does_reply, stop_read, then_read, stop_write, then_write}
 use Rattle.kc_hash.specs.Meaning.{removed_program}
+use Rattle.kc_xt.proofs.Chain.{exits, stop_call, then_call, does_reply, stop_read, then_read, stop_write, then_write}
 use Rattle.kc_hash.proofs.hash.Hash.del.Goals as goal
 
 pub returns-in_err-place-clause-goes : goal.returns-in_err-place-clause-goes

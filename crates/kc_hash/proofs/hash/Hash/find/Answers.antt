@@ -1,5 +1,5 @@
-use Rattle.kc_xt.proofs.Chain.{exits, stop_call, then_call, does_reply, stop_read, then_read}
 use Rattle.kc_hash.specs.Meaning.{found_program}
+use Rattle.kc_xt.proofs.Chain.{exits, stop_call, then_call, does_reply, stop_read, then_read}
 use Rattle.kc_hash.proofs.hash.Hash.find.Goals as goal
 
 pub returns-in_err-place-clause-goes : goal.returns-in_err-place-clause-goes

@@ -1,5 +1,5 @@
-use Rattle.kc_xt.proofs.Chain.{exits, stop_call, then_call, stop_write, then_write, does_reply}
 use Rattle.kc_hash.specs.Meaning.{placed_program}
+use Rattle.kc_xt.proofs.Chain.{exits, stop_call, then_call, stop_write, then_write, does_reply}
 use Rattle.kc_hash.proofs.hash.Hash.put.Goals as goal
 
 pub returns-in_err-place-clause-goes : goal.returns-in_err-place-clause-goes

@@ -1,8 +1,8 @@
 use Rattle.std.proofs.Common.{◌≡◌, ◌+◌, ◌-◌, sym, ap, subst, ◌∙◌, arith}
-use Rattle.kc_model.specs.Store.{store_of, Finds}
-use Rattle.kc_locked.specs.Held.{HeldView, held, IsSound}
 use Rattle.kc_history.specs.Callers.{entry_of}
 use Rattle.kc_locked.proofs.Sound.{sound_more, not_worn, cells_same}
+use Rattle.kc_locked.specs.Held.{HeldView, held, IsSound}
+use Rattle.kc_model.specs.Store.{store_of, Finds}
 use Rattle.kc_locked.proofs.held.Held.commit_into.Goals as goal
 
 pub invariant_of-self : goal.invariant_of-self

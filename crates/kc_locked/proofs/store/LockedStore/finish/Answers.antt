@@ -1,10 +1,10 @@
 use Rattle.std.proofs.Common.{◌≡◌, sym, ap, ◌∙◌, subst}
 use Rattle.std.specs.Prelude.{All}
-use Rattle.kc_model.specs.Store.{store_of}
-use Rattle.kc_locked.specs.Held.{HeldView}
 use Rattle.kc_history.specs.Callers.{of_caller, IsBelowCallers}
-use Rattle.kc_locked.specs.Passes.{PassView, IsLegalPast}
 use Rattle.kc_locked.proofs.Ends.{owns_all}
+use Rattle.kc_locked.specs.Held.{HeldView}
+use Rattle.kc_locked.specs.Passes.{PassView, IsLegalPast}
+use Rattle.kc_model.specs.Store.{store_of}
 use Rattle.kc_locked.proofs.store.LockedStore.finish.Goals as goal
 
 pub returns : goal.returns

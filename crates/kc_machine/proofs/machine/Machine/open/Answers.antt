@@ -1,6 +1,6 @@
 use Rattle.std.proofs.Common.{◌∙◌, refl, ap, ◌*◌, replicate}
-use Rattle.kc_machine.specs.Machine.{pool_size}
 use Rattle.kc_machine.proofs.Views.{opened_view}
+use Rattle.kc_machine.specs.Machine.{pool_size}
 use Rattle.kc_machine.proofs.machine.Machine.open.Goals as goal
 
 pub returns-clause-ok : goal.returns-clause-ok

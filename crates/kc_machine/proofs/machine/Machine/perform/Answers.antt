@@ -1,10 +1,10 @@
 use Rattle.std.proofs.Common.{◌≡◌, ◌<◌, ◌∙◌, arith, length}
-use Rattle.kc_model.proofs.Lists.{written_over}
-use Rattle.kc_machine.specs.Seats.{begun, halted}
-use Rattle.kc_machine.specs.declared.seat.Seat.{Seat}
-use Rattle.kc_steps.specs.declared.task.Event.TheVariants.{Begin, Halt}
-use Rattle.kc_machine.specs.Views.{machine_state}
 use Rattle.kc_machine.proofs.Views.{seat_changed, event_in}
+use Rattle.kc_machine.specs.Seats.{begun, halted}
+use Rattle.kc_machine.specs.Views.{machine_state}
+use Rattle.kc_machine.specs.declared.seat.Seat.{Seat}
+use Rattle.kc_machine_steps.specs.declared.task.Event.TheVariants.{Begin, Halt}
+use Rattle.kc_model.proofs.Lists.{written_over}
 use Rattle.kc_machine.proofs.machine.Machine.perform.Goals as goal
 
 pub returns-then-seat-seats : goal.returns-then-seat-seats

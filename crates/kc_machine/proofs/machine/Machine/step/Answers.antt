@@ -1,10 +1,10 @@
 use Rattle.std.proofs.Common.{◌≡◌, ◌<◌, ◌∙◌, sym, ap, arith, length}
-use Rattle.kc_model.proofs.Lists.{written_over}
-use Rattle.kc_machine.specs.Seats.{access_of, answer_of}
-use Rattle.kc_machine.specs.declared.seat.Seat.{Seat}
-use Rattle.kc_machine.specs.Machine.{State}
-use Rattle.kc_machine.specs.Views.{machine_state}
 use Rattle.kc_machine.proofs.Views.{seat_changed, step_done}
+use Rattle.kc_machine.specs.Machine.{State}
+use Rattle.kc_machine.specs.Seats.{access_of, answer_of}
+use Rattle.kc_machine.specs.Views.{machine_state}
+use Rattle.kc_machine.specs.declared.seat.Seat.{Seat}
+use Rattle.kc_model.proofs.Lists.{written_over}
 use Rattle.kc_machine.proofs.machine.Machine.step.Goals as goal
 
 pub returns-then-is_possible : goal.returns-then-is_possible

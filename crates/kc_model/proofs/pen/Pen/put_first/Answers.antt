@@ -1,6 +1,6 @@
 use Rattle.std.proofs.Common.{refl, rules}
-use Rattle.kc_model.specs.Pen.{sheet}
 use Rattle.kc_model.proofs.Pens.{asks_held}
+use Rattle.kc_model.specs.Pen.{sheet}
 use Rattle.kc_model.proofs.pen.Pen.put_first.Goals as goal
 
 pub returns-then-is_ok : goal.returns-then-is_ok

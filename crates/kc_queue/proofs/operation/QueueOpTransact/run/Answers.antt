@@ -1,5 +1,5 @@
-use Rattle.kc_queue.specs.Meaning.{queue_program}
 use Rattle.kc_queue.proofs.QueueLaw.{queue_law}
+use Rattle.kc_queue.specs.Meaning.{queue_program}
 use Rattle.kc_queue.proofs.operation.QueueOpTransact.run.Goals as goal
 
 pub returns-in-Enq-clause-law : goal.returns-in-Enq-clause-law

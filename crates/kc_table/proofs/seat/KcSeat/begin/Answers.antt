@@ -1,6 +1,6 @@
 use Rattle.std.proofs.Common.{subst, sym, true}
-use Rattle.kc_moves.specs.Rule.{Ready}
 use Rattle.kc_table.proofs.Begins.{ready_begun}
+use Rattle.kc_table_moves.specs.Rule.{Ready}
 use Rattle.kc_table.proofs.seat.KcSeat.begin.Goals as goal
 
 pub invariant_of-self : goal.invariant_of-self

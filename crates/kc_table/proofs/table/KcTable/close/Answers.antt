@@ -2,10 +2,10 @@ use Rattle.std.proofs.Common.{◌≡◌, List, length, Some, arith, sym, ap, ◌
 use Rattle.std.proofs.lemmas.Option.{slice_get-get_or}
 use Rattle.std.specs.Vec.{with_items}
 use Rattle.std.specs.Mem.Slots.{slots_items}
-use Rattle.kc_model.specs.declared.footprint.Seen.{Seen}
-use Rattle.kc_moves.specs.Views.{IsClosed}
 use Rattle.kc_model.proofs.Lists.{written_over}
+use Rattle.kc_model.specs.declared.footprint.Seen.{Seen}
 use Rattle.kc_table.proofs.Closing.{closed}
+use Rattle.kc_table_moves.specs.Views.{IsClosed}
 use Rattle.kc_table.proofs.table.KcTable.close.Goals as goal
 
 pub gather-keeper-requires-clause-table : goal.gather-keeper-requires-clause-table

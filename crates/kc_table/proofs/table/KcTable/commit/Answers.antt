@@ -1,9 +1,9 @@
 use Rattle.std.proofs.Common.{◌≡◌, ◌∙◌, ap, sym, true}
-use Rattle.kc_layout.specs.Cells.{base_of}
 use Rattle.kc_machine.specs.Points.{first_point, seat_at}
 use Rattle.kc_machine.specs.Seats.{is_idle}
-use Rattle.kc_moves.specs.Views.{SeatView}
 use Rattle.kc_table.proofs.Wholes.{commit_begins, commit_starts, on_begins}
+use Rattle.kc_table_layout.specs.Cells.{base_of}
+use Rattle.kc_table_moves.specs.Views.{SeatView}
 use Rattle.kc_table.proofs.table.KcTable.commit.Goals as goal
 
 pub run_task-ran-requires-clause-on : goal.run_task-ran-requires-clause-on

@@ -1,10 +1,10 @@
 use Rattle.std.proofs.Common.{◌≡◌, sym, ap, ◌∙◌, subst, arith}
-use Rattle.kc_moves.specs.Origins.{opening_of}
-use Rattle.kc_moves.specs.Rule.{EachFits}
-use Rattle.kc_moves.specs.Views.{IsPast}
-use Rattle.kc_views.specs.Known.{IsMeant}
-use Rattle.kc_table.proofs.Loads.{ends}
 use Rattle.kc_table.proofs.Gathered.{is_past}
+use Rattle.kc_table.proofs.Loads.{ends}
+use Rattle.kc_table_moves.specs.Origins.{opening_of}
+use Rattle.kc_table_moves.specs.Rule.{EachFits}
+use Rattle.kc_table_moves.specs.Views.{IsPast}
+use Rattle.kc_table_views.specs.Known.{IsMeant}
 use Rattle.kc_table.proofs.table.KcTable.finish.Goals as goal
 
 pub gather-keeper-requires-clause-table : goal.gather-keeper-requires-clause-table

@@ -1,6 +1,6 @@
 use Rattle.std.proofs.Common.{arith, sym, ap, ◌∙◌}
-use Rattle.kc_table.proofs.Loads.{hears, merges}
 use Rattle.kc_table.proofs.Begins.{ready_merged, joined_view}
+use Rattle.kc_table.proofs.Loads.{hears, merges}
 use Rattle.kc_table.proofs.table.KcTable.join.Goals as goal
 
 pub join_seat-requires : goal.join_seat-requires

@@ -1,11 +1,11 @@
 use Rattle.std.proofs.Common.{◌≡◌, ◌∙◌, ap, sym, true}
-use Rattle.kc_model.specs.declared.word.Word.TheVariants.{Plain}
-use Rattle.kc_steps.specs.declared.task.Task.TheVariants.{Look}
-use Rattle.kc_layout.specs.Cells.{base_of}
 use Rattle.kc_machine.specs.Seats.{is_idle}
-use Rattle.kc_moves.specs.Views.{SeatView, Starts}
+use Rattle.kc_machine_steps.specs.declared.task.Task.TheVariants.{Look}
+use Rattle.kc_model.specs.declared.word.Word.TheVariants.{Plain}
 use Rattle.kc_table.proofs.Begins.{ready_begun}
 use Rattle.kc_table.proofs.Wholes.{look_busy, look_ran, look_stands}
+use Rattle.kc_table_layout.specs.Cells.{base_of}
+use Rattle.kc_table_moves.specs.Views.{SeatView, Starts}
 use Rattle.kc_table.proofs.table.KcTable.look.Goals as goal
 
 pub load_look-number-requires-clause-here : goal.load_look-number-requires-clause-here

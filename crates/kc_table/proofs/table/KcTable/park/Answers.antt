@@ -1,8 +1,8 @@
 use Rattle.std.proofs.Common.{true, sym, subst}
-use Rattle.kc_moves.specs.Views.{Signalled}
-use Rattle.kc_table.proofs.Waits.Waited.{still}
 use Rattle.kc_table.proofs.Waits.{waited_more, waited_signal}
+use Rattle.kc_table.proofs.Waits.Waited.{still}
 use Rattle.kc_table.proofs.table.KcTable.park.Goals.{in-None, in-Some+then-signalled}
+use Rattle.kc_table_moves.specs.Views.{Signalled}
 use Rattle.kc_table.proofs.table.KcTable.park.Goals as goal
 
 pub loop-init : goal.loop-init

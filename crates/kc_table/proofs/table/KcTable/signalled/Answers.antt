@@ -1,8 +1,8 @@
 use Rattle.std.proofs.Common.{◌*◌, arith, refl, sym, ap, ◌∙◌}
 use borrow.Author.Tests.{eq-eqb, ne_eqb}
-use Rattle.kc_seats.proofs.SeatedSteps.{seats_stay}
-use Rattle.kc_table.proofs.Loads.{hears_signal}
+use Rattle.kc_machine_seats.proofs.SeatedSteps.{seats_stay}
 use Rattle.kc_table.proofs.Begins.{ready_caller, ready_heard, heard_view}
+use Rattle.kc_table.proofs.Loads.{hears_signal}
 use Rattle.kc_table.proofs.table.KcTable.signalled.Goals as goal
 
 pub load-requires : goal.load-requires

@@ -2,9 +2,9 @@ use Rattle.std.proofs.Common.{◌≡◌, ◌≤◌, true, false, arith, min, ref
 use Rattle.std.specs.Prelude.{nat_le}
 use Rattle.std.proofs.lemmas.Bool.Decides.{nat_tests}
 use Rattle.std.proofs.Math.Facts.{Fits-of_lt}
-use Rattle.kc_term.specs.declared.term.TheConstants.{MOST_OPERATIONS}
-use Rattle.kc_term.specs.Tree.{trees, all_operations, operations, nesting}
 use Rattle.kc_term.proofs.Parts.{left-cons, nesting-cons}
+use Rattle.kc_term.specs.Tree.{trees, all_operations, operations, nesting}
+use Rattle.kc_term.specs.declared.term.TheConstants.{MOST_OPERATIONS}
 use Rattle.kc_term.proofs.term.Term.seq.Goals as goal
 
 pub overflow_add-operations : goal.overflow_add-operations

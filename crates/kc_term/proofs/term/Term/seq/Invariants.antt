@@ -1,6 +1,6 @@
 use Rattle.std.proofs.Common.{◌≡◌, ◌+◌, ◌≤◌, min, max, length, drop}
-use Rattle.kc_term.specs.declared.term.TheConstants.{MOST_NESTED, MOST_OPERATIONS}
 use Rattle.kc_term.specs.Tree.{trees, all_operations, greatest_nesting}
+use Rattle.kc_term.specs.declared.term.TheConstants.{MOST_NESTED, MOST_OPERATIONS}
 use Rattle.kc_term.proofs.term.Term.seq.Given as goal
 
 -- what was counted so far, with what is left

@@ -1,6 +1,6 @@
 use Rattle.std.proofs.Common.{◌==◌, ◌+◌, arith}
-use Rattle.kc_xt.specs.Worked.{takes_one}
 use Rattle.kc_xt.proofs.Stay.{stays_if, stays_law}
+use Rattle.kc_xt.specs.Worked.{takes_one}
 use Rattle.kc_xt.proofs.tests.TakeTransact.run.Goals as goal
 
 pub returns-clause-law : goal.returns-clause-law

@@ -1,6 +1,6 @@
 use Rattle.std.proofs.Common.{ap, ◌∙◌}
-use Rattle.kc_xt.specs.Lines.{seens, puts}
 use Rattle.kc_xt.proofs.Footprints.{well_made}
+use Rattle.kc_xt.specs.Lines.{seens, puts}
 use Rattle.kc_xt.proofs.xt.Xt.fill.Goals as goal
 
 pub returns-clause-made : goal.returns-clause-made

@@ -1,6 +1,6 @@
 use Rattle.std.proofs.Common.{ap, ◌∙◌}
-use Rattle.kc_xt.specs.Lines.{seens}
 use Rattle.kc_xt.proofs.Footprints.{reads_made}
+use Rattle.kc_xt.specs.Lines.{seens}
 use Rattle.kc_xt.proofs.xt.Xt.fill_reads.Goals as goal
 
 pub returns : goal.returns

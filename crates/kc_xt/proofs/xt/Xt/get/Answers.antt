@@ -1,7 +1,7 @@
 use Rattle.std.specs.Prelude.{Ok, Err}
 use Rattle.std.proofs.lemmas.Result.{err_from_is_err_and}
-use Rattle.kc_xt.specs.Calls.{zero_line}
 use Rattle.kc_xt.proofs.Calls.{does_get}
+use Rattle.kc_xt.specs.Calls.{zero_line}
 use Rattle.kc_xt.proofs.xt.Xt.get.Goals as goal
 
 pub returns-in_err-at-clause-step : goal.returns-in_err-at-clause-step

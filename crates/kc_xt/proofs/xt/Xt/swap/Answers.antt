@@ -1,7 +1,7 @@
 use Rattle.std.proofs.Common.{refl}
 use Rattle.std.specs.Prelude.{Ok}
-use Rattle.kc_xt.specs.Calls.{Swaps, swaps_both}
 use Rattle.kc_xt.proofs.Calls.{does_swap, swap_stops_at_first, swap_stops_at_second, second_sets_nothing, touches_line, has_line-touches, has_line-set}
+use Rattle.kc_xt.specs.Calls.{Swaps, swaps_both}
 use Rattle.kc_xt.proofs.xt.Xt.swap.Goals as goal
 use Rattle.kc_xt.proofs.xt.Xt.swap.Goals.{After-put-2}
 

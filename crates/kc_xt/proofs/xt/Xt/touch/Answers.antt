@@ -1,8 +1,8 @@
 use Rattle.std.proofs.Common.{◌≡◌, ◌≤◌, length, sym, ◌∙◌, arith, refl, lit<}
-use Rattle.kc_xt.specs.Lines.{with_line, seen_line}
-use Rattle.kc_xt.specs.Calls.{there, looked, no_answer}
 use Rattle.kc_xt.proofs.Places.{inserted, is_place_new, rising-with_line, versions-with_line, length-with_line, place-within}
+use Rattle.kc_xt.specs.Calls.{there, looked, no_answer}
 use Rattle.kc_xt.specs.Calls.{zero_line}
+use Rattle.kc_xt.specs.Lines.{with_line, seen_line}
 use Rattle.kc_xt.proofs.xt.Xt.touch.Goals as goal
 use Rattle.kc_xt.proofs.xt.Xt.touch.Goals.{After-insert}
 

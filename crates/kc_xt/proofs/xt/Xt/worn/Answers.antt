@@ -1,6 +1,6 @@
 use Rattle.std.proofs.Common.{ap, sym, ◌∙◌}
-use Rattle.kc_xt.specs.Lines.{worn_of}
 use Rattle.kc_xt.proofs.Footprints.{none_worn}
+use Rattle.kc_xt.specs.Lines.{worn_of}
 use Rattle.kc_xt.proofs.xt.Xt.worn.Goals as goal
 
 pub returns-clause-none : goal.returns-clause-none

@@ -1,5 +1,0 @@
-use Rattle.kc_bundle.proofs.Commands.{command_keeps}
-use Rattle.kc_bundle.proofs.laws.keeps_well_formed.Goals as goal
-
-pub returns : goal.returns
-returns c = command_keeps

@@ -1,5 +1,0 @@
-use Rattle.kc_bundle.proofs.Standing.{all_show}
-use Rattle.kc_bundle.proofs.laws.shows_its_contents.Goals as goal
-
-pub returns : goal.returns
-returns c = all_show

@@ -1,0 +1,21 @@
+//! What holds after every schedule of every opening. An empty body: the contract is the law.
+
+ghost use Rattle.std.specs.Prelude.{List};
+ghost use Rattle.kc_machine_steps.specs.declared.task.Event.{Event};
+ghost use Rattle.kc_machine.specs.Machine.{Opening};
+ghost use Rattle.kc_machine.specs.Schedules.{IsSchedule};
+ghost use Rattle.kc_machine_claims.specs.Claims.{AloneItIsTold};
+ghost use Rattle.kc_machine_alone.specs.Stretches.{StretchesEnd};
+
+/// Where the tasks are well made and a descriptor can be taken, a seat that steps alone is told within (callers + 1)² · 4 · lines²
+/// steps, from whatever state it and the others stand in: where n callers are, of at most 64 lines each, within (n + 1)² · 16,384.
+pub fn alone_it_is_told()
+    ensures { (o : Opening) (es : List Event) → IsSchedule o es → AloneItIsTold o es }
+{}
+
+/// Where the tasks are well made and a descriptor can be taken, a seat that steps alone is told, or begins to aid another, within
+/// so many steps as `stretch` says. So an aid ends, with its pass, and comes back to its line or goes on to the next aid; and a
+/// commit that meets no other is told.
+pub fn stretches_end()
+    ensures { (o : Opening) (es : List Event) → IsSchedule o es → StretchesEnd o es }
+{}

@@ -1,0 +1,14 @@
+-- Why a seat was told what it was told.
+use Rattle.std.specs.Prelude.{◌≡◌, ◌<◌, ◌≤◌, ℕ, List, Some, slice_get}
+use Rattle.kc_machine_steps.specs.declared.task.Told.TheVariants as told
+use Rattle.kc_machine.specs.Machine.{Opening, run}
+use Rattle.kc_machine_histories.specs.Places.{began}
+use Rattle.kc_machine_steps.specs.declared.task.Event.{Event}
+use Rattle.kc_machine_steps.specs.declared.task.Event.TheVariants.{Halt}
+
+-- from the event by which its task began on, the schedule has a halt of seat k
+abbrev pub WasHalted : Opening → List Event → ℕ → Type 0
+WasHalted o es k = (i : ℕ) × (began o es k ≤ i) × (slice_get es i ≡ Some (Halt k))
+
+abbrev pub HaltsHaveACause : Opening → List Event → Type 0
+HaltsHaveACause o es = (k : ℕ) → k < o.callers → ((run o es).seats k).told ≡ Some told.Halted → WasHalted o es k

@@ -1,0 +1,94 @@
+-- The history moves by decisions alone, each for an owner.
+use Rattle.std.proofs.Common.{arith, ◌≡◌, ◌<◌, ◌⊎◌, inl, inr, ◌++◌, Bool, true, false, List, [], ◌∷◌, Some, refl, sym, ap, subst, ◌∙◌}
+use Rattle.std.specs.Prelude.{nat_lt}
+use Rattle.std.proofs.lemmas.Bool.{ltb-true}
+use Rattle.kc_machine.specs.Machine.{World, State, Opening, event_of, seat_of, run}
+use Rattle.kc_machine_claims.proofs.Follows.{trace_runs}
+use Rattle.kc_machine_claims.specs.Histories.{History, Placed, inserted}
+use Rattle.kc_machine_claims.specs.Traces.{Trace, decides, caller_for, number_for, entry_for, trace}
+use Rattle.kc_machine_effects.specs.Holds.{Proper, own_hold}
+use Rattle.kc_machine_effects.specs.Stands.{Over, Turn, At, Stand, stand}
+use Rattle.kc_machine_histories.proofs.Deciding.{Entrance, undecided, history_cases}
+use Rattle.kc_machine_histories.proofs.Places.{placing}
+use Rattle.kc_machine_histories.specs.Decisions.{own_of, Decision, MovesByDecision}
+use Rattle.kc_machine_pool.proofs.LifeLaws.{statuses_follow}
+use Rattle.kc_machine_pool.specs.Owners.{Follows, is_filling}
+use Rattle.kc_machine_steps.specs.Passes.{status}
+use Rattle.kc_machine_steps.specs.declared.line.Line.{Line}
+use Rattle.kc_machine_steps.specs.declared.pass.PassStep.TheVariants.{Decide}
+use Rattle.kc_machine_steps.specs.declared.task.Event.{Event}
+use Rattle.kc_machine_traces.proofs.Entries.{Entered, Enters, enters}
+use Rattle.kc_machine_traces.proofs.Joins.{run-append, trace-append}
+use Rattle.kc_machine_traces.proofs.Others.{run_shape, event_out}
+use Rattle.kc_machine_traces.specs.Entries.{own_intent}
+use Rattle.kc_machine_words.specs.declared.words.Handle.{Handle}
+use Rattle.kc_machine_words.specs.declared.words.Mode.{Mode}
+use Rattle.kc_machine_words.specs.declared.words.Phase.TheVariants.{Active, Succeeded}
+use Rattle.kc_machine_words.specs.declared.words.Status.{Status}
+use Rattle.kc_model.specs.declared.footprint.Entry.{Entry}
+
+module _ (o : Opening) (es : List Event) (e : Event) where
+  abbrev v : World
+  v = (event_of (run o es) e).world
+
+  abbrev st : Stand
+  st = stand ((run o es).seats (seat_of e))
+
+  -- the seat of a decision is there
+  is_there : (h : _) → decides (run o es).world v h ≡ true → seat_of e < o.callers
+  is_there h d = go (nat_lt (seat_of e) (run o es).callers) refl
+    where
+      go : (b : Bool) → nat_lt (seat_of e) (run o es).callers ≡ b → seat_of e < o.callers
+      go true q = let c = (run_shape o es).2 in let l = ltb-true (seat_of e) (run o es).callers q in omega arith
+      go false q = absurd (undecided (run o es).world v h (ap (λ (m : State). m.world.status h.descriptor) (event_out (run o es) e q)) d)
+
+  pub decision_of : (x : Placed) → Entrance (trace o es) e x → Decision o es e x
+  decision_of x n =
+      let m = trace_runs o es in
+      let d : decides (run o es).world v n.handle ≡ true = sym (ap (λ (m : State). decides m.world (event_of m e).world n.handle) m) ∙ n.decision in
+      let p : st.pass ≡ Over n.handle x.mode n.lines (At (Decide Succeeded)) = sym (ap (λ (m : State). (stand (m.seats (seat_of e))).pass) m) ∙ n.pass in
+      let here = is_there n.handle d in
+      let y : Entered o es v n.handle x.mode n.lines (caller_for st.caller st.aid) (number_for st.calls st.aid) = subst (Enters o es v st.caller st.calls st.aid) p (enters o es v (seat_of e) here) d in
+      let a = y.by_owner in
+      let was : (run o es).world.status n.handle.descriptor ≡ status n.handle.generation Active = sym (ap (λ (m : State). m.world.status n.handle.descriptor) m) ∙ n.was in
+      let z = n.entry ∙ ap (λ (m : State). entry_for (stand (m.seats (seat_of e))) n.lines) m in
+      let caller : x.entry.caller ≡ caller_for st.caller st.aid = ap (λ (w : Entry). w.caller) z in
+      let follows : ((run o es).world.status a.descriptor).generation ≡ a.generation = subst (λ b. Follows b ((run o es).world.status a.descriptor).generation a.generation) a.started
+      (statuses_follow o es (caller_for st.caller st.aid) a.descriptor a.generation (let c = (run_shape o es).2 in let l = a.within in omega arith) a.owns) in
+      let life : a.generation ≡ n.handle.generation = sym follows ∙ ap (λ i. ((run o es).world.status i).generation) y.over ∙ ap (λ (w : Status). w.generation) was in
+      let same : Proper a.descriptor a.generation ≡ Proper n.handle.descriptor n.handle.generation = (λ i. Proper (y.over i) (life i)) in
+      let intent : a.intent ≡ record { mode = x.mode; lines = record { items = n.lines } } = (λ i. record { mode = sym y.mode i; lines = record { items = sym y.lines i } }) in
+      record {
+        seat = here;
+        handle = n.handle;
+        lines = n.lines;
+        pass = p;
+        place = n.place;
+        was = was;
+        now_is = ap (λ (m : State). m.world.status n.handle.descriptor) (run-append o es (e ∷ []) ∙ ap (λ m. event_of m e) (sym m)) ∙ n.now_is;
+        caller = subst (λ k. k < o.callers) (sym caller) a.within;
+        owns = ap (λ k. own_hold (own_of o es k)) caller ∙ a.owns ∙ same;
+        started = ap (λ k. is_filling (own_of o es k)) caller ∙ a.started;
+        intent = ap (λ k. own_intent (own_of o es k)) caller ∙ a.has ∙ ap Some intent;
+        number = ap (λ (w : Entry). w.number) z ∙ a.call ∙ ap (λ k. ((run o es).seats k).calls) (sym caller);
+        footprint = ap (λ (w : Entry). w.footprint) z;
+      }
+
+  -- the pass of the event's seat decides nothing for success
+  abbrev pub Undecides : Type 0
+  Undecides = (h : Handle) (m : Mode) (xs : List Line) (u : Turn) → st.pass ≡ Over h m xs u → decides (run o es).world v h ≡ false
+
+  -- what holds of the history that stays, and of it with the entry, holds behind the event
+  module _ (P : History → Type 0) where
+    pub history_moves_by : (Undecides → P (trace o es).history) → ((x : Placed) → Decision o es e x → P (inserted x (trace o es).history)) → P (trace o (es ++ e ∷ [])).history
+    history_moves_by same more = subst P (sym (ap (λ (t : Trace). t.history) (trace-append o es (e ∷ []))))
+        (history_cases (trace o es) e P
+        (λ u. same (λ h m xs t q. ap (λ (n : State). decides n.world (event_of n e).world h) (sym (trace_runs o es)) ∙ u h m xs t (ap (λ (n : State). (stand (n.seats (seat_of e))).pass) (trace_runs o es) ∙ q)))
+        (λ x n. more x (decision_of x n)) ((placing o es).seats (seat_of e)))
+
+    pub history_moves : P (trace o es).history → ((x : Placed) → Decision o es e x → P (inserted x (trace o es).history)) → P (trace o (es ++ e ∷ [])).history
+    history_moves same more = history_moves_by (λ u. same) more
+
+  pub moves_by_decision : MovesByDecision o es e
+  moves_by_decision = history_moves (λ h. (h ≡ (trace o es).history) ⊎ ((x : Placed) × Decision o es e x × (h ≡ inserted x (trace o es).history)))
+      (inl refl) (λ x d. inr (x, d, refl))

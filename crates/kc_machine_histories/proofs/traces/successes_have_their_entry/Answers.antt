@@ -1,0 +1,9 @@
+use Rattle.kc_machine_histories.proofs.Begun.{entry_behind}
+use Rattle.kc_machine_histories.proofs.Successes.{successes_have_entries}
+use Rattle.kc_machine_histories.proofs.traces.successes_have_their_entry.Goals as goal
+
+pub returns-clause-begun : goal.returns-clause-begun
+returns-clause-begun c = entry_behind
+
+pub returns-clause-entries : goal.returns-clause-entries
+returns-clause-entries c = successes_have_entries

@@ -1,0 +1,106 @@
+-- In a legal history a version that is past was put, by an entry.
+use Rattle.std.proofs.Common.{arith, ◌≡◌, ◌<◌, ◌≤◌, ◌⊎◌, inl, inr, ℕ, zero, suc, ◌==◌, Bool, true, false, List, [], ◌∷◌, Option, None, Some, refl, sym, ap, subst, ◌∙◌, Contains, cond, take}
+use Rattle.std.specs.Prelude.{slice_get}
+use Rattle.std.specs.List.{filter_map}
+use Rattle.std.proofs.lemmas.Bool.{cases_lt}
+use borrow.Author.Tests.{eqb-true}
+use Rattle.kc_machine.specs.Machine.{Opening}
+use Rattle.kc_machine.specs.Schedules.{IsSchedule}
+use Rattle.kc_machine_claims.specs.Claims.{HasPut, FailuresHaveACause}
+use Rattle.kc_machine_claims.specs.Histories.{History, Placed, ending, put_of_line, footprint_of, IsKnown, IsLegalHistory}
+use Rattle.kc_machine_claims.specs.Traces.{trace, first_store}
+use Rattle.kc_machine_histories.proofs.Decisions.{history_moves}
+use Rattle.kc_machine_histories.proofs.Filters.{found}
+use Rattle.kc_machine_histories.proofs.Growth.{version_is}
+use Rattle.kc_machine_histories.proofs.Insertions.{inserted_contains}
+use Rattle.kc_machine_histories.proofs.Knew.{knew}
+use Rattle.kc_machine_histories.specs.Insertions.{put_by}
+use Rattle.kc_machine_honest.proofs.Causes.{failures}
+use Rattle.kc_machine_honest.proofs.Legal.{legal}
+use Rattle.kc_machine_honest.specs.Causes.{PastRead}
+use Rattle.kc_machine_steps.specs.declared.line.Line.{Line}
+use Rattle.kc_machine_steps.specs.declared.task.Event.{Event}
+use Rattle.kc_machine_traces.proofs.Joins.{every}
+use Rattle.kc_model.proofs.Stores.{Contains-first, Contains-later}
+use Rattle.kc_model.specs.Footprint.{put_at, IsRead, PutsWhatItReads}
+use Rattle.kc_model.specs.Store.{Store, after, cell_after}
+use Rattle.kc_model.specs.declared.footprint.Put.{Put}
+use Rattle.kc_model.specs.declared.footprint.Seen.{Seen}
+use Rattle.kc_model.specs.declared.plain_store.Cell.{Cell}
+
+-- ---- an entry's put is of a version that it read
+
+-- a read is one of more
+more_reads : (x : Line) (xs : List Line) (p : Put) → IsRead (footprint_of xs).reads.items p → IsRead (footprint_of (x ∷ xs)).reads.items p
+more_reads x xs p r = (r.0, Contains-later x.seen (footprint_of xs).reads.items r.0 r.1, r.2, r.3)
+
+lines_read : (xs : List Line) → PutsWhatItReads (footprint_of xs)
+lines_read [] p c = absurd (omega (arith, c.1))
+lines_read (x ∷ xs) p c = go (lines_read xs p) x.put refl c
+  where
+    go : (Contains (filter_map put_of_line xs) p → IsRead (footprint_of xs).reads.items p) → (o : Option ℕ) → x.put ≡ o → Contains (filter_map put_of_line (x ∷ xs)) p → IsRead (footprint_of (x ∷ xs)).reads.items p
+    go rest None e c = more_reads x xs p (rest (subst (λ a. Contains (filter_map put_of_line (record x { put = a } ∷ xs)) p) e c))
+    go rest (Some a) e c = at (subst (λ a. Contains (filter_map put_of_line (record x { put = a } ∷ xs)) p) e c)
+      where
+        at : Contains (record { loc = x.seen.loc; version = x.seen.version; after = a } ∷ filter_map put_of_line xs) p → IsRead (footprint_of (x ∷ xs)).reads.items p
+        at (zero, l, q) = (x.seen, Contains-first x.seen (footprint_of xs).reads.items, ap (λ (z : Put). z.loc.0) q, ap (λ (z : Put). z.version) q)
+        at (suc i, l, q) = more_reads x xs p (rest (i, omega arith, q))
+
+abbrev PutsAreRead : History → Type 0
+PutsAreRead h = (x : Placed) → Contains h x → PutsWhatItReads x.entry.footprint
+
+puts_read : (o : Opening) (es : List Event) → PutsAreRead (trace o es).history
+puts_read o = every (λ es. PutsAreRead (trace o es).history)
+    (λ es e f. history_moves o es e PutsAreRead f (λ x d y c. inserted_contains x (trace o es).history y (λ z. PutsWhatItReads z.entry.footprint) (subst PutsWhatItReads (sym d.footprint) (lines_read d.lines)) f c))
+    (λ x c. absurd (omega (arith, c.1)))
+
+-- ---- a version between the first and the last was put
+
+put_there : (ps : List Put) (l : ℕ) (p : Put) → put_at ps l ≡ Some p → Contains ps p × (p.loc.0 ≡ l)
+put_there [] l p e = absurd (cc)
+put_there (q ∷ ps) l p e = go (put_there ps l p) (q.loc.0 == l) refl e
+  where
+    go : (put_at ps l ≡ Some p → Contains ps p × (p.loc.0 ≡ l)) → (b : Bool) → (q.loc.0 == l) ≡ b → cond b (Some q) (put_at ps l) ≡ Some p → Contains (q ∷ ps) p × (p.loc.0 ≡ l)
+    go rest true z e = let s : q ≡ p = cc in (subst (Contains (q ∷ ps)) s (Contains-first q ps), ap (λ (x : Put). x.loc.0) (sym s) ∙ eqb-true q.loc.0 l z)
+    go rest false z e = let r = rest e in (Contains-later q ps p r.0, r.1)
+
+past_put : (s : Store) (h : History) (r : Seen) → IsLegalHistory s h → PutsAreRead h → (s r.loc.0).version ≤ r.version → r.version < (ending s h r.loc.0).version → HasPut h r
+past_put s [] r legal reads low high = absurd (omega arith)
+past_put s (x ∷ h) r legal reads low high = go (λ l. past_put (after x.entry.footprint s) h r legal.1 (λ y c. reads y (Contains-later x h y c)) l high) (put_by x r.loc.0) refl
+  where
+    later : HasPut h r → HasPut (x ∷ h) r
+    later (y, p, c, q, a, b) = (y, p, Contains-later x h y c, q, a, b)
+
+    go : (((after x.entry.footprint s) r.loc.0).version ≤ r.version → HasPut h r) → (o : Option Put) → put_by x r.loc.0 ≡ o → HasPut (x ∷ h) r
+    go rest None e = later (rest (let z = ap (λ o. (cell_after o (s r.loc.0)).version) e in omega arith))
+    go rest (Some p) e = at (cases_lt (s r.loc.0).version r.version)
+      where
+        there : Contains x.entry.footprint.puts.items p × (p.loc.0 ≡ r.loc.0)
+        there = put_there x.entry.footprint.puts.items r.loc.0 p e
+
+        -- the version that it put is the one that stood
+        stood : (s r.loc.0).version ≡ p.version
+        stood =
+            let q = reads x (Contains-first x h) p there.0 in
+            ap (λ l. (s l).version) (sym (q.2 ∙ there.1)) ∙ ap (λ (c : Cell). c.version) (legal.0 q.0 q.1) ∙ q.3
+
+        at : ((s r.loc.0).version < r.version) ⊎ (r.version ≤ (s r.loc.0).version) → HasPut (x ∷ h) r
+        at (inl l) = later (rest (let z = ap (λ o. (cell_after o (s r.loc.0)).version) e in omega arith))
+        at (inr l) = (x, p, Contains-first x h, there.0, (λ i. record { 0 = there.1 i }), sym stood ∙ omega arith)
+
+-- ---- failures
+
+-- what was known has no lower version than the opening
+known_above : (s : Store) (h : History) (r : Seen) → IsKnown s h r → (s r.loc.0).version ≤ r.version
+known_above s h r k =
+    let a = version_is s (take k.0 h) r.loc.0 in
+    let b : (ending s (take k.0 h) r.loc.0).version ≡ r.version = ap (λ (c : Cell). c.version) k.1 in
+    omega arith
+
+pub causes : (o : Opening) (es : List Event) → IsSchedule o es → FailuresHaveACause o es
+causes o es w hon k i f m l asks said = go ((failures o es w hon).told k i f m l asks said)
+  where
+    go : PastRead o es f i → (r : Seen) × (slice_get f.reads.items i ≡ Some r) × HasPut (trace o es).history r
+    go p =
+        let known = knew o k l es hon f m asks p.0 (found f.reads.items i p.0 p.1) in
+        (p.0, p.1, past_put (first_store o) (trace o es).history p.0 (legal o es w hon) (puts_read o es) (known_above (first_store o) ((trace o es).shadows k).begun.history p.0 known) p.2)

@@ -1,0 +1,83 @@
+-- A number below 2 ^ callers has callers' bits alone.
+use Rattle.std.proofs.Common.{◌≡◌, ◌<◌, ◌≤◌, ◌*◌, ◌%◌, ◌^◌, ◌∙◌, ℕ, Bool, true, false, refl, sym, ap, arith, if◌then◌else◌}
+use Rattle.std.specs.Prelude.{nat_lt, bit_and}
+use Rattle.std.specs.Int.Bits.{and_zero_r}
+use Rattle.std.proofs.lemmas.Nat.{pow_pos}
+use Rattle.std.proofs.lemmas.Nat.Bits.{and_pow, bit_at_above}
+use Rattle.std.proofs.Math.Pow.{pow-lt}
+use borrow.Author.Tests.{ltb-true, ltb-false}
+use Rattle.kc_machine_steps.specs.declared.aid.AidStep.{AidStep}
+use Rattle.kc_machine_steps.specs.declared.aid.Aided.{Aided}
+use Rattle.kc_machine_steps.specs.declared.line.Intent.{Intent}
+use Rattle.kc_machine_words.specs.declared.words.Handle.{Handle}
+use Rattle.kc_machine_words.specs.declared.words.Reference.{Reference}
+use Rattle.kc_machine_steps.specs.declared.aid.AidStep.TheVariants as aid
+use Rattle.kc_machine_commits.specs.declared.commit.OwnStep.{OwnStep}
+use Rattle.kc_machine_commits.specs.declared.commit.OwnStep.TheVariants as own
+use Rattle.kc_machine.specs.declared.hang.HangStep.{HangStep}
+use Rattle.kc_machine_commits.specs.declared.commit.Stage.{Stage}
+use Rattle.kc_machine_commits.specs.declared.commit.Stage.TheVariants.{Scan, Take, Own}
+use Rattle.kc_machine.specs.declared.hang.HangStep.TheVariants as hang
+use Rattle.kc_machine.specs.Works.{Work}
+use Rattle.kc_machine.specs.declared.seat.Seat.{Seat}
+use Rattle.kc_machine.specs.Works as work
+use Rattle.kc_machine.specs.Machine.{Opening}
+use Rattle.kc_machine.specs.Words.{bit_of}
+use Rattle.kc_machine_claims.specs.Claims.{has_bit, owed_by}
+use Rattle.kc_machine_effects.specs.Stands.{Stand, Waits, resting, aids, owns, commits, hangs, works, stand}
+use Rattle.kc_machine_ranges.specs.Ranges.{CallersIn}
+use Rattle.kc_machine_ranges.specs.Seats.{OwnIn, StageIn, WorkIn}
+
+-- a number below 2 ^ n has no bit from n on
+no_bit : (x n c : ℕ) → x < 2 ^ n → n ≤ c → bit_and x (bit_of c) ≡ 0
+no_bit x n c l m = go (nat_lt c 64) refl
+  where
+    go : (b : Bool) → nat_lt c 64 ≡ b → bit_and x (if b then 1 * 2 ^ c % 2 ^ 64 else 0) ≡ 0
+    go true e =
+        let small : 2 ^ c < 2 ^ 64 = pow-lt (ltb-true c 64 e) in
+        let same : 1 * 2 ^ c % 2 ^ 64 ≡ 2 ^ c = omega arith in
+        let none = bit_at_above x n c l m in
+        let zero : 0 * 2 ^ c ≡ 0 = omega arith in
+        ap (bit_and x) same ∙ and_pow x c ∙ ap (λ y. y * 2 ^ c) none ∙ zero
+    go false e = and_zero_r x
+
+pub caller_of : (x n c : ℕ) → x < 2 ^ n → has_bit x c ≡ true → c < n
+caller_of x n c l e = go (nat_lt c n) refl
+  where
+    go : (b : Bool) → nat_lt c n ≡ b → c < n
+    go true q = ltb-true c n q
+    go false q = let z = no_bit x n c l (ltb-false c n q) in absurd (let f : has_bit x c ≡ false = rw z refl in let w : true ≡ false = sym e ∙ f in cc)
+
+module _ (o : Opening) where
+  abbrev Owes : Stand → Type 0
+  Owes t = CallersIn o (owed_by t.own)
+
+  aids_owe : (t : Stand) (h : Handle) (i : Intent) (k : ℕ) (r : Reference) (a : Aided) (step : AidStep) → Owes (aids (record t { own = Waits h i k }) r a step)
+  aids_owe t h i k r a (aid.Pass p) = pow_pos o.callers
+  aids_owe t h i k r a _ = pow_pos o.callers
+
+  owns_owe : (t : Stand) (i : Intent) (a : Aided) (h : Handle) (step : OwnStep) → OwnIn o a step → Owes (owns t i a h step)
+  owns_owe t i a h (own.Pass p) y = pow_pos o.callers
+  owns_owe t i a h (own.Aid k r step) y = aids_owe t h i k r a step
+  owns_owe t i a h (own.Wake k owed) y = y
+  owns_owe t i a h (own.Signal owed) y = y
+  owns_owe t i a h _ y = pow_pos o.callers
+
+  commits_owe : (s : Seat) (halted : Bool) (i : Intent) (a : Aided) (x : Stage) → StageIn o a x → Owes (commits (record (resting s) { halted = halted }) i a x)
+  commits_owe s halted i a (Scan d worn) y = pow_pos o.callers
+  commits_owe s halted i a (Take d g) y = pow_pos o.callers
+  commits_owe s halted i a (Own h step) y = owns_owe (record (resting s) { halted = halted }) i a h step y.1
+
+  works_owe : (s : Seat) (x : Work) → WorkIn o x → Owes (works (resting s) x)
+  works_owe s work.Idle y = pow_pos o.callers
+  works_owe s (work.Look l) y = pow_pos o.callers
+  works_owe s (work.Commit c) y = commits_owe s c.halted c.intent c.copy c.stage y.1
+  works_owe s (work.Hang h) y = go h.step
+    where
+      go : (step : HangStep) → Owes (hangs (resting s) h.reads.items step)
+      go (hang.Look k step) = pow_pos o.callers
+      go _ = pow_pos o.callers
+  works_owe s (work.Leave l) y = pow_pos o.callers
+
+  pub owed_in : (s : Seat) → WorkIn o s.work → CallersIn o (owed_by (stand s).own)
+  owed_in s y = works_owe s s.work y

@@ -1,0 +1,13 @@
+-- Puts that succeeded.
+use Rattle.std.specs.Prelude.{◌≡◌, ◌<◌, ℕ, List, true}
+use Rattle.kc_machine.specs.Machine.{Opening, run}
+use Rattle.kc_machine_claims.specs.Histories.{ending}
+use Rattle.kc_machine_claims.specs.Traces.{first_store, trace}
+use Rattle.kc_machine_pool.specs.Started.{IsStarted}
+use Rattle.kc_machine_steps.specs.declared.task.Event.{Event}
+use Rattle.kc_machine_words.specs.declared.words.Phase.TheVariants.{Succeeded}
+
+-- the version from which a line of a succeeded descriptor put is below what the history makes there: it doesn't fit again
+abbrev pub PutsArePast : Opening → List Event → Type 0
+PutsArePast o es = (d i : ℕ) → ((run o es).world.status d).phase ≡ Succeeded → IsStarted (run o es).world d → i < ((run o es).world.owner d).lines → ((run o es).world.first d i).put ≡ true
+    → ((run o es).world.first d i).version < (ending (first_store o) (trace o es).history ((run o es).world.second d i).loc).version

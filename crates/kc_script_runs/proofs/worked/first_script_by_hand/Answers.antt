@@ -1,0 +1,6 @@
+use Rattle.std.proofs.Common.{refl, lit<}
+use Rattle.std.proofs.lemmas.Fmt.{decimal_digit}
+use Rattle.kc_script_runs.proofs.worked.first_script_by_hand.Goals as goal
+
+pub returns-clause-text : goal.returns-clause-text
+returns-clause-text c = rw (decimal_digit 1 (lit< tt), decimal_digit 2 (lit< tt), decimal_digit 3 (lit< tt), decimal_digit 5 (lit< tt), decimal_digit 7 (lit< tt), decimal_digit 8 (lit< tt)) refl

@@ -1,0 +1,118 @@
+-- Worked scripts by hand, of one thread and of two, and a command that waits. The definitions are computed on them.
+use Rattle.std.specs.Prelude.{ℕ, List, [], ◌∷◌, codes, cond, ◌==◌, None}
+use Rattle.kc_model.specs.declared.footprint.Entry.{Entry}
+use Rattle.kc_model.specs.declared.footprint.Footprint.{Footprint}
+use Rattle.kc_model.specs.declared.footprint.Loc.{Loc}
+use Rattle.kc_model.specs.declared.footprint.Put.{Put}
+use Rattle.kc_model.specs.declared.footprint.Seen.{Seen}
+use Rattle.kc_model.specs.declared.reply.Reply.TheVariants as reply
+use Rattle.kc_model.specs.declared.reply.Answer.TheVariants as answer
+use Rattle.kc_model.specs.Store.{Store}
+use Rattle.kc_script_bundle.specs.declared.object.Object.TheVariants as object
+use Rattle.kc_script_bundle.specs.declared.operation.Command.{Command}
+use Rattle.kc_script_bundle.specs.declared.operation.Command.TheVariants as command
+use Rattle.kc_loc.specs.declared.kinds.Rel.TheVariants as rel
+use Rattle.kc_xt.specs.Meaning.{Touch}
+use Rattle.kc_script_bundle.specs.declared.operation.Op.TheVariants as op
+use Rattle.kc_loc.specs.declared.operation.LocOp.TheVariants as loc
+use Rattle.kc_script_bundle.specs.Script.{Script}
+use Rattle.kc_script_bundle.specs.State.{Content, number}
+use Rattle.kc_history.specs.declared.record.Mark.TheVariants as mark
+use Rattle.kc_history.specs.Callers.{entry_of}
+use Rattle.kc_history.specs.declared.record.Place.{Place}
+use Rattle.kc_history.specs.declared.record.Record.{Record}
+
+abbrev x : Loc
+x = record { 0 = 1 }
+
+-- loc x 5, and a thread of get x, set x 7, add x 1
+abbrev pub first_script : Script
+first_script = record {
+  objects = (codes "x", object.Loc x 5) ∷ [];
+  threads = (command.One (op.Loc (loc.Get x)) ∷ command.One (op.Loc (loc.Set x 7)) ∷ command.One (op.Loc (loc.FetchAdd x 1)) ∷ []) ∷ [];
+}
+
+abbrev saw : Loc → ℕ → ℕ → Seen
+saw l version value = record { loc = l; version = version; value = value }
+
+abbrev put : Loc → ℕ → ℕ → Put
+put l version after = record { loc = l; version = version; after = after }
+
+abbrev pub first_records : List (List Record)
+first_records =
+    (record { thread = 1; mark = mark.Command 1; answer = answer.Reply (reply.Value 5); footprint = record { reads = record { items = saw x 0 5 ∷ [] }; puts = record { items = [] } } }
+    ∷ record { thread = 1; mark = mark.Command 2; answer = answer.Reply reply.Unit; footprint = record { reads = record { items = saw x 0 5 ∷ [] }; puts = record { items = put x 0 7 ∷ [] } } }
+    ∷ record { thread = 1; mark = mark.Command 3; answer = answer.Reply (reply.Value 7); footprint = record { reads = record { items = saw x 1 7 ∷ [] }; puts = record { items = put x 1 8 ∷ [] } } }
+    ∷ record { thread = 1; mark = mark.End; answer = answer.Reply reply.Unit; footprint = record { reads = record { items = saw (record { 0 = 0 }) 0 1 ∷ [] }; puts = record { items = put (record { 0 = 0 }) 0 0 ∷ [] } } }
+    ∷ []) ∷ []
+
+abbrev at : ℕ → Place
+at index = record { thread = 0; index = index }
+
+abbrev pub first_order : List Place
+first_order = at 0 ∷ at 1 ∷ at 2 ∷ at 3 ∷ []
+
+abbrev pub first_last : Store
+first_last l = cond (l == 1) (record { version = 2; value = 8 }) (record { version = 1; value = 0 })
+
+-- what x holds then
+abbrev pub first_contents : List Content
+first_contents = number 8 ∷ []
+
+-- check x eq 9
+abbrev pub waits_for_nine : Command
+waits_for_nine = command.One (op.Loc (loc.Check x rel.Eq 9))
+
+-- one thread lives, and x has 8
+abbrev pub one_lives : Store
+one_lives l = cond (l == 1) (record { version = 2; value = 8 }) (record { version = 0; value = 1 })
+
+abbrev pub looks_at_x_and_live : List Touch
+looks_at_x_and_live = record { cell = 1; wrote = None } ∷ record { cell = 0; wrote = None } ∷ []
+
+-- ---- two threads
+
+-- loc x 0, a thread of add x 1, and one of get x
+abbrev pub two_script : Script
+two_script = record {
+  objects = (codes "x", object.Loc x 0) ∷ [];
+  threads = (command.One (op.Loc (loc.FetchAdd x 1)) ∷ []) ∷ (command.One (op.Loc (loc.Get x)) ∷ []) ∷ [];
+}
+
+abbrev print : List Seen → List Put → Footprint
+print reads puts = record { reads = record { items = reads }; puts = record { items = puts } }
+
+abbrev live : Loc
+live = record { 0 = 0 }
+
+-- the second thread looks at x before the first one adds to it
+abbrev added : Footprint
+added = print (saw x 0 0 ∷ []) (put x 0 1 ∷ [])
+
+abbrev looked : Footprint
+looked = print (saw x 0 0 ∷ []) []
+
+abbrev first_ended : Footprint
+first_ended = print (saw live 0 2 ∷ []) (put live 0 1 ∷ [])
+
+abbrev second_ended : Footprint
+second_ended = print (saw live 1 1 ∷ []) (put live 1 0 ∷ [])
+
+abbrev pub two_records : List (List Record)
+two_records =
+    (record { thread = 1; mark = mark.Command 1; answer = answer.Reply (reply.Value 0); footprint = added } ∷ record { thread = 1; mark = mark.End; answer = answer.Reply reply.Unit; footprint = first_ended } ∷ [])
+    ∷ (record { thread = 2; mark = mark.Command 1; answer = answer.Reply (reply.Value 0); footprint = looked } ∷ record { thread = 2; mark = mark.End; answer = answer.Reply reply.Unit; footprint = second_ended } ∷ []) ∷ []
+
+abbrev of_thread : ℕ → ℕ → Place
+of_thread thread index = record { thread = thread; index = index }
+
+-- who reads a version stands before who ends it, whatever their numbers
+abbrev pub two_order : List Place
+two_order = of_thread 1 0 ∷ of_thread 0 0 ∷ of_thread 0 1 ∷ of_thread 1 1 ∷ []
+
+-- a history that has just these records
+abbrev pub two_history : List Entry
+two_history = entry_of 1 1 looked ∷ entry_of 0 1 added ∷ entry_of 0 2 first_ended ∷ entry_of 1 2 second_ended ∷ []
+
+abbrev pub two_contents : List Content
+two_contents = number 1 ∷ []

@@ -1,0 +1,38 @@
+//! The definitions, computed on worked scripts and their records by hand.
+
+ghost use Rattle.std.specs.Prelude.{◌≡◌, ◌∷◌, [], codes, slice_index_or, Some, None};
+ghost use Rattle.kc_model.specs.declared.reply.Reply.TheVariants as reply;
+ghost use Rattle.kc_xt.specs.Meaning.{replied, retried};
+ghost use Rattle.kc_xt.specs.Commit.{run_on};
+ghost use Rattle.kc_script_bundle.specs.Meaning.{thread_meaning, end_meaning};
+ghost use Rattle.kc_script_bundle.specs.State.{opening_values};
+ghost use Rattle.kc_history.specs.Callers.{of_caller, entries_of};
+ghost use Rattle.kc_script_runs.specs.Labels.{AreThreads};
+ghost use Rattle.kc_script_runs.specs.Run.{run_text};
+ghost use Rattle.kc_script_runs.specs.Worked.{first_script, first_records, first_order, first_last, first_contents, waits_for_nine, one_lives, looks_at_x_and_live, two_script, two_records, two_order, two_contents, two_history};
+
+/// One thread: what it has is numbered, its text is the printed one, and it opens with one live thread.
+pub fn first_script_by_hand()
+    ensures text { run_text first_script first_records first_order first_contents ≡ codes "1.1 5\n1.2 ok\n1.3 7\norder\n1.1\n1.2\n1.3\n1.end\nstate\nx 8\n" }
+    ensures threads { AreThreads 1 first_script.threads first_records }
+    ensures opening { opening_values first_script ≡ 1 ∷ 5 ∷ [] }
+{}
+
+/// A thread's command that waits for x to have 9, on the store behind the first script, where x has 8 and no thread
+/// lives, and on one where one thread lives.
+pub fn waiting_by_hand()
+    ensures stranded { run_on (thread_meaning 0 waits_for_nine) one_lives ≡ record { outcome = replied reply.Stranded; touches = looks_at_x_and_live } }
+    ensures waits { run_on (thread_meaning 0 waits_for_nine) first_last ≡ record { outcome = retried; touches = looks_at_x_and_live } }
+    ensures end { run_on (end_meaning 0) one_lives ≡ record { outcome = replied reply.Unit; touches = record { cell = 0; wrote = None } ∷ record { cell = 0; wrote = Some 0 } ∷ [] } }
+{}
+
+/// Two threads: the one that looks stands first, though its number is the higher one, and the history has just their
+/// records.
+pub fn two_threads_by_hand()
+    ensures text { run_text two_script two_records two_order two_contents ≡ codes "1.1 0\n2.1 0\norder\n2.1\n1.1\n1.end\n2.end\nstate\nx 1\n" }
+    ensures threads { AreThreads 1 two_script.threads two_records }
+    ensures opening { opening_values two_script ≡ 2 ∷ 0 ∷ [] }
+    ensures first { of_caller 0 two_history ≡ entries_of 0 1 (slice_index_or two_records 0 []) }
+    ensures second { of_caller 1 two_history ≡ entries_of 1 1 (slice_index_or two_records 1 []) }
+    ensures third { of_caller 2 two_history ≡ [] }
+{}

@@ -1,0 +1,212 @@
+//! Lines that declare an object.
+
+ghost use Rattle.std.specs.Prelude.{◌≡◌, ◌≤◌, map, length, None, IfOk};
+ghost use Rattle.kc_script_bundle.specs.Script.{names_of, next_from};
+ghost use Rattle.kc_script_lines.specs.Gives.{Reads};
+ghost use Rattle.kc_script_verbs.specs.Objects.{object_of, new_name};
+ghost use Rattle.kc_script_verbs.specs.Declaring.{fields, size_to, loc_at, stack_at, queue_at, table_at, cache_at, mvar_at, promise_at, acc_at, object_at, declare, IsAt};
+
+use crate::objects::find;
+use crate::word::Kind;
+use indexmap::IndexMap;
+use kc_cache::Cache;
+use kc_cells::{Accumulator, MOST_CELLS, Mvar, Promise};
+use kc_hash::Hash;
+use kc_model::{Loc, MOST_LOCATIONS};
+use kc_queue::Queue;
+use kc_script_bundle::Object;
+use kc_script_lines::{Limit, Why, as_name, counted, number_of, number_to, wants, word_at};
+use kc_stack::Stack;
+use kc_xt::{MOST_BUCKETS, MOST_ITEMS};
+
+/// The number behind the last location.
+const END: u32 = MOST_LOCATIONS as u32;
+
+fn fields(kind: Kind) -> usize
+    ensures { result ≡ fields kind }
+{
+    match kind {
+        Kind::Loc | Kind::Stack | Kind::Queue | Kind::Acc => 2,
+        Kind::Table | Kind::Cache => 3,
+        Kind::Mvar | Kind::Promise => 1,
+    }
+}
+
+// The name that the word is, if no object has it.
+#[tactic(auto, unfolding(crate::specs::Objects::new_name))]
+fn new_name<'a>(objects: &IndexMap<String, Object>, word: &'a [u8]) -> Result<&'a str, Why>
+    ensures gives { Reads (λ name. name.now) result (new_name (names_of objects.now) word.now) }
+    ensures new { IfOk result (λ name. object_of (names_of objects.now) name.now ≡ None) }
+{
+    let Some(name) = as_name(word) else {
+        return Err(Why::BadName);
+    };
+    if find(objects, name).is_some() {
+        return Err(Why::RepeatedName);
+    }
+    Ok(name)
+}
+
+// A size from 1 to this one.
+#[tactic(auto, unfolding(crate::specs::Declaring::size_to, kc_script_lines::specs::Tests::number_to))]
+fn size_to(most: u32, word: &[u8]) -> Result<u32, Why>
+    ensures gives { result ≡ size_to most word.now }
+    ensures some { IfOk result (λ n. 1 ≤ n) }
+    ensures most { IfOk result (λ n. n ≤ most) }
+{
+    match number_of(word, most) {
+        Some(n) => {
+            wants(n >= 1, Why::BadNumber)?;
+            Ok(n)
+        }
+        None => Err(Why::BadNumber),
+    }
+}
+
+fn loc_at(at: Loc, value: u32) -> Result<Object, Why>
+    requires at { at.0 ≤ MOST_LOCATIONS }
+    ensures gives { result ≡ loc_at at.0 value }
+    ensures placed { IfOk result (IsAt at.0) }
+{
+    if at.0 + 1 > END {
+        return Err(Why::TooMany(Limit::Locations));
+    }
+    Ok(Object::Loc { at, value })
+}
+
+fn stack_at(at: Loc, cap: u32) -> Result<Object, Why>
+    requires at { at.0 ≤ MOST_LOCATIONS }
+    requires some { 1 ≤ cap }
+    requires most { cap ≤ MOST_ITEMS }
+    ensures gives { result ≡ stack_at at.0 cap }
+    ensures placed { IfOk result (IsAt at.0) }
+{
+    if at.0 + 1 + cap > END {
+        return Err(Why::TooMany(Limit::Locations));
+    }
+    Ok(Object::Stack(Stack::layout(at, cap)))
+}
+
+fn queue_at(at: Loc, cap: u32) -> Result<Object, Why>
+    requires at { at.0 ≤ MOST_LOCATIONS }
+    requires some { 1 ≤ cap }
+    requires most { cap ≤ MOST_ITEMS }
+    ensures gives { result ≡ queue_at at.0 cap }
+    ensures placed { IfOk result (IsAt at.0) }
+{
+    if at.0 + 2 + cap > END {
+        return Err(Why::TooMany(Limit::Locations));
+    }
+    Ok(Object::Queue(Queue::layout(at, cap)))
+}
+
+fn table_at(at: Loc, buckets: u32, cap: u32) -> Result<Object, Why>
+    requires at { at.0 ≤ MOST_LOCATIONS }
+    requires some_buckets { 1 ≤ buckets }
+    requires most_buckets { buckets ≤ MOST_BUCKETS }
+    requires some { 1 ≤ cap }
+    requires most { cap ≤ MOST_ITEMS }
+    ensures gives { result ≡ table_at at.0 buckets cap }
+    ensures placed { IfOk result (IsAt at.0) }
+{
+    if at.0 + 2 + buckets + 3 * cap > END {
+        return Err(Why::TooMany(Limit::Locations));
+    }
+    Ok(Object::Hash(Hash::layout(at, buckets, cap)))
+}
+
+fn cache_at(at: Loc, buckets: u32, cap: u32) -> Result<Object, Why>
+    requires at { at.0 ≤ MOST_LOCATIONS }
+    requires some_buckets { 1 ≤ buckets }
+    requires most_buckets { buckets ≤ MOST_BUCKETS }
+    requires some { 1 ≤ cap }
+    requires most { cap ≤ MOST_ITEMS }
+    ensures gives { result ≡ cache_at at.0 buckets cap }
+    ensures placed { IfOk result (IsAt at.0) }
+{
+    if at.0 + 6 + buckets + 7 * cap > END {
+        return Err(Why::TooMany(Limit::Locations));
+    }
+    Ok(Object::Cache(Cache::layout(at, buckets, cap)))
+}
+
+fn mvar_at(at: Loc) -> Result<Object, Why>
+    requires at { at.0 ≤ MOST_LOCATIONS }
+    ensures gives { result ≡ mvar_at at.0 }
+    ensures placed { IfOk result (IsAt at.0) }
+{
+    if at.0 + 2 > END {
+        return Err(Why::TooMany(Limit::Locations));
+    }
+    Ok(Object::Mvar(Mvar::layout(at)))
+}
+
+fn promise_at(at: Loc) -> Result<Object, Why>
+    requires at { at.0 ≤ MOST_LOCATIONS }
+    ensures gives { result ≡ promise_at at.0 }
+    ensures placed { IfOk result (IsAt at.0) }
+{
+    if at.0 + 2 > END {
+        return Err(Why::TooMany(Limit::Locations));
+    }
+    Ok(Object::Promise(Promise::layout(at)))
+}
+
+fn acc_at(at: Loc, cells: u32) -> Result<Object, Why>
+    requires at { at.0 ≤ MOST_LOCATIONS }
+    requires some { 1 ≤ cells }
+    requires most { cells ≤ MOST_CELLS }
+    ensures gives { result ≡ acc_at at.0 cells }
+    ensures placed { IfOk result (IsAt at.0) }
+{
+    if at.0 + cells > END {
+        return Err(Why::TooMany(Limit::Locations));
+    }
+    Ok(Object::Acc(Accumulator::layout(at, cells)))
+}
+
+// The object that begins at a location, with the numbers behind its name.
+#[tactic(auto, unfolding(crate::specs::Declaring::object_at))]
+fn object_at(at: Loc, kind: Kind, args: &[&[u8]]) -> Result<Object, Why>
+    requires at { at.0 ≤ MOST_LOCATIONS }
+    requires counted { length args.now ≡ fields kind }
+    ensures gives { result ≡ object_at at.0 kind (map (λ word. word.now) args.now) }
+    ensures placed { IfOk result (IsAt at.0) }
+{
+    match kind {
+        Kind::Loc => loc_at(at, number_to(u32::MAX, word_at(args, 1))?),
+        Kind::Stack => stack_at(at, size_to(MOST_ITEMS, word_at(args, 1))?),
+        Kind::Queue => queue_at(at, size_to(MOST_ITEMS, word_at(args, 1))?),
+        Kind::Table => {
+            let buckets = size_to(MOST_BUCKETS, word_at(args, 1))?;
+            table_at(at, buckets, size_to(MOST_ITEMS, word_at(args, 2))?)
+        }
+        Kind::Cache => {
+            let buckets = size_to(MOST_BUCKETS, word_at(args, 1))?;
+            cache_at(at, buckets, size_to(MOST_ITEMS, word_at(args, 2))?)
+        }
+        Kind::Mvar => mvar_at(at),
+        Kind::Promise => promise_at(at),
+        Kind::Acc => acc_at(at, size_to(MOST_CELLS, word_at(args, 1))?),
+    }
+}
+
+/// The object that a line declares behind others, with its name. The next location is the first that no object has.
+#[tactic(auto, unfolding(crate::specs::Declaring::declare))]
+pub fn declare<'a>(
+    objects: &IndexMap<String, Object>,
+    next: u32,
+    kind: Kind,
+    args: &[&'a [u8]],
+) -> Result<(&'a str, Object), Why>
+    requires follows { next ≡ next_from 1 (names_of objects.now) }
+    requires within { next ≤ MOST_LOCATIONS }
+    ensures gives { Reads (λ entry. (entry.0.now, entry.1)) result (declare (names_of objects.now) kind (map (λ word. word.now) args.now)) }
+    ensures new { IfOk result (λ entry. object_of (names_of objects.now) entry.0.now ≡ None) }
+    ensures placed { IfOk result (λ entry. IsAt next entry.1) }
+{
+    counted(fields(kind), args)?;
+    let name = new_name(objects, word_at(args, 0))?;
+    let object = object_at(Loc(next), kind, args)?;
+    Ok((name, object))
+}

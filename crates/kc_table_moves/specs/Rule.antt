@@ -1,0 +1,167 @@
+-- What ties the words and the views to a state of the machine, by some schedule.
+use Rattle.std.specs.Prelude.{◌≡◌, ℕ, zero, suc, ◌+◌, ◌≤◌, ◌<◌, ◌++◌, List, [], ◌∷◌, Bool, if◌then◌else◌, ◌==◌}
+use mathlib.Core.Option.{some}
+use lib.ListN.{get_elem?}
+use Rattle.atomic_table.specs.Table as table
+use Rattle.atomic_table.specs.Table.{Me}
+use Rattle.kc_machine.specs.Machine.{Opening, run, found_at, pool_size}
+use Rattle.kc_machine.specs.Seats.{access_of, answer_of}
+use Rattle.kc_machine.specs.declared.seat.Seat.{Seat}
+use Rattle.kc_machine_steps.specs.declared.task.Event.{Event}
+use Rattle.kc_machine_steps.specs.declared.task.Event.TheVariants.{Step}
+use Rattle.kc_machine_traces.specs.Parts.{NoneOf}
+use Rattle.kc_table_layout.specs.Cells.{AllFit, CellFits, Stores, bits, cell_of, place, signal_bit}
+use Rattle.kc_table_layout.specs.Cells.Cell.{signal}
+use Rattle.kc_table_moves.specs.Origins.{Origin, opening_of}
+use Rattle.kc_table_moves.specs.declared.view.Part.{Part}
+use Rattle.kc_table_moves.specs.declared.view.View.{View}
+use Rattle.kc_table_views.specs.Known.{IsMeant, IsPrefix, GoesOn}
+use Rattle.kc_table_views.specs.Pending.{Pends}
+
+-- ---- views
+
+abbrev pub part : ℕ → List Event → Part
+part k past = record { number = k; past = past }
+
+abbrev pub view : Origin → List Part → List Event → View
+view q ps heard = record { origin = q; parts = ps; heard = heard }
+
+-- n seats from k on, which have made no step
+abbrev pub fresh_parts : ℕ → ℕ → List Part
+fresh_parts k zero = []
+fresh_parts k (suc n) = part k [] ∷ fresh_parts (suc k) n
+
+abbrev pub everyone : Origin → View
+everyone q = view q (fresh_parts 0 q.callers) []
+
+-- the schedule goes on from what the seat knows, without it
+pub record Fits (o : Opening) (es : List Event) (p : Part) : Type 0 where
+  pub on : GoesOn p.number p.past es
+  pub within : p.number < o.callers
+
+abbrev pub EachFits : Opening → List Event → List Part → Type 0
+EachFits o es [] = Unit {0}
+EachFits o es (p ∷ ps) = Fits o es p × EachFits o es ps
+
+pub record FitsView (q : Origin) (es : List Event) (v : View) : Type 0 where
+  pub parts : EachFits (opening_of q) es v.parts
+  pub heard : IsPrefix v.heard es
+
+-- how often seat k stands among these
+abbrev pub times : ℕ → List Part → ℕ
+times k [] = 0
+times k (p ∷ ps) = (if p.number == k then 1 else 0) + times k ps
+
+abbrev pub total : (View → ℕ) → List View → ℕ
+total f [] = 0
+total f (v ∷ vs) = f v + total f vs
+
+-- some honest schedule of well-made tasks leads the machine to these words, and goes on from what each view knows
+pub record Kept (q : Origin) (s : table.State Unit View) : Type 0 where
+  pub schedule : List Event
+  pub meant : IsMeant (opening_of q) schedule
+  pub words : Stores q.locations (pool_size q.callers) (run (opening_of q) schedule).world s.words
+  pub fits : AllFit q.locations (pool_size q.callers) (run (opening_of q) schedule).world
+  pub views : (i : ℕ) (v : View) → get_elem? s.views i ≡ some v → FitsView q schedule v
+  pub once : (k : ℕ) → total (λ v. times k v.parts) s.views ≤ 1
+
+-- ---- a seat between its steps
+
+abbrev pub number_of : List Part → ℕ
+number_of [] = 0
+number_of (p ∷ ps) = p.number
+
+abbrev pub past_of : List Part → List Event
+past_of [] = []
+past_of (p ∷ ps) = p.past
+
+-- the view of a seat that stands as s, save that it may have begun and halted tasks since its last step; `began` says whether it has begun one
+pub record Ready (me : Me Unit View) (began : Bool) (s : Seat) : Type 0 where
+  pub origin : Origin
+  pub number : ℕ
+  pub past : List Event
+  pub is : me ≡ (view origin (part number past ∷ []) [], [])
+  pub within : number < origin.callers
+  pub meant : IsMeant (opening_of origin) past
+  pub pending : List Event
+  pub pends : Pends (opening_of origin) number past began pending s
+
+-- seat k goes from `past` to `late` by its step as s, which finds n: events of others, its own beginnings and halts, and the step
+pub record Steps (o : Opening) (k : ℕ) (past : List Event) (began : Bool) (s : Seat) (n : ℕ) (late : List Event) : Type 0 where
+  pub within : k < o.callers
+  pub others : List Event
+  pub pending : List Event
+  pub is : late ≡ ((past ++ others) ++ pending) ++ Step k ∷ []
+  pub none : NoneOf k others
+  pub pends : Pends o k past began pending s
+  pub fits : CellFits (run o ((past ++ others) ++ pending)).world (cell_of (access_of s))
+  pub found : bits (run o ((past ++ others) ++ pending)).world (cell_of (access_of s)) ≡ n
+  pub stands : (run o late).seats k ≡ answer_of s (found_at (run o ((past ++ others) ++ pending)).world (access_of s))
+  pub meant : IsMeant o late
+
+abbrev pub Moved : Seat → Bool → Me Unit View → ℕ → Me Unit View → Type 0
+Moved s began me n after =
+    (late : List Event) × (after ≡ (view me.0.origin (part (number_of me.0.parts) late ∷ []) [], []))
+    × Steps (opening_of me.0.origin) (number_of me.0.parts) (past_of me.0.parts) began s n late
+
+-- ---- views cut and put together
+
+abbrev pub first_part : List Part → List Part
+first_part [] = []
+first_part (p ∷ ps) = p ∷ []
+
+abbrev pub other_parts : List Part → List Part
+other_parts [] = []
+other_parts (p ∷ ps) = ps
+
+-- the first seat goes out, the others stay
+abbrev pub dealt : View → View
+dealt v = view v.origin (first_part v.parts) []
+
+abbrev pub undealt : View → View
+undealt v = view v.origin (other_parts v.parts) v.heard
+
+abbrev pub note_view : Origin → List Event → View
+note_view q past = view q [] past
+
+-- what a note of the seat knows
+abbrev pub noted : View → View
+noted v = view v.origin [] (past_of v.parts)
+
+-- the view of a seat with nothing
+abbrev pub spent : Origin → View
+spent q = view q [] []
+
+abbrev pub nowhere : Origin
+nowhere = record { words = []; locations = 0; callers = 0; generation = 0 }
+
+abbrev pub nothing : View
+nothing = spent nowhere
+
+-- a seat with what a note knows
+abbrev pub hearing : View → View → View
+hearing v w = view v.origin v.parts w.heard
+
+-- two views' seats together
+abbrev pub gathered : View → View → View
+gathered v w = view v.origin (v.parts ++ w.parts) v.heard
+
+-- a seat takes in what it heard, and knows the schedule as it stands
+abbrev pub Merged : Me Unit View → Me Unit View → Type 0
+Merged me after =
+    (k : ℕ) (past : List Event) → me.0.parts ≡ part k past ∷ []
+    → (others : List Event) × (after ≡ (view me.0.origin (part k (past ++ others) ∷ []) [], me.1)) × NoneOf k others × IsPrefix me.0.heard (past ++ others)
+    × IsMeant (opening_of me.0.origin) (past ++ others)
+
+-- the schedule is here, and goes on from what each seat knows, without it
+abbrev pub Ended : Me Unit View → Me Unit View → Type 0
+Ended me after =
+    (es : List Event) × (after ≡ (view me.0.origin me.0.parts es, me.1)) × EachFits (opening_of me.0.origin) es me.0.parts × IsMeant (opening_of me.0.origin) es
+
+-- a seat loads its signal: it knows the schedule as it stands, and the signal there
+abbrev pub Heard : ℕ → Me Unit View → ℕ → Me Unit View → Type 0
+Heard i me n after =
+    (k : ℕ) (past : List Event) → me.0.parts ≡ part k past ∷ [] → i ≡ place 0 (signal k)
+    → (others : List Event) × (after ≡ (view me.0.origin (part k (past ++ others) ∷ []) [], me.1)) × NoneOf k others
+    × IsMeant (opening_of me.0.origin) (past ++ others)
+    × (n ≡ signal_bit ((run (opening_of me.0.origin) (past ++ others)).world.signal k))

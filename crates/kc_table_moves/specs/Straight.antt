@@ -1,0 +1,105 @@
+-- A task that runs on while its seat lies as it was.
+use Rattle.std.specs.Prelude.{◌≡◌, ℕ, ◌<◌, ◌≤◌, List, Bool, true, false, Option, None, Some}
+use Rattle.atomic_table.specs.Seated.{TableId}
+use Rattle.atomic_table.specs.Table.{Me}
+use Rattle.kc_machine_steps.specs.declared.line.Line.{Line}
+use Rattle.kc_machine_steps.specs.declared.task.Task.{Task}
+use Rattle.kc_machine_words.specs.declared.words.Mode.{Mode}
+use Rattle.kc_machine_steps.specs.declared.task.Task.TheVariants as task
+use Rattle.kc_machine.specs.Machine.{World, found_at, pool_size}
+use Rattle.kc_machine.specs.Points.{point, seat_at}
+use Rattle.kc_machine.specs.Seats.{access_of, answer_of, begun, is_idle}
+use Rattle.kc_machine.specs.declared.point.Point.{Point}
+use Rattle.kc_machine.specs.declared.seat.Seat.{Seat}
+use Rattle.kc_machine_commits.specs.declared.commit.OwnStep.{OwnStep}
+use Rattle.kc_machine_commits.specs.declared.commit.Stage.TheVariants.{Take, Own}
+use Rattle.kc_machine_ranges.specs.Bits.{ValuesFit}
+use Rattle.kc_machine_steps.specs.Lines.{one_more, lines_of}
+use Rattle.kc_table_layout.specs.Cells.{CellFits, base_of, bits, cell_of, place, size_of}
+use Rattle.kc_table_layout.specs.Changes.{change_of}
+use Rattle.kc_table_layout.specs.declared.change.Change.{Change}
+use Rattle.kc_table_moves.specs.Origins.{Origin}
+use Rattle.kc_table_moves.specs.Rule.{number_of, past_of, Ready}
+use Rattle.kc_table_moves.specs.Views.{SeatView, Stepped, seen_as}
+use Rattle.kc_table_moves.specs.declared.atoms.Held.{Held}
+use Rattle.kc_table_moves.specs.declared.atoms.Run.{Run}
+use Rattle.kc_table_moves.specs.declared.atoms.Stop.{Stop}
+use Rattle.kc_table_moves.specs.declared.view.View.{View}
+
+-- ---- what clauses see
+
+-- any number of steps, one after another, each of a seat that runs a task
+pub data StepsTo (v : SeatView) : SeatView → Type 0 where
+  here : StepsTo v v
+  further : (u w : SeatView) → StepsTo v u → is_idle u.seat.work ≡ false → Stepped u w → StepsTo v w
+
+abbrev pub begun_at : SeatView → Task → SeatView
+begun_at v t = record v { seat = begun v.seat t; began = true }
+
+-- the seat has begun this task, and since then it has made a step or more, and nothing else
+pub record Ran (v : SeatView) (t : Task) (w : SeatView) : Type 0 where
+  pub steps : StepsTo (begun_at v t) w
+  pub shown : w.began ≡ false
+
+-- the task commits these lines
+abbrev pub Commits : Task → Mode → List Line → Type 0
+Commits (task.Commit f n) m xs = (n ≡ m) × (lines_of f ≡ xs)
+Commits (task.Look l) m xs = ⊥
+Commits (task.Hang reads) m xs = ⊥
+Commits (task.Leave reads) m xs = ⊥
+
+-- ---- what the links of a straight commit keep
+
+-- the seat of a run at this point, which is not written
+abbrev pub seat_in : Run → Point → Seat
+seat_in r p = seat_at r.seat.now r.mode r.lines.now p
+
+abbrev pub at_take : Seat → ℕ → Point
+at_take s g = point (one_more s.made) s.calls (Take s.first g)
+
+abbrev pub at_own : ℕ → Held → OwnStep → Point
+at_own made h step = point made h.calls (Own h.own step)
+
+-- the token is of the table, whose descriptors lie from `base` on
+pub record Here (q : Origin) (z : TableId) (base : ℕ) (token : TableId) (me : Me Unit View) : Type 0 where
+  pub table : token ≡ z
+  pub origin : me.0.origin ≡ q
+  pub from : base ≡ base_of q.locations
+  pub few : q.locations ≤ 65536
+  pub size : z.words ≡ size_of q.locations (pool_size q.callers)
+
+-- from `start` the seat has come by steps to where it stands as s; `began`: none of them has shown its task yet
+pub record On (start : SeatView) (r : Run) (token : TableId) (me : Me Unit View) (began : Bool) (s : Seat) : Type 0 where
+  pub here : Here r.words.now.key r.words.now.table_id r.base token me
+  pub ready : Ready me began s
+  pub steps : StepsTo start (seen_as token me began s)
+
+-- the access of s is on this word, and makes this of it
+pub record Aims (q : Origin) (s : Seat) (word : ℕ) (ch : Change) : Type 0 where
+  pub place : word ≡ place (base_of q.locations) (cell_of (access_of s))
+  pub makes : change_of (access_of s) ≡ ch
+  pub ranged : ValuesFit (access_of s)
+
+-- the seat stood as s, and has made its step, which found n
+pub record Went (start : SeatView) (r : Run) (token : TableId) (later : Me Unit View) (s : Seat) (n : ℕ) : Type 0 where
+  pub world : World
+  pub fits : CellFits world (cell_of (access_of s))
+  pub found : bits world (cell_of (access_of s)) ≡ n
+  pub on : On start r token later false (answer_of s (found_at world (access_of s)))
+
+-- what the seat makes of n, wherever it finds it
+abbrev pub Makes : Seat → ℕ → Seat → Type 0
+Makes s n t = (w : World) → CellFits w (cell_of (access_of s)) → bits w (cell_of (access_of s)) ≡ n → t ≡ answer_of s (found_at w (access_of s))
+
+-- the run has come to a point, or has made the step there, which found this number
+abbrev pub StoppedAt : SeatView → Run → TableId → Me Unit View → Point → Option ℕ → Type 0
+StoppedAt start r token me p None = On start r token me false (seat_in r p)
+StoppedAt start r token me p (Some n) = Went start r token me (seat_in r p) n
+
+abbrev pub Stopped : SeatView → Run → TableId → Me Unit View → Stop → Type 0
+Stopped start r token me e = StoppedAt start r token me e.at e.found
+
+-- the seat s is written at a point, or behind the step there, which found this number
+abbrev pub StandsAt : Seat → Mode → List Line → Point → Option ℕ → Seat → Type 0
+StandsAt s m xs p None t = t ≡ seat_at s m xs p
+StandsAt s m xs p (Some n) t = Makes (seat_at s m xs p) n t

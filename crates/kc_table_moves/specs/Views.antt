@@ -1,0 +1,170 @@
+-- What clauses see of a table, its seats and notes, and of what is left of it.
+use Rattle.std.specs.Prelude.{◌≡◌, Bool, true, false, ℕ, zero, suc, ◌*◌, ◌<◌, List, [], ◌∷◌, length, get_or, Some, All, slice_get}
+use Rattle.atomic_table.specs.Seated.{TableId}
+use Rattle.kc_machine.specs.Machine.{Opening, run, pool_size}
+use Rattle.kc_machine.specs.Seats.{begun, fresh, is_idle}
+use Rattle.kc_machine.specs.declared.seat.Seat.{Seat}
+use Rattle.kc_machine_claims.specs.Histories.{History, Grows, ending}
+use Rattle.kc_machine_claims.specs.Traces.{first_store, BeginsHonestly}
+use Rattle.kc_machine_steps.specs.declared.task.Event.{Event}
+use Rattle.kc_machine_steps.specs.declared.task.Event.TheVariants.{Begin}
+use Rattle.kc_machine_steps.specs.declared.task.Task.{Task}
+use Rattle.kc_model.specs.declared.footprint.Seen.{Seen}
+use Rattle.kc_model.specs.declared.plain_store.Cell.{Cell}
+use Rattle.kc_model.specs.declared.word.Word.{Word}
+use Rattle.kc_table_moves.specs.Origins.{Origin, opening_of, version_in, value_in, word_in}
+use Rattle.kc_table_views.specs.Known.{known, IsMeant, IsPrefix, IsWhole, GoesOn, KnowsAPart, OwnsNone}
+use Rattle.atomic_table.specs.Table.{Me}
+use Rattle.kc_table_moves.specs.Rule.{Steps, number_of, past_of}
+use Rattle.kc_table_moves.specs.declared.view.Part.{Part}
+use Rattle.kc_table_moves.specs.declared.view.View.{View}
+
+pub record TableView : Type 0 where
+  pub table : TableId
+  pub origin : Origin
+
+-- the table that it is of; the schedule as it stood after its last step; whether it has begun a task since then; the seat of the machine as it is now
+pub record SeatView : Type 0 where
+  pub of : TableView
+  pub number : ℕ
+  pub past : List Event
+  pub began : Bool
+  pub seat : Seat
+
+-- of a seat with this token, that stands so
+abbrev pub seen_as : TableId → Me Unit View → Bool → Seat → SeatView
+seen_as z me began s = record { of = record { table = z; origin = me.0.origin }; number = number_of me.0.parts; past = past_of me.0.parts; began = began; seat = s }
+
+abbrev pub opening_at_seat : SeatView → Opening
+opening_at_seat v = opening_of v.of.origin
+
+-- the list of entries that the seat knows
+abbrev pub knows : SeatView → History
+knows v = known (opening_at_seat v) v.past
+
+-- ---- beginnings
+
+-- the reads of a commit are known to the list that the seat knows
+abbrev pub KnowsReads : SeatView → Task → Type 0
+KnowsReads v t = BeginsHonestly (first_store (opening_at_seat v)) (knows v) (Begin v.number t)
+
+-- an idle seat; who is blocked begins no hang
+abbrev pub Starts : SeatView → Task → Type 0
+Starts v t = (is_idle v.seat.work ≡ true) × (is_idle (begun v.seat t).work ≡ false)
+
+-- ---- steps
+
+-- one step of the machine's seat, on one word, behind the tasks that it has begun and halted since its last step and what others did meanwhile
+pub record Stepped (v w : SeatView) : Type 0 where
+  pub of : w.of ≡ v.of
+  pub number : w.number ≡ v.number
+  pub began : w.began ≡ false
+  pub found : ℕ
+  pub steps : Steps (opening_at_seat v) v.number v.past v.began v.seat found w.past
+  pub seat : w.seat ≡ (run (opening_at_seat v) w.past).seats v.number
+
+-- the seat knows more of what others did, and else is as it was
+pub record Learns (v w : SeatView) : Type 0 where
+  pub of : w.of ≡ v.of
+  pub number : w.number ≡ v.number
+  pub began : w.began ≡ v.began
+  pub seat : w.seat ≡ v.seat
+  pub on : GoesOn v.number v.past w.past
+  pub meant : IsMeant (opening_at_seat v) w.past
+
+-- ---- notes
+
+-- a note, and the schedule that its seat knew
+pub record NoteView : Type 0 where
+  pub of : TableView
+  pub past : List Event
+
+-- after a join the seat knows all that it and the note knew
+pub record Joined (v : SeatView) (note : NoteView) (w : SeatView) : Type 0 where
+  pub learns : Learns v w
+  pub told : IsPrefix note.past w.past
+  pub grows : Grows (knows v) (knows w)
+  pub hears : Grows (known (opening_at_seat v) note.past) (knows w)
+
+-- ---- signals
+
+-- a load of the seat's signal: the seat knows the schedule as it stands, and what its signal was there
+pub record Signalled (v : SeatView) (answer : Bool) (w : SeatView) : Type 0 where
+  pub learns : Learns v w
+  pub stood : answer ≡ (run (opening_at_seat v) w.past).world.signal v.number
+
+-- ---- openings
+
+-- the table's opening has these values and versions
+pub record OpensAt (values versions : List ℕ) (callers generation : ℕ) (t : TableView) : Type 0 where
+  pub locations : t.origin.locations ≡ length values
+  pub seats : t.origin.callers ≡ callers
+  pub first : t.origin.generation ≡ generation
+  pub cells : (l : ℕ) → l < length values → ((opening_of t.origin).version l ≡ get_or versions l 0) × ((opening_of t.origin).value l ≡ get_or values l 0)
+
+-- n seats from k on, as they are opened
+abbrev pub opened_seats : TableView → ℕ → ℕ → List SeatView
+opened_seats z k zero = []
+opened_seats z k (suc n) = record { of = z; number = k; past = []; began = false; seat = fresh k (pool_size z.origin.callers) (3 * k) } ∷ opened_seats z (suc k) n
+
+-- ---- endings
+
+-- the numbers of the seats
+abbrev pub numbers : List SeatView → List ℕ
+numbers [] = []
+numbers (s ∷ ss) = s.number ∷ numbers ss
+
+-- the numbers from k on, n of them
+abbrev pub count_from : ℕ → ℕ → List ℕ
+count_from k zero = []
+count_from k (suc n) = k ∷ count_from (suc k) n
+
+-- these are all seats of the table, and no task runs
+pub record AreAll (z : TableView) (seats : List SeatView) : Type 0 where
+  pub of : All (λ s. s.of ≡ z) seats
+  pub idle : All (λ s. is_idle s.seat.work ≡ true) seats
+  pub all : numbers seats ≡ count_from 0 z.origin.callers
+
+-- the opening, and the one schedule
+pub record PastView : Type 0 where
+  pub origin : Origin
+  pub schedule : List Event
+
+-- what a seat knows is a part of the one history, with all of its own entries
+abbrev pub IsPart : Opening → List Event → SeatView → Type 0
+IsPart o es s = GoesOn s.number s.past es × KnowsAPart s.number (known o es) (knows s)
+
+-- an honest schedule that goes on from what each seat knew; its history is legal from the opening, has no call twice, and just the seats' own entries
+pub record IsPast (z : TableView) (seats : List SeatView) (p : PastView) : Type 0 where
+  pub origin : p.origin ≡ z.origin
+  pub meant : IsMeant (opening_of p.origin) p.schedule
+  pub whole : IsWhole (opening_of p.origin) (known (opening_of p.origin) p.schedule)
+  pub parts : All (IsPart (opening_of p.origin) p.schedule) seats
+
+-- what stands at each location
+pub record ClosedView : Type 0 where
+  pub seen : List Seen
+
+abbrev pub seen_at : ℕ → Cell → Seen
+seen_at l c = record { loc = record { 0 = l }; version = c.version; value = c.value }
+
+-- the store at the end of such a schedule
+pub record IsClosed (z : TableView) (seats : List SeatView) (c : ClosedView) : Type 0 where
+  pub schedule : List Event
+  pub past : IsPast z seats (record { origin = z.origin; schedule = schedule })
+  pub locations : length c.seen ≡ z.origin.locations
+  pub each : (l : ℕ) → l < z.origin.locations → slice_get c.seen l ≡ Some (seen_at l (ending (first_store (opening_of z.origin)) (known (opening_of z.origin) schedule) l))
+
+-- what a word says that is plain
+abbrev pub seen_of : ℕ → Word → Seen
+seen_of l w = seen_at l (record { version = version_in w; value = value_in w })
+
+abbrev pub seen_in : List ℕ → ℕ → Seen
+seen_in ws l = seen_of l (word_in ws l)
+
+-- each part is of the seat at its place, which owned nothing at its last step
+abbrev pub Matches : Opening → List Part → List SeatView → Type 0
+Matches o [] [] = Unit {0}
+Matches o [] (s ∷ ss) = ⊥
+Matches o (p ∷ ps) [] = ⊥
+Matches o (p ∷ ps) (s ∷ ss) = (p.number ≡ s.number) × (p.past ≡ s.past) × OwnsNone o p.number p.past × Matches o ps ss

@@ -1,0 +1,175 @@
+//! Atomic steps of a seat that is not written: each is the machine's next one of the seat at a point.
+
+ghost use Rattle.std.specs.Prelude.{◌≡◌, false};
+ghost use Rattle.kc_machine.specs.Seats.{is_idle};
+ghost use Rattle.kc_table_layout.specs.declared.change.Change.TheVariants as change;
+ghost use Rattle.kc_table_moves.specs.Rule.{Moved, Ready};
+ghost use Rattle.kc_table_moves.specs.Straight.{Aims, Here, On, Went, seat_in};
+
+use crate::rule::{Moves, Now};
+use crate::touch::{Token, Words};
+use kc_machine::{Point, Seat};
+use kc_machine_steps::Line;
+use kc_machine_words::{Handle, Mode};
+use kc_table_layout::touches_agree;
+use std::marker::Brand;
+
+/// What a straight commit goes by. The seat lies as it was before it began.
+#[derive(Clone, Copy)]
+pub struct Run<'a> {
+    pub words: &'a Words,
+    pub seat: &'a Seat,
+    pub mode: Mode,
+    pub lines: &'a [Line],
+    // Where the descriptors begin.
+    pub base: usize,
+}
+
+/// The descriptor that a straight commit owns, and the number of its call.
+#[derive(Clone, Copy)]
+pub struct Held {
+    pub calls: u64,
+    pub own: Handle,
+}
+
+/// Where a straight commit stops: at this point, or behind the step there, which found this number.
+#[derive(Clone, Copy)]
+pub struct Stop {
+    pub at: Point,
+    pub found: Option<u64>,
+}
+
+/// How the seat stood when its task began.
+pub trait Chain {
+    ghost use Rattle.kc_table_moves.specs.Views.{SeatView};
+
+    ghost start: { SeatView };
+}
+
+impl Chain for Brand {
+    ghost use Rattle.std.specs.Prelude.{[], false};
+    ghost use Rattle.kc_machine.specs.Seats.{fresh};
+    ghost use Rattle.kc_table_moves.specs.Rule.{nowhere};
+
+    ghost start = { record { of = record { table = record { words = 0; slots = 0; views_name = 0; atom = 0; block = 0; offset = 0; slot_names = [] }; origin = nowhere }; number = 0; past = []; began = false; seat = fresh 0 0 0 } };
+}
+
+// A load by the seat that B names.
+#[inline(always)]
+pub fn load<B: Now>(words: &Words, token: &mut Token, base: usize, word: usize) -> u64
+    requires here { Here words.now.key words.now.table_id base token.old.table_id token.old.me }
+    requires seat { (is_idle B.now.work ≡ false) × Ready token.old.me B.began B.now }
+    requires aim { Aims words.now.key B.now word change.Load }
+    ensures table { token.new.table_id ≡ token.old.table_id }
+    ensures moved { Moved B.now B.began token.old.me result token.new.me }
+{
+    touches_agree();
+    let _base = base;
+    words.load::<Moves<B>>(token, word)
+}
+
+// Only the proof reads the point.
+#[inline(always)]
+fn load_at<B: Now>(run: &Run, token: &mut Token, _began: bool, _at: Point, word: usize) -> u64
+    requires here { Here run.now.words.now.key run.now.words.now.table_id run.now.base token.old.table_id token.old.me }
+    requires seat { (is_idle B.now.work ≡ false) × Ready token.old.me B.began B.now }
+    requires aim { Aims run.now.words.now.key B.now word change.Load }
+    ensures table { token.new.table_id ≡ token.old.table_id }
+    ensures moved { Moved B.now B.began token.old.me result token.new.me }
+{
+    load::<B>(run.words, token, run.base, word)
+}
+
+// The load of a seat at a point.
+#[inline(always)]
+pub fn loads<C: Chain>(run: &Run, token: &mut Token, began: bool, at: Point, word: usize) -> u64
+    requires on { On C.start run.now token.old.table_id token.old.me began (seat_in run.now at) }
+    requires aim { Aims run.now.words.now.key (seat_in run.now at) word change.Load }
+    ensures { Went C.start run.now token.new.table_id token.new.me (seat_in run.now at) result }
+{
+    load_at::<Brand>(run, token, began, at, word)
+}
+
+// Only the proof reads the point.
+#[inline(always)]
+fn swap_at<B: Now>(run: &Run, token: &mut Token, _at: Point, word: usize, new: u64) -> u64
+    requires here { Here run.now.words.now.key run.now.words.now.table_id run.now.base token.old.table_id token.old.me }
+    requires seat { (is_idle B.now.work ≡ false) × Ready token.old.me B.began B.now }
+    requires aim { Aims run.now.words.now.key B.now word (change.Swap new) }
+    ensures table { token.new.table_id ≡ token.old.table_id }
+    ensures moved { Moved B.now B.began token.old.me result token.new.me }
+{
+    touches_agree();
+    run.words.swap::<Moves<B>>(token, word, new)
+}
+
+// The seat at a point makes an exchange whatever stands there.
+#[inline(always)]
+pub fn swaps<C: Chain>(run: &Run, token: &mut Token, at: Point, word: usize, new: u64) -> u64
+    requires on { On C.start run.now token.old.table_id token.old.me false (seat_in run.now at) }
+    requires aim { Aims run.now.words.now.key (seat_in run.now at) word (change.Swap new) }
+    ensures { Went C.start run.now token.new.table_id token.new.me (seat_in run.now at) result }
+{
+    swap_at::<Brand>(run, token, at, word, new)
+}
+
+// Only the proof reads the point.
+#[inline(always)]
+fn exchange_at<B: Now>(
+    run: &Run,
+    token: &mut Token,
+    _at: Point,
+    word: usize,
+    old: u64,
+    new: u64,
+) -> u64
+    requires here { Here run.now.words.now.key run.now.words.now.table_id run.now.base token.old.table_id token.old.me }
+    requires seat { (is_idle B.now.work ≡ false) × Ready token.old.me B.began B.now }
+    requires aim { Aims run.now.words.now.key B.now word (change.CompareExchange old new) }
+    ensures table { token.new.table_id ≡ token.old.table_id }
+    ensures moved { Moved B.now B.began token.old.me result token.new.me }
+{
+    touches_agree();
+    run.words
+        .compare_exchange::<Moves<B>>(token, word, old, new)
+}
+
+// The seat at a point makes an exchange where `old` stands.
+#[inline(always)]
+pub fn exchanges<C: Chain>(
+    run: &Run,
+    token: &mut Token,
+    at: Point,
+    word: usize,
+    old: u64,
+    new: u64,
+) -> u64
+    requires on { On C.start run.now token.old.table_id token.old.me false (seat_in run.now at) }
+    requires aim { Aims run.now.words.now.key (seat_in run.now at) word (change.CompareExchange old new) }
+    ensures { Went C.start run.now token.new.table_id token.new.me (seat_in run.now at) result }
+{
+    exchange_at::<Brand>(run, token, at, word, old, new)
+}
+
+// Only the proof reads the point.
+#[inline(always)]
+fn subtract_at<B: Now>(run: &Run, token: &mut Token, _at: Point, word: usize) -> u64
+    requires here { Here run.now.words.now.key run.now.words.now.table_id run.now.base token.old.table_id token.old.me }
+    requires seat { (is_idle B.now.work ≡ false) × Ready token.old.me B.began B.now }
+    requires aim { Aims run.now.words.now.key B.now word (change.SubtractOne) }
+    ensures table { token.new.table_id ≡ token.old.table_id }
+    ensures moved { Moved B.now B.began token.old.me result token.new.me }
+{
+    touches_agree();
+    run.words.fetch_sub::<Moves<B>>(token, word, 1)
+}
+
+// The seat at a point makes one hold less.
+#[inline(always)]
+pub fn subtracts<C: Chain>(run: &Run, token: &mut Token, at: Point, word: usize) -> u64
+    requires on { On C.start run.now token.old.table_id token.old.me false (seat_in run.now at) }
+    requires aim { Aims run.now.words.now.key (seat_in run.now at) word (change.SubtractOne) }
+    ensures { Went C.start run.now token.new.table_id token.new.me (seat_in run.now at) result }
+{
+    subtract_at::<Brand>(run, token, at, word)
+}

@@ -1,0 +1,630 @@
+//! A commit that runs on from its first scan to its drop by the numbers that its steps find. Its seat is written once,
+//! where it ends, or where a word is not as expected.
+
+ghost use Rattle.std.specs.Prelude.{◌≡◌, ◌≤◌, ◌<◌, ◌+◌, false, true, length, IfOk, IfErr, IfSome, IfNone, Some, slice_get};
+ghost use Rattle.kc_machine_words.specs.declared.words.Phase.TheVariants.{Succeeded};
+ghost use Rattle.kc_machine_steps.specs.declared.line.Pick.TheVariants.{Put};
+ghost use Rattle.kc_machine_steps.specs.declared.pass.PassStep.TheVariants as pass;
+ghost use Rattle.kc_machine_steps.specs.declared.task.Told.TheVariants as told;
+ghost use Rattle.kc_machine_steps.specs.Lines.{after_line, first_of, is_installed, next_line, one_more, resolved, second_of, value_after};
+ghost use Rattle.kc_machine_steps.specs.Passes.{from_check, from_install, from_release};
+ghost use Rattle.kc_machine_commits.specs.declared.commit.OwnStep.TheVariants as step;
+ghost use Rattle.kc_machine_commits.specs.Commits.{after_own_pass, fill_next, intent_of, owed_next, wake_or_signal};
+ghost use Rattle.kc_machine.specs.Points.{first_point, seat_told};
+ghost use Rattle.kc_table_moves.specs.Straight.{On, Stopped, at_own, at_take, seat_in};
+
+use crate::atoms::{Chain, Held, Run, Stop, exchanges, loads, subtracts, swaps};
+use crate::touch::Token;
+use kc_machine::{OwnStep, Point, Stage};
+use kc_machine_steps::{Line, PassStep, first_of, one_more, second_of};
+use kc_machine_words::{Control, Handle, LAST_GENERATION, Mode, Owner, Phase, Status};
+use kc_model::{LAST_VERSION, Word};
+use kc_table_layout::{
+    awaiters_at, control_at, first_at, location_at, owner_at, second_at, status_at,
+};
+
+/// Where a commit ended: the steps and the calls that its seat has made.
+#[derive(Clone, Copy)]
+pub struct Ended {
+    pub made: u64,
+    pub calls: u64,
+}
+
+// Of a descriptor that is owned.
+#[inline(always)]
+fn point_at(made: u64, held: Held, step: OwnStep) -> Point
+    ensures { result ≡ at_own made held step }
+{
+    Point {
+        made,
+        calls: held.calls,
+        stage: Stage::Own {
+            own: held.own,
+            step,
+        },
+    }
+}
+
+#[inline(always)]
+fn stop_at(at: Point, number: u64) -> Stop
+    ensures { result ≡ record { at = at; found = Some number } }
+{
+    Stop {
+        at,
+        found: Some(number),
+    }
+}
+
+// The scan of the seat's first descriptor: its generation.
+#[inline(always)]
+fn scan<C: Chain>(run: &Run, token: &mut Token) -> Result<u64, Stop>
+    requires base { run.now.base ≤ 1048576 }
+    requires on { On C.start run.now token.old.table_id token.old.me true (seat_in run.now (first_point run.now.seat.now)) }
+    ensures ok { IfOk result (λ g. (g < LAST_GENERATION) × On C.start run.now token.new.table_id token.new.me false (seat_in run.now (at_take run.now.seat.now g))) }
+    ensures err { IfErr result (λ e. Stopped C.start run.now token.new.table_id token.new.me e) }
+{
+    let first = run.seat.first();
+    let at = Point {
+        made: run.seat.steps(),
+        calls: run.seat.calls(),
+        stage: Stage::Scan {
+            descriptor: first,
+            worn: 0,
+        },
+    };
+    let number = loads::<C>(run, token, true, at, control_at(run.base, first));
+    let control = Control::unpack(number);
+    if control.holds != 0 || control.generation >= LAST_GENERATION {
+        return Err(stop_at(at, number));
+    }
+    Ok(control.generation)
+}
+
+// The take of the seat's first descriptor.
+#[inline(always)]
+fn take<C: Chain>(run: &Run, token: &mut Token, generation: u64) -> Result<Held, Stop>
+    requires base { run.now.base ≤ 1048576 }
+    requires generation { generation < LAST_GENERATION }
+    requires on { On C.start run.now token.old.table_id token.old.me false (seat_in run.now (at_take run.now.seat.now generation)) }
+    ensures ok { IfOk result (λ h. On C.start run.now token.new.table_id token.new.me false (seat_in run.now (at_own (one_more (one_more run.now.seat.now.made)) h step.FillOwner))) }
+    ensures err { IfErr result (λ e. Stopped C.start run.now token.new.table_id token.new.me e) }
+{
+    kc_machine_words::bits_tell_words_apart();
+    let first = run.seat.first();
+    let at = Point {
+        made: one_more(run.seat.steps()),
+        calls: run.seat.calls(),
+        stage: Stage::Take {
+            descriptor: first,
+            generation,
+        },
+    };
+    let old = Control {
+        generation,
+        holds: 0,
+    }
+    .pack();
+    let new = Control {
+        generation: generation + 1,
+        holds: 1,
+    }
+    .pack();
+    let number = exchanges::<C>(run, token, at, control_at(run.base, first), old, new);
+    if number != old {
+        return Err(stop_at(at, number));
+    }
+    Ok(Held {
+        calls: one_more(run.seat.calls()),
+        own: Handle {
+            descriptor: first,
+            generation: generation + 1,
+        },
+    })
+}
+
+// The owner word.
+#[inline(always)]
+fn fill_owner<C: Chain>(run: &Run, token: &mut Token, made: u64, held: Held)
+    requires base { run.now.base ≤ 1048576 }
+    requires few { length run.now.lines.now ≤ 64 }
+    requires on { On C.start run.now token.old.table_id token.old.me false (seat_in run.now (at_own made held step.FillOwner)) }
+    ensures { On C.start run.now token.new.table_id token.new.me false (seat_in run.now (at_own (one_more made) held (fill_next run.now.lines.now 0))) }
+{
+    let owner = Owner {
+        caller: run.seat.caller(),
+        mode: run.mode,
+        lines: run.lines.len() as u32,
+        number: held.calls,
+    };
+    let at = point_at(made, held, OwnStep::FillOwner);
+    let word = owner_at(run.base, held.own.descriptor);
+    swaps::<C>(run, token, at, word, owner.pack());
+}
+
+// The values of a line have the 32 bits of their type. It does nothing.
+#[inline(always)]
+fn ranged_line(line: Line)
+    ensures before { line.seen.value < 4294967296 }
+    ensures after { value_after line.put line.seen.value < 4294967296 }
+{}
+
+// The first word of a line.
+#[inline(always)]
+fn fill_first<C: Chain>(run: &Run, token: &mut Token, made: u64, held: Held, index: u32, line: Line)
+    requires base { run.now.base ≤ 1048576 }
+    requires line { slice_get run.now.lines.now index ≡ Some line }
+    requires on { On C.start run.now token.old.table_id token.old.me false (seat_in run.now (at_own made held (step.FillFirst index))) }
+    ensures { On C.start run.now token.new.table_id token.new.me false (seat_in run.now (at_own (one_more made) held (step.FillSecond index))) }
+{
+    ranged_line(line);
+    let at = point_at(made, held, OwnStep::FillFirst { line: index });
+    let word = first_at(run.base, held.own.descriptor, index);
+    let first = first_of(&line);
+    swaps::<C>(run, token, at, word, first.pack());
+}
+
+// The second word of a line.
+#[inline(always)]
+fn fill_second<C: Chain>(
+    run: &Run,
+    token: &mut Token,
+    made: u64,
+    held: Held,
+    index: u32,
+    line: Line,
+)
+    requires base { run.now.base ≤ 1048576 }
+    requires line { slice_get run.now.lines.now index ≡ Some line }
+    requires on { On C.start run.now token.old.table_id token.old.me false (seat_in run.now (at_own made held (step.FillSecond index))) }
+    ensures { On C.start run.now token.new.table_id token.new.me false (seat_in run.now (at_own (one_more made) held (fill_next run.now.lines.now (after_line index)))) }
+{
+    ranged_line(line);
+    let at = point_at(made, held, OwnStep::FillSecond { line: index });
+    let word = second_at(run.base, held.own.descriptor, index);
+    let second = second_of(&line);
+    swaps::<C>(run, token, at, word, second.pack());
+}
+
+// The words of all lines; how many steps were made then.
+#[inline(always)]
+fn fills<C: Chain>(run: &Run, token: &mut Token, made: u64, held: Held) -> u64
+    requires base { run.now.base ≤ 1048576 }
+    requires few { length run.now.lines.now ≤ 64 }
+    requires on { On C.start run.now token.old.table_id token.old.me false (seat_in run.now (at_own made held (fill_next run.now.lines.now 0))) }
+    ensures { On C.start run.now token.new.table_id token.new.me false (seat_in run.now (at_own result held step.Start)) }
+{
+    let mut made = made;
+    for index in 0..run.lines.len() {
+        let line = run.lines[index];
+        fill_first::<C>(run, token, made, held, index as u32, line);
+        fill_second::<C>(run, token, one_more(made), held, index as u32, line);
+        made = one_more(one_more(made));
+    }
+    made
+}
+
+// The status.
+#[inline(always)]
+fn start<C: Chain>(run: &Run, token: &mut Token, made: u64, held: Held)
+    requires base { run.now.base ≤ 1048576 }
+    requires on { On C.start run.now token.old.table_id token.old.me false (seat_in run.now (at_own made held step.Start)) }
+    ensures { On C.start run.now token.new.table_id token.new.me false (seat_in run.now (at_own (one_more made) held (step.Pass (from_install run.now.mode run.now.lines.now 0)))) }
+{
+    let status = Status {
+        generation: held.own.generation,
+        phase: Phase::Active,
+    };
+    let at = point_at(made, held, OwnStep::Start);
+    let word = status_at(run.base, held.own.descriptor);
+    swaps::<C>(run, token, at, word, status.pack());
+}
+
+// Whether a line is installed, or else checked.
+#[inline(always)]
+fn is_installed(mode: Mode, line: &Line) -> bool
+    ensures { result ≡ is_installed mode line.now }
+{
+    match mode {
+        Mode::All => true,
+        Mode::Light => line.put.is_some(),
+    }
+}
+
+// The exchange of a line's plain word for the reference to the line.
+#[inline(always)]
+fn install<C: Chain>(
+    run: &Run,
+    token: &mut Token,
+    made: u64,
+    held: Held,
+    index: u32,
+    line: Line,
+) -> Option<Stop>
+    requires line { slice_get run.now.lines.now index ≡ Some line }
+    requires on { On C.start run.now token.old.table_id token.old.me false (seat_in run.now (at_own made held (step.Pass (pass.Install index)))) }
+    ensures none { IfNone result (On C.start run.now token.new.table_id token.new.me false (seat_in run.now (at_own (one_more made) held (step.Pass (from_install run.now.mode run.now.lines.now (after_line index)))))) }
+    ensures some { IfSome result (λ e. Stopped C.start run.now token.new.table_id token.new.me e) }
+{
+    ranged_line(line);
+    kc_machine_words::bits_tell_words_apart();
+    let old = Word::Plain {
+        version: line.seen.version,
+        value: line.seen.value,
+    }
+    .pack();
+    let new = Word::Ref {
+        generation: held.own.generation,
+        descriptor: held.own.descriptor,
+        entry: index,
+    }
+    .pack();
+    let at = point_at(made, held, OwnStep::Pass(PassStep::Install { line: index }));
+    let number = exchanges::<C>(run, token, at, location_at(line.seen.loc), old, new);
+    if number != old {
+        return Some(stop_at(at, number));
+    }
+    None
+}
+
+// The install of a line, where it is installed; how many steps were made then.
+#[inline(always)]
+fn install_line<C: Chain>(
+    run: &Run,
+    token: &mut Token,
+    made: u64,
+    held: Held,
+    index: u32,
+    line: Line,
+) -> Result<u64, Stop>
+    requires few { length run.now.lines.now ≤ 64 }
+    requires line { slice_get run.now.lines.now index ≡ Some line }
+    requires on { On C.start run.now token.old.table_id token.old.me false (seat_in run.now (at_own made held (step.Pass (from_install run.now.mode run.now.lines.now index)))) }
+    ensures ok { IfOk result (λ made. On C.start run.now token.new.table_id token.new.me false (seat_in run.now (at_own made held (step.Pass (from_install run.now.mode run.now.lines.now (index + 1)))))) }
+    ensures err { IfErr result (λ e. Stopped C.start run.now token.new.table_id token.new.me e) }
+{
+    if !is_installed(run.mode, &line) {
+        return Ok(made);
+    }
+    match install::<C>(run, token, made, held, index, line) {
+        None => Ok(one_more(made)),
+        Some(stop) => Err(stop),
+    }
+}
+
+// The installs of all lines that are installed; how many steps were made then.
+#[inline(always)]
+fn installs<C: Chain>(run: &Run, token: &mut Token, made: u64, held: Held) -> Result<u64, Stop>
+    requires few { length run.now.lines.now ≤ 64 }
+    requires on { On C.start run.now token.old.table_id token.old.me false (seat_in run.now (at_own made held (step.Pass (from_install run.now.mode run.now.lines.now 0)))) }
+    ensures ok { IfOk result (λ made. On C.start run.now token.new.table_id token.new.me false (seat_in run.now (at_own made held (step.Pass (from_check run.now.mode run.now.lines.now 0))))) }
+    ensures err { IfErr result (λ e. Stopped C.start run.now token.new.table_id token.new.me e) }
+{
+    let mut made = made;
+    for index in 0..run.lines.len() {
+        made = install_line::<C>(run, token, made, held, index as u32, run.lines[index])?;
+    }
+    Ok(made)
+}
+
+// The load of a comparison's word.
+#[inline(always)]
+fn check<C: Chain>(
+    run: &Run,
+    token: &mut Token,
+    made: u64,
+    held: Held,
+    index: u32,
+    line: Line,
+) -> Option<Stop>
+    requires line { slice_get run.now.lines.now index ≡ Some line }
+    requires on { On C.start run.now token.old.table_id token.old.me false (seat_in run.now (at_own made held (step.Pass (pass.Check index)))) }
+    ensures none { IfNone result (On C.start run.now token.new.table_id token.new.me false (seat_in run.now (at_own (one_more made) held (step.Pass (from_check run.now.mode run.now.lines.now (after_line index)))))) }
+    ensures some { IfSome result (λ e. Stopped C.start run.now token.new.table_id token.new.me e) }
+{
+    let at = point_at(made, held, OwnStep::Pass(PassStep::Check { line: index }));
+    let number = loads::<C>(run, token, false, at, location_at(line.seen.loc));
+    if let Word::Plain { version, value } = Word::unpack(number) {
+        if version == line.seen.version && value == line.seen.value {
+            return None;
+        }
+    }
+    Some(stop_at(at, number))
+}
+
+// The check of a line, where it is not installed; how many steps were made then.
+#[inline(always)]
+fn check_line<C: Chain>(
+    run: &Run,
+    token: &mut Token,
+    made: u64,
+    held: Held,
+    index: u32,
+    line: Line,
+) -> Result<u64, Stop>
+    requires few { length run.now.lines.now ≤ 64 }
+    requires line { slice_get run.now.lines.now index ≡ Some line }
+    requires on { On C.start run.now token.old.table_id token.old.me false (seat_in run.now (at_own made held (step.Pass (from_check run.now.mode run.now.lines.now index)))) }
+    ensures ok { IfOk result (λ made. On C.start run.now token.new.table_id token.new.me false (seat_in run.now (at_own made held (step.Pass (from_check run.now.mode run.now.lines.now (index + 1)))))) }
+    ensures err { IfErr result (λ e. Stopped C.start run.now token.new.table_id token.new.me e) }
+{
+    if is_installed(run.mode, &line) {
+        return Ok(made);
+    }
+    match check::<C>(run, token, made, held, index, line) {
+        None => Ok(one_more(made)),
+        Some(stop) => Err(stop),
+    }
+}
+
+// The checks of all lines that are not installed; how many steps were made then.
+#[inline(always)]
+fn checks<C: Chain>(run: &Run, token: &mut Token, made: u64, held: Held) -> Result<u64, Stop>
+    requires few { length run.now.lines.now ≤ 64 }
+    requires on { On C.start run.now token.old.table_id token.old.me false (seat_in run.now (at_own made held (step.Pass (from_check run.now.mode run.now.lines.now 0)))) }
+    ensures ok { IfOk result (λ made. On C.start run.now token.new.table_id token.new.me false (seat_in run.now (at_own made held (step.Pass (pass.Decide Succeeded))))) }
+    ensures err { IfErr result (λ e. Stopped C.start run.now token.new.table_id token.new.me e) }
+{
+    let mut made = made;
+    for index in 0..run.lines.len() {
+        made = check_line::<C>(run, token, made, held, index as u32, run.lines[index])?;
+    }
+    Ok(made)
+}
+
+// The decision.
+#[inline(always)]
+fn decide<C: Chain>(run: &Run, token: &mut Token, made: u64, held: Held) -> Option<Stop>
+    requires base { run.now.base ≤ 1048576 }
+    requires on { On C.start run.now token.old.table_id token.old.me false (seat_in run.now (at_own made held (step.Pass (pass.Decide Succeeded)))) }
+    ensures none { IfNone result (On C.start run.now token.new.table_id token.new.me false (seat_in run.now (at_own (one_more made) held (after_own_pass (intent_of run.now.mode run.now.lines.now) (from_release run.now.mode run.now.lines.now 0 Succeeded))))) }
+    ensures some { IfSome result (λ e. Stopped C.start run.now token.new.table_id token.new.me e) }
+{
+    kc_machine_words::bits_tell_words_apart();
+    let generation = held.own.generation;
+    let old = Status {
+        generation,
+        phase: Phase::Active,
+    }
+    .pack();
+    let new = Status {
+        generation,
+        phase: Phase::Succeeded,
+    }
+    .pack();
+    let at = point_at(
+        made,
+        held,
+        OwnStep::Pass(PassStep::Decide {
+            phase: Phase::Succeeded,
+        }),
+    );
+    let word = status_at(run.base, held.own.descriptor);
+    let number = exchanges::<C>(run, token, at, word, old, new);
+    if number != old {
+        return Some(stop_at(at, number));
+    }
+    None
+}
+
+// What a line leaves at its location.
+#[inline(always)]
+fn left(line: &Line) -> (u32, u32)
+    ensures { result ≡ resolved (first_of line.now) (second_of line.now).after Succeeded }
+{
+    match line.put {
+        Some(after) => if line.seen.version < LAST_VERSION {
+            (line.seen.version + 1, after)
+        } else {
+            (line.seen.version, after)
+        },
+        None => (line.seen.version, line.seen.value),
+    }
+}
+
+// The exchange of the reference to a line for what the line leaves.
+#[inline(always)]
+fn release<C: Chain>(run: &Run, token: &mut Token, made: u64, held: Held, index: u32, line: Line)
+    requires line { slice_get run.now.lines.now index ≡ Some line }
+    requires on { On C.start run.now token.old.table_id token.old.me false (seat_in run.now (at_own made held (step.Pass (pass.Release index Succeeded)))) }
+    ensures { On C.start run.now token.new.table_id token.new.me false (seat_in run.now (at_own (one_more made) held (after_own_pass (intent_of run.now.mode run.now.lines.now) (from_release run.now.mode run.now.lines.now (after_line index) Succeeded)))) }
+{
+    ranged_line(line);
+    let old = Word::Ref {
+        generation: held.own.generation,
+        descriptor: held.own.descriptor,
+        entry: index,
+    }
+    .pack();
+    let (version, value) = left(&line);
+    let new = Word::Plain { version, value }.pack();
+    let at = point_at(
+        made,
+        held,
+        OwnStep::Pass(PassStep::Release {
+            line: index,
+            phase: Phase::Succeeded,
+        }),
+    );
+    exchanges::<C>(run, token, at, location_at(line.seen.loc), old, new);
+}
+
+// The release of a line, where it was installed; how many steps were made then.
+#[inline(always)]
+fn release_line<C: Chain>(
+    run: &Run,
+    token: &mut Token,
+    made: u64,
+    held: Held,
+    index: u32,
+    line: Line,
+) -> u64
+    requires few { length run.now.lines.now ≤ 64 }
+    requires line { slice_get run.now.lines.now index ≡ Some line }
+    requires on { On C.start run.now token.old.table_id token.old.me false (seat_in run.now (at_own made held (after_own_pass (intent_of run.now.mode run.now.lines.now) (from_release run.now.mode run.now.lines.now index Succeeded)))) }
+    ensures { On C.start run.now token.new.table_id token.new.me false (seat_in run.now (at_own result held (after_own_pass (intent_of run.now.mode run.now.lines.now) (from_release run.now.mode run.now.lines.now (index + 1) Succeeded)))) }
+{
+    if !is_installed(run.mode, &line) {
+        return made;
+    }
+    release::<C>(run, token, made, held, index, line);
+    one_more(made)
+}
+
+// The releases of all lines that were installed; how many steps were made then.
+#[inline(always)]
+fn releases<C: Chain>(run: &Run, token: &mut Token, made: u64, held: Held) -> u64
+    requires few { length run.now.lines.now ≤ 64 }
+    requires on { On C.start run.now token.old.table_id token.old.me false (seat_in run.now (at_own made held (after_own_pass (intent_of run.now.mode run.now.lines.now) (from_release run.now.mode run.now.lines.now 0 Succeeded)))) }
+    ensures { On C.start run.now token.new.table_id token.new.me false (seat_in run.now (at_own result held (wake_or_signal 0 (next_line Put run.now.mode run.now.lines.now 0)))) }
+{
+    let mut made = made;
+    for index in 0..run.lines.len() {
+        made = release_line::<C>(run, token, made, held, index as u32, run.lines[index]);
+    }
+    made
+}
+
+// The awaiters of a put's location, which are owed a signal from now on.
+#[inline(always)]
+fn wake<C: Chain>(
+    run: &Run,
+    token: &mut Token,
+    made: u64,
+    held: Held,
+    index: u32,
+    line: Line,
+    owed: u64,
+) -> u64
+    requires line { slice_get run.now.lines.now index ≡ Some line }
+    requires on { On C.start run.now token.old.table_id token.old.me false (seat_in run.now (at_own made held (step.Wake index owed))) }
+    ensures { On C.start run.now token.new.table_id token.new.me false (seat_in run.now (at_own (one_more made) held (wake_or_signal result (next_line Put run.now.mode run.now.lines.now (after_line index))))) }
+{
+    let at = point_at(made, held, OwnStep::Wake { line: index, owed });
+    let number = swaps::<C>(run, token, at, awaiters_at(line.seen.loc), 0);
+    owed | number
+}
+
+/// How many steps were made, and the callers that are owed a signal, bit c for caller c.
+#[derive(Clone, Copy)]
+pub struct Woken {
+    pub made: u64,
+    pub owed: u64,
+}
+
+// The awaiters of a line's location, where it puts.
+#[inline(always)]
+fn wake_line<C: Chain>(
+    run: &Run,
+    token: &mut Token,
+    woken: Woken,
+    held: Held,
+    index: u32,
+    line: Line,
+) -> Woken
+    requires few { length run.now.lines.now ≤ 64 }
+    requires line { slice_get run.now.lines.now index ≡ Some line }
+    requires on { On C.start run.now token.old.table_id token.old.me false (seat_in run.now (at_own woken.made held (wake_or_signal woken.owed (next_line Put run.now.mode run.now.lines.now index)))) }
+    ensures { On C.start run.now token.new.table_id token.new.me false (seat_in run.now (at_own result.made held (wake_or_signal result.owed (next_line Put run.now.mode run.now.lines.now (index + 1))))) }
+{
+    if !line.put.is_some() {
+        return woken;
+    }
+    let Woken { made, owed } = woken;
+    let owed = wake::<C>(run, token, made, held, index, line, owed);
+    Woken {
+        made: one_more(made),
+        owed,
+    }
+}
+
+// The awaiters of all puts' locations.
+#[inline(always)]
+fn wakes<C: Chain>(run: &Run, token: &mut Token, made: u64, held: Held) -> Woken
+    requires few { length run.now.lines.now ≤ 64 }
+    requires on { On C.start run.now token.old.table_id token.old.me false (seat_in run.now (at_own made held (wake_or_signal 0 (next_line Put run.now.mode run.now.lines.now 0)))) }
+    ensures { On C.start run.now token.new.table_id token.new.me false (seat_in run.now (at_own result.made held (owed_next result.owed))) }
+{
+    let mut woken = Woken { made, owed: 0 };
+    for index in 0..run.lines.len() {
+        woken = wake_line::<C>(run, token, woken, held, index as u32, run.lines[index]);
+    }
+    woken
+}
+
+// The drop of the descriptor, with which the commit ends.
+#[inline(always)]
+fn drop_own<C: Chain>(run: &Run, token: &mut Token, made: u64, held: Held)
+    requires base { run.now.base ≤ 1048576 }
+    requires on { On C.start run.now token.old.table_id token.old.me false (seat_in run.now (at_own made held (step.Drop Succeeded))) }
+    ensures { On C.start run.now token.new.table_id token.new.me false (seat_told run.now.seat.now (one_more made) held.calls (told.Succeeded held.calls)) }
+{
+    let at = point_at(
+        made,
+        held,
+        OwnStep::Drop {
+            phase: Phase::Succeeded,
+        },
+    );
+    let word = control_at(run.base, held.own.descriptor);
+    subtracts::<C>(run, token, at, word);
+}
+
+// The drop, where nobody is owed a signal; how many steps were made then.
+#[inline(always)]
+fn end<C: Chain>(run: &Run, token: &mut Token, woken: Woken, held: Held) -> Result<u64, Stop>
+    requires base { run.now.base ≤ 1048576 }
+    requires on { On C.start run.now token.old.table_id token.old.me false (seat_in run.now (at_own woken.made held (owed_next woken.owed))) }
+    ensures ok { IfOk result (λ made. On C.start run.now token.new.table_id token.new.me false (seat_told run.now.seat.now made held.calls (told.Succeeded held.calls))) }
+    ensures err { IfErr result (λ e. Stopped C.start run.now token.new.table_id token.new.me e) }
+{
+    let Woken { made, owed } = woken;
+    if owed != 0 {
+        return Err(Stop {
+            at: point_at(made, held, OwnStep::Signal { owed }),
+            found: None,
+        });
+    }
+    drop_own::<C>(run, token, made, held);
+    Ok(one_more(made))
+}
+
+// From the take on: how many steps were made at the end.
+#[inline(always)]
+fn own<C: Chain>(run: &Run, token: &mut Token, held: Held) -> Result<u64, Stop>
+    requires base { run.now.base ≤ 1048576 }
+    requires few { length run.now.lines.now ≤ 64 }
+    requires on { On C.start run.now token.old.table_id token.old.me false (seat_in run.now (at_own (one_more (one_more run.now.seat.now.made)) held step.FillOwner)) }
+    ensures ok { IfOk result (λ made. On C.start run.now token.new.table_id token.new.me false (seat_told run.now.seat.now made held.calls (told.Succeeded held.calls))) }
+    ensures err { IfErr result (λ e. Stopped C.start run.now token.new.table_id token.new.me e) }
+{
+    let made = one_more(one_more(run.seat.steps()));
+    fill_owner::<C>(run, token, made, held);
+    let made = fills::<C>(run, token, one_more(made), held);
+    start::<C>(run, token, made, held);
+    let made = installs::<C>(run, token, one_more(made), held)?;
+    let made = checks::<C>(run, token, made, held)?;
+    if let Some(stop) = decide::<C>(run, token, made, held) {
+        return Err(stop);
+    }
+    let made = releases::<C>(run, token, one_more(made), held);
+    let woken = wakes::<C>(run, token, made, held);
+    end::<C>(run, token, woken, held)
+}
+
+/// Runs a commit on from its first scan: how many steps and calls the seat has made where it ends, told Succeeded.
+#[inline(always)]
+pub fn run_commit<C: Chain>(run: &Run, token: &mut Token) -> Result<Ended, Stop>
+    requires base { run.now.base ≤ 1048576 }
+    requires few { length run.now.lines.now ≤ 64 }
+    requires on { On C.start run.now token.old.table_id token.old.me true (seat_in run.now (first_point run.now.seat.now)) }
+    ensures ok { IfOk result (λ e. On C.start run.now token.new.table_id token.new.me false (seat_told run.now.seat.now e.made e.calls (told.Succeeded e.calls))) }
+    ensures err { IfErr result (λ e. Stopped C.start run.now token.new.table_id token.new.me e) }
+{
+    let generation = scan::<C>(run, token)?;
+    let held = take::<C>(run, token, generation)?;
+    let made = own::<C>(run, token, held)?;
+    Ok(Ended {
+        made,
+        calls: held.calls,
+    })
+}

@@ -1,5 +1,0 @@
-use Rattle.kc_verbs.proofs.Rows.{says_on}
-use Rattle.kc_verbs.proofs.laws.says_on_objects.Goals as goal
-
-pub returns : goal.returns
-returns c = says_on
