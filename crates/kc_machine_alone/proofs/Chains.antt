@@ -62,6 +62,19 @@ module _ (w : World) (before : (l g d k i : ℕ) → w.word l ≡ Ref g d k → 
       at t b true e true u = refl
       at t b true e false u = stands t b e u
 
+-- a line that doesn't stand lies behind each location up to which its life's lines do
+pub met_behind : (w : World) (l p d t : ℕ) → every (stands_to w l d) 64 ≡ true → t < 64 → in_line w d t ≡ true → place_of w d t ≡ p → refers_line d t (w.word p) ≡ false → l < p
+met_behind w l p d t e low y s r = by (nat_lt l p) refl
+  where
+    by : (u : Bool) → nat_lt l p ≡ u → l < p
+    by true z = ltb-true l p z
+    by false z =
+        let x = every_at (stands_to w l d) 64 t e low in
+        let z' : nat_lt l (place_of w d t) ≡ false = ap (nat_lt l) s ∙ z in
+        let r' : refers_line d t (w.word (place_of w d t)) ≡ false = ap (λ x. refers_line d t (w.word x)) s ∙ r in
+        let x' : (not (true && not false) || false) ≡ true = (λ i. not (sym y i && not (sym z' i)) || sym r' i) ∙ x in
+        absurd (cc)
+
 -- ---- the chain
 
 module _ (n : ℕ) (at : ℕ → Hold) where
@@ -109,18 +122,8 @@ module _ (n : ℕ) (at : ℕ → Hold) where
   pub chain_shorter : (w : World) (l p d g t j : ℕ) → j < n → at j ≡ Proper d g → w.status d ≡ status g Active → every (stands_to w l d) 64 ≡ true → t < 64 → in_line w d t ≡ true → place_of w d t ≡ p → refers_line d t (w.word p) ≡ false → chain n at w p < chain n at w l
   chain_shorter w l p d g t j b q a e low y s r = total_lt (λ j. cond (is_above w p (at j)) 1 0) (λ j. cond (is_above w l (at j)) 1 0) n j b here (λ i c. cond_le _ _ (above (at i)))
     where
-      -- it lies behind l
       behind : l < p
-      behind = by (nat_lt l p) refl
-        where
-          by : (u : Bool) → nat_lt l p ≡ u → l < p
-          by true z = ltb-true l p z
-          by false z =
-              let x = every_at (stands_to w l d) 64 t e low in
-              let z' : nat_lt l (place_of w d t) ≡ false = ap (nat_lt l) s ∙ z in
-              let r' : refers_line d t (w.word (place_of w d t)) ≡ false = ap (λ x. refers_line d t (w.word x)) s ∙ r in
-              let x' : (not (true && not false) || false) ≡ true = (λ i. not (sym y i && not (sym z' i)) || sym r' i) ∙ x in
-              absurd (cc)
+      behind = met_behind w l p d t e low y s r
 
       none : every (stands_to w p d) 64 ≡ true → ⊥
       none z =

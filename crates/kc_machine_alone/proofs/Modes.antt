@@ -123,28 +123,29 @@ module _ (n : ℕ) (at : ℕ → Hold) (f : ℕ) where
     pub shorter : chain n at w l < chain n at w place
     pub pays : all_paid w k r s + 197 * chain n at w place ≤ old + (each + 575)
 
-  -- it is about to go on to q, which stands at location l
-  pub record Linked (w : World) (k : ℕ) (r : Reference) (s : AidStep) (q : Reference) (old : ℕ) : Type 0 where
+  -- it is about to go on to q, which stands at a location of the chain
+  pub record Linked (least : ℕ) (w : World) (k : ℕ) (r : Reference) (s : AidStep) (q : Reference) (old : ℕ) : Type 0 where
     pub place : ℕ
     pub stands : Stands w place q
+    pub behind : least ≤ suc place
     pub live : is_drop s ≡ true → IsLive w r
     pub frees : IsLive w r → is_active (w.status q.handle.descriptor).phase ≡ false → Frees w k place
     pub pays : (all_paid w k r s ≤ old) ⊎ (IsLive w r × Behind w k place r s old)
 
-  -- for an own pass that waits at line k, with so much to pay
-  pub data Stance (w : World) (k : ℕ) (r : Reference) (s : AidStep) (old : ℕ) : Type 0 where
-    chained : (l : ℕ) → Stands w l r → IsLive w r → is_early s ≡ true → all_paid w k r s + 197 * chain n at w l ≤ old + (each + 575) → Stance w k r s old
-    freeing : (l : ℕ) → Stands w l r → is_active (w.status r.handle.descriptor).phase ≡ false → Frees w k l → is_single s ≡ true → all_paid w k r s ≤ old + each → Stance w k r s old
-    leaving : is_out s ≡ true → all_paid w k r s ≤ old → Stance w k r s old
-    leads : (q : Reference) → s ≡ aid.Leave (Some q) → Linked w k r s q old → Stance w k r s old
-    links : (q : Reference) → s ≡ aid.Drop false (Some q) → Linked w k r s q old → Stance w k r s old
-    loose : all_paid w k r s + spare s ≤ old → Stance w k r s old
+  -- for an own pass that waits at line k, with so much to pay; the aids of the chain are met from a location on, one below the least; of 0 an aid that ran already may come from anywhere
+  pub data Stance (least : ℕ) (w : World) (k : ℕ) (r : Reference) (s : AidStep) (old : ℕ) : Type 0 where
+    chained : (l : ℕ) → least ≤ suc l → Stands w l r → IsLive w r → is_early s ≡ true → all_paid w k r s + 197 * chain n at w l ≤ old + (each + 575) → Stance least w k r s old
+    freeing : (l : ℕ) → Stands w l r → is_active (w.status r.handle.descriptor).phase ≡ false → Frees w k l → is_single s ≡ true → all_paid w k r s ≤ old + each → Stance least w k r s old
+    leaving : is_out s ≡ true → all_paid w k r s ≤ old → Stance least w k r s old
+    leads : (q : Reference) → s ≡ aid.Leave (Some q) → Linked least w k r s q old → Stance least w k r s old
+    links : (q : Reference) → s ≡ aid.Drop false (Some q) → Linked least w k r s q old → Stance least w k r s old
+    loose : least ≡ 0 → all_paid w k r s + spare s ≤ old → Stance least w k r s old
 
   -- a step later
-  abbrev pub StanceGoes : World → ℕ → Reference → Aided → ℕ → AidNext → Type 0
-  StanceGoes w k r a old (aiding.Goes s) = Stance w k r s old
-  StanceGoes w k r a old (aiding.Back None) = paid w nothing k ≤ old
-  StanceGoes w k r a old (aiding.Back (Some q)) = (t : ℕ) × Stance w k q aid.Hold t × (t + aid_left w q a aid.Hold < old + 385)
+  abbrev pub StanceGoes : ℕ → World → ℕ → Reference → Aided → ℕ → AidNext → Type 0
+  StanceGoes least w k r a old (aiding.Goes s) = Stance least w k r s old
+  StanceGoes least w k r a old (aiding.Back None) = paid w nothing k ≤ old
+  StanceGoes least w k r a old (aiding.Back (Some q)) = (t : ℕ) × Stance least w k q aid.Hold t × (t + aid_left w q a aid.Hold < old + 385)
 
   pub paid_calm : (w v : World) (x y : Cover) (k : ℕ) → Calm w v x y f → paid v y k ≤ paid w x k
   paid_calm w v x y k c = price_le each _ _ _ _ (rounds_le w v x y f c n at k) (lives_le w v x y f c n at)
@@ -176,11 +177,11 @@ module _ (n : ℕ) (at : ℕ → Hold) (f : ℕ) where
     lives_paid r x k a = let z = price_life each 0 (rounds n at w x f k) 0 (lives n at w) (omega arith) (let b = lives_one r a in omega (arith, b)) in omega (arith, z)
 
     -- to go on to q, which stands at location l
-    pub goes_to : (c : ℕ → Control) (k l : ℕ) (q : Reference) (a : Aided) (spent : ℕ) → Stands w l q → (is_active (w.status q.handle.descriptor).phase ≡ false → Frees w k l)
+    pub goes_to : (least : ℕ) (c : ℕ → Control) (k l : ℕ) (q : Reference) (a : Aided) (spent : ℕ) → least ≤ suc l → Stands w l q → (is_active (w.status q.handle.descriptor).phase ≡ false → Frees w k l)
         → (IsLive w q → (t : ℕ) × (paid w nothing k + 197 * chain n at w l ≤ t + (each + 575)) × (t + 581 < spent))
         → (is_active (w.status q.handle.descriptor).phase ≡ false → (t : ℕ) × (paid w nothing k ≤ t + each) × (t + 6 < spent))
-        → (t : ℕ) × Stance (record w { control = c }) k q aid.Hold t × (t + aid_left (record w { control = c }) q a aid.Hold < spent)
-    goes_to c k l q a spent s frees live dead = go (is_active (w.status q.handle.descriptor).phase) refl
+        → (t : ℕ) × Stance least (record w { control = c }) k q aid.Hold t × (t + aid_left (record w { control = c }) q a aid.Hold < spent)
+    goes_to least c k l q a spent low s frees live dead = go (is_active (w.status q.handle.descriptor).phase) refl
       where
         z : IsLastLife w q.handle.descriptor q.handle.generation × IsInstalledLine w q.handle.descriptor q.line × ((w.second q.handle.descriptor q.line).loc ≡ l)
         z = ground.fit l q.handle.generation q.handle.descriptor q.line s
@@ -198,6 +199,6 @@ module _ (n : ℕ) (at : ℕ → Hold) (f : ℕ) where
             active_status : (s : Status) (g : ℕ) → s.generation ≡ g → is_active s.phase ≡ true → s ≡ status g Active
             active_status s g p e i = record { generation = p i; phase = phase_active s.phase e i }
 
-        go : (b : Bool) → is_active (w.status q.handle.descriptor).phase ≡ b → (t : ℕ) × Stance (record w { control = c }) k q aid.Hold t × (t + (if b then 581 else 6) < spent)
-        go true e = let x = live (alive e) in (x.0, chained l s (alive e) refl x.1, x.2)
+        go : (b : Bool) → is_active (w.status q.handle.descriptor).phase ≡ b → (t : ℕ) × Stance least (record w { control = c }) k q aid.Hold t × (t + (if b then 581 else 6) < spent)
+        go true e = let x = live (alive e) in (x.0, chained l low s (alive e) refl x.1, x.2)
         go false e = let x = dead e in (x.0, freeing l s e (frees e) refl x.1, x.2)

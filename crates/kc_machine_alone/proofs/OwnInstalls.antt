@@ -158,8 +158,8 @@ module _ (n : ℕ) (at : ℕ → Hold) (w : World) (h : Handle) (ground : Ground
 
   -- on to what it has met
   pub own_meets : (c : ℕ → Control) (q : Reference) (l : Line) (a : Aided) (old : ℕ) → 1 ≤ n → slice_get xs k ≡ Some l → w.word l.seen.loc.0 ≡ word_of q.handle q.line → paid n at f w nothing k ≤ old
-      → (u : ℕ) × Stance n at f (record w { control = c }) k q aid.Hold u × (u + aid_left (record w { control = c }) q a aid.Hold < old)
-  own_meets c q l a old some e s p = goes_to n at f w ground c k l.seen.loc.0 q a old s frees on off
+      → (u : ℕ) × Stance n at f 0 (record w { control = c }) k q aid.Hold u × (u + aid_left (record w { control = c }) q a aid.Hold < old)
+  own_meets c q l a old some e s p = goes_to n at f w ground 0 c k l.seen.loc.0 q a old (omega arith) s frees on off
     where
       same : y.0 ≡ l
       same = some_line (slice_get xs k) y.0 l y.1 e

@@ -102,7 +102,7 @@ module _ (n : ℕ) (at : ℕ → Hold) where
 
   abbrev pub AidRank : World → ℕ → Bool → ℕ → Reference → AidStep → ℕ → Type 0
   AidRank w f true k r s old = Unit {0}
-  AidRank w f false k r s old = Stance n at f w k r s old
+  AidRank w f false k r s old = Stance n at f 0 w k r s old
 
   -- of a commit that is halted, or not
   abbrev pub OwnRank : World → ℕ → Bool → OwnStep → ℕ → Type 0
@@ -316,7 +316,7 @@ module _ (n : ℕ) (at : ℕ → Hold) where
       -- what the aid comes to, where the commit isn't halted
       abbrev Comes : World → ℕ → Reference → ℕ → Bool → AidNext → Type 0
       Comes v k r old true x = Unit {0}
-      Comes v k r old false x = StanceGoes n at f v k r c.copy old x
+      Comes v k r old false x = StanceGoes n at f 0 v k r c.copy old x
 
       aids_on : (k old : ℕ) (r : Reference) (s : AidStep) → AidFits c.halted c.copy s → Builds w c h (own.Aid k r s) → AidRank w f c.halted k r s old → Ranks (own.Aid k r s) old
       aids_on k old r s y b rank = go c.halted refl (aid_falls w fresh c.halted r c.copy bounded s y)
@@ -336,7 +336,7 @@ module _ (n : ℕ) (at : ℕ → Hold) where
 
           stance : (h : Bool) → c.halted ≡ h → AidRank w f h k r s old → Comes v k r old h x
           stance true e rank = tt
-          stance false e rank = stance_step n at f w ground k r c.copy s old (subst (λ t. AidFits t c.copy s) e y) b.0 b.1 rank
+          stance false e rank = stance_step n at f 0 w ground k r c.copy s old (subst (λ t. AidFits t c.copy s) e y) b.0 b.1 rank
 
           back : (h : Bool) (o : Option Reference) → AidGoes v r a left (aiding.Back o) → Comes v k r old h (aiding.Back o) → OwnRankGoes v f h a old (515 + (64 - k) + left) (onward_or_back h k o)
           back true o g z = inl (tt, refl)

@@ -299,7 +299,7 @@ first_rank n at w (work.Commit c) = go c.stage
 
     aids_so : (f k : ℕ) (r : Reference) (s : AidStep) (b : Bool) → AidRank n at w f b k r s (top n)
     aids_so f k r s true = tt
-    aids_so f k r s false = loose (let q = paid_most n at f w (aid_cover r.handle.descriptor s) k in let z = spare_most s in omega (arith, q, z))
+    aids_so f k r s false = loose refl (let q = paid_most n at f w (aid_cover r.handle.descriptor s) k in let z = spare_most s in omega (arith, q, z))
 
     go : (x : Stage) → StageRank n at w c.halted x (top n)
     go (Scan d worn) = omega arith
