@@ -19,3 +19,6 @@ pub mod Ranks
 pub mod Told
 pub mod Within
 pub mod Ends
+pub mod Starting
+pub mod Shut
+pub mod Clean

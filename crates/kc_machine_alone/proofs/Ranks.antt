@@ -56,7 +56,7 @@ top n = price (197 * n + 7) (64 * n + 192) n + 800
 line_most : (w : World) (x : Cover) (f d : ℕ) → total (line_left w x f d) 64 ≤ 64
 line_most w x f d = let a = total_most (line_left w x f d) 1 64 (λ t. cond_most (in_line w d t && is_left w x f (w.word (place_of w d t)))) in omega (arith, a)
 
-life_most : (w : World) (x : Cover) (f : ℕ) (h : Hold) → life_left w x f h ≤ 64
+pub life_most : (w : World) (x : Cover) (f : ℕ) (h : Hold) → life_left w x f h ≤ 64
 life_most w x f NoHold = omega arith
 life_most w x f (Proper d g) = go (is_live w (Proper d g))
   where

@@ -95,7 +95,7 @@ module _ (n : ℕ) (at : ℕ → Hold) (f least : ℕ) (w : World) (ground : Gro
 
   -- ---- what is of no use
 
-  linked_at : (j : ℕ) (q : Reference) (x : Line) (old : ℕ) → Course → slice_get a.lines.items j ≡ Some x → j < 64 → is_installed a.owner.mode x ≡ true → Stands n at f w x.seen.loc.0 q
+  pub linked_at : (j : ℕ) (q : Reference) (x : Line) (old : ℕ) → Course → slice_get a.lines.items j ≡ Some x → j < 64 → is_installed a.owner.mode x ≡ true → Stands n at f w x.seen.loc.0 q
       → IsLive n at f w r → is_active (w.status q.handle.descriptor).phase ≡ false → Frees n at f w k x.seen.loc.0
   linked_at j q x old t e low y s live dead u b = go (q.handle.descriptor == f) refl
     where
@@ -356,7 +356,7 @@ module _ (n : ℕ) (at : ℕ → Hold) (f least : ℕ) (w : World) (ground : Gro
   })
 
   -- a reference that an aid meets isn't its own line's
-  met_other : (j p : ℕ) (q : Reference) → Stands n at f w p q → IsLive n at f w r → refers_to r.handle j q ≡ false → (w.control c).generation ≡ r.handle.generation → refers_line c j (w.word p) ≡ false
+  pub met_other : (j p : ℕ) (q : Reference) → Stands n at f w p q → IsLive n at f w r → refers_to r.handle j q ≡ false → (w.control c).generation ≡ r.handle.generation → refers_line c j (w.word p) ≡ false
   met_other j p q s live h g = ap (refers_line c j) s ∙ by (q.handle.descriptor == c) refl (q.line == j) refl
     where
       z : IsLastLife w q.handle.descriptor q.handle.generation × IsInstalledLine w q.handle.descriptor q.line × ((w.second q.handle.descriptor q.line).loc ≡ p)
