@@ -22,3 +22,5 @@ pub mod Ends
 pub mod Starting
 pub mod Shut
 pub mod Clean
+pub mod Spares
+pub mod CleanSteps
