@@ -24,7 +24,7 @@ use Rattle.kc_machine_seats.specs.Seated.{WorkSearches}
 use Rattle.kc_machine_steps.specs.declared.task.Event.{Event}
 use Rattle.kc_machine_steps.specs.declared.task.Event.TheVariants.{Step}
 use Rattle.kc_machine_traces.proofs.Others.{run_shape}
-use Rattle.std.proofs.Common.{Bool, List, [], ap, arith, false, inl, inr, refl, subst, suc, sym, true, zero, ℕ, ◌*◌, ◌++◌, ◌+◌, ◌<◌, ◌==◌, ◌∙◌, ◌∷◌, ◌≡◌, ◌≤◌}
+use Rattle.std.proofs.Common.{Bool, List, [], ap, arith, false, inl, inr, refl, subst, suc, sym, true, zero, ℕ, ◌*◌, ◌++◌, ◌+◌, ◌<◌, ◌==◌, ◌∙◌, ◌∷◌, ◌≡◌, ◌≢◌, ◌≤◌}
 use Rattle.std.specs.Option.{is_some}
 use borrow.Author.Tests.{eqb-false, eqb-true}
 use Rattle.kc_machine.specs.Works as work
@@ -48,8 +48,11 @@ module _ (o : Opening) (k : ℕ) (l : k < o.callers) (e : ℕ) (there : e < 3 * 
   abbrev After : List Event → List Event
   After es = es ++ Step k ∷ []
 
-  -- what is owned behind a step
-  owned_stays : (es : List Event) → IsSchedule o es → Busy es → work_hold ((run o (After es)).seats k).work ≡ work_hold ((run o es).seats k).work → owned_at o (After es) ≡ owned_at o es
+  -- what is owned behind a step, by others and by all
+  pub owned_else : (es : List Event) → IsSchedule o es → Busy es → (j : ℕ) → j ≢ k → owned_at o (After es) j ≡ owned_at o es j
+  owned_else es w i j ne = ap (λ (m : State). work_hold (m.seats j).work) (steps_happen o es w k l i) ∙ ap (λ (s : Seat). work_hold s.work) (put_else (run o es).seats k (answer_of ((run o es).seats k) (found_at (run o es).world (access_of ((run o es).seats k)))) j ne)
+
+  pub owned_stays : (es : List Event) → IsSchedule o es → Busy es → work_hold ((run o (After es)).seats k).work ≡ work_hold ((run o es).seats k).work → owned_at o (After es) ≡ owned_at o es
   owned_stays es w i q = λ n j. same j n
     where
       same : (j : ℕ) → owned_at o (After es) j ≡ owned_at o es j
@@ -57,7 +60,7 @@ module _ (o : Opening) (k : ℕ) (l : k < o.callers) (e : ℕ) (there : e < 3 * 
         where
           by : (b : Bool) → (j == k) ≡ b → owned_at o (After es) j ≡ owned_at o es j
           by true z = let a = eqb-true j k z in ap (owned_at o (After es)) a ∙ q ∙ ap (owned_at o es) (sym a)
-          by false z = let a = eqb-false j k z in ap (λ (m : State). work_hold (m.seats j).work) (steps_happen o es w k l i) ∙ ap (λ (s : Seat). work_hold s.work) (put_else (run o es).seats k (answer_of ((run o es).seats k) (found_at (run o es).world (access_of ((run o es).seats k)))) j a)
+          by false z = owned_else es w i j (eqb-false j k z)
 
   rank_moves : (es : List Event) → IsSchedule o es → Busy es → (old : ℕ) → WorkRank o.callers (owned_at o es) (run o (After es)).world ((run o (After es)).seats k).work old → Rank (After es) old
   rank_moves es w i old r = go (subst (λ (s : Seat). HoldStays (work_hold ((run o es).seats k).work) s.work) (sym seat) (hold_stays ((run o es).seats k) (found_at (run o es).world (access_of ((run o es).seats k)))))

@@ -24,3 +24,4 @@ pub mod Shut
 pub mod Clean
 pub mod Spares
 pub mod CleanSteps
+pub mod CleanRuns

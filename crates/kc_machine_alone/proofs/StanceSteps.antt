@@ -43,7 +43,7 @@ use Rattle.kc_machine_steps.specs.declared.aid.AidNext.TheVariants as aiding
 use Rattle.kc_machine_words.specs.declared.access.Found.TheVariants as found
 use Rattle.kc_machine_words.specs.declared.access.Grip.TheVariants as grip
 
-phase_is_active : (p : Phase) → is_active p ≡ true → p ≡ Active
+pub phase_is_active : (p : Phase) → is_active p ≡ true → p ≡ Active
 phase_is_active Active e = refl
 phase_is_active Succeeded e = absurd (cc)
 phase_is_active (Failed j) e = absurd (cc)

@@ -66,7 +66,7 @@ module _ (n : ℕ) (at bt : ℕ → Hold) (w : World) (other : (j : ℕ) → (bt
 
 -- ---- the words of a descriptor that isn't Active
 
-idle_dead : (w : World) (e g : ℕ) → is_active (w.status e).phase ≡ false → is_live w (Proper e g) ≡ false
+pub idle_dead : (w : World) (e g : ℕ) → is_active (w.status e).phase ≡ false → is_live w (Proper e g) ≡ false
 idle_dead w e g d = go (is_live w (Proper e g)) refl
   where
     go : (b : Bool) → is_live w (Proper e g) ≡ b → b ≡ false

@@ -78,7 +78,7 @@ work_free _ = true
 abbrev pub owned_at : Opening → List Event → ℕ → Hold
 owned_at o es j = work_hold ((run o es).seats j).work
 
-hold_same : (s : Seat) → own_hold (stand s).own ≡ work_hold s.work
+pub hold_same : (s : Seat) → own_hold (stand s).own ≡ work_hold s.work
 hold_same s = go s.work
   where
     aiding_so : (t : Stand) (r : Reference) (a : Aided) (step : AidStep) → (aids t r a step).own ≡ t.own
