@@ -25,3 +25,4 @@ pub mod Clean
 pub mod Spares
 pub mod CleanSteps
 pub mod CleanRuns
+pub mod LookRuns
