@@ -1,34 +1,29 @@
 -- A commit whose life nobody but its own pass decides: what it has to pay for rounds, its own lines counted as any other Active life's.
-use Rattle.kc_machine.proofs.Functions.{put_else, put_here}
-use Rattle.kc_machine.specs.Machine.{World, found_at, put, touched}
+use Rattle.kc_machine.specs.Machine.{World, found_at, touched}
 use Rattle.kc_machine_alone.proofs.AidFalls.{AidGoes, IsBounded, aid_falls}
 use Rattle.kc_machine_alone.proofs.Calms.{aid_calm, goes_or_leaves, pass_calm}
 use Rattle.kc_machine_alone.proofs.Chains.{chain_most, in_line_is}
-use Rattle.kc_machine_alone.proofs.Covers.{all_of, install_cover, left_word, next_cover, or_left, or_mono, or_right, pass_cover}
-use Rattle.kc_machine_alone.proofs.Frees.{freed}
+use Rattle.kc_machine_alone.proofs.Covers.{all_of, left_word, next_cover, or_left, or_mono, or_right, pass_cover}
 use Rattle.kc_machine_alone.proofs.Left.{aid_left, is_active, own_left, pass_left}
 use Rattle.kc_machine_alone.proofs.ModeSteps.{GoesBefore, InstallEnds, asks_on, checks_on, drops_on, goes, holds_on, installs_to, meets, reads_on}
-use Rattle.kc_machine_alone.proofs.Modes.{Frees, Ground, IsLive, Stance, StanceGoes, each, goes_to, is_before, lives_paid, paid, paid_calm, price, price_le, price_round}
-use Rattle.kc_machine_alone.proofs.Ranks.{Builds}
-use Rattle.kc_machine_alone.proofs.Rounds.{Calm, Cover, chain, in_line, is_left, is_live, is_pending, lives, lives_le, nothing, place_of, refers_line, rounds, rounds_le}
+use Rattle.kc_machine_alone.proofs.Modes.{Frees, Ground, IsLive, Stance, StanceGoes, each, goes_to, is_before, lives_paid, paid, paid_calm, price_round}
+use Rattle.kc_machine_alone.proofs.Rounds.{Calm, Cover, chain, in_line, is_pending, lives, nothing, place_of, refers_line, rounds}
 use Rattle.kc_machine_alone.proofs.Shut.{IsShut, aids_keep}
 use Rattle.kc_machine_alone.proofs.StanceSteps.{linked_at, met_other, stance_step}
-use Rattle.kc_machine_alone.proofs.Starting.{fee, paid_filled, paid_started, price_fee}
+use Rattle.kc_machine_alone.proofs.Starting.{fee}
 use Rattle.kc_machine_alone.specs.Stretches.{step_begins}
-use Rattle.kc_machine_commits.specs.Commits.{after_own_pass, aid_or_back, copy_by_own, fill_access, fill_first, fill_next, fill_or_start, fill_second, finished, onward_or_back, owed_next, own_access, own_next, wake_access, wake_next, wake_or_drop, wake_or_signal}
-use Rattle.kc_machine_commits.specs.declared.commit.Commit.{Commit}
+use Rattle.kc_machine_commits.specs.Commits.{after_own_pass, aid_or_back, finished, wake_or_drop}
 use Rattle.kc_machine_commits.specs.declared.commit.OwnStep.{OwnStep}
 use Rattle.kc_machine_commits.specs.declared.commit.OwnStep.TheVariants as own
 use Rattle.kc_machine_effects.proofs.Tests.{some_line}
-use Rattle.kc_machine_effects.specs.Holds.{Hold, Proper}
+use Rattle.kc_machine_effects.specs.Holds.{Hold}
 use Rattle.kc_machine_passes.proofs.Targets.{Target}
 use Rattle.kc_machine_passes.specs.Phases.{StepKnows}
-use Rattle.kc_machine_pool.specs.Owners.{fills}
 use Rattle.kc_machine_pool.specs.Started.{line_of_words}
-use Rattle.kc_machine_seats.specs.Fits.{AidFits, FollowsOr, IsInstalledAt, OwnFits, StepFits}
+use Rattle.kc_machine_seats.specs.Fits.{AidFits, FollowsOr, IsInstalledAt, StepFits}
 use Rattle.kc_machine_steps.specs.Aids.{aid_access, aid_copy, aid_next}
 use Rattle.kc_machine_steps.specs.Lines.{after_line, is_installed, joined, next_line, word_of}
-use Rattle.kc_machine_steps.specs.Passes.{check_access, decided_as, from_install, from_release, install_access, pass_access, pass_next, refers_to, release_or_finish, status}
+use Rattle.kc_machine_steps.specs.Passes.{check_access, decided_as, from_release, install_access, pass_access, pass_next, refers_to, release_or_finish, status}
 use Rattle.kc_machine_steps.specs.declared.aid.AidNext.{AidNext}
 use Rattle.kc_machine_steps.specs.declared.aid.AidNext.TheVariants as aiding
 use Rattle.kc_machine_steps.specs.declared.aid.AidStep.{AidStep}
@@ -40,7 +35,6 @@ use Rattle.kc_machine_steps.specs.declared.line.Pick.TheVariants.{Installed, Put
 use Rattle.kc_machine_steps.specs.declared.pass.AfterCheck.{AfterCheck}
 use Rattle.kc_machine_steps.specs.declared.pass.AfterCheck.TheVariants as checked
 use Rattle.kc_machine_steps.specs.declared.pass.PassNext.{PassNext}
-use Rattle.kc_machine_steps.specs.declared.pass.PassNext.TheVariants as pass
 use Rattle.kc_machine_steps.specs.declared.pass.PassStep.{PassStep}
 use Rattle.kc_machine_steps.specs.declared.pass.PassStep.TheVariants.{Check, CheckDrop, CheckFirst, CheckHold, CheckStatus, Decide, Install, Release}
 use Rattle.kc_machine_words.specs.declared.words.Handle.{Handle}
@@ -49,9 +43,9 @@ use Rattle.kc_machine_words.specs.declared.words.Phase.TheVariants.{Active, Cros
 use Rattle.kc_machine_words.specs.declared.words.Reference.{Reference}
 use Rattle.kc_machine_words.specs.declared.words.Status.{Status}
 use Rattle.kc_model.specs.declared.word.Word.TheVariants.{Ref}
-use Rattle.std.proofs.Common.{Bool, List, None, Option, Some, ap, arith, false, inl, inr, refl, subst, suc, sym, true, ℕ, ◌&&◌, ◌*◌, ◌+◌, ◌-◌, ◌<◌, ◌==◌, ◌∙◌, ◌≡◌, ◌≢◌, ◌≤◌, ◌⊎◌}
+use Rattle.std.proofs.Common.{Bool, List, None, Option, Some, ap, arith, false, inl, inr, refl, subst, suc, sym, true, ℕ, ◌&&◌, ◌*◌, ◌+◌, ◌-◌, ◌<◌, ◌==◌, ◌∙◌, ◌≡◌, ◌≤◌, ◌⊎◌}
 use Rattle.std.proofs.lemmas.Option.{slice_get_within}
-use Rattle.std.specs.Prelude.{bit_and, bit_or, nat_lt, slice_get, ◌||◌}
+use Rattle.std.specs.Prelude.{nat_lt, slice_get, ◌||◌}
 use borrow.Author.Tests.{eqb-true}
 
 -- ---- what it has to pay

@@ -1,5 +1,5 @@
 -- A commit that nobody else has met, step by step, until it is told.
-use Rattle.kc_machine.proofs.Functions.{put_else, put_here}
+use Rattle.kc_machine.proofs.Functions.{put_here}
 use Rattle.kc_machine.specs.Machine.{Opening, State, World, found_at, run, touched}
 use Rattle.kc_machine.specs.Schedules.{IsSchedule}
 use Rattle.kc_machine.specs.Seats.{access_of, after, answer_by, answer_of, is_idle, work_access}
@@ -7,9 +7,9 @@ use Rattle.kc_machine.specs.Works as work
 use Rattle.kc_machine.specs.Works.{Work}
 use Rattle.kc_machine.specs.declared.seat.Seat.{Seat}
 use Rattle.kc_machine_alone.proofs.Clean.{Rests, Begins}
-use Rattle.kc_machine_alone.proofs.CleanSteps.{Filling, NextOn, StageHas, StageOn, StagePays, StageReady, stage_on}
+use Rattle.kc_machine_alone.proofs.CleanSteps.{NextOn, StageHas, StageOn, StagePays, StageReady, stage_on}
 use Rattle.kc_machine_alone.proofs.Ends.{owned_else, owned_stays}
-use Rattle.kc_machine_alone.proofs.Left.{is_active, own_left, pass_left, stage_left, takes, work_left}
+use Rattle.kc_machine_alone.proofs.Left.{is_active, own_left, stage_left, takes, work_left}
 use Rattle.kc_machine_alone.proofs.Rounds.{is_live, nothing}
 use Rattle.kc_machine_alone.proofs.SeatFalls.{Goes, IsFree, begins, falls, searches, tells}
 use Rattle.kc_machine_alone.proofs.Spares.{NextSpares, OneKept, StageSpares, stage_spares}
@@ -20,7 +20,7 @@ use Rattle.kc_machine_alone.proofs.Told.{StageBuilds, WorkBuilds}
 use Rattle.kc_machine_alone.proofs.Within.{HoldStays, built, grounded, hold_same, hold_stays, owned_at, stage_free, stage_hold, work_free, work_hold}
 use Rattle.kc_machine_alone.specs.Stretches.{begins_aid, stage_begins}
 use Rattle.kc_machine_claims.specs.Claims.{steps}
-use Rattle.kc_machine_commits.specs.Commits.{commit_access, copy_by, gone_on, loaded, onward_by, stage_access, stage_next}
+use Rattle.kc_machine_commits.specs.Commits.{commit_access, gone_on, loaded, onward_by, stage_next}
 use Rattle.kc_machine_commits.specs.Halts.{unowned}
 use Rattle.kc_machine_commits.specs.Nexts as next
 use Rattle.kc_machine_commits.specs.Nexts.{Next}
@@ -29,28 +29,26 @@ use Rattle.kc_machine_commits.specs.declared.commit.OwnStep.TheVariants as own
 use Rattle.kc_machine_commits.specs.declared.commit.OwnStep.{OwnStep}
 use Rattle.kc_machine_commits.specs.declared.commit.Stage.TheVariants.{Own, Scan, Take}
 use Rattle.kc_machine_commits.specs.declared.commit.Stage.{Stage}
-use Rattle.kc_machine_effects.specs.Holds.{Hold, NoHold, Proper, own_hold}
+use Rattle.kc_machine_effects.specs.Holds.{Hold, Proper}
 use Rattle.kc_machine_effects.specs.Stands as stands
 use Rattle.kc_machine_effects.specs.Stands.{Owns, Passing, Stand, owns, resting, stand, works}
 use Rattle.kc_machine_pool.proofs.LifeLaws.{active_owned, owners_differ}
 use Rattle.kc_machine_pool.specs.Owners.{OwnsLife, Undecided, fills}
 use Rattle.kc_machine_ranges.proofs.Runs.{seats_in, steps_happen}
-use Rattle.kc_machine_ranges.specs.Possible.{one_step}
 use Rattle.kc_machine_ranges.specs.Seats.{WorkIn, StageIn}
 use Rattle.kc_machine_seats.proofs.SeatedSteps.{seats_stay}
-use Rattle.kc_machine_seats.specs.Fits.{StageFits, WorkFits}
+use Rattle.kc_machine_seats.specs.Fits.{WorkFits}
 use Rattle.kc_machine_seats.specs.Formed.{WorkIsFormed}
 use Rattle.kc_machine_steps.specs.Passes.{status}
 use Rattle.kc_machine_steps.specs.declared.aid.Aided.{Aided}
 use Rattle.kc_machine_steps.specs.declared.line.Intent.{Intent}
 use Rattle.kc_machine_steps.specs.declared.task.Event.TheVariants.{Step}
 use Rattle.kc_machine_steps.specs.declared.task.Event.{Event}
-use Rattle.kc_machine_steps.specs.declared.task.Onward.TheVariants as onward
 use Rattle.kc_machine_traces.proofs.Others.{run_shape}
 use Rattle.kc_machine_words.specs.declared.access.Found.{Found}
 use Rattle.kc_machine_words.specs.declared.words.Handle.{Handle}
 use Rattle.kc_machine_words.specs.declared.words.Phase.TheVariants.{Active}
-use Rattle.std.proofs.Common.{Bool, List, None, Option, Some, [], ap, append-nil, append_assoc, arith, false, if◌then◌else◌, inl, inr, refl, subst, suc, sym, true, zero, ℕ, ◌*◌, ◌++◌, ◌+◌, ◌-◌, ◌<◌, ◌==◌, ◌∙◌, ◌∷◌, ◌≡◌, ◌≢◌, ◌≤◌, ◌⊎◌}
+use Rattle.std.proofs.Common.{Bool, List, None, [], ap, append-nil, append_assoc, arith, false, if◌then◌else◌, inl, inr, refl, subst, suc, sym, true, zero, ℕ, ◌*◌, ◌++◌, ◌+◌, ◌<◌, ◌==◌, ◌∙◌, ◌∷◌, ◌≡◌, ◌≢◌, ◌≤◌, ◌⊎◌}
 use Rattle.std.specs.Option.{is_some}
 use borrow.Author.Tests.{eqb-false, eqb-true}
 

@@ -1,20 +1,16 @@
 -- Each step of a commit that nobody else has met leaves less to pay and to do, or tells.
 use Rattle.kc_machine.proofs.Functions.{put_else, put_here}
-use Rattle.kc_machine.specs.Machine.{State, World, found_at, put, touched}
-use Rattle.kc_machine.specs.Seats.{access_of, after, answer_by, answer_of, is_idle, work_access}
-use Rattle.kc_machine.specs.Works as work
-use Rattle.kc_machine.specs.Works.{Work}
-use Rattle.kc_machine.specs.declared.seat.Seat.{Seat}
+use Rattle.kc_machine.specs.Machine.{World, found_at, put, touched}
 use Rattle.kc_machine_alone.proofs.AidFalls.{IsBounded}
-use Rattle.kc_machine_alone.proofs.Clean.{Begins, PassPays, Pays, PaysOn, Rests, aids, paid_for, passes}
-use Rattle.kc_machine_alone.proofs.Covers.{all_of, install_cover, pass_cover}
-use Rattle.kc_machine_alone.proofs.Left.{aid_left, is_active, own_left, round, stage_left, takes, work_left}
-use Rattle.kc_machine_alone.proofs.Modes.{Ground, each, price, price_le}
+use Rattle.kc_machine_alone.proofs.Clean.{Begins, Pays, PaysOn, Rests, aids, paid_for, passes}
+use Rattle.kc_machine_alone.proofs.Covers.{install_cover}
+use Rattle.kc_machine_alone.proofs.Left.{aid_left, is_active, own_left, round, stage_left, takes}
+use Rattle.kc_machine_alone.proofs.Modes.{Ground}
 use Rattle.kc_machine_alone.proofs.Ranks.{Builds}
 use Rattle.kc_machine_alone.proofs.Rounds.{lives, nothing, rounds}
-use Rattle.kc_machine_alone.proofs.Starting.{fee, paid_filled, paid_started, price_fee}
-use Rattle.kc_machine_alone.specs.Stretches.{begins_aid, stage_begins, step_begins}
-use Rattle.kc_machine_commits.specs.Commits.{after_scan, aid_or_back, commit_access, copy_by, copy_by_own, fill_first, fill_next, fill_or_start, fill_second, gone_on, loaded, onward_by, owed_next, own_access, own_next, stage_access, stage_next, wake_access, wake_next, wake_or_signal}
+use Rattle.kc_machine_alone.proofs.Starting.{paid_filled, paid_started, price_fee}
+use Rattle.kc_machine_alone.specs.Stretches.{stage_begins}
+use Rattle.kc_machine_commits.specs.Commits.{after_scan, aid_or_back, copy_by, copy_by_own, fill_first, fill_next, fill_or_start, fill_second, owed_next, own_access, own_next, stage_access, stage_next, wake_access, wake_next, wake_or_signal}
 use Rattle.kc_machine_commits.specs.Nexts as next
 use Rattle.kc_machine_commits.specs.Nexts.{Next}
 use Rattle.kc_machine_commits.specs.declared.commit.Commit.{Commit}
@@ -27,7 +23,7 @@ use Rattle.kc_machine_pool.specs.Owners.{fills}
 use Rattle.kc_machine_seats.specs.Fits.{AidFits, OwnFits, StageFits, StepFits}
 use Rattle.kc_machine_steps.specs.Aids.{aid_access, aid_copy, aid_next}
 use Rattle.kc_machine_steps.specs.Lines.{after_line, next_line}
-use Rattle.kc_machine_steps.specs.Passes.{from_install, status}
+use Rattle.kc_machine_steps.specs.Passes.{status}
 use Rattle.kc_machine_steps.specs.declared.aid.AidStep.{AidStep}
 use Rattle.kc_machine_steps.specs.declared.aid.Aided.{Aided}
 use Rattle.kc_machine_steps.specs.declared.line.Line.{Line}
@@ -45,8 +41,7 @@ use Rattle.kc_machine_words.specs.declared.words.Phase.TheVariants.{Active, Halt
 use Rattle.kc_machine_words.specs.declared.words.Reference.{Reference}
 use Rattle.kc_machine_words.specs.declared.words.Second.{Second}
 use Rattle.kc_model.specs.declared.word.Word.TheVariants.{Ref}
-use Rattle.std.proofs.Common.{Bool, List, None, Option, Some, ap, arith, false, if◌then◌else◌, inl, inr, refl, subst, sym, true, ℕ, ◌&&◌, ◌+◌, ◌-◌, ◌<◌, ◌==◌, ◌∙◌, ◌≡◌, ◌≢◌, ◌≤◌, ◌⊎◌}
-use Rattle.std.specs.Option.{is_some}
+use Rattle.std.proofs.Common.{Bool, List, None, Option, Some, arith, false, if◌then◌else◌, inl, inr, refl, subst, sym, true, ℕ, ◌+◌, ◌-◌, ◌<◌, ◌==◌, ◌∙◌, ◌≡◌, ◌≢◌, ◌≤◌, ◌⊎◌}
 use Rattle.std.specs.Prelude.{bit_and, bit_or, nat_lt, slice_get}
 
 -- while it fills, its descriptor isn't Active, no other seat owns it, and it is another than descriptor f
@@ -139,10 +134,13 @@ module _ (n : ℕ) (at : ℕ → Hold) (f : ℕ) (some : 1 ≤ n) (w : World) (g
       starts old m =
           let p = paid_started n at w h.descriptor f ready.idle ready.apart h.generation k (λ j g l q. ready.sole j g l q) in
           let z = price_fee n (rounds n at w nothing f 64) (lives n at w) in
-          inl (record {
-            pays = subst (λ y. paid_for n at f (touched w (acc own.Start)) y ≤ old) (sym (install_cover h.descriptor c.intent.mode xs 0)) (omega (arith, p, z, m));
-            live = λ e. put_here w.status h.descriptor (status h.generation Active);
-          }, refl)
+          inl (
+            record {
+              pays = subst (λ y. paid_for n at f (touched w (acc own.Start)) y ≤ old) (sym (install_cover h.descriptor c.intent.mode xs 0)) (omega (arith, p, z, m));
+              live = λ e. put_here w.status h.descriptor (status h.generation Active);
+            },
+            refl,
+          )
 
     aids_on : (j : ℕ) (r : Reference) (s : AidStep) (old : ℕ) → OwnFits c.halted c.intent c.copy (own.Aid j r s) → Builds w c h (own.Aid j r s) → Pays n at f w h (own.Aid j r s) old → Pay (own.Aid j r s) old
     aids_on j r s old y b x = subst (λ t. PaysOn n at f v h d old (515 + (64 - j) + aid_left w r c.copy s) (aid_or_back t j r (aid_next r d s found_there))) (sym open_so)

@@ -121,7 +121,7 @@ module _ (o : Opening) (k : ℕ) (l : k < o.callers) (e : ℕ) (there : e < 3 * 
 
 -- ---- the bound
 
-square : (n : ℕ) → 1 ≤ n → 2 * n ≤ n * n + 1
+pub square : (n : ℕ) → 1 ≤ n → 2 * n ≤ n * n + 1
 square zero l = absurd (omega arith)
 square (suc zero) l = omega arith
 square (suc (suc n)) l = let a = square (suc n) (omega arith) in let q : suc (suc n) * suc (suc n) ≡ suc n * suc n + 2 * suc n + 1 = grind arith in omega (arith, a, q)

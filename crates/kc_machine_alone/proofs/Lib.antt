@@ -26,3 +26,4 @@ pub mod Spares
 pub mod CleanSteps
 pub mod CleanRuns
 pub mod LookRuns
+pub mod Attempts

@@ -37,7 +37,7 @@ use Rattle.kc_model.specs.declared.footprint.Seen.{Seen}
 use Rattle.kc_model.specs.declared.footprint.TheConstants.{LAST_VERSION}
 use Rattle.kc_model.specs.declared.word.Word.TheVariants.{Plain, Ref}
 use Rattle.kc_model.specs.declared.word.Word.{Word}
-use Rattle.std.proofs.Common.{Bool, List, None, Option, Some, [], ap, arith, false, if◌then◌else◌, inl, inr, refl, subst, sym, true, ℕ, ◌*◌, ◌++◌, ◌+◌, ◌<◌, ◌∙◌, ◌∷◌, ◌≡◌, ◌≢◌, ◌≤◌, ◌⊎◌}
+use Rattle.std.proofs.Common.{Bool, List, None, Some, [], ap, arith, false, if◌then◌else◌, inl, inr, refl, subst, sym, true, ℕ, ◌*◌, ◌++◌, ◌+◌, ◌<◌, ◌∙◌, ◌∷◌, ◌≡◌, ◌≢◌, ◌≤◌, ◌⊎◌}
 use Rattle.std.specs.Prelude.{nat_lt}
 use borrow.Author.Tests.{ltb-true}
 
@@ -183,18 +183,22 @@ module _ (o : Opening) (k : ℕ) (l : k < o.callers) (free : ℕ) (there : free 
       where
         go : Moves (run o es').world ((run o es').seats k) t (look_left w t.step) → ((p : ℕ) × (p < sum) × Looked es' p) ⊎ ((q : ℕ) × (q < sum) × Looking es' q)
         go (saw r i y z b) = inl (x.old, (let a = x.enough in omega (arith, a, b)), record { schedule = longer o es k x.schedule; idle = ap is_idle i; seen = r; told = y; at_it = z; rests = rests_on (ap work_hold i); kept = kept_on })
-        go (goes q i z b) = inr (x.old + look_left (run o es').world q, (let a = x.enough in omega (arith, a, b)), record {
-          schedule = longer o es k x.schedule;
-          task = record t { step = q };
-          is = i;
-          here = x.here;
-          unhalted = x.unhalted;
-          knows = z;
-          kept = kept_on;
-          old = x.old;
-          rests = rests_on (ap work_hold i);
-          enough = omega arith;
-        })
+        go (goes q i z b) = inr (
+          x.old + look_left (run o es').world q,
+          (let a = x.enough in omega (arith, a, b)),
+          record {
+            schedule = longer o es k x.schedule;
+            task = record t { step = q };
+            is = i;
+            here = x.here;
+            unhalted = x.unhalted;
+            knows = z;
+            kept = kept_on;
+            old = x.old;
+            rests = rests_on (ap work_hold i);
+            enough = omega arith;
+          },
+        )
 
   -- until it is told
   pub looks_to_end : (es : List Event) (sum : ℕ) → Looking es sum → (n : ℕ) × (p : ℕ) × (n + p ≤ sum) × Looked (es ++ steps k n) p

@@ -19,9 +19,8 @@ use Rattle.kc_machine_steps.specs.declared.pass.PassStep.{PassStep}
 use Rattle.kc_machine_steps.specs.declared.pass.PassStep.TheVariants.{Check, CheckDrop, CheckFirst, CheckHold, CheckStatus, Decide, Install, Release}
 use Rattle.kc_machine_words.specs.declared.words.Phase.{Phase}
 use Rattle.kc_machine_words.specs.declared.words.Reference.{Reference}
-use Rattle.kc_model.specs.declared.word.Word.{Word}
-use Rattle.kc_model.specs.declared.word.Word.TheVariants.{Plain, Ref}
-use Rattle.std.proofs.Common.{Bool, None, Option, Some, ap, arith, false, refl, subst, suc, sym, true, ℕ, ◌&&◌, ◌==◌, ◌<◌, ◌∙◌, ◌≡◌, ◌≤◌}
+use Rattle.kc_model.specs.declared.word.Word.TheVariants.{Plain}
+use Rattle.std.proofs.Common.{Bool, None, Option, Some, arith, false, refl, subst, suc, sym, true, ℕ, ◌==◌, ◌<◌, ◌∙◌, ◌≡◌, ◌≤◌}
 use Rattle.std.specs.Prelude.{slice_get}
 use borrow.Author.Tests.{eq-eqb, eqb-true}
 

@@ -3,7 +3,7 @@ use Rattle.kc_machine.proofs.Functions.{put_cases, put_else}
 use Rattle.kc_machine.specs.Machine.{World, found_at, put, put_some, touched}
 use Rattle.kc_machine.specs.Words.{control, gripped}
 use Rattle.kc_machine_alone.proofs.Left.{takes}
-use Rattle.kc_machine_commits.specs.Commits.{after_scan, copy_by, fill_first, fill_second, own_access, own_next, scan_next, stage_access, stage_next, take_next, tells_or_goes, wake_access}
+use Rattle.kc_machine_commits.specs.Commits.{after_scan, copy_by, fill_first, fill_second, own_access, stage_access, stage_next, wake_access}
 use Rattle.kc_machine_commits.specs.Nexts as next
 use Rattle.kc_machine_commits.specs.Nexts.{Next}
 use Rattle.kc_machine_commits.specs.declared.commit.Commit.{Commit}
@@ -23,8 +23,6 @@ use Rattle.kc_machine_steps.specs.declared.pass.PassStep.TheVariants.{Check, Che
 use Rattle.kc_machine_steps.specs.declared.pass.PassStep.{PassStep}
 use Rattle.kc_machine_words.specs.declared.access.Access.TheVariants as access
 use Rattle.kc_machine_words.specs.declared.access.Access.{Access}
-use Rattle.kc_machine_words.specs.declared.access.Found.TheVariants as found
-use Rattle.kc_machine_words.specs.declared.access.Found.{Found}
 use Rattle.kc_machine_words.specs.declared.access.Grip.TheVariants as grip
 use Rattle.kc_machine_words.specs.declared.access.Grip.{Grip}
 use Rattle.kc_machine_words.specs.declared.words.Control.{Control}
@@ -32,7 +30,7 @@ use Rattle.kc_machine_words.specs.declared.words.Handle.{Handle}
 use Rattle.kc_machine_words.specs.declared.words.Reference.{Reference}
 use Rattle.kc_machine_steps.specs.declared.task.Told.TheVariants as told
 use Rattle.kc_model.specs.declared.footprint.Loc.{Loc}
-use Rattle.std.proofs.Common.{Bool, List, None, Option, Some, ap, arith, false, if◌then◌else◌, inl, inr, refl, sym, true, ℕ, ◌&&◌, ◌+◌, ◌-◌, ◌<◌, ◌==◌, ◌∙◌, ◌≡◌, ◌≢◌, ◌⊎◌}
+use Rattle.std.proofs.Common.{Bool, List, None, Option, Some, ap, arith, false, if◌then◌else◌, inl, inr, refl, sym, true, ℕ, ◌+◌, ◌-◌, ◌==◌, ◌∙◌, ◌≡◌, ◌≢◌, ◌⊎◌}
 use Rattle.std.specs.Prelude.{nat_lt, slice_get}
 use borrow.Author.Tests.{eqb-false, eqb-true}
 

@@ -1,7 +1,7 @@
 -- What there is to pay for rounds before a life starts, at its start, and where a seat comes to own another life or none.
 use Rattle.kc_machine.proofs.Functions.{put_else}
 use Rattle.kc_machine.specs.Machine.{World, put}
-use Rattle.kc_machine_alone.proofs.Covers.{all_of, left_word, or_mono, Lefts}
+use Rattle.kc_machine_alone.proofs.Covers.{all_of, left_word, or_mono}
 use Rattle.kc_machine_alone.proofs.Left.{is_active}
 use Rattle.kc_machine_alone.proofs.Modes.{each, paid, price, price_le}
 use Rattle.kc_machine_alone.proofs.Ranks.{life_most}

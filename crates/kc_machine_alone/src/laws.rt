@@ -5,6 +5,7 @@ ghost use Rattle.kc_machine_steps.specs.declared.task.Event.{Event};
 ghost use Rattle.kc_machine.specs.Machine.{Opening};
 ghost use Rattle.kc_machine.specs.Schedules.{IsSchedule};
 ghost use Rattle.kc_machine_claims.specs.Claims.{AloneItIsTold};
+ghost use Rattle.kc_machine_alone.specs.Attempts.{AttemptsEnd};
 ghost use Rattle.kc_machine_alone.specs.Stretches.{StretchesEnd};
 
 /// Where the tasks are well made and a descriptor can be taken, a seat that steps alone is told within (callers + 1)² · 4 · lines²
@@ -18,4 +19,10 @@ pub fn alone_it_is_told()
 /// commit that meets no other is told.
 pub fn stretches_end()
     ensures { (o : Opening) (es : List Event) → IsSchedule o es → StretchesEnd o es }
+{}
+
+/// Where the tasks are well made and two descriptors can be taken, a whole attempt of an idle seat that steps alone ends within the
+/// bound of one task: it looks at each location, commits in mode Light, and in mode All exactly where that was crossed.
+pub fn attempts_end()
+    ensures { (o : Opening) (es : List Event) → IsSchedule o es → AttemptsEnd o es }
 {}
