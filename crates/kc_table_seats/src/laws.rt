@@ -12,7 +12,7 @@ ghost use Rattle.kc_machine.specs.Seats.{begun, is_idle};
 ghost use Rattle.kc_machine_traces.specs.Entries.{by};
 ghost use Rattle.kc_machine_traces.specs.Outcomes.{GainsAsTold};
 ghost use Rattle.kc_table_moves.specs.Straight.{Ran};
-ghost use Rattle.kc_table.specs.Tasks.{Does, Keeps, Saw};
+ghost use Rattle.kc_table_seats.specs.Tasks.{Does, Keeps, Saw};
 ghost use Rattle.kc_table_moves.specs.Views.{Learns, SeatView, Starts, Stepped, knows};
 
 /// The first step of a seat that has begun a task shows this task.

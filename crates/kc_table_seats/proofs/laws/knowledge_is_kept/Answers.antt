@@ -1,5 +1,5 @@
-use Rattle.kc_table.proofs.Keeping.{steps_keep, loads_keep}
-use Rattle.kc_table.proofs.laws.knowledge_is_kept.Goals as goal
+use Rattle.kc_table_seats.proofs.Keeping.{steps_keep, loads_keep}
+use Rattle.kc_table_seats.proofs.laws.knowledge_is_kept.Goals as goal
 
 pub returns-clause-steps : goal.returns-clause-steps
 returns-clause-steps c = steps_keep

@@ -16,7 +16,7 @@ use Rattle.kc_machine_traces.proofs.Joins.{made_parts, honest_parts}
 use Rattle.kc_machine_traces.proofs.Others.{history_kept}
 use Rattle.kc_machine_traces.specs.Entries.{by}
 use Rattle.kc_machine_traces.specs.Outcomes.{GainsAsTold}
-use Rattle.kc_table.specs.Tasks.{Does, Keeps, Saw}
+use Rattle.kc_table_seats.specs.Tasks.{Does, Keeps, Saw}
 use Rattle.kc_table_moves.specs.Origins.{opening_of}
 use Rattle.kc_table_moves.specs.Views.{SeatView, Learns, Stepped, knows, opening_at_seat}
 use Rattle.kc_table_views.proofs.Knowing.{grows_on, known_on, versions_on, gains_none}

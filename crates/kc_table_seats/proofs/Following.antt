@@ -11,7 +11,7 @@ use Rattle.kc_machine_steps.specs.declared.task.Event.TheVariants.{Begin, Step}
 use Rattle.kc_machine_steps.specs.declared.task.Task.{Task}
 use Rattle.kc_machine_traces.proofs.Others.{others_leave}
 use Rattle.kc_machine_traces.specs.Moments.{BeginsNothing}
-use Rattle.kc_table.specs.Tasks.{Does}
+use Rattle.kc_table_seats.specs.Tasks.{Does}
 use Rattle.kc_table_moves.specs.Origins.{opening_of}
 use Rattle.kc_table_moves.specs.Rule.{number_of, past_of, Steps, Moved}
 use Rattle.kc_table_moves.specs.Views.{SeatView, Starts, Stepped, opening_at_seat}
