@@ -95,11 +95,11 @@ past_put s (x ∷ h) r legal reads low high = go (λ l. past_put (after x.entry.
 put_found : (ps : List Put) (p : Put) → Contains ps p → is_some (put_at ps p.loc.0) ≡ true
 put_found [] p c = absurd (omega (arith, c.1))
 put_found (q ∷ ps) p (zero, l, e) = rw (eq-eqb q.loc.0 p.loc.0 (ap (λ (x : Put). x.loc.0) e)) refl
-put_found (q ∷ ps) p (suc i, l, e) = go (q.loc.0 == p.loc.0)
+put_found (q ∷ ps) p (suc i, l, e) = go (q.loc.0 == p.loc.0) (put_found ps p (i, omega arith, e))
   where
-    go : (b : Bool) → is_some (cond b (Some q) (put_at ps p.loc.0)) ≡ true
-    go true = refl
-    go false = put_found ps p (i, omega arith, e)
+    go : (b : Bool) → is_some (put_at ps p.loc.0) ≡ true → is_some (cond b (Some q) (put_at ps p.loc.0)) ≡ true
+    go true r = refl
+    go false r = r
 
 put_raises : (o : Option Put) (c : Cell) → is_some o ≡ true → (cell_after o c).version ≡ c.version + 1
 put_raises None c e = absurd (cc)

@@ -65,9 +65,6 @@ module _ (v w : SeatView) (s : Stepped v w) where
 
   -- ---- who wasn't halted
 
-  abbrev IsFree : Seat → Type 0
-  IsFree r = (r.told ≢ Some told.Halted) × (was_halted r ≡ false)
-
   never : is_idle v.seat.work ≡ false → was_halted v.seat ≡ false → Stopped w.seat → ⊥
   never busy clear y = ⊎_elim was next (event_stops o before k s.steps.within (Step k) (subst Stopped at y))
     where
