@@ -112,14 +112,14 @@ begins_free s t idle busy = subst IsFree (sym is) (at t (ap (λ (r : Seat). is_i
     fresh x e = ((λ q. absurd (cc)), e)
 
     at : (t : Task) → is_idle (begun_idle s t).work ≡ false → IsFree (begun_idle s t)
-    at (task.Look l) b = fresh _ refl
-    at (task.Commit f m) b = fresh _ refl
+    at (task.Look l) b = fresh (begun_idle s (task.Look l)).work refl
+    at (task.Commit f m) b = fresh (begun_idle s (task.Commit f m)).work refl
     at (task.Hang reads) b = go s.blocked b
       where
         go : (c : Bool) → is_idle (if c then s else working s (hanging reads.items)).work ≡ false → IsFree (if c then s else working s (hanging reads.items))
         go true q = absurd (cc)
-        go false q = fresh _ refl
-    at (task.Leave reads) b = fresh _ refl
+        go false q = fresh (hanging reads.items) refl
+    at (task.Leave reads) b = fresh (begun_idle s (task.Leave reads)).work refl
 
 pub free_ran : (v w : SeatView) (t : Task) → Starts v t → Ran v t w → IsFree w.seat
 free_ran v w t st r = free_steps (begun_at v t) w r.steps (begins_free v.seat t st.0 st.1)
