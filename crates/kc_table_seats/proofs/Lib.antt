@@ -3,3 +3,4 @@ pub mod Keeping
 pub mod Running
 pub mod Halting
 pub mod Stopping
+pub mod TaskKinds

@@ -21,7 +21,7 @@ ghost use Rattle.kc_table_views.specs.Tasks.{FailureTaught, SuccessTaught};
 ghost use Rattle.kc_table_moves.specs.Straight.{Ran, StepsTo};
 ghost use Rattle.kc_table_seats.specs.Tasks.{Does, Keeps, Saw};
 ghost use Rattle.kc_table_moves.specs.Views.{Learns, SeatView, Starts, Stepped, knows, opening_at_seat};
-ghost use Rattle.kc_table_seats.specs.Halts.{is_halted, may_halt, steps_left, was_halted};
+ghost use Rattle.kc_table_seats.specs.Halts.{is_halted, may_halt, steps_left, task_may_halt, was_halted};
 
 /// The first step of a seat that has begun a task shows this task.
 pub fn what_was_begun_is_known()
@@ -69,6 +69,11 @@ pub fn failures_teach_their_seat()
 /// known before the look.
 pub fn what_was_put_has_passed()
     ensures { (v w : SeatView) (t : Task) (r : Seen) → Does v t w → HasPut (knows v) r → r.version < (ending (first_store (opening_at_seat v)) (knows v) r.loc.0).version }
+{}
+
+/// While a task runs, the seat does what the task asks: a look or a commit, which may be halted, or a hang or a leave.
+pub fn tasks_keep_their_kind()
+    ensures { (v w : SeatView) (t : Task) → Does v t w → is_idle w.seat.work ≡ false → may_halt w.seat.work ≡ task_may_halt t }
 {}
 
 /// A halt ends the look or commit that runs, or sends it straight to its end.
