@@ -4,3 +4,5 @@ pub mod Running
 pub mod Halting
 pub mod Stopping
 pub mod TaskKinds
+pub mod Wearing
+pub mod Causing
