@@ -2,7 +2,7 @@
 use Rattle.std.proofs.Common.{◌≡◌, ◌≢◌, ◌<◌, ◌++◌, ◌==◌, ◌∙◌, ◌&&◌, not, ℕ, Bool, true, false, List, [], ◌∷◌, Option, None, Some, refl, sym, ap, subst, if◌then◌else◌}
 use Rattle.std.specs.Prelude.{slice_get}
 use borrow.Author.Tests.{eqb-false, eqb-true}
-use Rattle.kc_machine.specs.Hangs.{hang_after, hang_onward, hang_step, hangs_on, leave_after, leave_onward, next_read, onward_of, unblocks_or_tells}
+use Rattle.kc_machine.specs.Hangs.{hang_step, hangs_on, leave_after, next_read, onward_of, unblocks_or_tells}
 use Rattle.kc_machine.specs.Machine.{Opening, State, event_of, found_at, run, seat_of}
 use Rattle.kc_machine.specs.Schedules.{IsSchedule}
 use Rattle.kc_machine.specs.Seats.{access_of, after, answer_by, answer_of, begun, begun_idle, blocked_by, ended, halted, halted_by, hanging, is_idle, working}
@@ -29,7 +29,6 @@ use Rattle.kc_machine_steps.specs.declared.task.Event.{Event}
 use Rattle.kc_machine_steps.specs.declared.task.Event.TheVariants.{Begin, Halt, Step}
 use Rattle.kc_machine_steps.specs.declared.task.Task.{Task}
 use Rattle.kc_machine_steps.specs.declared.task.Task.TheVariants as task
-use Rattle.kc_machine_steps.specs.declared.task.Told.{Told}
 use Rattle.kc_machine_steps.specs.declared.task.Told.TheVariants as told
 use Rattle.kc_machine_traces.proofs.Answers.{answers_when_done, moved, seat_cases}
 use Rattle.kc_machine_traces.proofs.Joins.{every, made_parts}

@@ -1,5 +1,5 @@
 -- What a seat was told, by what holds of the schedule that it knows.
-use Rattle.std.proofs.Common.{arith, ◌≡◌, ◌<◌, ◌⊎◌, ◌∙◌, ◌++◌, ℕ, true, false, List, [], ◌∷◌, Contains, Some, refl, sym, ap, subst, append_assoc}
+use Rattle.std.proofs.Common.{arith, ◌≡◌, ◌⊎◌, ◌∙◌, ◌++◌, ℕ, true, false, List, ◌∷◌, Contains, Some, refl, sym, ap, subst, append_assoc}
 use Rattle.std.specs.Prelude.{All as EachOf}
 use Rattle.kc_machine.specs.Machine.{Opening, run}
 use Rattle.kc_machine.specs.Schedules.{IsSchedule}

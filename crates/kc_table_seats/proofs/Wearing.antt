@@ -1,5 +1,5 @@
 -- Where no life is left none comes back, and no commit takes a descriptor.
-use Rattle.std.proofs.Common.{arith, ◌≡◌, ◌<◌, ◌≤◌, ◌⊎◌, inl, inr, ◌∙◌, ◌+◌, ◌-◌, ◌++◌, ◌==◌, ◌&&◌, ℕ, Bool, true, false, List, [], ◌∷◌, Option, None, Some, refl, sym, ap, subst, if◌then◌else◌, append_assoc, append-nil}
+use Rattle.std.proofs.Common.{arith, ◌≡◌, ◌<◌, ◌≤◌, inl, inr, ◌∙◌, ◌+◌, ◌-◌, ◌++◌, ◌==◌, ◌&&◌, ℕ, Bool, true, false, List, [], ◌∷◌, Option, None, Some, refl, sym, ap, subst, if◌then◌else◌, append_assoc, append-nil}
 use Rattle.std.specs.Prelude.{nat_lt}
 use borrow.Author.Tests.{eqb-false, eqb-true, ltb-true}
 use Rattle.kc_machine.proofs.Functions.{both, put_cases, put_here}
