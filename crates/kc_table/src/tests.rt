@@ -1,7 +1,7 @@
 ghost use Rattle.std.specs.Prelude.{◌≡◌, ◌<◌, ◌≤◌, [], false, All, IfOk, IfSome, Contains, length};
 ghost use Rattle.kc_model.specs.Footprint.{Reads};
 ghost use Rattle.kc_model.specs.declared.footprint.Seen.{Seen};
-ghost use Rattle.kc_table.specs.Tasks.{IsSameSeat, KnowsRead};
+ghost use Rattle.kc_table_seats.specs.Tasks.{IsSameSeat, KnowsRead};
 ghost use Rattle.kc_table_moves.specs.Views.{AreAll};
 
 use crate::{KcSeat, KcTable};

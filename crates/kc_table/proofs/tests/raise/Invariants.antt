@@ -1,5 +1,5 @@
 use Rattle.std.proofs.Common.{◌≡◌}
-use Rattle.kc_table.specs.Tasks.{IsSameSeat}
+use Rattle.kc_table_seats.specs.Tasks.{IsSameSeat}
 use Rattle.kc_table.proofs.tests.raise.Given as goal
 
 abbrev pub invariant-loop : goal.invariant-loop
