@@ -1,4 +1,5 @@
 pub mod ContentLemmas
+pub mod OpeningLemmas
 pub mod PayContent
 pub mod PayLemmas
 pub mod TermLemmas

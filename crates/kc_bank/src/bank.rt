@@ -1,10 +1,11 @@
 //! A bank's structures on one store, and what it does to them.
 
-ghost use Rattle.std.specs.Prelude.{◌≡◌, ◌≤◌, ◌<◌, ◌+◌, ⊤, IfOk, OnOk, vec_len};
+ghost use Rattle.std.specs.Prelude.{◌≡◌, ◌≤◌, ◌<◌, ◌+◌, ◌++◌, ⊤, IfOk, OnOk};
 ghost use Rattle.kc_hash.specs.Meaning.{hash_cells};
 ghost use Rattle.kc_queue.specs.Meaning.{queue_cells};
 ghost use Rattle.kc_bank.specs.declared.bank.TheConstants.{BANK_CELLS};
 ghost use Rattle.kc_bank.specs.Asked.{count_one, count_told, give, line_up, look_up, on_accounts, pay_from};
+ghost use Rattle.kc_bank.specs.Opening.{empty_bank, empty_line, no_accounts};
 ghost use Rattle.kc_bank.specs.Places.{AccountsWithin, LineWithin};
 ghost use Rattle.kc_bank.specs.Bank.{BankIsFit, LiesInBank, bank_meaning, bank_op_end, credit_end, credit_meaning, credit_of, find_of, next_of, pay_end, pay_meaning, put_of};
 
@@ -53,7 +54,7 @@ impl Bank {
 
     /// What its cells open with, from location 0 on.
     pub fn opening(&self, alloc: Global) -> Result<Vec<u32>, AllocError>
-        ensures { IfOk result (λ values. vec_len values ≡ BANK_CELLS) }
+        ensures { IfOk result (λ values. values.items ≡ empty_bank self.now.accounts self.now.line self.now.urgent) }
     {
         let mut values = Vec::new(alloc);
         values.push(0)?;
@@ -125,7 +126,7 @@ impl Bank {
 }
 
 fn push_accounts(values: &mut Vec<u32>, accounts: &Hash) -> Result<(), AllocError>
-    ensures { OnOk result (vec_len values.new ≡ vec_len values.old + hash_cells accounts.now) }
+    ensures { OnOk result (values.new.items ≡ values.old.items ++ no_accounts accounts.now) }
 {
     for index in 0..accounts.cells() {
         values.push(accounts.opening(index))?;
@@ -134,7 +135,7 @@ fn push_accounts(values: &mut Vec<u32>, accounts: &Hash) -> Result<(), AllocErro
 }
 
 fn push_line(values: &mut Vec<u32>, line: &Queue) -> Result<(), AllocError>
-    ensures { OnOk result (vec_len values.new ≡ vec_len values.old + queue_cells line.now) }
+    ensures { OnOk result (values.new.items ≡ values.old.items ++ empty_line line.now) }
 {
     for index in 0..line.cells() {
         values.push(line.opening(index))?;

@@ -10,7 +10,9 @@ ghost use Rattle.kc_bank.specs.Bank.{LieInBank, LiesInBank, bank_meaning};
 
 use crate::bank::{BANK_CELLS, Bank, BankOp};
 use anyhow::{Result, anyhow};
+use kc_hash::opens_empty as accounts_open_empty;
 use kc_model::{Footprint, PlainStore};
+use kc_queue::opens_empty as lines_open_empty;
 use kc_term::Term;
 use kc_xt::{Transact, Tried, commit};
 use std::alloc::Global;
@@ -27,9 +29,14 @@ pub struct Teller {
 
 impl Teller {
     ghost use Rattle.kc_bank.specs.Committed.{Commits, CommitsTerm, asked_meaning};
+    ghost use Rattle.kc_bank.specs.Opened.{OpensEmpty};
 
     /// A bank with no accounts, and empty lines.
-    pub fn open(alloc: Global) -> Result<Teller> {
+    pub fn open(alloc: Global) -> Result<Teller>
+        ensures { IfOk result OpensEmpty }
+    {
+        accounts_open_empty();
+        lines_open_empty();
         let bank = Bank::new();
         let values = bank.opening(alloc)?;
         match PlainStore::open(alloc, values.as_slice()) {

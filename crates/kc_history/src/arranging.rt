@@ -150,7 +150,7 @@ fn find_order(
     requires few { length next.old < 2 ^ 32 }
     requires made { AllWellMade (length versions.old) records.now }
     requires locations { length starts.old ≡ length versions.old + 1 }
-    requires counts { length starts.old + 64 * length order.old ≤ length left.old }
+    requires counts { length starts.old + MOST * length order.old ≤ length left.old }
     requires bytes { length left.old < 2 ^ 64 }
     requires records { records_in records.now ≤ length order.old }
     requires short { length order.old < 2 ^ 32 }

@@ -1,6 +1,7 @@
 //! The counts of reads and puts from which the order is made.
 
 ghost use Rattle.std.specs.Prelude.{◌≡◌, ℕ, ◌+◌, ◌-◌, ◌*◌, ◌^◌, ◌<◌, ◌≤◌, All, List, length, slice_index, sum, sum_by, take};
+ghost use Rattle.kc_model.specs.declared.footprint.TheConstants.{MOST};
 ghost use Rattle.kc_history.specs.Counts.{AllWellMade, Counted, Forgets, Slots, putters, readers, records_in, slot, width};
 
 use crate::record::Record;
@@ -63,9 +64,9 @@ fn sum_up(widths: &mut [usize])
 
 fn count_list_puts(list: &[Record], widths: &mut [usize])
     requires below { All (λ r. All (λ p. p.loc.0 < length widths.old) r.footprint.puts.items) list.now }
-    requires room { sum widths.old + 64 * length list.now < 2 ^ 64 }
+    requires room { sum widths.old + MOST * length list.now < 2 ^ 64 }
     ensures counts { (l : ℕ) → l < length widths.old → slice_index widths.new l ≡ slice_index widths.old l + sum_by (λ r. putters l r.footprint.puts.items) list.now }
-    ensures sum { sum widths.new ≤ sum widths.old + 64 * length list.now }
+    ensures sum { sum widths.new ≤ sum widths.old + MOST * length list.now }
 {
     for commit in list {
         count_puts(commit.footprint.puts.as_slice(), widths);
@@ -74,9 +75,9 @@ fn count_list_puts(list: &[Record], widths: &mut [usize])
 
 fn count_all_puts(records: &[Vec<Record>], widths: &mut [usize])
     requires below { All (λ list. All (λ r. All (λ p. p.loc.0 < length widths.old) r.footprint.puts.items) list.items) records.now }
-    requires room { sum widths.old + 64 * records_in records.now < 2 ^ 64 }
+    requires room { sum widths.old + MOST * records_in records.now < 2 ^ 64 }
     ensures counts { (l : ℕ) → l < length widths.old → slice_index widths.new l ≡ slice_index widths.old l + sum_by (λ list. sum_by (λ r. putters l r.footprint.puts.items) list.items) records.now }
-    ensures sum { sum widths.new ≤ sum widths.old + 64 * records_in records.now }
+    ensures sum { sum widths.new ≤ sum widths.old + MOST * records_in records.now }
 {
     for list in records {
         count_list_puts(list.as_slice(), widths);
@@ -86,9 +87,9 @@ fn count_all_puts(records: &[Vec<Record>], widths: &mut [usize])
 fn count_list_reads(list: &[Record], starts: &[usize], left: &mut [usize])
     requires slots { Slots starts.now (length left.old) }
     requires below { All (λ c. All (λ r. r.loc.0 + 1 < length starts.now) c.footprint.reads.items) list.now }
-    requires room { (k : ℕ) → slice_index left.old k + 64 * length list.now < 2 ^ 64 }
+    requires room { (k : ℕ) → slice_index left.old k + MOST * length list.now < 2 ^ 64 }
     ensures counts { (l v : ℕ) → l + 1 < length starts.now → v < width starts.now l → slice_index left.new (slot starts.now l v) ≡ slice_index left.old (slot starts.now l v) + sum_by (λ r. readers l v r.footprint.reads.items) list.now }
-    ensures most { (k : ℕ) → slice_index left.new k ≤ slice_index left.old k + 64 * length list.now }
+    ensures most { (k : ℕ) → slice_index left.new k ≤ slice_index left.old k + MOST * length list.now }
 {
     for commit in list {
         count_reads(commit.footprint.reads.as_slice(), starts, left);
@@ -98,7 +99,7 @@ fn count_list_reads(list: &[Record], starts: &[usize], left: &mut [usize])
 fn count_all_reads(records: &[Vec<Record>], starts: &[usize], left: &mut [usize])
     requires slots { Slots starts.now (length left.old) }
     requires below { All (λ list. All (λ c. All (λ r. r.loc.0 + 1 < length starts.now) c.footprint.reads.items) list.items) records.now }
-    requires room { (k : ℕ) → slice_index left.old k + 64 * records_in records.now < 2 ^ 64 }
+    requires room { (k : ℕ) → slice_index left.old k + MOST * records_in records.now < 2 ^ 64 }
     ensures { (l v : ℕ) → l + 1 < length starts.now → v < width starts.now l → slice_index left.new (slot starts.now l v) ≡ slice_index left.old (slot starts.now l v) + sum_by (λ list. sum_by (λ r. readers l v r.footprint.reads.items) list.items) records.now }
 {
     for list in records {
@@ -135,7 +136,7 @@ fn make_ones(counts: &mut [usize])
 pub(crate) fn count_records(records: &[Vec<Record>], starts: &mut [usize], left: &mut [usize])
     requires made { AllWellMade (length starts.old - 1) records.now }
     requires one { 0 < length starts.old }
-    requires room { length starts.old + 64 * records_in records.now ≤ length left.old }
+    requires room { length starts.old + MOST * records_in records.now ≤ length left.old }
     requires short { length left.old < 2 ^ 64 }
     ensures { (next versions : List ℕ) → length starts.new ≡ length versions + 1 → ((u : ℕ) → slice_index next u ≡ 0) → ((l : ℕ) → slice_index versions l ≡ 0) → Counted records.now next versions starts.new left.new }
 {

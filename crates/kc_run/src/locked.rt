@@ -6,7 +6,7 @@ ghost use Rattle.kc_run.specs.Shared.{count_from};
 ghost use Rattle.kc_run.specs.Locked.{AllDealt, shares_of};
 
 use crate::shared::Shared;
-use kc_locked::{LockPass, LockPast, LockedStore};
+use kc_locked::{LockPass, LockPast, LockedStore, MOST_CALLERS};
 use kc_model::{Answer, Footprint, MOST_LOCATIONS, NoMemory};
 use kc_script_bundle::{Command, MOST_COMMANDS};
 use kc_xt::Transact;
@@ -69,7 +69,7 @@ pub fn open_locked(
     threads: &[Vec<Command>],
 ) -> Result<(LockedStore, Vec<LockPass>), NoMemory>
     requires values { length values.now ≤ MOST_LOCATIONS }
-    requires threads { (0 < length threads.now) × (length threads.now ≤ 64) }
+    requires threads { (0 < length threads.now) × (length threads.now ≤ MOST_CALLERS) }
     requires commands { All (λ v. length v.items ≤ MOST_COMMANDS) threads.now }
     ensures opening { IfOk result (λ r. r.0.opening ≡ values.now) }
     ensures callers { IfOk result (λ r. length threads.now ≡ r.0.callers) }

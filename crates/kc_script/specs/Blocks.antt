@@ -8,6 +8,7 @@ use Rattle.kc_script_lines.specs.declared.fault.Limit.TheVariants.{Commands as C
 use Rattle.kc_script_lines.specs.declared.fault.Why.{Why}
 use Rattle.kc_script_lines.specs.declared.fault.Why.TheVariants.{StrayWord, TooMany}
 use Rattle.kc_term.specs.Tree.{Tree, op, seq, first, trees, all_operations, nesting}
+use Rattle.kc_term.specs.declared.term.TheConstants.{MOST_OPERATIONS}
 use Rattle.kc_script_bundle.specs.declared.operation.Command.TheVariants as command
 
 -- a block that is open: the level where its lines stand, the alternatives that are done, and the parts of the one that is not
@@ -29,7 +30,7 @@ good x = Ok x
 
 unfoldable pub sequence : List (Tree Op) → Result (Tree Op) Why
 sequence parts = do
-  few ← wants (nat_le (length (all_operations (trees parts))) 16) (TooMany BlockLimit)
+  few ← wants (nat_le (length (all_operations (trees parts))) MOST_OPERATIONS) (TooMany BlockLimit)
   Ok (seq (trees parts))
 
 unfoldable pub either : Tree Op → Tree Op → Result (Tree Op) Why
@@ -65,7 +66,7 @@ counted_up p [] = do
   room ← wants (nat_lt (length p.here) MOST_COMMANDS) (TooMany CommandsLimit)
   Ok 0
 counted_up p (b ∷ outer) = do
-  room ← wants (nat_lt p.count 16) (TooMany BlockLimit)
+  room ← wants (nat_lt p.count MOST_OPERATIONS) (TooMany BlockLimit)
   Ok (p.count + 1)
 
 -- an operation where the lines stand

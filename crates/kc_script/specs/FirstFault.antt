@@ -1,8 +1,9 @@
 -- The first fault of bytes that spell no script: each line has its tests, in their order, by what the lines before it were.
-use Rattle.std.specs.Prelude.{ℕ, ◌+◌, Bool, true, false, not, ◌&&◌, List, [], ◌∷◌, ◌++◌, codes, Option, Some, None, is_some, nat_le, nat_lt, if◌then◌else◌}
+use Rattle.std.specs.Prelude.{ℕ, ◌+◌, ◌-◌, Bool, true, false, not, ◌&&◌, List, [], ◌∷◌, ◌++◌, codes, Option, Some, None, is_some, nat_le, nat_lt, if◌then◌else◌}
 use Rattle.std.specs.Option.{option_or, option_map}
 use Rattle.std.specs.Str.{bytes_eq}
-use Rattle.kc_script_bundle.specs.declared.bundle.TheConstants.{MOST_COMMANDS}
+use Rattle.kc_model.specs.declared.plain_store.TheConstants.{MOST_LOCATIONS}
+use Rattle.kc_script_bundle.specs.declared.bundle.TheConstants.{MOST_COMMANDS, MOST_THREADS}
 use Rattle.kc_script_lines.specs.Tests.{word_at, first_failing}
 use Rattle.kc_script_lines.specs.Words.{lines, words, is_skipped}
 use Rattle.kc_script_lines.specs.declared.fault.Limit.TheVariants.{Locations, Threads as ThreadsLimit, Commands as CommandsLimit, Block as BlockLimit, Depth}
@@ -13,6 +14,7 @@ use Rattle.kc_script_verbs.specs.declared.word.Word.TheVariants as word
 use Rattle.kc_script.specs.Spells.{Line}
 use Rattle.kc_script_verbs.specs.Fields.{Field, Kinds, kind_fields, verb_fields, args_tests, size_of}
 use Rattle.kc_script_verbs.specs.Words.{word_of}
+use Rattle.kc_term.specs.declared.term.TheConstants.{MOST_OPERATIONS}
 
 -- a fault: its line, counted from 1, and its reason
 abbrev pub Fault : Type 0
@@ -101,15 +103,15 @@ fields_of (word.Say v) = verb_fields v
 
 -- there is room for one more command or block: in the thread, or in the outermost block that is open
 abbrev pub room_tests : Context → List (Bool × Why)
-room_tests c = if in_block c then (nat_lt c.count 16, TooMany BlockLimit) ∷ [] else (nat_lt c.commands MOST_COMMANDS, TooMany CommandsLimit) ∷ []
+room_tests c = if in_block c then (nat_lt c.count MOST_OPERATIONS, TooMany BlockLimit) ∷ [] else (nat_lt c.commands MOST_COMMANDS, TooMany CommandsLimit) ∷ []
 
 -- the limits are kept
 abbrev pub limit_tests : Context → Word → List (List ℕ) → List (Bool × Why)
-limit_tests c word.Thread args = (nat_lt (thread_after c.thread) 16, TooMany ThreadsLimit) ∷ []
+limit_tests c word.Thread args = (nat_lt (thread_after c.thread) MOST_THREADS, TooMany ThreadsLimit) ∷ []
 limit_tests c word.Atomic args = room_tests c ++ (nat_le (level_below c.blocks) 8, TooMany Depth) ∷ []
 limit_tests c word.Or args = (nat_lt (level_in c.blocks) 8, TooMany Depth) ∷ []
 limit_tests c word.End args = []
-limit_tests c (word.Declare k) args = (nat_le (c.cells + size_of k args) 65535, TooMany Locations) ∷ []
+limit_tests c (word.Declare k) args = (nat_le (c.cells + size_of k args) (MOST_LOCATIONS - 1), TooMany Locations) ∷ []
 limit_tests c (word.Say v) args = room_tests c
 
 -- some line begins with the word, it can stand here, the words behind it are as they should be, and the limits are kept

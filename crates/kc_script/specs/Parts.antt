@@ -3,7 +3,7 @@ use Rattle.std.specs.Prelude.{◌≡◌, ℕ, ◌+◌, ◌≤◌, ◌<◌, false
 use Rattle.std.specs.Option.{option_or, option_map}
 use Rattle.kc_script.specs.declared.part_error.PartError.{PartError}
 use Rattle.kc_script_bundle.specs.Script.{Names, Script}
-use Rattle.kc_script_bundle.specs.declared.bundle.TheConstants.{MOST_COMMANDS}
+use Rattle.kc_script_bundle.specs.declared.bundle.TheConstants.{MOST_COMMANDS, MOST_THREADS}
 use Rattle.kc_script_bundle.specs.declared.operation.Command.{Command}
 use Rattle.kc_script_lines.specs.Words.{lines, words, is_skipped}
 use Rattle.kc_script.specs.declared.part_error.PartError.TheVariants as error
@@ -14,7 +14,7 @@ use Rattle.kc_script.specs.Spells.{Line, contents, header, Declare, Say}
 pub data Files (names : Names) : ℕ → List (List ℕ) → List (List Command) → Type 0 where
   none : {thread : ℕ} → Files names thread [] []
   one : {thread : ℕ} {file : List ℕ} {files : List (List ℕ)} {commands : List Command} {threads : List (List Command)} →
-      thread < 16 → Say thread names (contents file) commands → length commands ≤ MOST_COMMANDS →
+      thread < MOST_THREADS → Say thread names (contents file) commands → length commands ≤ MOST_COMMANDS →
       Files names (thread + 1) files threads → Files names thread (file ∷ files) (commands ∷ threads)
 
 -- the parts spell the script: the setup is a header and declarations, and each file is a thread

@@ -10,6 +10,7 @@ use Rattle.kc_script_lines.specs.declared.complaint.Complaint.TheVariants as com
 use Rattle.kc_script_lines.specs.declared.fault.ScriptError.{ScriptError}
 use Rattle.kc_script_lines.specs.declared.fault.ScriptError.TheVariants as error
 use Rattle.kc_script_bundle.specs.Script.{Names, Script, names_of}
+use Rattle.kc_script_bundle.specs.declared.bundle.TheConstants.{MOST_THREADS}
 use Rattle.kc_script_bundle.specs.declared.object.Object.{Object}
 use Rattle.kc_script_bundle.specs.declared.operation.Command.{Command}
 use Rattle.kc_script_bundle.specs.declared.operation.Op.{Op}
@@ -118,7 +119,7 @@ thread_line s args = do
   ended ← no_block s
   here ← wants s.whole StrayWord
   all ← counted 0 args
-  room ← wants (nat_lt (next_thread s.thread) 16) (TooMany Threads)
+  room ← wants (nat_lt (next_thread s.thread) MOST_THREADS) (TooMany Threads)
   Ok (begun_thread s (next_thread s.thread))
 
 unfoldable pub worded_line : State → Option Word → List (List ℕ) → Result State Why

@@ -1,11 +1,12 @@
 -- The grammar of bundles: which script bytes spell.
 use Rattle.std.specs.Prelude.{◌≡◌, ℕ, ◌+◌, ◌≤◌, ◌<◌, not, List, [], ◌∷◌, ◌++◌, length, filter, map, codes}
-use Rattle.kc_script_bundle.specs.declared.bundle.TheConstants.{MOST_COMMANDS}
+use Rattle.kc_script_bundle.specs.declared.bundle.TheConstants.{MOST_COMMANDS, MOST_THREADS}
 use Rattle.kc_script_bundle.specs.declared.object.Object.{Object}
 use Rattle.kc_script_bundle.specs.declared.operation.Command.{Command}
 use Rattle.kc_script_bundle.specs.declared.operation.Op.{Op}
 use Rattle.kc_script_lines.specs.Words.{lines, words, is_skipped}
 use Rattle.kc_term.specs.Tree.{Tree, op, seq, first, trees}
+use Rattle.kc_term.specs.declared.term.TheConstants.{MOST_OPERATIONS}
 use Rattle.kc_script_bundle.specs.declared.operation.Command.TheVariants as command
 use Rattle.kc_script_bundle.specs.Script.{Names, Script}
 use Rattle.kc_script_verbs.specs.Canonical.{Says, Declares}
@@ -45,7 +46,7 @@ pub data Declare : Names → List Line → Names → Type 0 where
 pub data Block (thread : ℕ) (names : Names) : ℕ → List (Tree Op) → ℕ → List Line → Tree Op → ℕ → Type 0 where
   ends : {level count : ℕ} {parts : List (Tree Op)} → Block thread names level parts count [] (seq (trees parts)) count
   one : {level count total : ℕ} {parts : List (Tree Op)} {lines : List Line} {tree : Tree Op} (line : Line) (o : Op) →
-      Says thread names line o → count < 16 →
+      Says thread names line o → count < MOST_OPERATIONS →
       Block thread names level (parts ++ op o ∷ []) (count + 1) lines tree total →
       Block thread names level parts count (line ∷ lines) tree total
   other : {level count total : ℕ} {parts : List (Tree Op)} {lines : List Line} {tree : Tree Op} →
@@ -53,7 +54,7 @@ pub data Block (thread : ℕ) (names : Names) : ℕ → List (Tree Op) → ℕ �
       Block thread names (level + 1) [] count lines tree total →
       Block thread names level parts count (or_line ∷ lines) (first (seq (trees parts)) tree) total
   inner : {level count within total : ℕ} {parts : List (Tree Op)} {inside lines : List Line} {block tree : Tree Op} →
-      level < 8 → count < 16 →
+      level < 8 → count < MOST_OPERATIONS →
       Block thread names (level + 1) [] (count + 1) inside block within →
       Block thread names level (parts ++ block ∷ []) within lines tree total →
       Block thread names level parts count (atomic_line ∷ (inside ++ end_line ∷ lines)) tree total
@@ -72,7 +73,7 @@ pub data Say (thread : ℕ) (names : Names) : List Line → List Command → Typ
 pub data Threads (names : Names) : ℕ → List Line → List (List Command) → Type 0 where
   none : {thread : ℕ} → Threads names thread [] []
   one : {thread : ℕ} {lines more : List Line} {commands : List Command} {threads : List (List Command)} →
-      thread < 16 → Say thread names lines commands → length commands ≤ MOST_COMMANDS →
+      thread < MOST_THREADS → Say thread names lines commands → length commands ≤ MOST_COMMANDS →
       Threads names (thread + 1) more threads → Threads names thread (thread_line ∷ (lines ++ more)) (commands ∷ threads)
 
 -- the bytes spell the script: a header, declarations, and threads

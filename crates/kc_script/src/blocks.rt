@@ -9,12 +9,9 @@ ghost use Rattle.kc_script.specs.Reading.{lists, open_of, place_of, nowhere};
 use crate::reader::{Open, Thread};
 use kc_script_bundle::{Command, MOST_COMMANDS, Op};
 use kc_script_lines::{Complaint, Limit, Why, counted, wants};
-use kc_term::{Term, TermError};
+use kc_term::{MOST_OPERATIONS, Term, TermError};
 use std::alloc::{AllocError, Global};
 use std::mem;
-
-/// How many commands and inner blocks a block may have.
-const MOST_IN_BLOCK: u32 = 16;
 
 /// The highest level of a block.
 const MOST_LEVEL: u32 = 8;
@@ -78,7 +75,7 @@ pub fn in_block(place: &Thread) -> bool
 #[tactic(auto, unfolding(crate::specs::Blocks::counted_up))]
 fn counted_up(place: &Thread) -> Result<u32, Why>
     ensures is { result ≡ counted_up (place_of place.now) (place_of place.now).open_blocks }
-    ensures within { IfOk result (λ n. n ≤ 16) }
+    ensures within { IfOk result (λ n. n ≤ MOST_OPERATIONS) }
 {
     match place.open_blocks.last() {
         None => {
@@ -89,7 +86,7 @@ fn counted_up(place: &Thread) -> Result<u32, Why>
             Ok(0)
         }
         Some(_) => {
-            wants(place.count < MOST_IN_BLOCK, Why::TooMany(Limit::Block))?;
+            wants(place.count < MOST_OPERATIONS, Why::TooMany(Limit::Block))?;
             Ok(place.count + 1)
         }
     }
@@ -111,7 +108,7 @@ fn begin(open_blocks: &mut Vec<Open>, b: Open) -> Result<(), AllocError>
 }
 
 fn with_op(place: &mut Thread, count: u32, operation: Op) -> Result<(), AllocError>
-    requires { count ≤ 16 }
+    requires { count ≤ MOST_OPERATIONS }
     ensures { OnOk result (place_of place.new ≡ with_op (place_of place.old) (place_of place.old).open_blocks count operation) }
 {
     match innermost(&mut place.open_blocks) {

@@ -4,6 +4,7 @@ ghost use Rattle.std.specs.Prelude.{◌≡◌, ◌≤◌, ℕ, List, ◌∷◌, 
 ghost use Rattle.kc_script_lines.specs.declared.fault.ScriptError.{ScriptError};
 ghost use Rattle.kc_script_lines.specs.declared.fault.ScriptError.TheVariants.{NoMemory};
 ghost use Rattle.kc_script_bundle.specs.declared.bundle.Bundle.{Bundle};
+ghost use Rattle.kc_script_bundle.specs.declared.bundle.TheConstants.{MOST_THREADS};
 ghost use Rattle.kc_script_bundle.specs.Script.{Script, script_of, LiesInOrder, AreSized};
 ghost use Rattle.kc_script.specs.Spells.{Spells};
 ghost use Rattle.kc_script.specs.Canonical.{canonical_text};
@@ -32,7 +33,7 @@ pub fn faults_are_exact()
 pub fn spelled_is_in_order()
     ensures lies { (bytes : List ℕ) (s : Script) → Spells bytes s → LiesInOrder s }
     ensures sized { (bytes : List ℕ) (s : Script) → Spells bytes s → AreSized s.objects }
-    ensures few { (bytes : List ℕ) (s : Script) → Spells bytes s → length s.threads ≤ 16 }
+    ensures few { (bytes : List ℕ) (s : Script) → Spells bytes s → length s.threads ≤ MOST_THREADS }
     ensures threads { (bytes : List ℕ) (s : Script) → Spells bytes s → AreThreads s.objects s.threads }
 {}
 
@@ -61,7 +62,7 @@ pub fn parts_spell_one()
 
 /// Parts have a first fault exactly where they spell no bundle.
 pub fn faults_of_parts_are_exact()
-    ensures spells { (setup : List ℕ) (files : List (List ℕ)) → length files ≤ 16 → first_fault_in_parts setup files ≡ None → (s : Script) × SpellsParts setup files s }
+    ensures spells { (setup : List ℕ) (files : List (List ℕ)) → length files ≤ MOST_THREADS → first_fault_in_parts setup files ≡ None → (s : Script) × SpellsParts setup files s }
     ensures none { (setup : List ℕ) (files : List (List ℕ)) (fault : PartFault) → first_fault_in_parts setup files ≡ Some fault → PartsSpellNone setup files }
 {}
 
@@ -70,7 +71,7 @@ pub fn faults_of_parts_are_exact()
 pub fn parts_are_in_order()
     ensures lies { (setup : List ℕ) (files : List (List ℕ)) (s : Script) → SpellsParts setup files s → LiesInOrder s }
     ensures sized { (setup : List ℕ) (files : List (List ℕ)) (s : Script) → SpellsParts setup files s → AreSized s.objects }
-    ensures few { (setup : List ℕ) (files : List (List ℕ)) (s : Script) → SpellsParts setup files s → length s.threads ≤ 16 }
+    ensures few { (setup : List ℕ) (files : List (List ℕ)) (s : Script) → SpellsParts setup files s → length s.threads ≤ MOST_THREADS }
     ensures each { (setup : List ℕ) (files : List (List ℕ)) (s : Script) → SpellsParts setup files s → length s.threads ≡ length files }
     ensures threads { (setup : List ℕ) (files : List (List ℕ)) (s : Script) → SpellsParts setup files s → AreThreads s.objects s.threads }
     ensures whole { (setup : List ℕ) (files : List (List ℕ)) (s : Script) → SpellsParts setup files s → Spells (canonical_text s) s }

@@ -25,10 +25,3 @@ pub use parser::{MOST_BYTES, parse};
 pub use part_error::PartError;
 pub use parts::parse_parts;
 pub use printer::print;
-
-#[cfg(test)]
-mod part_tests;
-#[cfg(test)]
-mod print_tests;
-#[cfg(test)]
-mod tests;

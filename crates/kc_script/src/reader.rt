@@ -1,7 +1,9 @@
 ghost use Rattle.std.specs.Prelude.{◌≡◌, ◌≤◌, ◌<◌, IfSome};
 ghost use Rattle.std.proofs.Props.{props};
 ghost use Rattle.kc_model.specs.declared.plain_store.TheConstants.{MOST_LOCATIONS};
+ghost use Rattle.kc_script_bundle.specs.declared.bundle.TheConstants.{MOST_THREADS};
 ghost use Rattle.kc_script_bundle.specs.Script.{next_from, names_of};
+ghost use Rattle.kc_term.specs.declared.term.TheConstants.{MOST_OPERATIONS};
 
 use indexmap::IndexMap;
 use kc_script_bundle::{Command, Object, Op};
@@ -28,7 +30,7 @@ pub struct Thread {
     pub open_blocks: Vec<Open>,
     /// How many commands and blocks the outermost of them has.
     pub count: u32,
-    ghost few: { count ≤ 16 },
+    ghost few: { count ≤ MOST_OPERATIONS },
 }
 
 /// What the lines so far have declared and said.
@@ -49,5 +51,5 @@ pub struct Reader {
     pub place: Thread,
     ghost follows: { next ≡ next_from 1 (names_of objects) },
     ghost within: { next ≤ MOST_LOCATIONS },
-    ghost numbered: { IfSome thread (λ n. n < 16) } by { Prim.hlevel props },
+    ghost numbered: { IfSome thread (λ n. n < MOST_THREADS) } by { Prim.hlevel props },
 }

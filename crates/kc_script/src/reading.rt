@@ -14,16 +14,13 @@ use crate::parser::MOST_BYTES;
 use crate::part_error::PartError;
 use crate::reader::Reader;
 use indexmap::IndexMap;
-use kc_script_bundle::{Bundle, Object, cells};
+use kc_script_bundle::{Bundle, MOST_THREADS, Object, cells};
 use kc_script_lines::{
     Complaint, Limit, ScriptError, Why, counted, is_skipped, lines_of, wants, word_at, words_of,
 };
 use kc_script_verbs::{Kind, Verb, Word, add, declare, say, word_of};
 use std::alloc::{AllocError, Global};
 use std::mem;
-
-/// How many threads a bundle may have.
-const MOST_THREADS: u32 = 16;
 
 #[tactic(auto, unfolding(kc_script_bundle::specs::Script::next_from))]
 fn open(alloc: Global, whole: bool) -> Reader
@@ -95,7 +92,7 @@ fn close_thread(reader: &mut Reader) -> Result<(), AllocError>
 
 // Begins the thread of this number.
 fn begun_thread(reader: &mut Reader, thread: u32) -> Result<(), AllocError>
-    requires { thread < 16 }
+    requires { thread < MOST_THREADS }
     ensures { OnOk result (state_of reader.new ≡ begun_thread (state_of reader.old) thread) }
 {
     close_thread(reader)?;
@@ -127,7 +124,7 @@ fn thread_line(reader: &mut Reader, args: &[&[u8]]) -> Result<(), Complaint>
     wants(reader.whole, Why::StrayWord)?;
     counted(0, args)?;
     let thread = next_thread(reader);
-    wants(thread < MOST_THREADS, Why::TooMany(Limit::Threads))?;
+    wants(thread < MOST_THREADS as u32, Why::TooMany(Limit::Threads))?;
     begun_thread(reader, thread)?;
     Ok(())
 }
@@ -337,7 +334,7 @@ fn read_numbered(reader: &mut Reader, part: u32, bytes: &[u8]) -> Result<(), Par
 // Reads the files in turn, a thread each.
 fn all_files(reader: &mut Reader, files: &[Vec<u8>]) -> Result<(), PartError>
     requires files { All (λ file. length file.items ≤ MOST_BYTES) files.now }
-    requires few { length files.now ≤ 16 }
+    requires few { length files.now ≤ MOST_THREADS }
     ensures { PartComes (state_of reader.new) result (files_read (state_of reader.old) 0 (map (λ file. file.items) files.now)) }
 {
     let mut thread = 0;
@@ -354,7 +351,7 @@ fn all_files(reader: &mut Reader, files: &[Vec<u8>]) -> Result<(), PartError>
 pub fn read_parts(alloc: Global, setup: &[u8], files: &[Vec<u8>]) -> Result<Bundle, PartError>
     requires setup { length setup.now ≤ MOST_BYTES }
     requires files { All (λ file. length file.items ≤ MOST_BYTES) files.now }
-    requires few { length files.now ≤ 16 }
+    requires few { length files.now ≤ MOST_THREADS }
     ensures { PartsSpelled script_of result (spelled_parts setup.now (map (λ file. file.items) files.now)) }
 {
     let mut reader = open(alloc, false);

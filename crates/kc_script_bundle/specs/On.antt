@@ -4,6 +4,7 @@ use Rattle.kc_loc.specs.declared.operation.LocOp.{LocOp}
 use Rattle.kc_model.specs.declared.footprint.Loc.{Loc}
 use Rattle.kc_loc.specs.declared.operation.LocOp.TheVariants as loc
 use Rattle.kc_term.specs.Tree.{operations}
+use Rattle.kc_term.specs.declared.term.TheConstants.{MOST_OPERATIONS}
 use Rattle.kc_script_bundle.specs.declared.object.Object.TheVariants as object
 use Rattle.kc_script_bundle.specs.declared.operation.Op.{Op}
 use Rattle.kc_script_bundle.specs.declared.operation.Op.TheVariants as op
@@ -43,10 +44,10 @@ abbrev pub AllOn : Names → List Op → Type 0
 AllOn names [] = Unit {0}
 AllOn names (o ∷ os) = IsOn names o × AllOn names os
 
--- a command's operations do, and a block has at most 16
+-- a command's operations do, and a block is not too long
 abbrev pub CommandIsOn : Names → Command → Type 0
 CommandIsOn names (command.One o) = IsOn names o
-CommandIsOn names (command.Block t) = (length (operations t) ≤ 16) × AllOn names (operations t)
+CommandIsOn names (command.Block t) = (length (operations t) ≤ MOST_OPERATIONS) × AllOn names (operations t)
 
 abbrev pub CommandsAreOn : Names → List Command → Type 0
 CommandsAreOn names [] = Unit {0}

@@ -1,6 +1,7 @@
 //! What holds of single lines.
 
 ghost use Rattle.std.specs.Prelude.{◌≡◌, ℕ, ◌+◌, List, [], ◌∷◌, ◌++◌, Ok, nat_le};
+ghost use Rattle.kc_model.specs.declared.plain_store.TheConstants.{MOST_LOCATIONS};
 ghost use Rattle.kc_script_bundle.specs.declared.object.Object.{Object};
 ghost use Rattle.kc_script_bundle.specs.declared.operation.Op.{Op};
 ghost use Rattle.kc_script_bundle.specs.Script.{Names, cells};
@@ -34,7 +35,7 @@ pub fn says_on_objects()
 /// What is wrong with the words of a declaration is the first of these tests that fails: so many words, each word from
 /// left to right, and the cells.
 pub fn declarations_are_tested()
-    ensures tests { (names : Names) (k : Kind) (args : List (List ℕ)) → fault_of (declare names k args) ≡ first_failing (args_tests (kinds_of names) (kind_fields k) args ++ (nat_le (next names + size_of k args) 65536, TooMany Locations) ∷ []) }
+    ensures tests { (names : Names) (k : Kind) (args : List (List ℕ)) → fault_of (declare names k args) ≡ first_failing (args_tests (kinds_of names) (kind_fields k) args ++ (nat_le (next names + size_of k args) MOST_LOCATIONS, TooMany Locations) ∷ []) }
     ensures name { (names : Names) (k : Kind) (args : List (List ℕ)) (entry : List ℕ × Object) → declare names k args ≡ Ok entry → entry.0 ≡ word_at args 0 }
     ensures kind { (names : Names) (k : Kind) (args : List (List ℕ)) (entry : List ℕ × Object) → declare names k args ≡ Ok entry → object_kind entry.1 ≡ k }
     ensures size { (names : Names) (k : Kind) (args : List (List ℕ)) (entry : List ℕ × Object) → declare names k args ≡ Ok entry → cells entry.1 ≡ size_of k args }

@@ -3,6 +3,7 @@ use Rattle.std.specs.Prelude.{ℕ, ◌+◌, Bool, true, false, not, ◌&&◌, �
 use Rattle.std.specs.List.{list_all}
 use Rattle.std.specs.Str.{bytes_eq}
 use Rattle.std.specs.Option.{option_map}
+use Rattle.kc_script_bundle.specs.declared.bundle.TheConstants.{MOST_THREADS}
 use Rattle.kc_script_lines.specs.Words.{number}
 use Rattle.kc_top.specs.declared.command_line.Command.{Command}
 use Rattle.kc_top.specs.declared.command_line.Command.TheVariants as command
@@ -26,9 +27,9 @@ abbrev pub is_name : List ℕ → Bool
 is_name [] = false
 is_name (byte ∷ bytes) = not (byte == 45)
 
--- a setup and 1 to 16 files
+-- a setup, and a file for each thread
 abbrev pub are_names : List (List ℕ) → Bool
-are_names words = nat_le 2 (length words) && nat_le (length words) 17 && list_all is_name words
+are_names words = nat_le 2 (length words) && nat_le (length words) (1 + MOST_THREADS) && list_all is_name words
 
 -- the storm of the number that the word at this place spells, where it is the last one
 abbrev pub storm_at : List (List ℕ) → ℕ → Option Command

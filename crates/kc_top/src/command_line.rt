@@ -5,10 +5,8 @@ ghost use Rattle.std.specs.List.{list_all};
 ghost use Rattle.std.specs.String.{string_bytes};
 ghost use Rattle.kc_top.specs.Words.{are_names, command_of, is_name, is_word, option_words, storm_at};
 
+use kc_script_bundle::MOST_THREADS;
 use kc_script_lines::number_of;
-
-/// The most files that a command may name beside the setup: one for each thread.
-const MOST_FILES: usize = 16;
 
 /// What the program is asked to do.
 #[derive(Clone, Copy, Debug, PartialEq, Eq)]
@@ -92,7 +90,7 @@ fn option_words(words: &[String]) -> usize
 fn are_names(words: &[String]) -> bool
     ensures { result ≡ are_names (map string_bytes words.now) }
 {
-    2 <= words.len() && words.len() <= 1 + MOST_FILES && all_are_names(words)
+    2 <= words.len() && words.len() <= 1 + MOST_THREADS && all_are_names(words)
 }
 
 fn all_are_names(words: &[String]) -> bool

@@ -8,8 +8,6 @@ mod run;
 mod served;
 mod settling;
 mod status;
-#[cfg(test)]
-mod tests;
 mod threads;
 mod top;
 

@@ -10,12 +10,12 @@ ghost use Rattle.kc_history.specs.Records.{footprint_at, lists_of};
 
 use kc_history::{Record, Room, arrange, replay};
 use kc_model::{MOST_LOCATIONS, NoMemory, PlainStore};
-use kc_script_bundle::{Command, MOST_COMMANDS};
+use kc_script_bundle::{Command, MOST_COMMANDS, MOST_THREADS};
 use std::alloc::Global;
 
 /// Room for the order of these threads' records: one for each command and for each end.
 pub fn room_for(alloc: Global, threads: &[Vec<Command>]) -> Result<Room, NoMemory>
-    requires threads { length threads.now ≤ 16 }
+    requires threads { length threads.now ≤ MOST_THREADS }
     requires commands { All (λ v. length v.items ≤ MOST_COMMANDS) threads.now }
     ensures threads { IfOk result (λ room. room.threads ≡ length threads.now) }
     ensures records { IfOk result (λ room. room.records ≡ sum_by (λ v. length v.items + 1) threads.now) }

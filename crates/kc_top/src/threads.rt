@@ -7,7 +7,7 @@ ghost use Rattle.kc_run.specs.Run.{CanRunAll};
 ghost use Rattle.kc_script_runs.specs.Threads.{AreRun};
 
 use kc_history::Record;
-use kc_locked::LockPast;
+use kc_locked::{LockPast, MOST_CALLERS};
 use kc_model::{MOST_LOCATIONS, NoMemory};
 use kc_run::{Gate, open_locked, run_threads};
 use kc_script_bundle::Command;
@@ -24,7 +24,7 @@ pub fn run_locked<G: Gate, R: Threads + Wait + Sync>(
     gate: &G,
 ) -> Result<(Vec<Vec<Record>>, LockPast), NoMemory>
     requires values { (0 < length values.now) × (length values.now ≤ MOST_LOCATIONS) }
-    requires threads { (0 < length threads.now) × (length threads.now ≤ 64) }
+    requires threads { (0 < length threads.now) × (length threads.now ≤ MOST_CALLERS) }
     requires commands { All (λ v. CanRunAll (length values.now) v.items) threads.now }
     ensures opening { IfOk result (λ r. r.1.opening ≡ values.now) }
     ensures legal { IfOk result (λ r. IsLegalFrom values.now r.1.history) }

@@ -1,5 +1,7 @@
-use Rattle.std.proofs.Common.{◌≡◌, ◌+◌, vec_len}
+use Rattle.std.proofs.Common.{◌≡◌, ◌++◌}
+use Rattle.kc_bank.specs.Opening.{values_of}
+use Rattle.kc_hash.specs.Content.{hash_opening}
 use Rattle.kc_bank.proofs.bank.push_accounts.Given as goal
 
 abbrev pub invariant-loop-index : goal.invariant-loop-index
-invariant-loop-index l = vec_len l.values ≡ vec_len l.initial.values + l.index
+invariant-loop-index l = l.values.items ≡ l.initial.values.items ++ values_of (hash_opening l.accounts) l.index

@@ -1,7 +1,9 @@
-use crate::*;
+//! Scripts in parts.
+
 use kc_cells::{AccAct, AccOp, Accumulator};
 use kc_loc::LocOp;
 use kc_model::Loc;
+use kc_script::{MOST_BYTES, PartError, parse_parts};
 use kc_script_bundle::{Bundle, Command, Op};
 use kc_script_lines::{Limit, Why};
 use std::test::Fail;

@@ -1,9 +1,9 @@
 //! Storms.
 
-use super::no_files;
-use crate::{Served, Status, kcas_main};
+use crate::runs::no_files;
 use kc_model::{FrailSink, SureSource};
 use kc_run::{Gate, OpenGate};
+use kc_top::{Served, Status, kcas_main};
 use std::alloc::Global;
 use std::sync::Wait;
 use std::sync::atomic::{AtomicU32, Ordering};

@@ -1,13 +1,15 @@
+//! Scripts that are read, and what is wrong with them.
+
 ghost use Rattle.std.specs.Prelude.{IfOk};
 ghost use Rattle.kc_script_bundle.specs.Script.{script_of};
 ghost use Rattle.kc_script.specs.Spells.{Spells};
 
-use crate::*;
 use kc_cells::{AccAct, AccOp, Accumulator, Mvar, MvarAct, MvarOp, Promise, PromiseAct, PromiseOp};
 use kc_hash::{Hash, HashAct, HashOp};
 use kc_loc::{Fun, LocOp, Rel};
 use kc_model::Loc;
 use kc_queue::{Queue, QueueAct, QueueOp};
+use kc_script::{MOST_BYTES, parse};
 use kc_script_bundle::{Bundle, Command, Object, Op};
 use kc_script_lines::{Limit, ScriptError, Why};
 use kc_stack::{Stack, StackAct, StackOp};

@@ -1,9 +1,9 @@
 //! Scripts of several threads.
 
-use super::{no_files, run, run_behind, run_failing, words};
-use crate::{Status, kcas_main};
+use crate::runs::{no_files, run, run_behind, run_failing, words};
 use kc_model::{FrailSink, SureSource};
 use kc_run::{Gate, OpenGate};
+use kc_top::{Status, kcas_main};
 use std::alloc::Global;
 use std::fmt::Write;
 use std::sync::Wait;

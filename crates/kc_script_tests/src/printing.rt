@@ -1,6 +1,8 @@
-use crate::tests::{KINDS, read};
-use crate::*;
+//! Scripts that are printed.
+
+use crate::reading::{KINDS, read};
 use kc_model::FrailSink;
+use kc_script::print;
 use std::test::Fail;
 
 // Whether the bundle that a text spells is printed as this.

@@ -1,10 +1,13 @@
+//! Scripts in files.
+
 ghost use Rattle.std.specs.Prelude.{◌≤◌, IsTrue};
 ghost use Rattle.kc_model.specs.Forms.{are_calls};
 
-use crate::{Status, kcas_main};
+use crate::runs::ROOM;
 use kc_model::{FrailSink, FrailSource, MemShelf};
 use kc_run::OpenGate;
 use kc_script_lines::Why;
+use kc_top::{Status, kcas_main};
 use std::alloc::Global;
 use std::sync::Wait;
 use std::test::Fail;
@@ -49,7 +52,7 @@ fn run_over<R: Threads + Wait + Sync>(
         all.push(String::from_str(alloc, word)?)?;
     }
     let mut source = FrailSource::new(Vec::new(alloc), vec![in alloc; 1]?);
-    let mut sink = FrailSink::new(alloc, super::ROOM, Vec::new(alloc))?;
+    let mut sink = FrailSink::new(alloc, ROOM, Vec::new(alloc))?;
     let (status, _) = kcas_main(rt, alloc, &all, &mut source, shelf, &mut sink, &OpenGate);
     Ok((status, sink.bytes().to_vec(alloc)?))
 }

@@ -1,13 +1,11 @@
+//! Scripts from the source.
+
 ghost use Rattle.std.specs.Prelude.{◌≤◌, None};
 
-mod files;
-mod storms;
-mod threads;
-
-use crate::{Status, kcas_main};
 use kc_model::{Failed, FrailSink, FrailSource, MemShelf, Sink, SureSource};
 use kc_run::{Gate, OpenGate};
 use kc_script_lines::{Limit, Why};
+use kc_top::{Status, kcas_main};
 use std::alloc::Global;
 use std::fmt::Write;
 use std::sync::Wait;
@@ -15,18 +13,18 @@ use std::test::Fail;
 use std::thread::Threads;
 
 // More bytes than any text of these scripts has.
-const ROOM: usize = 4096;
+pub const ROOM: usize = 4096;
 
 const FIRST: &str = "kcas 1\nloc x 5\nthread\nget x\nset x 7\nadd x 1\n";
 
 const FIRST_TEXT: &str = "1.1 5\n1.2 ok\n1.3 7\norder\n1.1\n1.2\n1.3\n1.end\nstate\nx 8\n";
 
 // A shelf without files.
-fn no_files(alloc: Global) -> MemShelf {
+pub fn no_files(alloc: Global) -> MemShelf {
     MemShelf::new(Vec::new(alloc), Vec::new(alloc))
 }
 
-fn words(alloc: Global, second: &str) -> Result<Vec<String>, Fail> {
+pub fn words(alloc: Global, second: &str) -> Result<Vec<String>, Fail> {
     let mut words = Vec::new(alloc);
     words.push(String::from_str(alloc, "kcas")?)?;
     words.push(String::from_str(alloc, second)?)?;
@@ -34,7 +32,7 @@ fn words(alloc: Global, second: &str) -> Result<Vec<String>, Fail> {
 }
 
 // The status of `kcas run` on these bytes, and what it wrote.
-fn run<R: Threads + Wait + Sync>(
+pub fn run<R: Threads + Wait + Sync>(
     rt: &R,
     alloc: Global,
     script: &[u8],
@@ -43,7 +41,7 @@ fn run<R: Threads + Wait + Sync>(
 }
 
 // The same, behind a gate.
-fn run_behind<R: Threads + Wait + Sync, G: Gate>(
+pub fn run_behind<R: Threads + Wait + Sync, G: Gate>(
     rt: &R,
     alloc: Global,
     script: &[u8],
@@ -279,7 +277,7 @@ fn other_words_are_usage(rt: HostRuntime) -> Result<(), Fail> {
 }
 
 // The status of `kcas run` on a script where one read and one write fail, and what it wrote.
-fn run_failing<R: Threads + Wait + Sync>(
+pub fn run_failing<R: Threads + Wait + Sync>(
     rt: &R,
     alloc: Global,
     script: &str,

@@ -1,0 +1,8 @@
+use Rattle.std.proofs.Common.{rules}
+use Rattle.kc_bank.proofs.OpeningLemmas.{values_more}
+use Rattle.kc_queue.specs.Meaning.{queue_opening}
+use Rattle.kc_bank.proofs.bank.push_line.Goals as goal
+
+pub loop-index-preserved : goal.loop-index-preserved
+loop-index-preserved c =
+    values_more (queue_opening c.args.line.now) c.loop-index.index c.args.values.now.items c.loop-index.values.items _ c.loop-index.invariant (search rules)

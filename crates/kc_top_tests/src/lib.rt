@@ -1,0 +1,11 @@
+//! Tests of the top call.
+#![tactic(auto)]
+
+#[cfg(test)]
+mod files;
+#[cfg(test)]
+mod runs;
+#[cfg(test)]
+mod storms;
+#[cfg(test)]
+mod threads;
