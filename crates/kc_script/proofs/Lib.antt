@@ -14,6 +14,4 @@ pub mod TextLines
 pub mod PartLines
 pub mod PartFaults
 pub mod Again
-pub mod Bases
-pub mod Texts
 pub mod Printed

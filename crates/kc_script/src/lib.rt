@@ -2,18 +2,12 @@
 #![tactic(auto)]
 
 mod blocks;
-mod declared;
 mod laws;
-mod naming;
 mod parser;
 mod part_error;
 mod parts;
-mod printer;
-mod printing;
 mod reader;
 mod reading;
-mod said;
-mod shapes;
 pub mod worked;
 
 pub use laws::{
@@ -24,4 +18,3 @@ pub use laws::{
 pub use parser::{MOST_BYTES, parse};
 pub use part_error::PartError;
 pub use parts::parse_parts;
-pub use printer::print;

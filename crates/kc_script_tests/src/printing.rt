@@ -2,7 +2,7 @@
 
 use crate::reading::{KINDS, read};
 use kc_model::FrailSink;
-use kc_script::print;
+use kc_script_printing::print;
 use std::test::Fail;
 
 // Whether the bundle that a text spells is printed as this.

@@ -1,5 +1,0 @@
-use Rattle.kc_model.proofs.Pens.{puts_then}
-use Rattle.kc_script.proofs.said.put_swap.Goals as goal
-
-pub returns : goal.returns
-returns g c = puts_then c.put.ensures c.put_named.ensures

@@ -1,5 +1,0 @@
-use Rattle.kc_model.proofs.Pens.{puts_then}
-use Rattle.kc_script.proofs.shapes.put_number.Goals as goal
-
-pub returns : goal.returns
-returns g c = puts_then c.put.ensures (puts_then c.put-2.ensures (puts_then c.put-3.ensures (puts_then c.put-4.ensures c.put_number.ensures)))
