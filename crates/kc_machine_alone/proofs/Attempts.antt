@@ -273,7 +273,7 @@ attempt_below n l =
     omega (arith, a, x, y, z)
 
 pub all_attempts_end : (o : Opening) (es : List Event) → IsSchedule o es → AttemptsEnd o es
-all_attempts_end o es w k d e ls puts l idle de cd ce low short made = go (is_crossed first.3.answer) refl
+all_attempts_end o es w k d e ls puts l idle de cd ce low short made = (attempted.0, (let a = attempted.1 in let b = attempt_below n (omega (arith, l)) in omega (arith, a, b)), attempted.2)
   where
     n : ℕ
     n = o.callers
@@ -347,16 +347,13 @@ all_attempts_end o es w k d e ls puts l idle de cd ce low short made = go (is_cr
     few : 6 * length ls ≤ 384
     few = omega (arith, short)
 
-    below : at_first + 384 + 2 * (fee n + (712 + 3 * n)) ≤ bound_alone n 64
-    below = attempt_below n (omega (arith, l))
-
     Attempted : Type 0
-    Attempted = (x : ℕ) × (x ≤ bound_alone n 64) × IsAttempt k (run o es) ls puts x
+    Attempted = (x : ℕ) × (x ≤ at_first + 384 + 2 * (fee n + (712 + 3 * n))) × IsAttempt k (run o es) ls puts x
 
     go : (b : Bool) → is_crossed first.3.answer ≡ b → Attempted
     go false q = (
       seen.1 + first.0,
-      (let a = seen.3 in let b = first.2 in let c = few in let u = below in omega (arith, a, b, c, u)),
+      (let a = seen.3 in let b = first.2 in let c = few in omega (arith, a, b, c)),
       record {
         seen = seen.4.seen;
         after = run o fs;
@@ -369,11 +366,10 @@ all_attempts_end o es w k d e ls puts l idle de cd ce low short made = go (is_cr
     )
     go true q =
         let r = again (free_again first.3.kept) in
-        let hs = (gs ++ Begin k (task.Commit f mode.All) ∷ []) ++ steps k r.0 in
         let state : run o gs ≡ makes (run o fs) k (task.Commit f mode.Light) first.0 = makes_run o k l fs (task.Commit f mode.Light) first.0 in
         let told : IsToldBy (run o gs) k (task.Commit f mode.All) r.0 r.3.answer = subst (λ (m : State). (m.seats k).told ≡ Some r.3.answer) (makes_run o k l gs (task.Commit f mode.All) r.0) r.3.told in (
           seen.1 + (first.0 + r.0),
-          (let a = seen.3 in let b = first.2 in let c = few in let u = below in let z = r.2 in omega (arith, a, b, c, u, z)),
+          (let a = seen.3 in let b = first.2 in let c = few in let z = r.2 in omega (arith, a, b, c, z)),
           record {
             seen = seen.4.seen;
             after = run o fs;
@@ -384,3 +380,6 @@ all_attempts_end o es w k d e ls puts l idle de cd ce low short made = go (is_cr
             counts = refl;
           },
         )
+
+    attempted : Attempted
+    attempted = go (is_crossed first.3.answer) refl
