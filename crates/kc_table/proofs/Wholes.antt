@@ -31,7 +31,7 @@ use Rattle.kc_table_moves.proofs.Allowed.{answered, ready_after}
 use Rattle.kc_table_moves.proofs.Straights.{stepped_view, went_on}
 use Rattle.kc_table_moves.specs.Origins.{Origin, opening_of}
 use Rattle.kc_table_moves.specs.Rule.{number_of, past_of, Ready, Moved}
-use Rattle.kc_table_moves.specs.Straight.{StepsTo, here, further, Aims, Here, On, Ran, StandsAt, StoppedAt, begun_at, seat_in}
+use Rattle.kc_table_moves.specs.Straight.{StepsTo, here, further, Aims, Here, On, Ran, StandsAt, StoppedAt, begun_at, found_of, point_of, seat_in}
 use Rattle.kc_table_moves.specs.Views.{SeatView, KnowsReads, Starts, Stepped, seen_as}
 use Rattle.kc_table_moves.specs.declared.atoms.Run.{Run}
 use Rattle.kc_table_moves.specs.declared.atoms.Stop.{Stop}
@@ -68,12 +68,12 @@ on_begins r z me began s u v t h ready shown st made knows e = record {
 pub ran_on : (r : Run) (z y : TableId) (me later : Me Unit View) (began : Bool) (s u : Seat) (v : SeatView) (t : Task) → seen_as z me began s ≡ v → On (starts_as z me s t) r y later false u → Ran v t (seen_as y later false u)
 ran_on r z y me later began s u v t shown on = subst (λ x. Ran x t (seen_as y later false u)) shown (record { steps = on.steps; shown = refl })
 
-pub stands_on : (start : SeatView) (r : Run) (z : TableId) (me : Me Unit View) (e : Stop) (t : Seat) → StoppedAt start r z me e.at e.found → StandsAt r.seat.now r.mode r.lines.now e.at e.found t → On start r z me false t
-stands_on start r z me e t stopped stands = go e.found stopped stands
+pub stands_on : (start : SeatView) (r : Run) (z : TableId) (me : Me Unit View) (e : Stop) (t : Seat) → StoppedAt start r z me (point_of e) (found_of e.at e.number) → StandsAt r.seat.now r.mode r.lines.now (point_of e) (found_of e.at e.number) t → On start r z me false t
+stands_on start r z me e t stopped stands = go (found_of e.at e.number) stopped stands
   where
-    go : (o : Option ℕ) → StoppedAt start r z me e.at o → StandsAt r.seat.now r.mode r.lines.now e.at o t → On start r z me false t
+    go : (o : Option ℕ) → StoppedAt start r z me (point_of e) o → StandsAt r.seat.now r.mode r.lines.now (point_of e) o t → On start r z me false t
     go None on is = subst (On start r z me false) (sym is) on
-    go (Some n) w makes = went_on start r z me (seat_in r e.at) t n w makes
+    go (Some n) w makes = went_on start r z me (seat_in r (point_of e)) t n w makes
 
 -- ---- a look
 

@@ -12,7 +12,7 @@ ghost use Rattle.kc_machine.specs.Seats.{answer_of, begun, is_idle};
 ghost use Rattle.kc_table_layout.specs.declared.change.Change.TheVariants as change;
 ghost use Rattle.kc_table_moves.specs.Rule.{Moved, Ready};
 ghost use Rattle.kc_table_moves.specs.Views.{KnowsReads};
-ghost use Rattle.kc_table_moves.specs.Straight.{Aims, Here, On, Ran, StandsAt, Stopped, seat_in};
+ghost use Rattle.kc_table_moves.specs.Straight.{Aims, Here, On, Ran, StandsAt, Stopped, found_of, point_of, seat_in};
 
 use crate::seat::KcSeat;
 use crate::table::KcTable;
@@ -156,10 +156,10 @@ fn end_commit(seat: &mut Seat, ended: Ended)
 #[inline(never)]
 fn stand(seat: &mut Seat, mode: Mode, lines: &[Line], stop: Stop)
     requires { length lines.now ≤ 64 }
-    ensures { StandsAt seat.old mode lines.now stop.at stop.found seat.new }
+    ensures { StandsAt seat.old mode lines.now (point_of stop) (found_of stop.at stop.number) seat.new }
 {
-    seat.stand_at(mode, lines, stop.at);
-    if let Some(number) = stop.found {
+    seat.stand_at(mode, lines, stop.point());
+    if let Some(number) = stop.found() {
         let access = seat.access();
         seat.answer(&shown(&access, number));
     }
