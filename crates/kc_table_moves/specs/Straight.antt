@@ -1,5 +1,5 @@
 -- A task that runs on while its seat lies as it was.
-use Rattle.std.specs.Prelude.{◌≡◌, ℕ, ◌<◌, ◌≤◌, List, Bool, true, false, Option, None, Some}
+use Rattle.std.specs.Prelude.{◌≡◌, ℕ, ◌≤◌, List, Bool, true, false, Option, None, Some}
 use Rattle.atomic_table.specs.Seated.{TableId}
 use Rattle.atomic_table.specs.Table.{Me}
 use Rattle.kc_machine_steps.specs.declared.line.Line.{Line}
@@ -22,7 +22,7 @@ use Rattle.kc_table_layout.specs.Cells.{CellFits, base_of, bits, cell_of, place,
 use Rattle.kc_table_layout.specs.Changes.{change_of}
 use Rattle.kc_table_layout.specs.declared.change.Change.{Change}
 use Rattle.kc_table_moves.specs.Origins.{Origin}
-use Rattle.kc_table_moves.specs.Rule.{number_of, past_of, Ready}
+use Rattle.kc_table_moves.specs.Rule.{Ready}
 use Rattle.kc_table_moves.specs.Views.{SeatView, Stepped, seen_as}
 use Rattle.kc_table_moves.specs.declared.atoms.Held.{Held}
 use Rattle.kc_table_moves.specs.declared.atoms.Run.{Run}
