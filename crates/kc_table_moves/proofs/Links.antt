@@ -1,5 +1,5 @@
 -- The steps of a commit by the numbers that they find.
-use Rattle.std.proofs.Common.{◌≡◌, ◌≢◌, ℕ, zero, suc, ◌<◌, ◌≤◌, ◌+◌, ◌-◌, ◌^◌, ◌==◌, Bool, true, false, if◌then◌else◌, List, length, Option, None, Some, refl, sym, ap, ◌∙◌, subst, arith}
+use Rattle.std.proofs.Common.{◌≡◌, ◌≢◌, ℕ, zero, suc, ◌<◌, ◌≤◌, ◌+◌, ◌-◌, ◌^◌, ◌==◌, true, false, if◌then◌else◌, List, length, Option, None, Some, refl, sym, ap, ◌∙◌, subst, arith}
 use Rattle.std.specs.Prelude.{nat_lt, not, slice_get}
 use Rattle.std.specs.Option.{is_some}
 use Rattle.std.proofs.lemmas.Option.{slice_get_past, slice_get_within}
@@ -9,25 +9,23 @@ use Rattle.atomic_table.specs.Table.{Me}
 use Rattle.kc_machine_words.specs.declared.words.Control.{Control}
 use Rattle.kc_machine_words.specs.declared.words.Mode.{Mode}
 use Rattle.kc_machine_words.specs.declared.words.Phase.TheVariants.{Active, Succeeded}
-use Rattle.kc_machine_words.specs.declared.words.Status.{Status}
 use Rattle.kc_model.specs.Word.{IsPackable, packed}
 use Rattle.kc_model.specs.declared.word.Word.{Word}
-use Rattle.kc_model.specs.declared.word.Word.TheVariants.{Plain, Ref}
+use Rattle.kc_model.specs.declared.word.Word.TheVariants.{Plain}
 use Rattle.kc_machine_words.specs.declared.access.Found.TheVariants as found
 use Rattle.kc_machine_steps.specs.declared.line.Line.{Line}
 use Rattle.kc_machine_steps.specs.declared.line.Pick.{Pick}
 use Rattle.kc_machine_steps.specs.declared.line.Pick.TheVariants.{Installed, Checked, Put}
 use Rattle.kc_machine_steps.specs.declared.pass.PassStep.TheVariants.{Install, Check, Decide, Release}
-use Rattle.kc_machine_words.specs.Packing.{ControlFits, control_bits, StatusFits, OwnerFits, FirstFits, SecondFits, status_bits}
+use Rattle.kc_machine_words.specs.Packing.{ControlFits, control_bits, StatusFits, OwnerFits, FirstFits, SecondFits}
 use Rattle.kc_machine_steps.specs.declared.pass.PassNext.TheVariants as pass
 use Rattle.kc_machine_commits.specs.declared.commit.OwnStep.{OwnStep}
 use Rattle.kc_machine_steps.specs.Lines.{after_line, first_of, has_put, is_installed, next_among, next_line, one_more, picked, picks, resolved_value, resolved_version, second_of, value_after, word_of}
 use Rattle.kc_machine_steps.specs.Passes.{check_or_decide, from_check, from_install, from_release, install_access, install_found, install_next, install_or_check, release_at, release_or_finish, status}
 use Rattle.kc_machine_commits.specs.declared.commit.OwnStep.TheVariants as own
-use Rattle.kc_machine.specs.Machine.{World, found_at}
-use Rattle.kc_machine.specs.Points.{first_point, seat_at, seat_told}
-use Rattle.kc_machine.specs.Seats.{access_of, answer_of}
-use Rattle.kc_machine.specs.Words.{control}
+use Rattle.kc_machine.specs.Machine.{found_at}
+use Rattle.kc_machine.specs.Points.{first_point, seat_at}
+use Rattle.kc_machine.specs.Seats.{answer_of}
 use Rattle.kc_machine.specs.declared.seat.Seat.{Seat}
 use Rattle.kc_machine_commits.specs.Commits.{after_own_pass, fill_first, fill_second, intent_of, owed_next, wake_or_drop, wake_or_signal}
 use Rattle.kc_machine_ranges.specs.Bits.{AccessFits, ValuesFit}

@@ -1,5 +1,5 @@
 -- A step of a seat that is not written.
-use Rattle.std.proofs.Common.{◌≡◌, ℕ, ◌<◌, ◌++◌, Bool, false, List, refl, sym, ap, ◌∙◌, subst}
+use Rattle.std.proofs.Common.{◌≡◌, ℕ, ◌<◌, ◌++◌, Bool, false, refl, sym, ap, ◌∙◌, subst}
 use Rattle.atomic_table.specs.Seated.{TableId}
 use Rattle.atomic_table.specs.Table.{Me, Allows}
 use Rattle.kc_machine.specs.Machine.{World, run, found_at, pool_size}
@@ -12,7 +12,7 @@ use Rattle.kc_table_layout.specs.declared.change.Change.{Change}
 use Rattle.kc_table_moves.proofs.Allowed.{arm, within_table, ready_after}
 use Rattle.kc_table_moves.specs.Origins.{Origin, opening_of}
 use Rattle.kc_table_moves.specs.Rule.{number_of, past_of, Kept, Ready, Steps, Moved}
-use Rattle.kc_table_moves.specs.Straight.{StepsTo, further, Here, On, Aims, Went, Makes}
+use Rattle.kc_table_moves.specs.Straight.{further, On, Aims, Went, Makes}
 use Rattle.kc_table_moves.specs.Views.{SeatView, Stepped, seen_as}
 use Rattle.kc_table_moves.specs.declared.atoms.Run.{Run}
 use Rattle.kc_table_moves.specs.declared.view.View.{View}

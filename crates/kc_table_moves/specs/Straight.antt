@@ -1,29 +1,34 @@
 -- A task that runs on while its seat lies as it was.
-use Rattle.std.specs.Prelude.{◌≡◌, ℕ, ◌<◌, ◌≤◌, List, Bool, true, false, Option, None, Some}
+use Rattle.std.specs.Prelude.{◌≡◌, ℕ, ◌≤◌, List, Bool, true, false, Option, None, Some}
 use Rattle.atomic_table.specs.Seated.{TableId}
 use Rattle.atomic_table.specs.Table.{Me}
 use Rattle.kc_machine_steps.specs.declared.line.Line.{Line}
 use Rattle.kc_machine_steps.specs.declared.task.Task.{Task}
+use Rattle.kc_machine_steps.specs.declared.pass.PassStep.TheVariants as pass
 use Rattle.kc_machine_words.specs.declared.words.Mode.{Mode}
-use Rattle.kc_machine_steps.specs.declared.task.Task.TheVariants as task
+use Rattle.kc_machine_words.specs.declared.words.Phase.TheVariants.{Succeeded}
 use Rattle.kc_machine.specs.Machine.{World, found_at, pool_size}
 use Rattle.kc_machine.specs.Points.{point, seat_at}
 use Rattle.kc_machine.specs.Seats.{access_of, answer_of, begun, is_idle}
 use Rattle.kc_machine.specs.declared.point.Point.{Point}
 use Rattle.kc_machine.specs.declared.seat.Seat.{Seat}
 use Rattle.kc_machine_commits.specs.declared.commit.OwnStep.{OwnStep}
-use Rattle.kc_machine_commits.specs.declared.commit.Stage.TheVariants.{Take, Own}
+use Rattle.kc_machine_commits.specs.declared.commit.OwnStep.TheVariants as own
+use Rattle.kc_machine_commits.specs.declared.commit.Stage.{Stage}
+use Rattle.kc_machine_commits.specs.declared.commit.Stage.TheVariants.{Scan, Take, Own}
 use Rattle.kc_machine_ranges.specs.Bits.{ValuesFit}
-use Rattle.kc_machine_steps.specs.Lines.{one_more, lines_of}
+use Rattle.kc_machine_steps.specs.Lines.{one_more}
 use Rattle.kc_table_layout.specs.Cells.{CellFits, base_of, bits, cell_of, place, size_of}
 use Rattle.kc_table_layout.specs.Changes.{change_of}
 use Rattle.kc_table_layout.specs.declared.change.Change.{Change}
 use Rattle.kc_table_moves.specs.Origins.{Origin}
-use Rattle.kc_table_moves.specs.Rule.{number_of, past_of, Ready}
+use Rattle.kc_table_moves.specs.Rule.{Ready}
 use Rattle.kc_table_moves.specs.Views.{SeatView, Stepped, seen_as}
 use Rattle.kc_table_moves.specs.declared.atoms.Held.{Held}
 use Rattle.kc_table_moves.specs.declared.atoms.Run.{Run}
 use Rattle.kc_table_moves.specs.declared.atoms.Stop.{Stop}
+use Rattle.kc_table_moves.specs.declared.atoms.StopAt.{StopAt}
+use Rattle.kc_table_moves.specs.declared.atoms.StopAt.TheVariants as stop
 use Rattle.kc_table_moves.specs.declared.view.View.{View}
 
 -- ---- what clauses see
@@ -40,13 +45,6 @@ begun_at v t = record v { seat = begun v.seat t; began = true }
 pub record Ran (v : SeatView) (t : Task) (w : SeatView) : Type 0 where
   pub steps : StepsTo (begun_at v t) w
   pub shown : w.began ≡ false
-
--- the task commits these lines
-abbrev pub Commits : Task → Mode → List Line → Type 0
-Commits (task.Commit f n) m xs = (n ≡ m) × (lines_of f ≡ xs)
-Commits (task.Look l) m xs = ⊥
-Commits (task.Hang reads) m xs = ⊥
-Commits (task.Leave reads) m xs = ⊥
 
 -- ---- what the links of a straight commit keep
 
@@ -96,8 +94,27 @@ abbrev pub StoppedAt : SeatView → Run → TableId → Me Unit View → Point �
 StoppedAt start r token me p None = On start r token me false (seat_in r p)
 StoppedAt start r token me p (Some n) = Went start r token me (seat_in r p) n
 
+abbrev pub stage_of : StopAt → Held → ℕ → ℕ → Stage
+stage_of stop.Scan h line n = Scan h.own.descriptor 0
+stage_of stop.Take h line n = Take h.own.descriptor h.own.generation
+stage_of stop.Install h line n = Own h.own (own.Pass (pass.Install line))
+stage_of stop.Check h line n = Own h.own (own.Pass (pass.Check line))
+stage_of stop.Decide h line n = Own h.own (own.Pass (pass.Decide Succeeded))
+stage_of stop.Signal h line n = Own h.own (own.Signal n)
+
+abbrev pub point_of : Stop → Point
+point_of e = point e.made e.held.calls (stage_of e.at e.held e.line e.number)
+
+abbrev pub found_of : StopAt → ℕ → Option ℕ
+found_of stop.Scan n = Some n
+found_of stop.Take n = Some n
+found_of stop.Install n = Some n
+found_of stop.Check n = Some n
+found_of stop.Decide n = Some n
+found_of stop.Signal n = None
+
 abbrev pub Stopped : SeatView → Run → TableId → Me Unit View → Stop → Type 0
-Stopped start r token me e = StoppedAt start r token me e.at e.found
+Stopped start r token me e = StoppedAt start r token me (point_of e) (found_of e.at e.number)
 
 -- the seat s is written at a point, or behind the step there, which found this number
 abbrev pub StandsAt : Seat → Mode → List Line → Point → Option ℕ → Seat → Type 0

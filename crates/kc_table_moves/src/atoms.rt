@@ -4,13 +4,13 @@ ghost use Rattle.std.specs.Prelude.{◌≡◌, false};
 ghost use Rattle.kc_machine.specs.Seats.{is_idle};
 ghost use Rattle.kc_table_layout.specs.declared.change.Change.TheVariants as change;
 ghost use Rattle.kc_table_moves.specs.Rule.{Moved, Ready};
-ghost use Rattle.kc_table_moves.specs.Straight.{Aims, Here, On, Went, seat_in};
+ghost use Rattle.kc_table_moves.specs.Straight.{Aims, Here, On, Went, found_of, point_of, seat_in, stage_of};
 
 use crate::rule::{Moves, Now};
 use crate::touch::{Token, Words};
-use kc_machine::{Point, Seat};
-use kc_machine_steps::Line;
-use kc_machine_words::{Handle, Mode};
+use kc_machine::{OwnStep, Point, Seat, Stage};
+use kc_machine_steps::{Line, PassStep};
+use kc_machine_words::{Handle, Mode, Phase};
 use kc_table_layout::touches_agree;
 use std::marker::Brand;
 
@@ -32,11 +32,80 @@ pub struct Held {
     pub own: Handle,
 }
 
-/// Where a straight commit stops: at this point, or behind the step there, which found this number.
+/// At which step a straight commit stops, without what it knows.
+#[derive(Clone, Copy)]
+pub enum StopAt {
+    Scan,
+    Take,
+    Install,
+    Check,
+    Decide,
+    Signal,
+}
+
+/// Where a straight commit stops: behind the step there, which found this number, or before its first signal. A `Point`
+/// would be copied from link to link where nothing stops, since it is an enum of enums.
 #[derive(Clone, Copy)]
 pub struct Stop {
-    pub at: Point,
-    pub found: Option<u64>,
+    pub at: StopAt,
+    /// Of an install or a check.
+    pub line: u32,
+    pub made: u64,
+    /// At a scan and a take: what would be owned.
+    pub held: Held,
+    /// What was found; at a signal the callers that are owed one.
+    pub number: u64,
+}
+
+impl Stop {
+    /// The point that it stops at.
+    pub fn point(&self) -> Point
+        ensures { result ≡ point_of self.now }
+    {
+        Point {
+            made: self.made,
+            calls: self.held.calls,
+            stage: self.stage(),
+        }
+    }
+
+    fn stage(&self) -> Stage
+        ensures { result ≡ stage_of self.now.at self.now.held self.now.line self.now.number }
+    {
+        let own = self.held.own;
+        let line = self.line;
+        let step = match self.at {
+            StopAt::Scan => {
+                return Stage::Scan {
+                    descriptor: own.descriptor,
+                    worn: 0,
+                };
+            }
+            StopAt::Take => {
+                return Stage::Take {
+                    descriptor: own.descriptor,
+                    generation: own.generation,
+                };
+            }
+            StopAt::Install => OwnStep::Pass(PassStep::Install { line }),
+            StopAt::Check => OwnStep::Pass(PassStep::Check { line }),
+            StopAt::Decide => OwnStep::Pass(PassStep::Decide {
+                phase: Phase::Succeeded,
+            }),
+            StopAt::Signal => OwnStep::Signal { owed: self.number },
+        };
+        Stage::Own { own, step }
+    }
+
+    /// What the step there found; None where it wasn't made.
+    pub fn found(&self) -> Option<u64>
+        ensures { result ≡ found_of self.now.at self.now.number }
+    {
+        match self.at {
+            StopAt::Signal => None,
+            _ => Some(self.number),
+        }
+    }
 }
 
 /// How the seat stood when its task began.

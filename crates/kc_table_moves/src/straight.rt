@@ -13,7 +13,7 @@ ghost use Rattle.kc_machine_commits.specs.Commits.{after_own_pass, fill_next, in
 ghost use Rattle.kc_machine.specs.Points.{first_point, seat_told};
 ghost use Rattle.kc_table_moves.specs.Straight.{On, Stopped, at_own, at_take, seat_in};
 
-use crate::atoms::{Chain, Held, Run, Stop, exchanges, loads, subtracts, swaps};
+use crate::atoms::{Chain, Held, Run, Stop, StopAt, exchanges, loads, subtracts, swaps};
 use crate::touch::Token;
 use kc_machine::{OwnStep, Point, Stage};
 use kc_machine_steps::{Line, PassStep, first_of, one_more, second_of};
@@ -46,12 +46,29 @@ fn point_at(made: u64, held: Held, step: OwnStep) -> Point
 }
 
 #[inline(always)]
-fn stop_at(at: Point, number: u64) -> Stop
-    ensures { result ≡ record { at = at; found = Some number } }
+fn stop_at(at: StopAt, made: u64, held: Held, line: u32, number: u64) -> Stop
+    ensures { result ≡ record { at = at; line = line; made = made; held = held; number = number } }
 {
     Stop {
         at,
-        found: Some(number),
+        line,
+        made,
+        held,
+        number,
+    }
+}
+
+// What would be owned behind a scan and a take.
+#[inline(always)]
+fn aimed_at(run: &Run, generation: u64) -> Held
+    ensures { result ≡ record { calls = run.now.seat.now.calls; own = record { descriptor = run.now.seat.now.first; generation = generation } } }
+{
+    Held {
+        calls: run.seat.calls(),
+        own: Handle {
+            descriptor: run.seat.first(),
+            generation,
+        },
     }
 }
 
@@ -75,7 +92,8 @@ fn scan<C: Chain>(run: &Run, token: &mut Token) -> Result<u64, Stop>
     let number = loads::<C>(run, token, true, at, control_at(run.base, first));
     let control = Control::unpack(number);
     if control.holds != 0 || control.generation >= LAST_GENERATION {
-        return Err(stop_at(at, number));
+        let held = aimed_at(run, 0);
+        return Err(stop_at(StopAt::Scan, at.made, held, 0, number));
     }
     Ok(control.generation)
 }
@@ -111,7 +129,8 @@ fn take<C: Chain>(run: &Run, token: &mut Token, generation: u64) -> Result<Held,
     .pack();
     let number = exchanges::<C>(run, token, at, control_at(run.base, first), old, new);
     if number != old {
-        return Err(stop_at(at, number));
+        let held = aimed_at(run, generation);
+        return Err(stop_at(StopAt::Take, at.made, held, 0, number));
     }
     Ok(Held {
         calls: one_more(run.seat.calls()),
@@ -261,7 +280,7 @@ fn install<C: Chain>(
     let at = point_at(made, held, OwnStep::Pass(PassStep::Install { line: index }));
     let number = exchanges::<C>(run, token, at, location_at(line.seen.loc), old, new);
     if number != old {
-        return Some(stop_at(at, number));
+        return Some(stop_at(StopAt::Install, made, held, index, number));
     }
     None
 }
@@ -328,7 +347,7 @@ fn check<C: Chain>(
             return None;
         }
     }
-    Some(stop_at(at, number))
+    Some(stop_at(StopAt::Check, made, held, index, number))
 }
 
 // The check of a line, where it is not installed; how many steps were made then.
@@ -401,7 +420,7 @@ fn decide<C: Chain>(run: &Run, token: &mut Token, made: u64, held: Held) -> Opti
     let word = status_at(run.base, held.own.descriptor);
     let number = exchanges::<C>(run, token, at, word, old, new);
     if number != old {
-        return Some(stop_at(at, number));
+        return Some(stop_at(StopAt::Decide, made, held, 0, number));
     }
     None
 }
@@ -579,10 +598,7 @@ fn end<C: Chain>(run: &Run, token: &mut Token, woken: Woken, held: Held) -> Resu
 {
     let Woken { made, owed } = woken;
     if owed != 0 {
-        return Err(Stop {
-            at: point_at(made, held, OwnStep::Signal { owed }),
-            found: None,
-        });
+        return Err(stop_at(StopAt::Signal, made, held, 0, owed));
     }
     drop_own::<C>(run, token, made, held);
     Ok(one_more(made))

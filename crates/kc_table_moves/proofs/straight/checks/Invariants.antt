@@ -1,10 +1,6 @@
-use Rattle.std.proofs.Common.{◌≡◌, false}
-use Rattle.kc_machine_steps.specs.Lines.{next_line}
-use Rattle.kc_machine_steps.specs.Passes.{from_check, from_install, from_release}
-use Rattle.kc_machine_steps.specs.declared.line.Pick.TheVariants.{Put}
-use Rattle.kc_machine_words.specs.declared.words.Phase.TheVariants.{Succeeded}
+use Rattle.std.proofs.Common.{false}
+use Rattle.kc_machine_steps.specs.Passes.{from_check}
 use Rattle.kc_machine_commits.specs.declared.commit.OwnStep.TheVariants as step
-use Rattle.kc_machine_commits.specs.Commits.{after_own_pass, intent_of, wake_or_signal}
 use Rattle.kc_table_moves.specs.Straight.{On, at_own, seat_in}
 use Rattle.kc_table_moves.proofs.straight.checks.Given as goal
 

@@ -1,4 +1,4 @@
-use Rattle.std.proofs.Common.{◌≡◌, false}
+use Rattle.std.proofs.Common.{false}
 use Rattle.kc_machine_commits.specs.Commits.{fill_next}
 use Rattle.kc_table_moves.specs.Straight.{On, at_own, seat_in}
 use Rattle.kc_table_moves.proofs.straight.fills.Given as goal

@@ -1,11 +1,8 @@
-use Rattle.std.proofs.Common.{◌∙◌, ◌≤◌, ◌+◌, ap, arith, false, length, not, refl, sym, true}
+use Rattle.std.proofs.Common.{◌∙◌, ◌+◌, ap, refl, sym}
 use Rattle.kc_machine_steps.specs.Lines.{after_line, next_line, one_more}
-use Rattle.kc_machine_steps.specs.Passes.{from_check, from_install, from_release}
 use Rattle.kc_machine_steps.specs.declared.line.Pick.TheVariants.{Put}
-use Rattle.kc_machine_steps.specs.declared.pass.PassStep.TheVariants.{Install, Check, Decide, Release}
-use Rattle.kc_machine_words.specs.declared.words.Phase.TheVariants.{Succeeded}
 use Rattle.kc_machine_commits.specs.declared.commit.OwnStep.TheVariants as step
-use Rattle.kc_machine_commits.specs.Commits.{after_own_pass, intent_of, owed_next, wake_or_signal}
+use Rattle.kc_machine_commits.specs.Commits.{wake_or_signal}
 use Rattle.kc_table_moves.proofs.Links.{after_is, below, has_one, on_step, wakes_here, wakes_past}
 use Rattle.kc_table_moves.proofs.straight.wake_line.Goals as goal
 
