@@ -51,6 +51,7 @@ use borrow.Author.Tests.{eqb-true}
 -- ---- what it has to pay
 
 module _ (n : ℕ) (at : ℕ → Hold) (f : ℕ) where
+  -- f is a descriptor that isn't there, so that the own one counts as any other; 64 lies past all lines
   abbrev pub paid_for : World → Cover → ℕ
   paid_for w x = paid n at f w x 64
 
