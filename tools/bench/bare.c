@@ -1,6 +1,7 @@
 // The peer of a straight commit: its atomic operations in their order on words that lie as a table's do, and nothing else.
-// Where one fails, the commit drops its descriptor and begins again with what stands. Prints nanoseconds per commit.
-// Usage: bare PUTS THREADS same|distinct ROUNDS COMMITS
+// Where one fails, the commit drops its descriptor and begins again with what stands.
+// Prints a line for each round: whose, what, puts, mode, threads, where, tenths of nanoseconds per commit.
+// Usage: bare PUTS THREADS same|own ROUNDS COMMITS
 #include <pthread.h>
 #include <stdatomic.h>
 #include <stdint.h>
@@ -9,7 +10,7 @@
 #include <string.h>
 #include <time.h>
 
-enum { LOCATIONS = 512, COUNT = 8, BASE = LOCATIONS + 8 * COUNT, DESCRIPTOR = 136, POOL = 13 };
+enum { MOST_PUTS = 4, LOCATIONS = 512, COUNT = 8, BASE = LOCATIONS + 8 * COUNT, DESCRIPTOR = 136, POOL = 13 };
 static _Alignas(64) _Atomic uint64_t words[BASE + DESCRIPTOR * POOL];
 static int puts_, same;
 static uint64_t commits;
@@ -21,11 +22,11 @@ static double now(void) {
 }
 
 __attribute__((noinline)) static void run(uint64_t caller) {
-    uint64_t descriptor = 3 * caller, number = 0, seen[2];
-    _Atomic uint64_t *d = words + BASE + DESCRIPTOR * descriptor, *w[2];
+    uint64_t descriptor = 3 * caller, number = 0, seen[MOST_PUTS];
+    _Atomic uint64_t *d = words + BASE + DESCRIPTOR * descriptor, *w[MOST_PUTS];
     for (int k = 0; k < puts_; k++) {
         w[k] = words + LOCATIONS + 8 * (same ? k : 2 * caller + k);
-        seen[k] = atomic_load(w[k]);
+        while ((seen[k] = atomic_load(w[k])) >> 63) {}
     }
     for (uint64_t done = 0; done < commits;) {
         uint64_t control = atomic_load(d), generation = (control >> 24) + 1;
@@ -72,7 +73,6 @@ int main(int count, char **args) {
     int threads = atoi(args[2]), rounds = atoi(args[4]);
     same = !strcmp(args[3], "same");
     commits = strtoull(args[5], 0, 10);
-    double least = 1e18;
     for (int round = 0; round < rounds; round++) {
         pthread_t running[4];
         double start = now();
@@ -80,7 +80,6 @@ int main(int count, char **args) {
         run(0);
         for (int t = 1; t < threads; t++) pthread_join(running[t], 0);
         double took = (now() - start) / (double)(commits * threads);
-        if (took < least) least = took;
+        printf("C commit %d Light %d %s %.0f\n", puts_, threads, args[3], took * 10);
     }
-    printf("%.1f\n", least);
 }
