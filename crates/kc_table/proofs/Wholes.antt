@@ -5,6 +5,7 @@ use Rattle.atomic_table.specs.Seated.{TableId}
 use Rattle.atomic_table.specs.Table.{Me}
 use Rattle.kc_machine_words.specs.declared.words.Mode.{Mode}
 use Rattle.kc_model.specs.Word.{IsPackable, packed}
+use Rattle.kc_model.specs.declared.footprint.Footprint.{Footprint}
 use Rattle.kc_model.specs.declared.footprint.Loc.{Loc}
 use Rattle.kc_model.specs.declared.word.Word.{Word}
 use Rattle.kc_model.specs.declared.word.Word.TheVariants.{Plain, Ref}
@@ -28,7 +29,7 @@ use Rattle.kc_table_moves.proofs.Allowed.{answered, ready_after}
 use Rattle.kc_table_moves.proofs.Straights.{stepped_view, went_on}
 use Rattle.kc_table_moves.specs.Origins.{Origin, opening_of}
 use Rattle.kc_table_moves.specs.Rule.{number_of, past_of, Ready, Moved}
-use Rattle.kc_table_moves.specs.Straight.{StepsTo, here, further, Aims, Commits, Here, On, Ran, StandsAt, StoppedAt, begun_at, seat_in}
+use Rattle.kc_table_moves.specs.Straight.{StepsTo, here, further, Aims, Here, On, Ran, StandsAt, StoppedAt, begun_at, seat_in}
 use Rattle.kc_table_moves.specs.Views.{SeatView, KnowsReads, Starts, Stepped, seen_as}
 use Rattle.kc_table_moves.specs.declared.atoms.Run.{Run}
 use Rattle.kc_table_moves.specs.declared.atoms.Stop.{Stop}
@@ -36,24 +37,18 @@ use Rattle.kc_table_moves.specs.declared.view.View.{View}
 
 -- ---- the beginning
 
-pub commit_begins : (s : Seat) (t : Task) (m : Mode) (xs : List Line) → is_idle s.work ≡ true → Commits t m xs → begun s t ≡ seat_at s m xs (first_point s)
-commit_begins s (task.Commit f n) m xs idle c = rw (idle, c.0, c.1) refl
-commit_begins s (task.Look l) m xs idle c = absurd c
-commit_begins s (task.Hang reads) m xs idle c = absurd c
-commit_begins s (task.Leave reads) m xs idle c = absurd c
+pub commit_begins : (s : Seat) (f : Footprint) (m : Mode) (xs : List Line) → is_idle s.work ≡ true → lines_of f ≡ xs → begun s (task.Commit f m) ≡ seat_at s m xs (first_point s)
+commit_begins s f m xs idle e = rw (idle, e) refl
 
 -- a commit and a look begin wherever nothing runs
-pub commit_starts : (v : SeatView) (t : Task) (m : Mode) (xs : List Line) → is_idle v.seat.work ≡ true → Commits t m xs → Starts v t
-commit_starts v t m xs idle c = (idle, ap (λ (x : Seat). is_idle x.work) (commit_begins v.seat t m xs idle c))
+pub commit_starts : (v : SeatView) (f : Footprint) (m : Mode) → is_idle v.seat.work ≡ true → Starts v (task.Commit f m)
+commit_starts v f m idle = (idle, rw idle refl)
 
 pub look_busy : (s : Seat) (l : Loc) → is_idle s.work ≡ true → is_idle (begun s (task.Look l)).work ≡ false
 look_busy s l e = rw e refl
 
-pub few_lines : (t : Task) (m : Mode) (xs : List Line) (n : ℕ) → Commits t m xs → IsWellMadeTask n t → length xs ≤ 64
-few_lines (task.Commit f k) m xs n c w = let e : length xs ≡ length f.reads.items = ap length (sym c.1) ∙ length-map f.reads.items (line_of f.puts.items) in let l = w.2 in omega arith
-few_lines (task.Look l) m xs n c w = absurd c
-few_lines (task.Hang reads) m xs n c w = absurd c
-few_lines (task.Leave reads) m xs n c w = absurd c
+pub few_lines : (f : Footprint) (m : Mode) (xs : List Line) (n : ℕ) → lines_of f ≡ xs → IsWellMadeTask n (task.Commit f m) → length xs ≤ 64
+few_lines f m xs n c w = let e : length xs ≡ length f.reads.items = ap length (sym c) ∙ length-map f.reads.items (line_of f.puts.items) in let l = w.2 in omega arith
 
 abbrev pub starts_as : TableId → Me Unit View → Seat → Task → SeatView
 starts_as z me s t = seen_as z me true (begun s t)

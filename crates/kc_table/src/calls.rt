@@ -3,7 +3,8 @@
 ghost use Rattle.std.specs.Prelude.{◌≡◌, ◌≤◌, ◌<◌, true, false, length, IfOk, IfErr, IfSome, IfNone, Some};
 ghost use Rattle.kc_model.specs.declared.word.Word.TheVariants.{Plain};
 ghost use Rattle.kc_machine_words.specs.declared.access.Found.TheVariants as found;
-ghost use Rattle.kc_machine_steps.specs.declared.task.Task.TheVariants.{Look};
+ghost use Rattle.kc_machine_steps.specs.declared.task.Task.TheVariants.{Commit, Look};
+ghost use Rattle.kc_machine_steps.specs.Lines.{lines_of};
 ghost use Rattle.kc_machine_steps.specs.declared.task.Told.TheVariants as told;
 ghost use Rattle.kc_machine.specs.Points.{first_point, seat_told};
 ghost use Rattle.kc_machine.specs.Schedules.{IsWellMadeTask};
@@ -11,14 +12,14 @@ ghost use Rattle.kc_machine.specs.Seats.{answer_of, begun, is_idle};
 ghost use Rattle.kc_table_layout.specs.declared.change.Change.TheVariants as change;
 ghost use Rattle.kc_table_moves.specs.Rule.{Moved, Ready};
 ghost use Rattle.kc_table_moves.specs.Views.{KnowsReads};
-ghost use Rattle.kc_table_moves.specs.Straight.{Aims, Commits, Here, On, Ran, StandsAt, Stopped, seat_in};
+ghost use Rattle.kc_table_moves.specs.Straight.{Aims, Here, On, Ran, StandsAt, Stopped, seat_in};
 
 use crate::seat::KcSeat;
 use crate::table::KcTable;
 use kc_machine::Seat;
 use kc_machine_steps::{Line, Task, Told, one_more};
 use kc_machine_words::{Found, Mode};
-use kc_model::{Loc, Seen, Word};
+use kc_model::{Footprint, Loc, Seen, Word};
 use kc_table_layout::{base_at, location_at, shown};
 use kc_table_moves::{Chain, Ended, Now, Run, Stop, Token, Words, load, run_commit};
 use std::marker::Brand;
@@ -66,14 +67,14 @@ impl KcTable {
     }
 
     /// Begins a commit of these lines and runs it straight on: to its end, or to the first word that is not as it expects,
-    /// from where it goes on by `step` until the seat is told. The lines are those of the task, which is not read.
-    pub fn commit(&self, seat: &mut KcSeat, task: &Task, mode: Mode, lines: &[Line])
+    /// from where it goes on by `step` until the seat is told. The lines are those of the footprint, which is not read.
+    pub fn commit(&self, seat: &mut KcSeat, footprint: &Footprint, mode: Mode, lines: &[Line])
         requires table { seat.old.of ≡ self.now }
         requires idle { is_idle seat.old.seat.work ≡ true }
-        requires task { Commits task.now mode lines.now }
-        requires made { IsWellMadeTask seat.old.of.origin.locations task.now }
-        requires known { KnowsReads seat.old task.now }
-        ensures { Ran seat.old task.now seat.new }
+        requires lines { lines_of footprint.now ≡ lines.now }
+        requires made { IsWellMadeTask seat.old.of.origin.locations (Commit footprint.now mode) }
+        requires known { KnowsReads seat.old (Commit footprint.now mode) }
+        ensures { Ran seat.old (Commit footprint.now mode) seat.new }
     {
         let run = Run {
             words: &self.table.shared,
@@ -82,7 +83,7 @@ impl KcTable {
             lines,
             base: base_at(self.locations),
         };
-        let ran = run_task::<Brand>(&run, &mut seat.token, task);
+        let ran = run_lines::<Brand>(&run, &mut seat.token, footprint);
         seat.began = false;
         match ran {
             Ok(ended) => end_commit(&mut seat.machine, ended),
@@ -130,9 +131,9 @@ fn look_on(seat: &mut Seat, loc: Loc, word: Word)
     seat.answer(&Found::Word(word));
 }
 
-// What names the task is not read.
+// The footprint is not read: it names the task.
 #[inline(always)]
-fn run_task<C: Chain>(run: &Run, token: &mut Token, _task: &Task) -> Result<Ended, Stop>
+fn run_lines<C: Chain>(run: &Run, token: &mut Token, _footprint: &Footprint) -> Result<Ended, Stop>
     requires base { run.now.base ≤ 1048576 }
     requires few { length run.now.lines.now ≤ 64 }
     requires on { On C.start run.now token.old.table_id token.old.me true (seat_in run.now (first_point run.now.seat.now)) }

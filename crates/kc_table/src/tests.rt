@@ -125,8 +125,7 @@ fn run(table: &KcTable, seat: &mut KcSeat, mode: Mode, reads: &[Seen], puts: &[O
     }
     let mut lines = ArrayVec::new();
     fill_lines(&mut lines, &footprint);
-    let task = Task::Commit { footprint, mode };
-    table.commit(seat, &task, mode, lines.as_slice());
+    table.commit(seat, &footprint, mode, lines.as_slice());
     true
 }
 

@@ -5,7 +5,6 @@ use Rattle.atomic_table.specs.Table.{Me}
 use Rattle.kc_machine_steps.specs.declared.line.Line.{Line}
 use Rattle.kc_machine_steps.specs.declared.task.Task.{Task}
 use Rattle.kc_machine_words.specs.declared.words.Mode.{Mode}
-use Rattle.kc_machine_steps.specs.declared.task.Task.TheVariants as task
 use Rattle.kc_machine.specs.Machine.{World, found_at, pool_size}
 use Rattle.kc_machine.specs.Points.{point, seat_at}
 use Rattle.kc_machine.specs.Seats.{access_of, answer_of, begun, is_idle}
@@ -14,7 +13,7 @@ use Rattle.kc_machine.specs.declared.seat.Seat.{Seat}
 use Rattle.kc_machine_commits.specs.declared.commit.OwnStep.{OwnStep}
 use Rattle.kc_machine_commits.specs.declared.commit.Stage.TheVariants.{Take, Own}
 use Rattle.kc_machine_ranges.specs.Bits.{ValuesFit}
-use Rattle.kc_machine_steps.specs.Lines.{one_more, lines_of}
+use Rattle.kc_machine_steps.specs.Lines.{one_more}
 use Rattle.kc_table_layout.specs.Cells.{CellFits, base_of, bits, cell_of, place, size_of}
 use Rattle.kc_table_layout.specs.Changes.{change_of}
 use Rattle.kc_table_layout.specs.declared.change.Change.{Change}
@@ -40,13 +39,6 @@ begun_at v t = record v { seat = begun v.seat t; began = true }
 pub record Ran (v : SeatView) (t : Task) (w : SeatView) : Type 0 where
   pub steps : StepsTo (begun_at v t) w
   pub shown : w.began ≡ false
-
--- the task commits these lines
-abbrev pub Commits : Task → Mode → List Line → Type 0
-Commits (task.Commit f n) m xs = (n ≡ m) × (lines_of f ≡ xs)
-Commits (task.Look l) m xs = ⊥
-Commits (task.Hang reads) m xs = ⊥
-Commits (task.Leave reads) m xs = ⊥
 
 -- ---- what the links of a straight commit keep
 
