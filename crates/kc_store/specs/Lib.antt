@@ -1,0 +1,6 @@
+pub mod Steps
+pub mod Tries
+pub mod Answers
+pub mod Works
+pub mod Peeks
+pub mod Verdicts
