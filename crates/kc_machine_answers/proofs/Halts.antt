@@ -39,7 +39,7 @@ use Rattle.kc_machine.proofs.Functions.{put_here}
 use Rattle.kc_machine.specs.Machine.{State, Opening, event_of, seat_of, run}
 use Rattle.kc_machine.specs.Seats.{is_idle, after, answer_by, answer_of, begun, begun_idle, working, hanging}
 use Rattle.kc_machine.specs.declared.seat.Seat.{Seat}
-use Rattle.kc_machine_answers.specs.Causes.{WasHalted, HaltsHaveACause}
+use Rattle.kc_machine_answers.specs.Causes.{WasHalted, HaltsHaveACause, is_marked}
 use Rattle.kc_machine_claims.specs.Traces.{Moment}
 use Rattle.kc_machine_effects.specs.Holds.{own_hold}
 use Rattle.kc_machine_effects.specs.Stands.{Stand, Owns, stand, works, resting, commits}
@@ -60,13 +60,8 @@ use Rattle.kc_machine_traces.proofs.Others.{run_shape, event_in, event_else}
 
 -- ---- a seat whose task was halted, or told so
 
-abbrev halted_of : Work → Bool
-halted_of (work.Look l) = l.halted
-halted_of (work.Commit c) = c.halted
-halted_of _ = false
-
-abbrev Stopped : Seat → Type 0
-Stopped s = (halted_of s.work ≡ true) ⊎ (s.told ≡ Some told.Halted)
+abbrev pub Stopped : Seat → Type 0
+Stopped s = (is_marked s.work ≡ true) ⊎ (s.told ≡ Some told.Halted)
 
 -- ---- only what was halted tells Halted
 
@@ -168,7 +163,7 @@ halted_other = record { hung = λ q. absurd (cc); free = λ q. absurd (cc); chan
 -- ---- a step
 
 module _ (s : Seat) where
-  goes_on : (x : Work) → halted_of x ≡ halted_of s.work → (n : Onward) → (TellsHalted n → halted_of s.work ≡ true) → Stopped (after (record s { work = x }) n) → Stopped s
+  goes_on : (x : Work) → is_marked x ≡ is_marked s.work → (n : Onward) → (TellsHalted n → is_marked s.work ≡ true) → Stopped (after (record s { work = x }) n) → Stopped s
   goes_on x e onward.Goes f y = ⊎_elim (λ q. inl (sym e ∙ q)) inr y
   goes_on x e onward.Takes f y = ⊎_elim (λ q. inl (sym e ∙ q)) inr y
   goes_on x e onward.Unblocks f y = ⊎_elim (λ q. inl (sym e ∙ q)) inr y
@@ -189,16 +184,16 @@ module _ (s : Seat) where
 
       go : (x : Work) → s.work ≡ x → Stopped (answer_by s f x) → Stopped s
       go work.Idle e y = y
-      go (work.Look l) e y = goes_on (work.Look (look_after l f)) (look_on l (look_next l.loc l.step f) ∙ sym (ap halted_of e)) (look_tells l f) (λ q. ap halted_of e ∙ look_tells_so l.halted (look_next l.loc l.step f) q) y
-      go (work.Commit c) e y = goes_on (work.Commit (commit_after s.descriptors s.calls c f)) (commit_on (loaded c f) (commit_next s.descriptors s.calls (loaded c f) f) ∙ sym (ap halted_of e)) (commit_onward s.descriptors s.calls c f) (λ q. ap halted_of e ∙ commit_tells s.descriptors s.calls c f (ends c e) q) y
-      go (work.Hang h) e y = goes_on _ (sym (ap halted_of e)) (hang_onward h f) (λ q. absurd (hang_silent told.Halted halted_other h.reads.items h.step f q)) y
-      go (work.Leave l) e y = goes_on _ (sym (ap halted_of e)) (leave_onward l) (λ q. absurd (leave_silent told.Halted halted_other (slice_get l.reads.items _) q)) y
+      go (work.Look l) e y = goes_on (work.Look (look_after l f)) (look_on l (look_next l.loc l.step f) ∙ sym (ap is_marked e)) (look_tells l f) (λ q. ap is_marked e ∙ look_tells_so l.halted (look_next l.loc l.step f) q) y
+      go (work.Commit c) e y = goes_on (work.Commit (commit_after s.descriptors s.calls c f)) (commit_on (loaded c f) (commit_next s.descriptors s.calls (loaded c f) f) ∙ sym (ap is_marked e)) (commit_onward s.descriptors s.calls c f) (λ q. ap is_marked e ∙ commit_tells s.descriptors s.calls c f (ends c e) q) y
+      go (work.Hang h) e y = goes_on _ (sym (ap is_marked e)) (hang_onward h f) (λ q. absurd (hang_silent told.Halted halted_other h.reads.items h.step f q)) y
+      go (work.Leave l) e y = goes_on _ (sym (ap is_marked e)) (leave_onward l) (λ q. absurd (leave_silent told.Halted halted_other (slice_get l.reads.items _) q)) y
 
   -- a task that begins wasn't halted
   begun_same : (t : Task) → Stopped (begun s t) → begun s t ≡ s
   begun_same t = go (is_idle s.work)
     where
-      fresh : {A : Type 0} (x : Work) → halted_of x ≡ false → Stopped (working s x) → A
+      fresh : {A : Type 0} (x : Work) → is_marked x ≡ false → Stopped (working s x) → A
       fresh x e (inl q) = absurd (cc)
       fresh x e (inr q) = absurd (cc)
 
@@ -239,7 +234,7 @@ module _ (o : Opening) (es : List Event) (k : ℕ) (l : k < o.callers) where
           sym (ap (λ (x : Stand). x.halted) t) ∙ (halted_owners o es).1 k h.descriptor h.generation a owns (known.0 ∙ ap (λ x. record { generation = h.generation; phase = x }) q)
 
   module _ (e : Event) where
-    event_stops : Stopped ((event_of (run o es) e).seats k) → Stopped s ⊎ (e ≡ Halt k)
+    pub event_stops : Stopped ((event_of (run o es) e).seats k) → Stopped s ⊎ (e ≡ Halt k)
     event_stops = go (k == seat_of e) refl
       where
         own_event : (e : Event) → seat_of e ≡ k → Stopped ((event_of (run o es) e).seats (seat_of e)) → Stopped ((run o es).seats (seat_of e)) ⊎ (e ≡ Halt (seat_of e))
@@ -251,7 +246,7 @@ module _ (o : Opening) (es : List Event) (k : ℕ) (l : k < o.callers) where
         go true q = let i = eqb-true k (seat_of e) q in subst (λ j. Stopped ((event_of (run o es) e).seats j) → Stopped ((run o es).seats j) ⊎ (e ≡ Halt j)) (sym i) (own_event e (sym i))
         go false q = λ y. inl (subst Stopped (event_else (run o es) e k (λ i. eqb-false k (seat_of e) q (sym i))) y)
 
-    seat_on : (run o (es ++ e ∷ [])).seats k ≡ (event_of (run o es) e).seats k
+    pub seat_on : (run o (es ++ e ∷ [])).seats k ≡ (event_of (run o es) e).seats k
     seat_on = ap (λ (m : State). m.seats k) (run-append o es (e ∷ []))
 
     still : (i : ℕ) (x : Event) → slice_get es i ≡ Some x → slice_get (es ++ e ∷ []) i ≡ Some x

@@ -1,10 +1,18 @@
 -- Why a seat was told what it was told.
-use Rattle.std.specs.Prelude.{◌≡◌, ◌<◌, ◌≤◌, ℕ, List, Some, slice_get}
+use Rattle.std.specs.Prelude.{◌≡◌, ◌<◌, ◌≤◌, ℕ, List, Bool, false, Some, slice_get}
 use Rattle.kc_machine_steps.specs.declared.task.Told.TheVariants as told
 use Rattle.kc_machine.specs.Machine.{Opening, run}
+use Rattle.kc_machine.specs.Works.{Work}
+use Rattle.kc_machine.specs.Works as work
 use Rattle.kc_machine_histories.specs.Places.{began}
 use Rattle.kc_machine_steps.specs.declared.task.Event.{Event}
 use Rattle.kc_machine_steps.specs.declared.task.Event.TheVariants.{Halt}
+
+-- the task that runs has the mark of a halt
+abbrev pub is_marked : Work → Bool
+is_marked (work.Look l) = l.halted
+is_marked (work.Commit c) = c.halted
+is_marked _ = false
 
 -- from the event by which its task began on, the schedule has a halt of seat k
 abbrev pub WasHalted : Opening → List Event → ℕ → Type 0

@@ -1,14 +1,15 @@
 -- In a legal history a version that is past was put, by an entry.
-use Rattle.std.proofs.Common.{arith, ◌≡◌, ◌<◌, ◌≤◌, ◌⊎◌, inl, inr, ℕ, zero, suc, ◌==◌, Bool, true, false, List, [], ◌∷◌, Option, None, Some, refl, sym, ap, subst, ◌∙◌, Contains, cond, take}
+use Rattle.std.proofs.Common.{arith, ◌≡◌, ◌<◌, ◌≤◌, ◌⊎◌, inl, inr, ℕ, zero, suc, ◌==◌, Bool, true, false, List, [], ◌∷◌, Option, None, Some, refl, sym, ap, subst, ◌∙◌, ◌+◌, Contains, cond, take}
 use Rattle.std.specs.Prelude.{slice_get}
 use Rattle.std.specs.List.{filter_map}
 use Rattle.std.proofs.lemmas.Bool.{cases_lt}
-use borrow.Author.Tests.{eqb-true}
+use Rattle.std.specs.Option.{is_some}
+use borrow.Author.Tests.{eq-eqb, eqb-true}
 use Rattle.kc_machine.specs.Machine.{Opening}
 use Rattle.kc_machine.specs.Schedules.{IsSchedule}
 use Rattle.kc_machine_claims.specs.Claims.{HasPut, FailuresHaveACause}
 use Rattle.kc_machine_claims.specs.Histories.{History, Placed, ending, put_of_line, footprint_of, IsKnown, IsLegalHistory}
-use Rattle.kc_machine_claims.specs.Traces.{trace, first_store}
+use Rattle.kc_machine_claims.specs.Traces.{trace, first_store, IsHonest}
 use Rattle.kc_machine_histories.proofs.Decisions.{history_moves}
 use Rattle.kc_machine_histories.proofs.Filters.{found}
 use Rattle.kc_machine_histories.proofs.Growth.{version_is}
@@ -24,6 +25,7 @@ use Rattle.kc_machine_traces.proofs.Joins.{every}
 use Rattle.kc_model.proofs.Stores.{Contains-first, Contains-later}
 use Rattle.kc_model.specs.Footprint.{put_at, IsRead, PutsWhatItReads}
 use Rattle.kc_model.specs.Store.{Store, after, cell_after}
+use Rattle.kc_model.specs.declared.footprint.Loc.{Loc}
 use Rattle.kc_model.specs.declared.footprint.Put.{Put}
 use Rattle.kc_model.specs.declared.footprint.Seen.{Seen}
 use Rattle.kc_model.specs.declared.plain_store.Cell.{Cell}
@@ -87,6 +89,38 @@ past_put s (x ∷ h) r legal reads low high = go (λ l. past_put (after x.entry.
         at : ((s r.loc.0).version < r.version) ⊎ (r.version ≤ (s r.loc.0).version) → HasPut (x ∷ h) r
         at (inl l) = later (rest (let z = ap (λ o. (cell_after o (s r.loc.0)).version) e in omega arith))
         at (inr l) = (x, p, Contains-first x h, there.0, (λ i. record { 0 = there.1 i }), sym stood ∙ omega arith)
+
+-- ---- a version that was put is past
+
+put_found : (ps : List Put) (p : Put) → Contains ps p → is_some (put_at ps p.loc.0) ≡ true
+put_found [] p c = absurd (omega (arith, c.1))
+put_found (q ∷ ps) p (zero, l, e) = rw (eq-eqb q.loc.0 p.loc.0 (ap (λ (x : Put). x.loc.0) e)) refl
+put_found (q ∷ ps) p (suc i, l, e) = go (q.loc.0 == p.loc.0) (put_found ps p (i, omega arith, e))
+  where
+    go : (b : Bool) → is_some (put_at ps p.loc.0) ≡ true → is_some (cond b (Some q) (put_at ps p.loc.0)) ≡ true
+    go true r = refl
+    go false r = r
+
+put_raises : (o : Option Put) (c : Cell) → is_some o ≡ true → (cell_after o c).version ≡ c.version + 1
+put_raises None c e = absurd (cc)
+put_raises (Some p) c e = refl
+
+put_passed : (s : Store) (h : History) (r : Seen) → IsLegalHistory s h → PutsAreRead h → HasPut h r → r.version < (ending s h r.loc.0).version
+put_passed s [] r legal reads (y, p, c, q, a, b) = absurd (omega (arith, c.1))
+put_passed s (x ∷ h) r legal reads (y, p, (suc i, l, e), q, a, b) = put_passed (after x.entry.footprint s) h r legal.1 (λ z c. reads z (Contains-later x h z c)) (y, p, (i, omega arith, e), q, a, b)
+put_passed s (x ∷ h) r legal reads (y, p, (zero, l, e), q, a, b) =
+    let z = reads x (Contains-first x h) p puts in
+    let stood : (s p.loc.0).version ≡ p.version = ap (λ l. (s l).version) (sym z.2) ∙ ap (λ (c : Cell). c.version) (legal.0 z.0 z.1) ∙ z.3 in
+    let raised = put_raises (put_by x p.loc.0) (s p.loc.0) (put_found x.entry.footprint.puts.items p puts) in
+    let rises = version_is (after x.entry.footprint s) h p.loc.0 in
+    let past : p.version < (ending s (x ∷ h) p.loc.0).version = omega arith in
+    subst (λ (l : Loc). r.version < (ending s (x ∷ h) l.0).version) a (omega (arith, past, b))
+  where
+    puts : Contains x.entry.footprint.puts.items p
+    puts = subst (λ (w : Placed). Contains w.entry.footprint.puts.items p) (sym e) q
+
+pub puts_past : (o : Opening) (es : List Event) → IsSchedule o es → IsHonest o es → (r : Seen) → HasPut (trace o es).history r → r.version < (ending (first_store o) (trace o es).history r.loc.0).version
+puts_past o es w honest r p = put_passed (first_store o) (trace o es).history r (legal o es w honest) (puts_read o es) p
 
 -- ---- failures
 

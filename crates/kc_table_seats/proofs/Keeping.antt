@@ -1,8 +1,11 @@
 -- What a seat knew it knows, and what it was told.
-use Rattle.std.proofs.Common.{◌≡◌, ◌≤◌, ℕ, List, [], ◌∷◌, ◌++◌, Some, true, sym, ap, ◌∙◌, subst, append_assoc, arith}
+use Rattle.std.proofs.Common.{◌≡◌, ◌≤◌, ◌<◌, All, ℕ, List, [], ◌∷◌, ◌++◌, Some, true, sym, ap, ◌∙◌, subst, append_assoc, arith}
 use Rattle.kc_machine_steps.specs.declared.task.Event.{Event}
 use Rattle.kc_machine_steps.specs.declared.task.Event.TheVariants.{Begin, Step}
 use Rattle.kc_machine_steps.specs.declared.task.Task.{Task}
+use Rattle.std.proofs.lemmas.List.Elements.{All-cons, All-head, All-nil, All-tail}
+use Rattle.kc_machine_words.specs.declared.words.Mode.{Mode}
+use Rattle.kc_model.specs.declared.footprint.Footprint.{Footprint}
 use Rattle.kc_model.specs.declared.footprint.Loc.{Loc}
 use Rattle.kc_model.specs.declared.footprint.Seen.{Seen}
 use Rattle.kc_machine_steps.specs.declared.task.Task.TheVariants as task
@@ -10,8 +13,10 @@ use Rattle.kc_machine_steps.specs.declared.task.Told.TheVariants as told
 use Rattle.kc_machine.specs.Machine.{Opening, run}
 use Rattle.kc_machine.specs.Seats.{is_idle}
 use Rattle.kc_machine.specs.declared.seat.Seat.{Seat}
-use Rattle.kc_machine_claims.specs.Histories.{Grows, IsKnown, ending}
+use Rattle.kc_machine_claims.specs.Claims.{HasPut}
+use Rattle.kc_machine_claims.specs.Histories.{Grows, History, IsAmong, IsKnown, Placed, ending, here, later, none}
 use Rattle.kc_machine_claims.specs.Traces.{first_store}
+use Rattle.kc_machine_honest.proofs.Put.{puts_past}
 use Rattle.kc_machine_traces.proofs.Joins.{made_parts, honest_parts}
 use Rattle.kc_machine_traces.proofs.Others.{history_kept}
 use Rattle.kc_machine_traces.specs.Entries.{by}
@@ -21,9 +26,9 @@ use Rattle.kc_table_moves.specs.Origins.{opening_of}
 use Rattle.kc_table_moves.specs.Views.{SeatView, Learns, Stepped, knows, opening_at_seat}
 use Rattle.kc_table_views.proofs.Knowing.{grows_on, known_on, versions_on, gains_none}
 use Rattle.kc_table_views.proofs.Pendings.{waits_no_step}
-use Rattle.kc_table_views.proofs.Taught.{look_taught, own_as_told}
+use Rattle.kc_table_views.proofs.Taught.{failure_taught, look_taught, own_as_told, success_taught}
 use Rattle.kc_table_views.specs.Known.{IsMeant, known}
-use Rattle.kc_table_views.specs.Tasks.{ran}
+use Rattle.kc_table_views.specs.Tasks.{FailureTaught, SuccessTaught, ran}
 
 -- a seat whose schedule goes on
 goes_on : (v w : SeatView) (more : List Event) → w.of ≡ v.of → w.number ≡ v.number → w.past ≡ v.past ++ more → IsMeant (opening_at_seat v) w.past → Keeps v w
@@ -74,6 +79,12 @@ module _ (v w : SeatView) (t : Task) (d : Does v t w) where
   meant_before : IsMeant o before
   meant_before = ((made_parts o before (Begin v.number t ∷ d.rest) d.runs.meant.0).0, (honest_parts o before (Begin v.number t ∷ d.rest) d.runs.meant.1).0)
 
+  meant_past : IsMeant o v.past
+  meant_past = let m = subst (IsMeant o) before_is meant_before in ((made_parts o v.past between m.0).0, (honest_parts o v.past between m.1).0)
+
+  grows_before : Grows (knows v) (known o before)
+  grows_before = subst (λ x. Grows (knows v) (known o x)) (sym before_is) (grows_on o v.past between (subst (IsMeant o) before_is meant_before))
+
   no_lower : (l : ℕ) → (ending (first_store o) (knows v) l).version ≤ (ending (first_store o) (known o before) l).version
   no_lower l = subst (λ x. (ending (first_store o) (knows v) l).version ≤ (ending (first_store o) (known o x) l).version) (sym before_is) (versions_on o v.past between (subst (IsMeant o) before_is meant_before) l)
 
@@ -103,3 +114,26 @@ own_known v w t d idle =
     subst (λ (s : Seat). GainsAsTold k t s.told (by k (knows v)) (by k (knows w))) (seat_is v w t d)
     (subst (λ h. GainsAsTold k t ((run (o v w t d) (ran k t (before v w t d) d.rest)).seats k).told h (by k (knows w))) (none_between v w t d)
     (subst (λ h. GainsAsTold k t ((run (o v w t d) (ran k t (before v w t d) d.rest)).seats k).told (by k (known (o v w t d) (before v w t d))) (by k h)) (list_is v w t d) g))
+
+-- ---- commits
+
+-- what was known before stands among what was known as the task began
+all_among : (P : Placed → Type 0) {a b : History} → IsAmong a b → All P b → All P a
+all_among P none q = All-nil P
+all_among P (here {x = x} {a = a} {b = b} g) q = All-cons P x a (All-head P x b q) (all_among P g (All-tail P x b q))
+all_among P (later {x = x} {b = b} g) q = all_among P g (All-tail P x b q)
+
+pub success_known : (v w : SeatView) (n : ℕ) (f : Footprint) (m : Mode) → Does v (task.Commit f m) w → w.seat.told ≡ Some (told.Succeeded n) → SuccessTaught v.number n f m (knows v) (knows w)
+success_known v w n f m d said =
+    let t = task.Commit f m in
+    let x = success_taught (o v w t d) v.number n f m (before v w t d) d.rest d.runs (ap (λ (s : Seat). s.told) (seat_is v w t d) ∙ said) in
+    let y : SuccessTaught v.number n f m (known (o v w t d) (before v w t d)) (knows w) = subst (SuccessTaught v.number n f m (known (o v w t d) (before v w t d))) (list_is v w t d) x in
+    record { place = y.place; entry = y.entry; behind = all_among (λ z. z.place < y.place) (grows_before v w t d).0 y.behind }
+
+pub failure_known : (v w : SeatView) (i : ℕ) (f : Footprint) (m : Mode) → Does v (task.Commit f m) w → w.seat.told ≡ Some (told.Failed i) → FailureTaught f i (knows w)
+failure_known v w i f m d said =
+    let t = task.Commit f m in
+    subst (FailureTaught f i) (list_is v w t d) (failure_taught (o v w t d) v.number i f m (before v w t d) d.rest d.runs (ap (λ (s : Seat). s.told) (seat_is v w t d) ∙ said))
+
+pub put_past : (v w : SeatView) (t : Task) (r : Seen) → Does v t w → HasPut (knows v) r → r.version < (ending (first_store (opening_at_seat v)) (knows v) r.loc.0).version
+put_past v w t r d p = let m = meant_past v w t d in puts_past (opening_at_seat v) v.past m.0 m.1 r p

@@ -1,3 +1,5 @@
 pub mod Following
 pub mod Keeping
 pub mod Running
+pub mod Halting
+pub mod Stopping
