@@ -26,15 +26,15 @@ module _ {X : Type 0} where
 
   pub in_filtered : (t : X → Bool) (xs : List X) (x : X) → Contains (filter t xs) x → Contains xs x
   in_filtered t [] x c = c
-  in_filtered t (y ∷ xs) x c = go (t y) c
+  in_filtered t (y ∷ xs) x c = go (t y) (in_filtered t xs x) c
     where
       there : (y ≡ x) ⊎ Contains (filter t xs) x → (Contains (filter t xs) x → Contains xs x) → Contains (y ∷ xs) x
       there (inl e) ih = subst (Contains (y ∷ xs)) e (Contains-first y xs)
       there (inr c) ih = Contains-later y xs x (ih c)
 
-      go : (b : Bool) → Contains (cond b (y ∷ filter t xs) (filter t xs)) x → Contains (y ∷ xs) x
-      go true c = there (first_or_later y (filter t xs) x c) (in_filtered t xs x)
-      go false c = Contains-later y xs x (in_filtered t xs x c)
+      go : (b : Bool) → (Contains (filter t xs) x → Contains xs x) → Contains (cond b (y ∷ filter t xs) (filter t xs)) x → Contains (y ∷ xs) x
+      go true ih c = there (first_or_later y (filter t xs) x c) ih
+      go false ih c = Contains-later y xs x (ih c)
 
   pub filtered_in : (t : X → Bool) (xs : List X) (x : X) → t x ≡ true → Contains xs x → Contains (filter t xs) x
   filtered_in t [] x e c = c
@@ -50,12 +50,12 @@ module _ {X : Type 0} where
 
 pub among_in : (a b : History) (x : Placed) → IsAmong a b → Contains a x → Contains b x
 among_in a b x none c = nothing_in x c
-among_in a b x (here {y} {xs} {ys} m) c = go (first_or_later y xs x c) (among_in xs ys x m)
+among_in a b x (here {x = y} {a = xs} {b = ys} m) c = go (first_or_later y xs x c) (among_in xs ys x m)
   where
     go : (y ≡ x) ⊎ Contains xs x → (Contains xs x → Contains ys x) → Contains (y ∷ ys) x
     go (inl e) ih = subst (Contains (y ∷ ys)) e (Contains-first y ys)
     go (inr c) ih = Contains-later y ys x (ih c)
-among_in a b x (later {y} {xs} {ys} m) c = Contains-later y ys x (among_in xs ys x m c)
+among_in a b x (later {x = y} {b = ys} m) c = Contains-later y ys x (among_in a ys x m c)
 
 pub grows_in : (a b : History) (x : Placed) → Grows a b → Contains a x → Contains b x
 grows_in a b x g c = among_in a b x g.0 c

@@ -1,5 +1,6 @@
 -- Steps are counted.
 use Rattle.std.proofs.Common.{◌≡◌, ◌≢◌, ◌==◌, Bool, true, false, ℕ, ◌+◌, ◌≤◌, List, [], ◌∷◌, ◌++◌, refl, sym, ap, ◌∙◌, arith, if◌then◌else◌}
+use Rattle.std.proofs.lemmas.Bool.Decides.{nat_tests}
 use borrow.Author.Tests.{eqb-true}
 use Rattle.kc_machine.specs.Machine.{seat_of}
 use Rattle.kc_machine_steps.specs.declared.task.Event.{Event}
@@ -16,9 +17,15 @@ steps-append k (Begin j t ∷ es) ys = steps-append k es ys
 steps-append k (Step j ∷ es) ys = let h = steps-append k es ys in omega (arith, h)
 steps-append k (Halt j ∷ es) ys = steps-append k es ys
 
-one_else : (j k : ℕ) → j ≢ k → (b : Bool) → (j == k) ≡ b → (if j == k then 1 else 0) ≡ 0
+pub is_same : (n : ℕ) → (n == n) ≡ true
+is_same n = grind (arith, nat_tests)
+
+abbrev counted : Bool → ℕ
+counted b = if b then 1 else 0
+
+one_else : (j k : ℕ) → j ≢ k → (b : Bool) → (j == k) ≡ b → counted (j == k) ≡ 0
 one_else j k n true e = absurd (n (eqb-true j k e))
-one_else j k n false e = ap (λ b. if b then 1 else 0) e
+one_else j k n false e = ap counted e
 
 none_steps : (k : ℕ) (es : List Event) → NoneOf k es → steps_in k es ≡ 0
 none_steps k [] n = refl
@@ -32,8 +39,8 @@ waits_steps k (Begin j t ∷ es) w = waits_steps k es w.1
 waits_steps k (Step j ∷ es) w = absurd w
 waits_steps k (Halt j ∷ es) w = waits_steps k es w.1
 
-one_same : (k : ℕ) → (if k == k then 1 else 0) ≡ 1
-one_same k = grind (arith, nat_tests)
+one_same : (k : ℕ) → counted (k == k) ≡ 1
+one_same k = ap counted (is_same k)
 
 pub step_counts : (v w : SeatView) → Stepped v w → steps_made w ≡ steps_made v + 1
 step_counts v w s =

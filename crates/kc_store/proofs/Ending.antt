@@ -89,7 +89,7 @@ module _ (t : Task) (v u : SeatView) (e : is_tried t ≡ true) (idle : is_idle v
       record {
         ran = record { did = inl runs.does; stands = runs.stands };
         idle = ended;
-        told = says;
+        says = says;
         spent = λ h. absurd (free.0 (says ∙ ap Some h));
         made = omega (arith, up);
       }
@@ -101,7 +101,7 @@ module _ (t : Task) (v u : SeatView) (e : is_tried t ≡ true) (idle : is_idle v
       record {
         ran = on runs;
         idle = ended;
-        told = says;
+        says = says;
         spent = λ h. spent (says ∙ ap Some h);
         made = omega (arith, up, more);
       }

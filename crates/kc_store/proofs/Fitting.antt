@@ -1,6 +1,7 @@
 -- Versions that are known have room in a word.
 use Rattle.std.proofs.Common.{◌≡◌, ◌≤◌, ◌<◌, Bool, true, false, ℕ, ◌+◌, List, [], refl, sym, ap, ◌∙◌, arith, subst, length, take, if◌then◌else◌}
 use Rattle.std.specs.Prelude.{nat_lt}
+use Rattle.std.proofs.lemmas.Bool.Decides.{nat_tests}
 use Rattle.kc_machine.specs.Machine.{Opening, World, run}
 use Rattle.kc_machine.specs.Schedules.{IsSchedule}
 use Rattle.kc_machine_claims.specs.Claims.{history_at, stands_for}

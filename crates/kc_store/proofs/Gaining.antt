@@ -2,7 +2,6 @@
 use Rattle.std.proofs.Common.{◌≡◌, ◌≢◌, ◌==◌, ◌<◌, ◌≤◌, true, false, ℕ, ◌+◌, List, [], ◌∷◌, ◌++◌, Some, refl, sym, ap, ◌∙◌, arith, subst, length, append_assoc, append-nil, get_or}
 use Rattle.std.specs.Prelude.{All, Contains, slice_get}
 use Rattle.std.proofs.lemmas.List.Elements.{Contains-append_left, Contains-append_right, Contains-get_or}
-use Rattle.std.proofs.Math.Dec.{eqb_refl}
 use Rattle.kc_machine.specs.Machine.{Opening}
 use Rattle.kc_machine.specs.Seats.{is_idle}
 use Rattle.kc_machine_claims.specs.Claims.{HasPut}
@@ -18,6 +17,7 @@ use Rattle.kc_model.proofs.Stores.{Contains-first}
 use Rattle.kc_model.specs.Footprint.{Reads}
 use Rattle.kc_model.specs.declared.footprint.Footprint.{Footprint}
 use Rattle.kc_model.specs.declared.footprint.Seen.{Seen}
+use Rattle.kc_store.proofs.Counting.{is_same}
 use Rattle.kc_store.proofs.Among.{filtered_in, grows_in, in_filtered, place_before, rises_filtered}
 use Rattle.kc_store.proofs.Seeing.{Fresh}
 use Rattle.kc_store.specs.Answers.{Gains, GainsNothing, WasOvertaken, own_entries, placed_entry}
@@ -36,7 +36,7 @@ does_meant v w t d = subst (λ o. IsMeant o w.past) (sym (ap (λ z. opening_of z
 all_in : (P : Placed → Type 0) (h : History) (x : Placed) → All P h → Contains h x → P x
 all_in P h x a c = subst P c.2 (a c.0 x c.1)
 
-all_from : (P : Placed → Type 0) (a b : History) → ((x : Placed) → Contains a x → Contains b x) → All P b → All P a
+pub all_from : (P : Placed → Type 0) (a b : History) → ((x : Placed) → Contains a x → Contains b x) → All P b → All P a
 all_from P a b within all = λ k d lt. all_in P b (get_or a k d) all (within (get_or a k d) (Contains-get_or a k d lt))
 
 -- of two lists of one caller the later one has an entry more: it stands at the end, since it stands behind all that was known
@@ -53,9 +53,6 @@ last_one k n t a b p m f g same r below = go g.back refl
         let high = place_before g.front g.entry z zs (subst RisesByPlace (g.after ∙ ap (λ l. g.front ++ g.entry ∷ l) e) r) in
         let at : g.entry.place ≡ p = ap (λ (x : Placed). x.place) same in
         absurd (omega (arith, low, high, at))
-
-is_same : (n : ℕ) → (n == n) ≡ true
-is_same n = grind (arith, nat_tests)
 
 -- a commit that succeeded
 module _ (v c w : SeatView) (n : ℕ) (f : Footprint) (m : Mode) (keeps : Keeps v c) (none : own_entries c ≡ own_entries v) (d : Does c (task.Commit f m) w) (idle : is_idle w.seat.work ≡ true) (says : w.seat.told ≡ Some (told.Succeeded n)) where

@@ -29,7 +29,7 @@ pub was_told : (start v : SeatView) (left : ℕ) (t : Task) (a : Told) (w : Seat
 was_told start v left t a w rest h e = record {
   did = e.ran.did;
   idle = e.idle;
-  told = e.told;
+  says = e.says;
   spent = λ s. none_left start w rest (left_on start v w left rest h e.made) (e.spent s);
 }
 

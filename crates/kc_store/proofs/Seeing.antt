@@ -38,10 +38,10 @@ keeps_then u v w a b = record {
 -- ---- one look
 
 pub look_does : (start v w : SeatView) (l : ℕ) (r : Seen) → Sees start v l (Ok r) w → Does v (look_of l) w
-look_does start v w l r s = did_does v w (look_of l) (told.Seen r) s.did s.idle s.told (cc)
+look_does start v w l r s = did_does v w (look_of l) (told.Seen r) s.did s.idle s.says (λ e. absurd (cc))
 
 pub look_saw : (start v w : SeatView) (l : ℕ) (r : Seen) → Sees start v l (Ok r) w → Saw v (record { 0 = l }) r w
-look_saw start v w l r s = looks_saw v w (record { 0 = l }) r (look_does start v w l r s) s.told
+look_saw start v w l r s = looks_saw v w (record { 0 = l }) r (look_does start v w l r s) s.says
 
 pub look_keeps : (start v w : SeatView) (l : ℕ) (r : Result Seen PeekBusy) → Sees start v l r w → Keeps v w
 look_keeps start v w l (Ok r) s = did_keeps v w (look_of l) s.did
@@ -49,8 +49,8 @@ look_keeps start v w l (Err b) s = did_keeps v w (look_of l) s.did
 
 -- a look gains no entry
 pub look_gains_none : (start v w : SeatView) (l : ℕ) (r : Result Seen PeekBusy) → Sees start v l r w → own_entries w ≡ own_entries v
-look_gains_none start v w l (Ok r) s = subst (λ a. Rattle.kc_machine_traces.specs.Outcomes.GainsAsTold v.number (look_of l) a (own_entries v) (own_entries w)) s.told (did_gains v w (look_of l) s.did s.idle)
-look_gains_none start v w l (Err b) s = subst (λ a. Rattle.kc_machine_traces.specs.Outcomes.GainsAsTold v.number (look_of l) a (own_entries v) (own_entries w)) s.told (did_gains v w (look_of l) s.did s.idle)
+look_gains_none start v w l (Ok r) s = subst (λ a. Rattle.kc_machine_traces.specs.Outcomes.GainsAsTold v.number (look_of l) a (own_entries v) (own_entries w)) s.says (did_gains v w (look_of l) s.did s.idle)
+look_gains_none start v w l (Err b) s = subst (λ a. Rattle.kc_machine_traces.specs.Outcomes.GainsAsTold v.number (look_of l) a (own_entries v) (own_entries w)) s.says (did_gains v w (look_of l) s.did s.idle)
 
 -- nothing that was known put from what the look saw
 look_unput : (start v w : SeatView) (l : ℕ) (r : Seen) → Sees start v l (Ok r) w → ¬ HasPut (knows v) r
@@ -76,16 +76,16 @@ pub record Fresh (v w : SeatView) (r : Seen) : Type 0 where
 
 pub looks_fresh : (start v : SeatView) (es : List Seen) (w : SeatView) (r : Seen) → Looks (Sees start) v es w → Contains es r → Fresh v w r
 looks_fresh start v [] w r e c = nothing_in r c
-looks_fresh start v (x ∷ es) w r (b, s, rest) c = go (first_or_later x es r c)
+looks_fresh start v (x ∷ es) w r (b, s, rest) c = go (first_or_later x es r c) (looks_fresh start b es w r rest)
   where
     keeps : Keeps v b
     keeps = look_keeps start v b x.loc.0 (Ok x) s
 
-    go : (x ≡ r) ⊎ Contains es r → Fresh v w r
-    go (inl e) = subst (Fresh v w) e (record {
+    go : (x ≡ r) ⊎ Contains es r → (Contains es r → Fresh b w r) → Fresh v w r
+    go (inl e) ih = subst (Fresh v w) e (record {
       known = (looks_keep start b es w rest).reads x (look_saw start v b x.loc.0 x s).known;
       unput = look_unput start v b x.loc.0 x s;
     })
-    go (inr c) =
-        let f = looks_fresh start b es w r rest c in
+    go (inr c) ih =
+        let f = ih c in
         record { known = f.known; unput = λ p. f.unput (grows_put (knows v) (knows b) r keeps.grows p) }

@@ -1,12 +1,12 @@
 -- A seat that runs a look or a commit: how it stands, behind each step.
-use Rattle.std.proofs.Common.{◌≡◌, ◌≤◌, Bool, true, false, ℕ, ◌&&◌, ◌==◌, List, Option, None, Some, refl, sym, ap, ◌∙◌, arith, subst, if◌then◌else◌}
+use Rattle.std.proofs.Common.{◌≡◌, ◌≤◌, Bool, true, false, ℕ, ◌+◌, ◌-◌, ◌&&◌, ◌==◌, List, Option, None, Some, refl, sym, ap, ◌∙◌, arith, subst, if◌then◌else◌}
 use Rattle.std.specs.Prelude.{nat_lt}
 use Rattle.kc_machine.specs.Machine.{found_at, run}
 use Rattle.kc_machine.specs.Seats.{access_of, after, answer_by, answer_of, begun, begun_idle, blocked_by, ended, halted, halted_by, is_idle}
 use Rattle.kc_machine.specs.Works.{Work}
 use Rattle.kc_machine.specs.Works as work
 use Rattle.kc_machine.specs.declared.seat.Seat.{Seat}
-use Rattle.kc_machine_commits.specs.Commits.{commit_after, commit_onward, loaded, onward_by, own_next, scan_next, stage_next, take_next, tells_or_goes, told_of}
+use Rattle.kc_machine_commits.specs.Commits.{after_scan, commit_after, commit_onward, loaded, onward_by, own_next, scan_next, stage_next, take_next, tells_or_goes, told_of}
 use Rattle.kc_machine_commits.specs.Halts.{commit_halted, unowned}
 use Rattle.kc_machine_commits.specs.Nexts.{Next, Goes, Takes, Tells}
 use Rattle.kc_machine_commits.specs.declared.commit.Commit.{Commit}
@@ -31,6 +31,7 @@ use Rattle.kc_machine_words.specs.declared.words.Handle.{Handle}
 use Rattle.kc_machine_words.specs.declared.words.Phase.{Phase}
 use Rattle.kc_machine_words.specs.declared.words.Phase.TheVariants.{Active, Succeeded, Failed, Crossed, Halted}
 use Rattle.kc_machine_words.specs.declared.words.Mode.{Mode}
+use Rattle.kc_machine_words.specs.declared.words.TheConstants.{LAST_GENERATION}
 use Rattle.kc_model.specs.declared.footprint.Footprint.{Footprint}
 use Rattle.kc_model.specs.declared.footprint.Loc.{Loc}
 use Rattle.kc_store.specs.Works.{Stands, commits, is_told_committing, is_told_looking, looks, stands_in}
@@ -65,20 +66,14 @@ said (Goes st) = true
 said (Takes st) = true
 said (Tells t) = is_told_committing (Some t)
 
-scan_free : (b : Bool) (x y : Stage) → said (if b then Goes x else Goes y) ≡ true
-scan_free true x y = refl
-scan_free false x y = refl
-
-scan_worn : (b : Bool) (x : Stage) → said (if b then Goes x else Tells told.Worn) ≡ true
-scan_worn true x = refl
-scan_worn false x = refl
-
-two : (b : Bool) (p q : Next) → said p ≡ true → said q ≡ true → said (if b then p else q) ≡ true
-two true p q x y = x
-two false p q x y = y
+scan_cases : (a b e : Bool) (x y z : Stage) → said (if a then (if b then Goes x else Goes y) else (if e then Goes z else Tells told.Worn)) ≡ true
+scan_cases true true e x y z = refl
+scan_cases true false e x y z = refl
+scan_cases false b true x y z = refl
+scan_cases false b false x y z = refl
 
 scan_said : (n d worn : ℕ) (f : Found) → said (scan_next n d worn f) ≡ true
-scan_said n d worn (found.Control c) = two _ _ _ (scan_free _ _ _) (scan_worn _ _)
+scan_said n d worn (found.Control c) = scan_cases (nat_lt c.generation LAST_GENERATION) (c.holds == 0) (nat_lt worn (n - 1)) (stage.Take d c.generation) (stage.Scan (after_scan n d) 0) (stage.Scan (after_scan n d) (worn + 1))
 scan_said n d worn f = refl
 
 take_two : (b : Bool) (x y : Stage) → said (if b then Takes x else Goes y) ≡ true
@@ -86,7 +81,7 @@ take_two true x y = refl
 take_two false x y = refl
 
 take_said : (n d g : ℕ) (f : Found) → said (take_next n d g f) ≡ true
-take_said n d g (found.Control c) = take_two _ _ _
+take_said n d g (found.Control c) = take_two ((c.generation == g) && (c.holds == 0) && nat_lt g LAST_GENERATION) (stage.Own (record { descriptor = d; generation = g + 1 }) own.FillOwner) (stage.Scan (after_scan n d) 0)
 take_said n d g f = refl
 
 phase_said : (p : Phase) (calls : ℕ) → is_told_committing (Some (told_of p calls)) ≡ true
@@ -244,8 +239,8 @@ halt_told s busy idle = go s s.work busy idle
 
     go : (s : Seat) (w : Work) → is_idle w ≡ false → is_idle (halted_by (record s { work = w }) w).work ≡ true → (halted_by (record s { work = w }) w).told ≡ Some told.Halted
     go s work.Idle b i = absurd (cc)
-    go s (work.Look x) b i = two_ends _ _ (halts_at_once x.step) refl i
-    go s (work.Commit c) b i = two_ends _ _ (unowned c.stage) refl i
+    go s (work.Look x) b i = two_ends (record s { work = work.Look x }) (record s { work = work.Look (look_halted x) }) (halts_at_once x.step) refl i
+    go s (work.Commit c) b i = two_ends (record s { work = work.Commit c }) (record s { work = work.Commit (commit_halted c) }) (unowned c.stage) refl i
     go s (work.Hang h) b i = absurd (cc)
     go s (work.Leave h) b i = absurd (cc)
 

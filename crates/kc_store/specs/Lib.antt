@@ -4,3 +4,5 @@ pub mod Answers
 pub mod Works
 pub mod Peeks
 pub mod Verdicts
+pub mod Commits
+pub mod Values

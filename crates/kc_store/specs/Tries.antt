@@ -25,7 +25,7 @@ Did v t w = Does v t w ⊎ ((u : SeatView) × Does v t u × (w ≡ record u { se
 pub record WasTold (start v : SeatView) (t : Task) (a : Told) (w : SeatView) : Type 0 where
   pub did : Did v t w
   pub idle : is_idle w.seat.work ≡ true
-  pub told : w.seat.told ≡ Some a
+  pub says : w.seat.told ≡ Some a
   pub spent : a ≡ told.Halted → IsSpent start w
 
 abbrev pub look_of : ℕ → Task

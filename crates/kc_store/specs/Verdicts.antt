@@ -4,6 +4,8 @@ use Rattle.kc_machine_steps.specs.declared.task.Told.{Told}
 use Rattle.kc_machine_steps.specs.declared.task.Told.TheVariants as told
 use Rattle.kc_model.specs.declared.footprint.Footprint.{Footprint}
 use Rattle.kc_model.specs.declared.footprint.Seen.{Seen}
+use Rattle.kc_store.specs.declared.verdict.Answered.{Answered}
+use Rattle.kc_store.specs.declared.verdict.Answered.TheVariants as answered
 use Rattle.kc_store.specs.declared.verdict.Verdict.{Verdict}
 use Rattle.kc_store.specs.declared.verdict.Verdict.TheVariants as verdict
 use Rattle.kc_xt.specs.declared.attempts.Tried.{Tried}
@@ -37,3 +39,20 @@ has_entry (verdict.WornLocation loc) = true
 has_entry verdict.WornPool = false
 has_entry (verdict.Lost loc version) = false
 has_entry (verdict.Busy steps) = false
+
+-- whether it is answered by a commit that tries again
+abbrev pub is_final : Verdict → Bool
+is_final (verdict.Done r) = true
+is_final verdict.Later = true
+is_final verdict.TooLarge = true
+is_final (verdict.WornLocation loc) = true
+is_final verdict.WornPool = true
+is_final (verdict.Lost loc version) = false
+is_final (verdict.Busy steps) = false
+
+abbrev pub verdict_of : Answered → Verdict
+verdict_of (answered.Done r) = verdict.Done r
+verdict_of answered.Later = verdict.Later
+verdict_of answered.TooLarge = verdict.TooLarge
+verdict_of (answered.WornLocation loc) = verdict.WornLocation loc
+verdict_of answered.WornPool = verdict.WornPool

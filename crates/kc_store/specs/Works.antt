@@ -77,7 +77,7 @@ pub record MayRun (v : SeatView) (t : Task) (w : SeatView) : Type 0 where
 pub record Ends (t : Task) (v : SeatView) (left : ℕ) (a : Told) (w : SeatView) (rest : ℕ) : Type 0 where
   pub ran : MayRun v t w
   pub idle : is_idle w.seat.work ≡ true
-  pub told : w.seat.told ≡ Some a
+  pub says : w.seat.told ≡ Some a
   pub spent : a ≡ told.Halted → rest ≡ 0
   pub made : steps_made v + left ≤ steps_made w + rest
 
