@@ -9,3 +9,4 @@ pub mod Blocked
 pub mod Silence
 pub mod Freed
 pub mod Told
+pub mod Hung

@@ -65,27 +65,27 @@ use Rattle.kc_machine_waiting.proofs.Listening.{up_to, before_end, work_wait, ha
 use Rattle.kc_machine_waiting.proofs.Silence.{rests, Silent, rests_on, else_on, clears_own}
 use Rattle.kc_machine_waiting.specs.Causes.{ReadMoved, ChangedReadsMoved, FreeIsForgotten}
 
-abbrev Asked : Option Task → List Seen → Type 0
+abbrev pub Asked : Option Task → List Seen → Type 0
 Asked t reads = t ≡ Some (task.Hang (record { items = reads }))
 
-abbrev StepGives : Opening → List Event → Moment → List Seen → HangStep → Type 0
+abbrev pub StepGives : Opening → List Event → Moment → List Seen → HangStep → Type 0
 StepGives o es since reads (hang.Set j) = Unit {0}
 StepGives o es since reads (hang.Look j step) = IsBehind o es since
 StepGives o es since reads (hang.Clear j c) = ReadMoved o es since reads c
 
-abbrev Leaves : Option Task → List Seen → Type 0
+abbrev pub Leaves : Option Task → List Seen → Type 0
 Leaves t reads = t ≡ Some (task.Leave (record { items = reads }))
 
-abbrev LeaveGives : State → ℕ → List Seen → LeaveStep → Type 0
+abbrev pub LeaveGives : State → ℕ → List Seen → LeaveStep → Type 0
 LeaveGives m k reads leave.Unsignal = Unit {0}
 LeaveGives m k reads (leave.Clear j) = (i : ℕ) (r : Seen) → i < j → slice_get reads i ≡ Some r → Silent m k r
 
-abbrev WorkGives : Opening → List Event → ℕ → Option Task → Moment → Work → Type 0
+abbrev pub WorkGives : Opening → List Event → ℕ → Option Task → Moment → Work → Type 0
 WorkGives o es k t since (work.Hang h) = Asked t h.reads.items × StepGives o es since h.reads.items h.step
 WorkGives o es k t since (work.Leave l) = Leaves t l.reads.items × LeaveGives (run o es) k l.reads.items l.step
 WorkGives o es k t since _ = Unit {0}
 
-abbrev ToldGives : Opening → List Event → ℕ → Option Task → Moment → Told → Type 0
+abbrev pub ToldGives : Opening → List Event → ℕ → Option Task → Moment → Told → Type 0
 ToldGives o es k t since (told.Changed c) = (reads : List Seen) × Asked t reads × ReadMoved o es since reads c
 ToldGives o es k t since told.Free = (reads : List Seen) × Leaves t reads × ((r : Seen) → Contains reads r → Silent (run o es) k r)
 ToldGives o es k t since _ = Unit {0}
@@ -390,7 +390,7 @@ module _ (o : Opening) (es : List Event) (w : IsSchedule o es) (k : ℕ) (within
 
 -- ---- every schedule
 
-abbrev AllGive : Opening → List Event → Type 0
+abbrev pub AllGive : Opening → List Event → Type 0
 AllGive o es = (k : ℕ) → k < o.callers → Gives o es k ((run o es).seats k) ((trace o es).shadows k).task ((trace o es).shadows k).listening
 
 module _ (o : Opening) (es : List Event) (e : Event) (w : IsSchedule o es) (w' : IsSchedule o (es ++ e ∷ [])) (old : AllGive o es) where
@@ -432,7 +432,7 @@ module _ (o : Opening) (es : List Event) (e : Event) (w : IsSchedule o es) (w' :
           subst (λ i. Gives o (es ++ e ∷ []) i ((run o (es ++ e ∷ [])).seats i) ((trace o (es ++ e ∷ [])).shadows i).task ((trace o (es ++ e ∷ [])).shadows i).listening) (sym z) (own (subst (λ i. i < o.callers) z l))
       go false q = let ne = eqb-false k (seat_of e) q in other (λ z. ne (sym z))
 
-all_give : (o : Opening) (es : List Event) → IsSchedule o es → AllGive o es
+pub all_give : (o : Opening) (es : List Event) → IsSchedule o es → AllGive o es
 all_give o = every (λ es. IsSchedule o es → AllGive o es) (λ es e f w'. let w = (made_parts o es (e ∷ []) w').0 in all_on o es e w w' (f w)) (λ w k l. record { works = tt; said = λ u q. absurd (cc) })
 
 -- the reads of a hang
@@ -440,12 +440,14 @@ hung_reads : Option Task → List Seen
 hung_reads (Some (task.Hang r)) = r.items
 hung_reads _ = []
 
-pub changed_moved : (o : Opening) (es : List Event) → IsSchedule o es → ChangedReadsMoved o es
+pub same_reads : (t : Option Task) (xs ys : List Seen) → Asked t xs → Asked t ys → xs ≡ ys
 unfolding hung_reads
+same_reads t xs ys p q = ap hung_reads (sym p ∙ q)
+
+pub changed_moved : (o : Opening) (es : List Event) → IsSchedule o es → ChangedReadsMoved o es
 changed_moved o es w k c xs l task_is said =
     let f = (all_give o es w k l).said (told.Changed c) said in
-    let same : f.0 ≡ xs = ap hung_reads (sym f.1 ∙ task_is) in
-    subst (λ xs. ReadMoved o es ((trace o es).shadows k).listening xs c) same f.2
+    subst (λ xs. ReadMoved o es ((trace o es).shadows k).listening xs c) (same_reads ((trace o es).shadows k).task f.0 xs f.1 task_is) f.2
 
 -- the reads of a leave
 left_reads : Option Task → List Seen

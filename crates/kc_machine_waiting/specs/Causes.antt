@@ -1,5 +1,5 @@
--- Why a hang is told Changed, and what a leave has done that is told Free.
-use Rattle.std.specs.Prelude.{◌≡◌, ◌≢◌, ◌<◌, ◌≤◌, ℕ, List, length, false, Contains, Some, slice_get}
+-- Why a hang is told Changed, who was told Hung, and what a leave has done that is told Free.
+use Rattle.std.specs.Prelude.{◌≡◌, ◌≢◌, ◌<◌, ◌≤◌, ℕ, List, length, true, false, Contains, Some, slice_get}
 use Rattle.kc_machine_steps.specs.declared.task.Event.{Event}
 use Rattle.kc_model.specs.declared.footprint.Seen.{Seen}
 use Rattle.kc_machine_steps.specs.declared.task.Task.TheVariants as task
@@ -21,6 +21,11 @@ ReadMoved o es since reads c = (r : Seen) × (slice_get reads c ≡ Some r) × O
 abbrev pub ChangedReadsMoved : Opening → List Event → Type 0
 ChangedReadsMoved o es = (k c : ℕ) (reads : List Seen) → k < o.callers → ((trace o es).shadows k).task ≡ Some (task.Hang (record { items = reads })) → ((run o es).seats k).told ≡ Some (told.Changed c)
     → ReadMoved o es ((trace o es).shadows k).listening reads c
+
+-- who was told Hung is blocked, by the reads of its hang
+abbrev pub HungIsBlocked : Opening → List Event → Type 0
+HungIsBlocked o es = (k : ℕ) (reads : List Seen) → k < o.callers → ((trace o es).shadows k).task ≡ Some (task.Hang (record { items = reads })) → ((run o es).seats k).told ≡ Some told.Hung
+    → (((run o es).seats k).blocked ≡ true) × (((trace o es).shadows k).blocking ≡ reads)
 
 -- where a leave was told Free, its caller isn't blocked, and its bit stands at none of its reads
 abbrev pub FreeIsForgotten : Opening → List Event → Type 0

@@ -6,7 +6,7 @@ ghost use Rattle.kc_machine.specs.Machine.{Opening};
 ghost use Rattle.kc_machine.specs.Schedules.{IsSchedule};
 ghost use Rattle.kc_machine_claims.specs.Claims.{BlockedAreCovered};
 ghost use Rattle.kc_machine_waiting.specs.Awaiting.{BlockedHear, HangsHear, RegisteredStayCovered};
-ghost use Rattle.kc_machine_waiting.specs.Causes.{ChangedReadsMoved, FreeIsForgotten};
+ghost use Rattle.kc_machine_waiting.specs.Causes.{ChangedReadsMoved, FreeIsForgotten, HungIsBlocked};
 
 /// While a caller hangs, it is signalled or owed a wake, or its bit stands at each read where it was set.
 pub fn registered_callers_stay_covered()
@@ -30,6 +30,11 @@ pub fn blocked_callers_are_covered()
 /// bits were set.
 pub fn changed_reads_moved()
     ensures { (o : Opening) (es : List Event) → IsSchedule o es → ChangedReadsMoved o es }
+{}
+
+/// Where a hang was told Hung, its caller is blocked, and the reads by which it is are the hang's.
+pub fn hung_callers_are_blocked()
+    ensures { (o : Opening) (es : List Event) → IsSchedule o es → HungIsBlocked o es }
 {}
 
 /// Where a leave was told Free, its caller isn't blocked, and its bit stands at none of its reads.

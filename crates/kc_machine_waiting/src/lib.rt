@@ -5,5 +5,5 @@ mod laws;
 
 pub use laws::{
     blocked_callers_are_covered, changed_reads_moved, free_callers_are_forgotten,
-    registered_callers_stay_covered, who_listens_hears,
+    hung_callers_are_blocked, registered_callers_stay_covered, who_listens_hears,
 };

@@ -1,7 +1,5 @@
 -- A task of a seat, step by step.
-use Rattle.std.proofs.Common.{◌≡◌, Bool, true, false, ℕ, List, [], ◌∷◌, ◌++◌, refl, sym, ap, ◌∙◌, subst, append_assoc}
-use Rattle.atomic_table.specs.Seated.{TableId}
-use Rattle.atomic_table.specs.Table.{Me}
+use Rattle.std.proofs.Common.{◌≡◌, true, false, ℕ, List, [], ◌∷◌, ◌++◌, refl, sym, ap, ◌∙◌, subst, append_assoc}
 use Rattle.kc_machine.specs.Machine.{Opening, run}
 use Rattle.kc_machine.specs.Schedules.{IsWellMadeTask}
 use Rattle.kc_machine.specs.Seats.{begun, is_idle}
@@ -13,9 +11,7 @@ use Rattle.kc_machine_traces.proofs.Others.{others_leave}
 use Rattle.kc_machine_traces.specs.Moments.{BeginsNothing}
 use Rattle.kc_table_seats.specs.Tasks.{Does}
 use Rattle.kc_table_moves.specs.Origins.{opening_of}
-use Rattle.kc_table_moves.specs.Rule.{number_of, past_of, Steps, Moved}
 use Rattle.kc_table_moves.specs.Views.{SeatView, Starts, Stepped, opening_at_seat}
-use Rattle.kc_table_moves.specs.declared.view.View.{View}
 use Rattle.kc_table_views.proofs.Knowing.{owned_none}
 use Rattle.kc_table_views.proofs.Pendings.{nothing_push, none_begins, waits_front, waits_seat}
 use Rattle.kc_table_views.proofs.Shown.{says}

@@ -1,5 +1,5 @@
 -- A task that was halted ends: each step leaves fewer.
-use Rattle.std.proofs.Common.{arith, ◌≡◌, ◌≢◌, ◌<◌, ◌≤◌, ◌⊎◌, inl, inr, ◌∙◌, ◌+◌, ◌-◌, ◌*◌, ◌==◌, ◌&&◌, ◌^◌, ℕ, Bool, true, false, List, length, Option, None, Some, refl, sym, ap, subst, if◌then◌else◌}
+use Rattle.std.proofs.Common.{arith, ◌≡◌, ◌≢◌, ◌<◌, ◌≤◌, ◌⊎◌, inl, inr, ◌∙◌, ◌+◌, ◌-◌, ◌==◌, ◌&&◌, ◌^◌, ℕ, Bool, true, false, List, length, Option, None, Some, refl, ap, subst, if◌then◌else◌}
 use Rattle.std.specs.Prelude.{bit_and, bit_or, slice_get}
 use Rattle.std.specs.Int.Count.{count_trailing_zeros}
 use Rattle.std.proofs.Math.Nat.{pow-le-pow_right}
@@ -13,7 +13,7 @@ use Rattle.kc_machine.specs.declared.seat.Seat.{Seat}
 use Rattle.kc_machine_alone.proofs.Lowest.{lowest_low, lowest_rises}
 use Rattle.kc_machine_alone.proofs.PassFalls.{next_from, one_after}
 use Rattle.kc_machine_commits.specs.Commits.{after_own_pass, aid_or_back, commit_access, copy_by, copy_by_own, finished, gone_on, loaded, onward_by, onward_or_back, owed_next, own_access, own_next, stage_access, stage_next, wake_access, wake_next, wake_or_drop, wake_or_signal}
-use Rattle.kc_machine_commits.specs.Halts.{aid_or_decide, halted_aid, halted_at, halted_own, unowned}
+use Rattle.kc_machine_commits.specs.Halts.{halted_at, halted_own, unowned}
 use Rattle.kc_machine_commits.specs.Nexts.{Next}
 use Rattle.kc_machine_commits.specs.Nexts as next
 use Rattle.kc_machine_commits.specs.declared.commit.Commit.{Commit}

@@ -3,3 +3,6 @@ pub mod Keeping
 pub mod Running
 pub mod Halting
 pub mod Stopping
+pub mod TaskKinds
+pub mod Wearing
+pub mod Causing

@@ -1,5 +1,5 @@
 -- A task that was begun and run in one call.
-use Rattle.std.proofs.Common.{◌≡◌, Bool, true, false, refl, sym, ◌∙◌}
+use Rattle.std.proofs.Common.{◌≡◌, false, refl, ◌∙◌}
 use Rattle.kc_machine.specs.Schedules.{IsWellMadeTask}
 use Rattle.kc_machine_steps.specs.declared.task.Task.{Task}
 use Rattle.kc_table_moves.specs.Straight.{StepsTo, here, further, Ran, begun_at}

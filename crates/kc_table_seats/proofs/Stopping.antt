@@ -1,9 +1,8 @@
 -- Where a seat stands as it steps, and what that says of halted tasks.
-use Rattle.std.proofs.Common.{◌≡◌, ◌≢◌, ◌<◌, ◌⊎◌, inl, inr, ⊎_elim, ◌∙◌, ◌++◌, ℕ, Bool, true, false, List, [], ◌∷◌, None, Some, refl, sym, ap, subst, if◌then◌else◌}
-use Rattle.kc_machine.specs.Machine.{Opening, World, event_of, found_at, run}
+use Rattle.std.proofs.Common.{◌≡◌, ◌≢◌, inl, inr, ⊎_elim, ◌∙◌, ◌++◌, ℕ, Bool, true, false, List, [], ◌∷◌, None, Some, refl, sym, ap, subst, if◌then◌else◌}
+use Rattle.kc_machine.specs.Machine.{Opening, event_of, found_at, run}
 use Rattle.kc_machine.specs.Seats.{access_of, answer_of, begun, begun_idle, hanging, is_idle, working}
 use Rattle.kc_machine.specs.Works.{Work}
-use Rattle.kc_machine.specs.Works as work
 use Rattle.kc_machine.specs.declared.seat.Seat.{Seat}
 use Rattle.kc_machine_answers.proofs.Halts.{Stopped, event_stops, seat_on}
 use Rattle.kc_machine_ranges.proofs.Runs.{seats_in}

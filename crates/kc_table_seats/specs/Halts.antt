@@ -15,6 +15,8 @@ use Rattle.kc_machine_steps.specs.declared.pass.AfterCheck.{AfterCheck}
 use Rattle.kc_machine_steps.specs.declared.pass.AfterCheck.TheVariants as checked
 use Rattle.kc_machine_steps.specs.declared.pass.PassStep.{PassStep}
 use Rattle.kc_machine_steps.specs.declared.pass.PassStep.TheVariants.{CheckDrop, Decide, Release}
+use Rattle.kc_machine_steps.specs.declared.task.Task.{Task}
+use Rattle.kc_machine_steps.specs.declared.task.Task.TheVariants as task
 use Rattle.kc_model.specs.declared.footprint.TheConstants.{MOST}
 
 -- ---- the mark
@@ -23,11 +25,16 @@ use Rattle.kc_model.specs.declared.footprint.TheConstants.{MOST}
 abbrev pub was_halted : Seat → Bool
 was_halted s = is_marked s.work
 
--- what a halt stops
+-- what a halt stops: looks and commits
 abbrev pub may_halt : Work → Bool
 may_halt (work.Look l) = true
 may_halt (work.Commit c) = true
 may_halt _ = false
+
+abbrev pub task_may_halt : Task → Bool
+task_may_halt (task.Look l) = true
+task_may_halt (task.Commit f m) = true
+task_may_halt _ = false
 
 -- ---- straight to the end: nothing is installed, checked or aided any more
 

@@ -1,2 +1,3 @@
 pub mod Tasks
 pub mod Halts
+pub mod Told

@@ -1,18 +1,23 @@
 //! Tasks of a seat, as its steps show them, and what it knows by them. An empty body: the contract is the law.
 
-ghost use Rattle.std.specs.Prelude.{◌≡◌, ◌≢◌, ◌<◌, ◌≤◌, ◌⊎◌, ◌+◌, ◌*◌, ℕ, true, false, Some};
+ghost use Rattle.std.specs.Prelude.{◌≡◌, ◌≢◌, ◌<◌, ◌≤◌, ◌⊎◌, ◌+◌, ◌*◌, ℕ, List, Contains, true, false, Some};
 ghost use Rattle.kc_model.specs.declared.footprint.Footprint.{Footprint};
 ghost use Rattle.kc_model.specs.declared.footprint.Loc.{Loc};
 ghost use Rattle.kc_model.specs.declared.footprint.Seen.{Seen};
 ghost use Rattle.kc_model.specs.declared.footprint.TheConstants.{MOST};
 ghost use Rattle.kc_machine_words.specs.declared.words.Mode.{Mode};
+ghost use Rattle.kc_machine_words.specs.declared.words.Mode.TheVariants.{Light};
+ghost use Rattle.kc_machine_steps.specs.Lines.{lines_of};
 ghost use Rattle.kc_machine_steps.specs.declared.task.Task.{Task};
 ghost use Rattle.kc_machine_steps.specs.declared.task.Task.TheVariants as task;
 ghost use Rattle.kc_machine_steps.specs.declared.task.Told.TheVariants as told;
 ghost use Rattle.kc_machine.specs.declared.seat.Seat.{Seat};
 ghost use Rattle.kc_machine.specs.Schedules.{IsWellMadeTask};
 ghost use Rattle.kc_machine.specs.Seats.{begun, halted, is_idle};
-ghost use Rattle.kc_machine_claims.specs.Claims.{HasPut};
+ghost use Rattle.kc_machine.specs.Machine.{run};
+ghost use Rattle.kc_machine_answers.specs.Crosses.{CrossedSince};
+ghost use Rattle.kc_machine_claims.specs.Claims.{HasPut, VersionStoodSince, has_bit};
+ghost use Rattle.kc_machine_waiting.specs.Causes.{ReadMoved};
 ghost use Rattle.kc_machine_claims.specs.Histories.{ending};
 ghost use Rattle.kc_machine_claims.specs.Traces.{first_store};
 ghost use Rattle.kc_machine_traces.specs.Entries.{by};
@@ -21,7 +26,8 @@ ghost use Rattle.kc_table_views.specs.Tasks.{FailureTaught, SuccessTaught};
 ghost use Rattle.kc_table_moves.specs.Straight.{Ran, StepsTo};
 ghost use Rattle.kc_table_seats.specs.Tasks.{Does, Keeps, Saw};
 ghost use Rattle.kc_table_moves.specs.Views.{Learns, SeatView, Starts, Stepped, knows, opening_at_seat};
-ghost use Rattle.kc_table_seats.specs.Halts.{is_halted, may_halt, steps_left, was_halted};
+ghost use Rattle.kc_table_seats.specs.Halts.{is_halted, may_halt, steps_left, task_may_halt, was_halted};
+ghost use Rattle.kc_table_seats.specs.Told.{Hears, IsUndecided, IsWornOut, listening, shadow};
 
 /// The first step of a seat that has begun a task shows this task.
 pub fn what_was_begun_is_known()
@@ -71,6 +77,11 @@ pub fn what_was_put_has_passed()
     ensures { (v w : SeatView) (t : Task) (r : Seen) → Does v t w → HasPut (knows v) r → r.version < (ending (first_store (opening_at_seat v)) (knows v) r.loc.0).version }
 {}
 
+/// While a task runs, the seat does what the task asks: a look or a commit, which may be halted, or a hang or a leave.
+pub fn tasks_keep_their_kind()
+    ensures { (v w : SeatView) (t : Task) → Does v t w → is_idle w.seat.work ≡ false → may_halt w.seat.work ≡ task_may_halt t }
+{}
+
 /// A halt ends the look or commit that runs, or sends it straight to its end.
 pub fn halts_are_marked()
     ensures { (s : Seat) → may_halt s.work ≡ true → (is_idle (halted s).work ≡ true) ⊎ (is_halted (halted s) ≡ true) }
@@ -91,4 +102,48 @@ pub fn only_the_halted_are_told_so()
     ensures step { (v w : SeatView) → Stepped v w → is_idle v.seat.work ≡ false → was_halted v.seat ≡ false → (w.seat.told ≢ Some told.Halted) × (was_halted w.seat ≡ false) }
     ensures steps { (v w : SeatView) → StepsTo v w → v.seat.told ≢ Some told.Halted → was_halted v.seat ≡ false → (w.seat.told ≢ Some told.Halted) × (was_halted w.seat ≡ false) }
     ensures ran { (v w : SeatView) (t : Task) → Starts v t → Ran v t w → (w.seat.told ≢ Some told.Halted) × (was_halted w.seat ≡ false) }
+{}
+
+/// By a load of its signal, or a join, the task that a seat has begun and stepped stays as it is.
+pub fn learning_leaves_the_task()
+    ensures { (v u w : SeatView) (t : Task) → Does v t u → Learns u w → Does v t w }
+{}
+
+/// A task that was told Worn found no life left: each descriptor of the table stands at its last generation.
+pub fn worn_pools_have_no_life_left()
+    ensures { (v w : SeatView) (t : Task) → Does v t w → w.seat.told ≡ Some told.Worn → IsWornOut (opening_at_seat w) w.past }
+{}
+
+/// Where no life is left none comes back, and a commit that begins there is told just that, if it isn't halted.
+pub fn worn_pools_stay_so()
+    ensures steps { (v w : SeatView) → Stepped v w → IsWornOut (opening_at_seat v) v.past → IsWornOut (opening_at_seat w) w.past }
+    ensures loads { (v w : SeatView) → Learns v w → IsWornOut (opening_at_seat v) v.past → IsWornOut (opening_at_seat w) w.past }
+    ensures tasks { (v w : SeatView) (t : Task) → Does v t w → IsWornOut (opening_at_seat v) v.past → IsWornOut (opening_at_seat w) w.past }
+    ensures commits { (v w : SeatView) (f : Footprint) (m : Mode) → Does v (task.Commit f m) w → IsWornOut (opening_at_seat v) v.past → IsUndecided w.seat.told }
+{}
+
+/// A commit that was told Crossed at a line is of mode Light, and the line's word referred to a life that was Active, at a moment
+/// since the commit began.
+pub fn crosses_teach_their_seat()
+    ensures { (v w : SeatView) (i : ℕ) (f : Footprint) (m : Mode) → Does v (task.Commit f m) w → w.seat.told ≡ Some (told.Crossed i) → (m ≡ Light) × CrossedSince (opening_at_seat w) w.past w.number m (lines_of f) i }
+{}
+
+/// Where a hang was told Hung, each of its reads stood at its version behind all bits. Where it was told that a read changed, another
+/// version stood there, behind all bits too.
+pub fn hangs_teach_their_seat()
+    ensures hung { (v w : SeatView) (reads : List Seen) (r : Seen) → Does v (task.Hang (record { items = reads })) w → w.seat.told ≡ Some told.Hung → Contains reads r → VersionStoodSince (opening_at_seat w) w.past (listening w).clock r }
+    ensures changed { (v w : SeatView) (reads : List Seen) (i : ℕ) → Does v (task.Hang (record { items = reads })) w → w.seat.told ≡ Some (told.Changed i) → ReadMoved (opening_at_seat w) w.past (listening w) reads i }
+{}
+
+/// A leave that was told Free leaves its seat not blocked, with its bit at none of the reads.
+pub fn leaves_teach_their_seat()
+    ensures { (v w : SeatView) (reads : List Seen) → Does v (task.Leave (record { items = reads })) w → w.seat.told ≡ Some told.Free
+        → (w.seat.blocked ≡ false) × ((r : Seen) → Contains reads r → has_bit ((run (opening_at_seat w) w.past).world.awaiters r.loc.0) w.number ≡ false) }
+{}
+
+/// Whom a seat may rely on that is blocked: it is signalled, or owed a wake, or it listens at each read, which stands, or whose wake
+/// is to come. The reads are those of its hang.
+pub fn blocked_seats_are_covered()
+    ensures any { (v w : SeatView) (t : Task) → Does v t w → w.seat.blocked ≡ true → Hears w (shadow w).blocking }
+    ensures hung { (v w : SeatView) (reads : List Seen) → Does v (task.Hang (record { items = reads })) w → w.seat.told ≡ Some told.Hung → (w.seat.blocked ≡ true) × Hears w reads }
 {}
