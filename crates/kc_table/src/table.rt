@@ -100,6 +100,13 @@ impl KcTable {
         Ok((table, seats))
     }
 
+    /// How many locations it has.
+    pub fn size(&self) -> u32
+        ensures { result ≡ self.now.origin.locations }
+    {
+        self.locations as u32
+    }
+
     /// One step of the seat, on one word.
     pub fn step(&self, seat: &mut KcSeat)
         requires table { seat.old.of ≡ self.now }

@@ -1,0 +1,13 @@
+pub mod Counting
+pub mod Standing
+pub mod Doing
+pub mod Among
+pub mod Seeing
+pub mod Gaining
+pub mod Fitting
+pub mod Ending
+pub mod Looking
+pub mod ReadLooks
+pub mod Placing
+pub mod Crossed
+pub mod Settling

@@ -1,0 +1,201 @@
+-- From what came of looks and commits to what a try answers.
+use Rattle.std.proofs.Common.{◌≡◌, ◌≢◌, ◌<◌, ◌≤◌, true, false, ℕ, ◌+◌, ◌-◌, List, [], ◌∷◌, ◌++◌, Some, refl, sym, ap, ◌∙◌, arith, subst}
+use Rattle.std.specs.Prelude.{Contains, Err}
+use Rattle.kc_machine_claims.specs.Claims.{HasPut}
+use Rattle.kc_machine_steps.specs.declared.task.Task.TheVariants as task
+use Rattle.kc_machine_steps.specs.declared.task.Told.{Told}
+use Rattle.kc_machine_steps.specs.declared.task.Told.TheVariants as told
+use Rattle.kc_machine_traces.specs.Outcomes.{GainsAsTold}
+use Rattle.kc_machine_words.specs.declared.words.Mode.{Mode}
+use Rattle.kc_machine_words.specs.declared.words.Mode.TheVariants.{All, Light}
+use Rattle.kc_model.specs.Footprint.{IsBelow, IsWellMade, Reads}
+use Rattle.kc_model.specs.declared.footprint.Footprint.{Footprint}
+use Rattle.kc_model.specs.declared.footprint.Seen.{Seen}
+use Rattle.kc_store.proofs.Doing.{did_does, did_gains, did_keeps}
+use Rattle.kc_store.proofs.Among.{grows_in}
+use Rattle.kc_store.proofs.Gaining.{all_from, gains, overtaken}
+use Rattle.kc_store.proofs.ReadLooks.{was_looked_at}
+use Rattle.kc_store.proofs.Seeing.{Fresh, keeps_then, look_gains_none, look_keeps, looks_fresh, looks_gain_none, looks_keep}
+use Rattle.kc_store.specs.Answers.{Gains, GainsNothing, IsBusy, Settles, own_entries, placed_entry}
+use Rattle.kc_store.specs.Steps.{HasLeft, busy_bound}
+use Rattle.kc_store.specs.Tries.{Commits, CommitsAfter, once, again, Sees, WasTold, is_crossed}
+use Rattle.kc_store.specs.Verdicts.{entered, is_final, lost_at, verdict_by, verdict_of}
+use Rattle.kc_store.specs.Works.{is_told_committing}
+use Rattle.kc_store.specs.declared.verdict.Answered.{Answered}
+use Rattle.kc_store.specs.declared.verdict.Answered.TheVariants as answered
+use Rattle.kc_store.specs.declared.verdict.Verdict.{Verdict}
+use Rattle.kc_store.specs.declared.verdict.Verdict.TheVariants as verdict
+use Rattle.kc_table_moves.specs.Views.{SeatView, TableView, knows}
+use Rattle.kc_table_seats.proofs.Causing.{worn_found}
+use Rattle.kc_table_seats.specs.Tasks.{Does, Keeps}
+use Rattle.kc_xt.specs.Commit.{Came, Looked, LooksIn, PutsWhereDone}
+use Rattle.kc_xt.specs.Meaning.{Meaning}
+use Rattle.kc_xt.specs.Peeks.{Looks}
+use Rattle.kc_xt.specs.declared.attempts.Tried.{Tried}
+use Rattle.kc_xt.specs.declared.attempts.Tried.TheVariants as tried
+
+-- ---- behind the looks
+
+looks_in : (t : Tried) (v : SeatView) (es : List Seen) (c : SeatView) → t ≢ tried.Busy → LooksIn (Sees v) t v es c → Looks (Sees v) v es c
+looks_in (tried.Done r) v es c n l = l
+looks_in tried.Later v es c n l = l
+looks_in tried.TooLarge v es c n l = l
+looks_in (tried.Worn loc) v es c n l = l
+looks_in tried.Busy v es c n l = absurd (n refl)
+
+module _ (m : Meaning) (t : Tried) (v : SeatView) (f : Footprint) (c : SeatView) (l : Looked (Sees v) m t v f c) where
+  pub looked_keeps : Keeps v c
+  looked_keeps = go t l.made
+    where
+      go : (t : Tried) → LooksIn (Sees v) t v l.looks c → Keeps v c
+      go (tried.Done r) x = looks_keep v v l.looks c x
+      go tried.Later x = looks_keep v v l.looks c x
+      go tried.TooLarge x = looks_keep v v l.looks c x
+      go (tried.Worn loc) x = looks_keep v v l.looks c x
+      go tried.Busy (b, x, y) = keeps_then v b c (looks_keep v v l.looks b x) (look_keeps v b c y.loc (Err y.busy) y.fails)
+
+  pub looked_none : own_entries c ≡ own_entries v
+  looked_none = go t l.made
+    where
+      go : (t : Tried) → LooksIn (Sees v) t v l.looks c → own_entries c ≡ own_entries v
+      go (tried.Done r) x = looks_gain_none v v l.looks c x
+      go tried.Later x = looks_gain_none v v l.looks c x
+      go tried.TooLarge x = looks_gain_none v v l.looks c x
+      go (tried.Worn loc) x = looks_gain_none v v l.looks c x
+      go tried.Busy (b, x, y) = look_gains_none v b c y.loc (Err y.busy) y.fails ∙ looks_gain_none v v l.looks b x
+
+  pub looked_fresh : t ≢ tried.Busy → (r : Seen) → Reads f r → Fresh v c r
+  looked_fresh n r x = looks_fresh v v l.looks c r (looks_in t v l.looks c n l.made) (was_looked_at l.looks r (subst (λ es. Contains es r) (l.reads n) x))
+
+pub came_well : (m : Meaning) (t : Tried) (before f : Footprint) → t ≢ tried.Busy → Came m t before f → IsWellMade f
+came_well m (tried.Done r) before f n x = x.well_made
+came_well m tried.Later before f n x = x.well_made
+came_well m tried.TooLarge before f n x = x.well_made
+came_well m (tried.Worn loc) before f n x = x.well_made
+came_well m tried.Busy before f n x = absurd (n refl)
+
+-- ---- behind the commits
+
+-- the last commit of a try
+record Last (v : SeatView) (f : Footprint) (a : Told) (w : SeatView) : Type 0 where
+  from : SeatView
+  mode : Mode
+  keeps : Keeps v from
+  none : own_entries from ≡ own_entries v
+  was : WasTold v from (task.Commit f mode) a w
+
+last_of : (v c : SeatView) (f : Footprint) (a : Told) (w : SeatView) → Keeps v c → own_entries c ≡ own_entries v → Commits v f c a w → Last v f a w
+last_of v c f a w k e (once b x was o) = record { from = c; mode = Light; keeps = k; none = e; was = was }
+last_of v c f a w k e (again i u b x first was) = record {
+  from = u;
+  mode = All;
+  keeps = keeps_then v c u k (did_keeps c u (task.Commit f Light) first.did);
+  none = subst (λ y. GainsAsTold c.number (task.Commit f Light) y (own_entries c) (own_entries u)) first.says (did_gains c u (task.Commit f Light) first.did first.idle) ∙ e;
+  was = was;
+}
+
+pub commits_keep : (v c : SeatView) (f : Footprint) (a : Told) (w : SeatView) → Commits v f c a w → Keeps c w
+commits_keep v c f a w (once b x was o) = did_keeps c w (task.Commit f Light) was.did
+commits_keep v c f a w (again i u b x first was) = keeps_then c u w (did_keeps c u (task.Commit f Light) first.did) (did_keeps u w (task.Commit f All) was.did)
+
+-- ---- the answer
+
+entered_settles : (m : Meaning) (t : Tried) (before : Footprint) (v : SeatView) (f : Footprint) (w : SeatView) (steps : ℕ) → t ≢ tried.Busy → Came m t before f → PutsWhereDone t f → Gains v f w → Settles m (entered t steps) v f w
+entered_settles m (tried.Done r) before v f w steps n came puts g = (came, g)
+entered_settles m tried.Later before v f w steps n came puts g = (came, (puts, g))
+entered_settles m tried.TooLarge before v f w steps n came puts g = (came, (puts, g))
+entered_settles m (tried.Worn loc) before v f w steps n came puts g = (came, (puts, g))
+entered_settles m tried.Busy before v f w steps n came puts g = absurd (n refl)
+
+pub settled : (m : Meaning) (t : Tried) (before : Footprint) (v c : SeatView) (f : Footprint) (a : Told) (w : SeatView) (steps : ℕ) → t ≢ tried.Busy → Came m t before f → PutsWhereDone t f → Looked (Sees v) m t v f c → Commits v f c a w
+    → is_told_committing (Some a) ≡ true → is_crossed a ≡ false → v.seat.made + steps ≡ w.seat.made → Settles m (verdict_by a t f steps) v f w
+settled m t before v c f a w steps n came puts looked commits committing crossed counts =
+    go a (last_of v c f a w (looked_keeps m t v f c looked) (looked_none m t v f c looked) commits) committing crossed
+  where
+    does : (a : Told) (l : Last v f a w) → a ≢ told.Halted → Does l.from (task.Commit f l.mode) w
+    does a l other = did_does l.from w (task.Commit f l.mode) a l.was.did l.was.idle l.was.says other
+
+    gained : (a : Told) (l : Last v f a w) → GainsAsTold l.from.number (task.Commit f l.mode) (Some a) (own_entries l.from) (own_entries w)
+    gained a l = subst (λ y. GainsAsTold l.from.number (task.Commit f l.mode) y (own_entries l.from) (own_entries w)) l.was.says (did_gains l.from w (task.Commit f l.mode) l.was.did l.was.idle)
+
+    same : (a : Told) (l : Last v f a w) → w.number ≡ v.number
+    same a l = (did_keeps l.from w (task.Commit f l.mode) l.was.did).number ∙ l.keeps.number
+
+    go : (a : Told) → Last v f a w → is_told_committing (Some a) ≡ true → is_crossed a ≡ false → Settles m (verdict_by a t f steps) v f w
+    go (told.Succeeded k) l e x = entered_settles m t before v f w steps n came puts (gains v l.from w k f l.mode l.keeps l.none (does (told.Succeeded k) l (λ e. absurd (cc))) l.was.idle l.was.says)
+    go (told.Failed i) l e x =
+        let none : GainsNothing v w = gained (told.Failed i) l ∙ l.none in
+        let unput : (r : Seen) → Reads f r → ¬ HasPut (knows v) r = λ r y. (looked_fresh m t v f c looked n r y).unput in
+        let o = overtaken v l.from w i f l.mode unput (same (told.Failed i) l) none (does (told.Failed i) l (λ e. absurd (cc))) l.was.says in
+        subst (λ y. Settles m (lost_at y steps) v f w) (sym o.1) (o.2, none)
+    go told.Worn l e x = (worn_found l.from w (task.Commit f l.mode) (does told.Worn l (λ e. absurd (cc))) l.was.says, gained told.Worn l ∙ l.none)
+    go told.Halted l e x = ((counts, l.was.spent refl), gained told.Halted l ∙ l.none)
+    go (told.Crossed i) l e x = absurd (cc)
+    go (told.Seen r) l e x = absurd (cc)
+    go told.Hung l e x = absurd (cc)
+    go (told.Changed i) l e x = absurd (cc)
+    go told.Free l e x = absurd (cc)
+
+-- where a look was given up
+pub given_up : (m : Meaning) (v : SeatView) (f : Footprint) (c : SeatView) (steps : ℕ) → Looked (Sees v) m tried.Busy v f c → v.seat.made + steps ≡ c.seat.made → IsBusy v steps c × GainsNothing v c
+given_up m v f c steps l counts = go l.made
+  where
+    go : LooksIn (Sees v) tried.Busy v l.looks c → IsBusy v steps c × GainsNothing v c
+    go (b, x, y) = ((counts, y.fails.spent refl), looked_none m tried.Busy v f c l)
+
+-- ---- one try behind others
+
+gains_from : (v u : SeatView) (f : Footprint) (w : SeatView) → Keeps v u → own_entries u ≡ own_entries v → Gains u f w → Gains v f w
+gains_from v u f w k none g = record {
+  number = g.number;
+  mode = g.mode;
+  taught = record {
+    place = g.taught.place;
+    entry = subst (λ j. Contains (knows w) (placed_entry g.taught.place g.mode j g.number f)) k.number g.taught.entry;
+    behind = all_from (λ x. x.place < g.taught.place) (knows v) (knows u) (λ x i. grows_in (knows v) (knows u) x k.grows i) g.taught.behind;
+  };
+  own = g.own ∙ (λ i. none i ++ placed_entry g.taught.place g.mode (k.number i) g.number f ∷ []);
+}
+
+pub settles_from : (m : Meaning) (a : Verdict) (v u : SeatView) (f : Footprint) (w : SeatView) → is_final a ≡ true → Keeps v u → own_entries u ≡ own_entries v → Settles m a u f w → Settles m a v f w
+settles_from m (verdict.Done r) v u f w e k none x = (x.0, gains_from v u f w k none x.1)
+settles_from m verdict.Later v u f w e k none x = (x.0, (x.1.0, gains_from v u f w k none x.1.1))
+settles_from m verdict.TooLarge v u f w e k none x = (x.0, (x.1.0, gains_from v u f w k none x.1.1))
+settles_from m (verdict.WornLocation loc) v u f w e k none x = (x.0, (x.1.0, gains_from v u f w k none x.1.1))
+settles_from m verdict.WornPool v u f w e k none x = (x.0, x.1 ∙ none)
+settles_from m (verdict.Lost loc version) v u f w e k none x = absurd (cc)
+settles_from m (verdict.Busy steps) v u f w e k none x = absurd (cc)
+
+pub vain_none : (m : Meaning) (a : Verdict) (u : SeatView) (f : Footprint) (w : SeatView) → is_final a ≡ false → Settles m a u f w → own_entries w ≡ own_entries u
+vain_none m (verdict.Lost loc version) u f w e x = x.1
+vain_none m (verdict.Busy steps) u f w e x = x.1
+vain_none m verdict.WornPool u f w e x = x.1
+vain_none m (verdict.Done r) u f w e x = absurd (cc)
+vain_none m verdict.Later u f w e x = absurd (cc)
+vain_none m verdict.TooLarge u f w e x = absurd (cc)
+vain_none m (verdict.WornLocation loc) u f w e x = absurd (cc)
+
+-- ---- in a call
+
+pub has_all : (v : SeatView) (z : TableView) (most : ℕ) → v.of ≡ z → most ≡ busy_bound z.origin.callers → HasLeft v v most
+has_all v z most of e = let n : busy_bound v.of.origin.callers ≡ most = ap (λ x. busy_bound x.origin.callers) of ∙ sym e in omega (arith, n)
+
+pub counted : (a b s r : ℕ) → a ≤ b → s ≡ b → r ≡ a → a + (s - r) ≡ b
+counted a b s r up e f = omega (arith, up, e, f)
+
+pub commits_after : (t : Tried) (v : SeatView) (f : Footprint) (c : SeatView) (a : Told) (w : SeatView) → t ≢ tried.Busy → Commits v f c a w → CommitsAfter t v f c w
+commits_after (tried.Done r) v f c a w n x = (a, x)
+commits_after tried.Later v f c a w n x = (a, x)
+commits_after tried.TooLarge v f c a w n x = (a, x)
+commits_after (tried.Worn loc) v f c a w n x = (a, x)
+commits_after tried.Busy v f c a w n x = absurd (n refl)
+
+pub below_more : (f : Footprint) (n m : ℕ) → IsBelow n f → n ≤ m → IsBelow m f
+below_more f n m b up = λ r x. let y = b r x in omega (arith, y, up)
+
+pub final_is : (a : Answered) → is_final (verdict_of a) ≡ true
+final_is (answered.Done r) = refl
+final_is answered.Later = refl
+final_is answered.TooLarge = refl
+final_is (answered.WornLocation loc) = refl
+final_is answered.WornPool = refl

@@ -1,0 +1,28 @@
+-- How many steps a call has made.
+use Rattle.std.specs.Prelude.{ℕ, ◌+◌, ◌*◌, ◌≤◌, ◌==◌, List, [], ◌∷◌, if◌then◌else◌}
+use Rattle.kc_machine_steps.specs.declared.task.Event.{Event}
+use Rattle.kc_machine_steps.specs.declared.task.Event.TheVariants.{Begin, Step, Halt}
+use Rattle.kc_table_moves.specs.Views.{SeatView}
+
+-- how many of the events are steps of seat k
+abbrev pub steps_in : ℕ → List Event → ℕ
+steps_in k [] = 0
+steps_in k (Begin j t ∷ es) = steps_in k es
+steps_in k (Step j ∷ es) = (if j == k then 1 else 0) + steps_in k es
+steps_in k (Halt j ∷ es) = steps_in k es
+
+-- all steps that the seat has made
+abbrev pub steps_made : SeatView → ℕ
+steps_made v = steps_in v.number v.past
+
+-- so many steps are made before a call is given up
+abbrev pub busy_bound : ℕ → ℕ
+busy_bound callers = (callers + 1) * (callers + 1) * 16384
+
+-- of these, a call that began at `start` has at most so many left
+abbrev pub HasLeft : SeatView → SeatView → ℕ → Type 0
+HasLeft start v left = steps_made start + busy_bound start.of.origin.callers ≤ steps_made v + left
+
+-- it has made all of them: its task may be halted
+abbrev pub IsSpent : SeatView → SeatView → Type 0
+IsSpent start v = steps_made start + busy_bound start.of.origin.callers ≤ steps_made v

@@ -1,0 +1,57 @@
+-- The tasks of one try: its looks, and then one commit or two.
+use Rattle.std.specs.Prelude.{◌≡◌, ℕ, Bool, true, false, ◌⊎◌, Some, Ok, Err}
+use Rattle.kc_machine.specs.Seats.{halted, is_idle}
+use Rattle.kc_machine_steps.specs.declared.task.Task.{Task}
+use Rattle.kc_machine_steps.specs.declared.task.Task.TheVariants as task
+use Rattle.kc_machine_steps.specs.declared.task.Told.{Told}
+use Rattle.kc_machine_steps.specs.declared.task.Told.TheVariants as told
+use Rattle.kc_machine_words.specs.declared.words.Mode.TheVariants.{All, Light}
+use Rattle.kc_model.specs.declared.footprint.Footprint.{Footprint}
+use Rattle.kc_store.specs.Steps.{IsSpent}
+use Rattle.kc_table_moves.specs.Views.{SeatView}
+use Rattle.kc_table_seats.specs.Tasks.{Does}
+use Rattle.kc_xt.specs.Commit.{Looked}
+use Rattle.kc_xt.specs.Meaning.{Meaning}
+use Rattle.kc_xt.specs.Peeks.{Gives}
+use Rattle.kc_xt.specs.declared.attempts.Tried.{Tried}
+use Rattle.kc_xt.specs.declared.attempts.Tried.TheVariants as tried
+
+-- since v the seat has done this task, as its last step shows; it may have been halted since that step
+abbrev pub Did : SeatView → Task → SeatView → Type 0
+Did v t w = Does v t w ⊎ ((u : SeatView) × Does v t u × (w ≡ record u { seat = halted u.seat }))
+
+-- since v the seat has done this task, and was told this: only if the call that began at `start` has made all its steps, that it was halted
+pub record WasTold (start v : SeatView) (t : Task) (a : Told) (w : SeatView) : Type 0 where
+  pub did : Did v t w
+  pub idle : is_idle w.seat.work ≡ true
+  pub says : w.seat.told ≡ Some a
+  pub spent : a ≡ told.Halted → IsSpent start w
+
+abbrev pub look_of : ℕ → Task
+look_of l = task.Look (record { 0 = l })
+
+-- what a look of a call that began at `start` gives: what stood, or that it was halted
+abbrev pub Sees : SeatView → Gives SeatView
+Sees start v l (Ok r) w = WasTold start v (look_of l) (told.Seen r) w
+Sees start v l (Err busy) w = WasTold start v (look_of l) told.Halted w
+
+abbrev pub is_crossed : Told → Bool
+is_crossed (told.Crossed i) = true
+is_crossed _ = false
+
+-- one commit in mode Light, and exactly where it was told Crossed one more in mode All
+pub data Commits (start : SeatView) (f : Footprint) (v : SeatView) : Told → SeatView → Type 0 where
+  once : (a : Told) (w : SeatView) → WasTold start v (task.Commit f Light) a w → is_crossed a ≡ false → Commits start f v a w
+  again : (i : ℕ) (u : SeatView) (a : Told) (w : SeatView) → WasTold start v (task.Commit f Light) (told.Crossed i) u → WasTold start u (task.Commit f All) a w → Commits start f v a w
+
+-- behind a look that was halted nothing more is begun
+abbrev pub CommitsAfter : Tried → SeatView → Footprint → SeatView → SeatView → Type 0
+CommitsAfter tried.Busy start f v w = w ≡ v
+CommitsAfter _ start f v w = (a : Told) × Commits start f v a w
+
+-- one try of a meaning: what came of its looks, and the commits of that
+pub record Tries (m : Meaning) (f : Footprint) (v w : SeatView) : Type 0 where
+  pub tried : Tried
+  pub seen : SeatView
+  pub looked : Looked (Sees v) m tried v f seen
+  pub commits : CommitsAfter tried v f seen w

@@ -1,0 +1,58 @@
+-- The verdict on what came of the looks of a try, and of its commits.
+use Rattle.std.specs.Prelude.{ℕ, ◌+◌, Bool, true, false, Option, None, Some, slice_get}
+use Rattle.kc_machine_steps.specs.declared.task.Told.{Told}
+use Rattle.kc_machine_steps.specs.declared.task.Told.TheVariants as told
+use Rattle.kc_model.specs.declared.footprint.Footprint.{Footprint}
+use Rattle.kc_model.specs.declared.footprint.Seen.{Seen}
+use Rattle.kc_store.specs.declared.verdict.Answered.{Answered}
+use Rattle.kc_store.specs.declared.verdict.Answered.TheVariants as answered
+use Rattle.kc_store.specs.declared.verdict.Verdict.{Verdict}
+use Rattle.kc_store.specs.declared.verdict.Verdict.TheVariants as verdict
+use Rattle.kc_xt.specs.declared.attempts.Tried.{Tried}
+use Rattle.kc_xt.specs.declared.attempts.Tried.TheVariants as tried
+
+-- where the entry was made
+abbrev pub entered : Tried → ℕ → Verdict
+entered (tried.Done r) steps = verdict.Done r
+entered tried.Later steps = verdict.Later
+entered tried.TooLarge steps = verdict.TooLarge
+entered (tried.Worn loc) steps = verdict.WornLocation loc
+entered tried.Busy steps = verdict.Busy steps
+
+-- where this read was overtaken
+abbrev pub lost_at : Option Seen → ℕ → Verdict
+lost_at (Some r) steps = verdict.Lost r.loc (r.version + 1)
+lost_at None steps = verdict.Busy steps
+
+abbrev pub verdict_by : Told → Tried → Footprint → ℕ → Verdict
+verdict_by (told.Succeeded n) t f steps = entered t steps
+verdict_by (told.Failed i) t f steps = lost_at (slice_get f.reads.items i) steps
+verdict_by told.Worn t f steps = verdict.WornPool
+verdict_by _ t f steps = verdict.Busy steps
+
+-- whether the call has an entry
+abbrev pub has_entry : Verdict → Bool
+has_entry (verdict.Done r) = true
+has_entry verdict.Later = true
+has_entry verdict.TooLarge = true
+has_entry (verdict.WornLocation loc) = true
+has_entry verdict.WornPool = false
+has_entry (verdict.Lost loc version) = false
+has_entry (verdict.Busy steps) = false
+
+-- whether it is answered by a commit that tries again
+abbrev pub is_final : Verdict → Bool
+is_final (verdict.Done r) = true
+is_final verdict.Later = true
+is_final verdict.TooLarge = true
+is_final (verdict.WornLocation loc) = true
+is_final verdict.WornPool = true
+is_final (verdict.Lost loc version) = false
+is_final (verdict.Busy steps) = false
+
+abbrev pub verdict_of : Answered → Verdict
+verdict_of (answered.Done r) = verdict.Done r
+verdict_of answered.Later = verdict.Later
+verdict_of answered.TooLarge = verdict.TooLarge
+verdict_of (answered.WornLocation loc) = verdict.WornLocation loc
+verdict_of answered.WornPool = verdict.WornPool

@@ -1,0 +1,20 @@
+//! Transactions on a store that threads share with no lock.
+#![tactic(auto)]
+
+mod committing;
+mod laws;
+mod looks;
+mod notes;
+mod store;
+mod tasks;
+#[cfg(test)]
+mod tests;
+mod trying;
+mod values;
+mod verdict;
+
+pub use laws::answers_hold_at_their_place;
+pub use notes::Note;
+pub use store::{Caller, Store};
+pub use values::{Outcome, Try, Wear};
+pub use verdict::{Answered, Verdict};

@@ -1,0 +1,142 @@
+//! Tasks of a call: each ends, by steps that are left to the call, or by a halt.
+
+ghost use Rattle.std.specs.Prelude.{◌≡◌, ◌≢◌, ◌+◌, ◌≤◌, true, false, Some, length};
+ghost use Rattle.kc_model.specs.declared.footprint.TheConstants.{MOST};
+ghost use Rattle.kc_model.specs.Footprint.{IsBelow, IsWellMade};
+ghost use Rattle.kc_machine_steps.specs.Lines.{lines_of};
+ghost use Rattle.kc_machine_steps.specs.declared.task.Task.{Task};
+ghost use Rattle.kc_machine_steps.specs.declared.task.Task.TheVariants as task;
+ghost use Rattle.kc_machine_steps.specs.declared.task.Told.TheVariants as told;
+ghost use Rattle.kc_machine_words.specs.declared.words.Mode.TheVariants as mode;
+ghost use Rattle.kc_machine.specs.Seats.{is_idle};
+ghost use Rattle.kc_table_moves.specs.Views.{KnowsReads, SeatView};
+ghost use Rattle.kc_table_seats.specs.Halts.{is_halted, may_halt, was_halted};
+ghost use Rattle.kc_store.specs.Steps.{steps_made};
+ghost use Rattle.kc_store.specs.Tries.{is_crossed};
+ghost use Rattle.kc_store.specs.Works.{AllCommitted, Ends, MayRun, Runs, is_told_committing};
+
+use kc_machine_steps::{Line, Told};
+use kc_machine_words::Mode;
+use kc_model::Footprint;
+use kc_table::{KcSeat, KcTable};
+
+/// Ends the task that runs: by as many steps as are left, and then by a halt.
+#[cold]
+#[inline(never)]
+pub(crate) fn end_task(table: &KcTable, seat: &mut KcSeat, left: &mut u32)
+    requires table { seat.old.of ≡ table.now }
+    requires busy { is_idle seat.old.seat.work ≡ false }
+    requires shown { seat.old.began ≡ false }
+    requires calm { was_halted seat.old.seat ≡ false }
+    requires halts { may_halt seat.old.seat.work ≡ true }
+    ensures runs { (v : SeatView) (t : Task) → Runs v t seat.old → MayRun v t seat.new }
+    ensures idle { is_idle seat.new.seat.work ≡ true }
+    ensures spent { seat.new.seat.told ≡ Some told.Halted → left.new ≡ 0 }
+    ensures made { steps_made seat.old + left.old ≤ steps_made seat.new + left.new }
+{
+    step_on(table, seat, left);
+    if seat.busy() {
+        seat.halt();
+        step_to_the_end(table, seat);
+    }
+}
+
+// Steps until the task has ended, or none is left.
+fn step_on(table: &KcTable, seat: &mut KcSeat, left: &mut u32)
+    requires table { seat.old.of ≡ table.now }
+    requires busy { is_idle seat.old.seat.work ≡ false }
+    requires shown { seat.old.began ≡ false }
+    requires calm { was_halted seat.old.seat ≡ false }
+    requires halts { may_halt seat.old.seat.work ≡ true }
+    ensures table { seat.new.of ≡ seat.old.of }
+    ensures shown { seat.new.began ≡ false }
+    ensures halts { is_idle seat.new.seat.work ≡ false → may_halt seat.new.seat.work ≡ true }
+    ensures runs { (v : SeatView) (t : Task) → Runs v t seat.old → Runs v t seat.new }
+    ensures calm { is_idle seat.new.seat.work ≡ true → seat.new.seat.told ≢ Some told.Halted }
+    ensures spent { is_idle seat.new.seat.work ≡ false → left.new ≡ 0 }
+    ensures made { steps_made seat.old + left.old ≤ steps_made seat.new + left.new }
+{
+    'steps: while *left > 0 && seat.busy() {
+        table.step(seat);
+        *left -= 1;
+    }
+}
+
+// Steps until a task that was halted has ended.
+fn step_to_the_end(table: &KcTable, seat: &mut KcSeat)
+    requires table { seat.old.of ≡ table.now }
+    requires shown { seat.old.began ≡ false }
+    requires halted { is_idle seat.old.seat.work ≡ false → is_halted seat.old.seat ≡ true }
+    ensures runs { (v : SeatView) (t : Task) → MayRun v t seat.old → MayRun v t seat.new }
+    ensures idle { is_idle seat.new.seat.work ≡ true }
+    ensures made { steps_made seat.old ≤ steps_made seat.new }
+{
+    'steps: while seat.busy() {
+        table.step(seat);
+    }
+}
+
+/// Commits the footprint, whose lines these are: in mode Light, and where that was crossed once more in mode All.
+pub(crate) fn commit(
+    table: &KcTable,
+    seat: &mut KcSeat,
+    footprint: &Footprint,
+    lines: &[Line],
+    left: &mut u32,
+) -> Told
+    requires table { seat.old.of ≡ table.now }
+    requires idle { is_idle seat.old.seat.work ≡ true }
+    requires lines { lines_of footprint.now ≡ lines.now }
+    requires few { length lines.now ≤ MOST }
+    requires made { IsWellMade footprint.now × IsBelow seat.old.of.origin.locations footprint.now }
+    requires known { KnowsReads seat.old (task.Commit footprint.now mode.Light) }
+    ensures { AllCommitted footprint.now result seat.old left.old seat.new left.new }
+{
+    let told = commit_in(table, seat, footprint, Mode::Light, lines, left);
+    if is_crossed(told) {
+        return commit_in(table, seat, footprint, Mode::All, lines, left);
+    }
+    told
+}
+
+fn is_crossed(told: Told) -> bool
+    ensures { result ≡ is_crossed told }
+{
+    matches!(told, Told::Crossed { .. })
+}
+
+// One commit, in one mode.
+fn commit_in(
+    table: &KcTable,
+    seat: &mut KcSeat,
+    footprint: &Footprint,
+    mode: Mode,
+    lines: &[Line],
+    left: &mut u32,
+) -> Told
+    requires table { seat.old.of ≡ table.now }
+    requires idle { is_idle seat.old.seat.work ≡ true }
+    requires lines { lines_of footprint.now ≡ lines.now }
+    requires few { length lines.now ≤ MOST }
+    requires made { IsWellMade footprint.now × IsBelow seat.old.of.origin.locations footprint.now }
+    requires known { KnowsReads seat.old (task.Commit footprint.now mode) }
+    ensures ends { Ends (task.Commit footprint.now mode) seat.old left.old result seat.new left.new }
+    ensures committing { is_told_committing (Some result) ≡ true }
+{
+    table.commit(seat, footprint, mode, lines);
+    if seat.busy() {
+        end_task(table, seat, left);
+        return answer_of(seat);
+    }
+    answer_of(seat)
+}
+
+fn answer_of(seat: &KcSeat) -> Told
+    requires { is_told_committing seat.now.seat.told ≡ true }
+    ensures { seat.now.seat.told ≡ Some result }
+{
+    match seat.told() {
+        Some(told) => told,
+        None => unreachable!("a commit that has ended was told something"),
+    }
+}

@@ -1,0 +1,133 @@
+//! One try of a transaction.
+
+ghost use Rattle.std.specs.Prelude.{◌≡◌, ◌≢◌, ◌<◌, ◌≤◌, true, false, Some, IfSome, slice_get};
+ghost use Rattle.kc_machine.specs.Seats.{is_idle};
+ghost use Rattle.kc_machine_steps.specs.declared.task.Told.TheVariants as told;
+ghost use Rattle.kc_model.specs.Footprint.{IsBelow, IsWellMade};
+ghost use Rattle.kc_model.specs.declared.footprint.TheConstants.{LAST_VERSION};
+ghost use Rattle.kc_table_seats.specs.Tasks.{Keeps};
+ghost use Rattle.kc_xt.specs.declared.attempts.Tried.TheVariants as tried;
+ghost use Rattle.kc_store.specs.Answers.{Settles};
+ghost use Rattle.kc_store.specs.Steps.{busy_bound};
+ghost use Rattle.kc_store.specs.Tries.{Tries};
+ghost use Rattle.kc_store.specs.Verdicts.{entered, has_entry, lost_at, verdict_by};
+
+use crate::looks::look_and_run;
+use crate::store::{Caller, Store};
+use crate::tasks::commit;
+use crate::verdict::Verdict;
+use arrayvec::ArrayVec;
+use kc_machine_steps::{Line, Told, fill_lines};
+use kc_model::{Footprint, MOST, Seen};
+use kc_table::{KcSeat, KcTable};
+use kc_xt::{Transact, Tried};
+
+impl Store {
+    /// Tries a transaction once: runs it on looks, commits what it read and wrote in mode Light, and where that was crossed
+    /// once more in mode All. The footprint is filled with what it read, and at Done with what it put; if a look was given
+    /// up it stays. It takes no memory and never waits.
+    pub fn try_commit_into<T: Transact>(
+        &self,
+        caller: &mut Caller,
+        transaction: &T,
+        footprint: &mut Footprint,
+    ) -> Verdict
+        requires caller { caller.old.of ≡ self.now }
+        requires idle { is_idle caller.old.seat.work ≡ true }
+        requires fit { T.is_fit transaction.now }
+        requires within { T.end transaction.now ≤ self.now.origin.locations }
+        ensures tries { Tries (T.meaning transaction.now) footprint.new caller.old caller.new }
+        ensures settles { Settles (T.meaning transaction.now) result caller.old footprint.new caller.new }
+        ensures keeps { Keeps caller.old caller.new }
+        ensures idle { is_idle caller.new.seat.work ≡ true }
+        ensures blocked { caller.new.seat.blocked ≡ caller.old.seat.blocked }
+        ensures within { has_entry result ≡ true → IsBelow (T.end transaction.now) footprint.new }
+    {
+        try_once(
+            &self.table,
+            self.most_steps,
+            &mut caller.seat,
+            &mut caller.lines,
+            transaction,
+            footprint,
+        )
+    }
+}
+
+// The try, by a seat of the table and with room for the lines.
+fn try_once<T: Transact>(
+    table: &KcTable,
+    most_steps: u32,
+    seat: &mut KcSeat,
+    lines: &mut ArrayVec<Line, MOST>,
+    transaction: &T,
+    footprint: &mut Footprint,
+) -> Verdict
+    requires table { seat.old.of ≡ table.now }
+    requires steps { most_steps ≡ busy_bound table.now.origin.callers }
+    requires idle { is_idle seat.old.seat.work ≡ true }
+    requires fit { T.is_fit transaction.now }
+    requires within { T.end transaction.now ≤ table.now.origin.locations }
+    ensures tries { Tries (T.meaning transaction.now) footprint.new seat.old seat.new }
+    ensures settles { Settles (T.meaning transaction.now) result seat.old footprint.new seat.new }
+    ensures keeps { Keeps seat.old seat.new }
+    ensures idle { is_idle seat.new.seat.work ≡ true }
+    ensures blocked { seat.new.seat.blocked ≡ seat.old.seat.blocked }
+    ensures within { has_entry result ≡ true → IsBelow (T.end transaction.now) footprint.new }
+{
+    let before = seat.steps();
+    let mut left = most_steps;
+    let tried = look_and_run(table, seat, transaction, footprint, &mut left);
+    if let Tried::Busy = tried {
+        let steps = seat.steps() - before;
+        return Verdict::Busy { steps };
+    }
+    fill_lines(lines, footprint);
+    let told = commit(table, seat, footprint, lines.as_slice(), &mut left);
+    let steps = seat.steps() - before;
+    verdict(told, tried, footprint, steps)
+}
+
+// What is answered where the commits were told this.
+fn verdict(told: Told, tried: Tried, footprint: &Footprint, steps: u64) -> Verdict
+    requires { IsWellMade footprint.now }
+    ensures { result ≡ verdict_by told tried footprint.now steps }
+{
+    match told {
+        Told::Succeeded { .. } => entered(tried, steps),
+        Told::Failed { entry } => lost_at(read_at(footprint, entry), steps),
+        Told::Worn => Verdict::WornPool,
+        _ => Verdict::Busy { steps },
+    }
+}
+
+fn entered(tried: Tried, steps: u64) -> Verdict
+    ensures { result ≡ entered tried steps }
+{
+    match tried {
+        Tried::Done(reply) => Verdict::Done(reply),
+        Tried::Later => Verdict::Later,
+        Tried::TooLarge => Verdict::TooLarge,
+        Tried::Worn(loc) => Verdict::WornLocation(loc),
+        Tried::Busy => Verdict::Busy { steps },
+    }
+}
+
+fn read_at(footprint: &Footprint, entry: u32) -> Option<Seen>
+    ensures { result ≡ slice_get footprint.now.reads.items entry }
+{
+    footprint.reads.as_slice().get(entry as usize).copied()
+}
+
+fn lost_at(read: Option<Seen>, steps: u64) -> Verdict
+    requires { IfSome read (λ r. r.version ≤ LAST_VERSION) }
+    ensures { result ≡ lost_at read steps }
+{
+    match read {
+        Some(seen) => Verdict::Lost {
+            loc: seen.loc,
+            version: seen.version + 1,
+        },
+        None => Verdict::Busy { steps },
+    }
+}
