@@ -5,5 +5,4 @@ pub mod Gathered
 pub mod Waits
 pub mod Read
 pub mod Closing
-pub mod Trying
 mod Wholes

@@ -6,8 +6,6 @@ mod end;
 mod open;
 mod seat;
 mod table;
-#[cfg(test)]
-mod tests;
 
 pub use end::{CloseRefused, Closed, Past};
 pub use seat::{KcNote, KcSeat};

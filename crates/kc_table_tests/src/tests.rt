@@ -4,11 +4,11 @@ ghost use Rattle.kc_model.specs.declared.footprint.Seen.{Seen};
 ghost use Rattle.kc_table_seats.specs.Tasks.{IsSameSeat, KnowsRead};
 ghost use Rattle.kc_table_moves.specs.Views.{AreAll};
 
-use crate::{KcSeat, KcTable};
 use arrayvec::ArrayVec;
 use kc_machine_steps::{Task, Told, fill_lines};
 use kc_machine_words::Mode;
 use kc_model::{Footprint, Loc, OpenError, Put, Seen};
+use kc_table::{KcSeat, KcTable};
 use std::test::Fail;
 use std::thread;
 

@@ -1,6 +1,6 @@
 use Rattle.std.proofs.Common.{◌≡◌}
 use Rattle.kc_table_seats.specs.Tasks.{IsSameSeat}
-use Rattle.kc_table.proofs.tests.raise.Given as goal
+use Rattle.kc_table_tests.proofs.tests.raise.Given as goal
 
 abbrev pub invariant-loop : goal.invariant-loop
 invariant-loop l = record {

@@ -1,6 +1,6 @@
 use Rattle.kc_machine_steps.specs.declared.task.Task.TheVariants as task
-use Rattle.kc_table.proofs.Trying.{commit_known, commit_made, reads_begun}
-use Rattle.kc_table.proofs.tests.begin.Goals as goal
+use Rattle.kc_table_tests.proofs.Trying.{commit_known, commit_made, reads_begun}
+use Rattle.kc_table_tests.proofs.tests.begin.Goals as goal
 
 pub begin-requires-clause-made : goal.begin-requires-clause-made
 begin-requires-clause-made c =

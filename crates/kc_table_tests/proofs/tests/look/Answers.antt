@@ -1,7 +1,7 @@
 use Rattle.std.proofs.Common.{Some, sym, ap, ◌∙◌, rules}
 use Rattle.kc_machine_steps.specs.declared.task.Task.TheVariants as task
-use Rattle.kc_table.proofs.Trying.{first_looks, next_looks, saw_known, reads_begun, reads_step}
-use Rattle.kc_table.proofs.tests.look.Goals as goal
+use Rattle.kc_table_tests.proofs.Trying.{first_looks, next_looks, saw_known, reads_begun, reads_step}
+use Rattle.kc_table_tests.proofs.tests.look.Goals as goal
 
 pub loop-init : goal.loop-init
 loop-init c =

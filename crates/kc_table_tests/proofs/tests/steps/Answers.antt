@@ -1,6 +1,6 @@
 use Rattle.std.proofs.Common.{◌∙◌}
-use Rattle.kc_table.proofs.Trying.{reads_step}
-use Rattle.kc_table.proofs.tests.steps.Goals as goal
+use Rattle.kc_table_tests.proofs.Trying.{reads_step}
+use Rattle.kc_table_tests.proofs.tests.steps.Goals as goal
 
 pub loop-made-preserved : goal.loop-made-preserved
 loop-made-preserved c =
