@@ -10,11 +10,13 @@ use kc_hash::{Hash, HashAct, HashOp};
 use kc_loc::{LocOp, Rel};
 use kc_machine_steps::{Task, fill_lines};
 use kc_machine_words::{LAST_GENERATION, Mode};
-use kc_model::{Footprint, LAST_VERSION, Loc, OpenError, Reply};
+use kc_model::{Footprint, LAST_VERSION, Loc, MOST, OpenError, Reply};
+use kc_table::{KcSeat, KcTable};
 use kc_xt::{Transact, Tried};
 use std::sync::Wait;
 use std::test::Fail;
 use std::thread;
+use std::thread::Threads;
 
 const ADD: LocOp = LocOp::FetchAdd(Loc(0), 1);
 
@@ -236,6 +238,16 @@ fn a_try_that_another_overtakes_is_lost(rt: HostRuntime) -> Result<(), Fail> {
     Ok(())
 }
 
+fn make_steps(table: &KcTable, seat: &mut KcSeat, most: u32)
+    requires { seat.old.of ≡ table.now }
+{
+    for _ in 0..most {
+        if seat.busy() {
+            table.step(seat);
+        }
+    }
+}
+
 // Begins to put the location, and stops with a reference in its word.
 fn stop_within(store: &Store, caller: &mut Caller) -> bool
     requires caller { (caller.old.of ≡ store.now) × (is_idle caller.old.seat.work ≡ true) }
@@ -253,13 +265,12 @@ fn stop_within(store: &Store, caller: &mut Caller) -> bool
     if let Tried::Busy = came {
         return false;
     }
+    if footprint.reads.as_slice().len() > MOST {
+        return false;
+    }
     let mode = Mode::All;
     caller.seat.begin(&Task::Commit { footprint, mode });
-    for _ in 0..7 {
-        if caller.seat.busy() {
-            store.table.step(&mut caller.seat);
-        }
-    }
+    make_steps(&store.table, &mut caller.seat, 7);
     caller.seat.busy()
 }
 
@@ -315,6 +326,26 @@ fn count<R: Wait>(rt: &R, store: &Store, mut caller: Caller, times: u32) -> Call
     caller
 }
 
+// The same by two threads.
+fn count_both<R: Threads + Wait + Sync>(
+    rt: &R,
+    store: &Store,
+    a: Caller,
+    b: Caller,
+) -> (Caller, Caller)
+    requires first { (a.of ≡ store.now) × (is_idle a.seat.work ≡ true) }
+    requires second { (b.of ≡ store.now) × (is_idle b.seat.work ≡ true) }
+    requires location { 0 < store.now.origin.locations }
+    ensures first { (result.0.of ≡ store.now) × (is_idle result.0.seat.work ≡ true) }
+    ensures second { (result.1.of ≡ store.now) × (is_idle result.1.seat.work ≡ true) }
+{
+    thread::join(
+        rt,
+        move || count(rt, store, a, 1_000),
+        move || count(rt, store, b, 1_000),
+    )
+}
+
 #[test]
 fn four_threads_count(rt: HostRuntime) -> Result<(), Fail> {
     let Ok((store, mut callers)) = Store::open(rt.alloc(), &[0], 4) else {
@@ -331,20 +362,8 @@ fn four_threads_count(rt: HostRuntime) -> Result<(), Fail> {
     let (shared, run) = (&store, &rt);
     let ((mut a, _b), _) = thread::join(
         run,
-        move || {
-            thread::join(
-                run,
-                move || count(run, shared, a, 1_000),
-                move || count(run, shared, b, 1_000),
-            )
-        },
-        move || {
-            thread::join(
-                run,
-                move || count(run, shared, c, 1_000),
-                move || count(run, shared, d, 1_000),
-            )
-        },
+        move || count_both(run, shared, a, b),
+        move || count_both(run, shared, c, d),
     );
     let mut footprint = Footprint::new();
     let all = store.commit_into(&rt, &mut a, &LocOp::Get(Loc(0)), &mut footprint);
