@@ -9,6 +9,6 @@ mod table;
 #[cfg(test)]
 mod tests;
 
-pub use end::{CloseRefused, Closed, Past};
+pub use end::{CloseRefused, Closed, HoldsSeat, Past};
 pub use seat::{KcNote, KcSeat};
 pub use table::KcTable;
