@@ -11,8 +11,8 @@ commit-told-requires c =
     let same : c.store.inside.table.origin.locations ≡ c.args.store.now.origin.locations = ap (λ z. z.origin.locations) c.store.view_is in
     let up : loc_end ADD ≤ c.store.inside.table.origin.locations = omega (arith, same) in
     let y =
-        ready (loc_meaning ADD) c.look_and_run-came.result c.new-footprint.result c.look_and_run-came.new.footprint c.store.inside.table c.a.inside.seat c.look_and_run-came.new.seat c.store.inside.most_steps c.look_and_run-came.new.left
-        (loc_end ADD) of c.store.invariant c.in_default.not-Busy x.came x.within up x.looked in
+    ready (loc_meaning ADD) c.look_and_run-came.result c.new-footprint.result c.look_and_run-came.new.footprint c.store.inside.table c.a.inside.seat c.look_and_run-came.new.seat c.store.inside.most_steps c.look_and_run-came.new.left
+    (loc_end ADD) of c.store.invariant c.in_default.not-Busy x.came x.within up x.looked in
     record {
       table = y.table;
       idle = y.idle;

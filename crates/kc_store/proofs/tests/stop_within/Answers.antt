@@ -17,8 +17,8 @@ begin-requires c =
     let size = ap length c.as_slice.ensures.value in
     let few : length f.reads.items ≤ 64 = omega (arith, size) in
     let y =
-        ready (loc_meaning ADD) c.look_and_run-came.result c.new-footprint.result f c.store.inside.table c.caller.inside.seat c.look_and_run-came.new.seat c.store.inside.most_steps c.look_and_run-came.new.left
-        (loc_end ADD) of c.store.invariant c.in_default.not-Busy x.came x.within up x.looked in
+    ready (loc_meaning ADD) c.look_and_run-came.result c.new-footprint.result f c.store.inside.table c.caller.inside.seat c.look_and_run-came.new.seat c.store.inside.most_steps c.look_and_run-came.new.left
+    (loc_end ADD) of c.store.invariant c.in_default.not-Busy x.came x.within up x.looked in
     record {
       starts = tried_starts c.look_and_run-came.new.seat (task.Commit f All) refl y.idle;
       made = (y.made.0, y.made.1, few);

@@ -28,8 +28,8 @@ pub commit-told-requires : goal.commit-told-requires
 commit-told-requires g c =
     let x = c.look_and_run-tried.ensures in
     let y =
-        ready (g.T.Transact.meaning c.args.transaction.now) c.look_and_run-tried.result c.args.footprint.now c.look_and_run-tried.new.footprint c.args.table.now c.args.seat.now c.look_and_run-tried.new.seat c.args.most_steps c.look_and_run-tried.new.left
-        (g.T.Transact.end c.args.transaction.now) c.requires.table c.requires.steps c.in_default.not-Busy x.came x.within c.requires.within x.looked in
+    ready (g.T.Transact.meaning c.args.transaction.now) c.look_and_run-tried.result c.args.footprint.now c.look_and_run-tried.new.footprint c.args.table.now c.args.seat.now c.look_and_run-tried.new.seat c.args.most_steps c.look_and_run-tried.new.left
+    (g.T.Transact.end c.args.transaction.now) c.requires.table c.requires.steps c.in_default.not-Busy x.came x.within c.requires.within x.looked in
     record {
       table = y.table;
       idle = y.idle;
