@@ -11,3 +11,4 @@ pub mod ReadLooks
 pub mod Placing
 pub mod Crossed
 pub mod Settling
+pub mod Back

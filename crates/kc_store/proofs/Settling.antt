@@ -1,7 +1,10 @@
 -- From what came of looks and commits to what a try answers.
 use Rattle.std.proofs.Common.{◌≡◌, ◌≢◌, ◌<◌, ◌≤◌, true, false, ℕ, ◌+◌, ◌-◌, List, [], ◌∷◌, ◌++◌, Some, refl, sym, ap, ◌∙◌, arith, subst}
 use Rattle.std.specs.Prelude.{Contains, Err}
+use Rattle.kc_machine.specs.Seats.{is_idle}
 use Rattle.kc_machine_claims.specs.Claims.{HasPut}
+use Rattle.kc_machine_claims.specs.Histories.{IsKnown}
+use Rattle.kc_machine_claims.specs.Traces.{first_store}
 use Rattle.kc_machine_steps.specs.declared.task.Task.TheVariants as task
 use Rattle.kc_machine_steps.specs.declared.task.Told.{Told}
 use Rattle.kc_machine_steps.specs.declared.task.Told.TheVariants as told
@@ -20,12 +23,12 @@ use Rattle.kc_store.specs.Answers.{Gains, GainsNothing, IsBusy, Settles, own_ent
 use Rattle.kc_store.specs.Steps.{HasLeft, busy_bound}
 use Rattle.kc_store.specs.Tries.{Commits, CommitsAfter, once, again, Sees, WasTold, is_crossed}
 use Rattle.kc_store.specs.Verdicts.{entered, is_final, lost_at, verdict_by, verdict_of}
-use Rattle.kc_store.specs.Works.{is_told_committing}
+use Rattle.kc_store.specs.Works.{AllLooked, is_told_committing}
 use Rattle.kc_store.specs.declared.verdict.Answered.{Answered}
 use Rattle.kc_store.specs.declared.verdict.Answered.TheVariants as answered
 use Rattle.kc_store.specs.declared.verdict.Verdict.{Verdict}
 use Rattle.kc_store.specs.declared.verdict.Verdict.TheVariants as verdict
-use Rattle.kc_table_moves.specs.Views.{SeatView, TableView, knows}
+use Rattle.kc_table_moves.specs.Views.{SeatView, TableView, knows, opening_at_seat}
 use Rattle.kc_table_seats.proofs.Causing.{worn_found}
 use Rattle.kc_table_seats.specs.Tasks.{Does, Keeps}
 use Rattle.kc_xt.specs.Commit.{Came, Looked, LooksIn, PutsWhereDone}
@@ -199,3 +202,21 @@ final_is answered.Later = refl
 final_is answered.TooLarge = refl
 final_is (answered.WornLocation loc) = refl
 final_is answered.WornPool = refl
+
+-- what came of the looks may be committed
+pub record Ready (z : TableView) (f : Footprint) (u : SeatView) : Type 0 where
+  pub table : u.of ≡ z
+  pub idle : is_idle u.seat.work ≡ true
+  pub made : IsWellMade f × IsBelow u.of.origin.locations f
+  pub known : (r : Seen) → Reads f r → IsKnown (first_store (opening_at_seat u)) (knows u) r
+
+pub ready : (m : Meaning) (t : Tried) (before f : Footprint) (z : TableView) (v u : SeatView) (most left end : ℕ) → v.of ≡ z → most ≡ busy_bound z.origin.callers → t ≢ tried.Busy → Came m t before f → (t ≢ tried.Busy → IsBelow end f) → end ≤ z.origin.locations
+    → AllLooked m t f v most u left → Ready z f u
+ready m t before f z v u most left end of e n came below up x =
+    let at = x.advances.of ∙ of in
+    record {
+      table = at;
+      idle = x.advances.idle;
+      made = (came_well m t before f n came, subst (λ y. IsBelow y.origin.locations f) (sym at) (below_more f end z.origin.locations (below n) up));
+      known = λ r y. (looked_fresh m t v f u (x.looked v (has_all v z most of e)) n r y).known;
+    }

@@ -13,6 +13,7 @@ mod trying;
 mod values;
 mod verdict;
 
+pub use kc_table::Past;
 pub use laws::answers_hold_at_their_place;
 pub use notes::Note;
 pub use store::{Caller, Store};

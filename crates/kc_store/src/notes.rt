@@ -1,10 +1,10 @@
 //! What callers tell each other, and what is left when all came back.
 
 ghost use Rattle.std.specs.Prelude.{◌≡◌};
-ghost use Rattle.kc_table_moves.specs.Views.{Joined};
+ghost use Rattle.kc_table_moves.specs.Views.{AreAll, IsPast, Joined};
 
 use crate::store::{Caller, Store};
-use kc_table::KcNote;
+use kc_table::{HoldsSeat, KcNote, KcSeat, Past};
 use std::marker::Model;
 
 /// What a caller knew when it was made, for another caller to learn.
@@ -19,6 +19,15 @@ impl Model for Note {
     ghost Value = { NoteView };
 
     ghost view = { λ n. n.note };
+}
+
+impl HoldsSeat for Caller {
+    ghost seat = { λ c. c };
+
+    fn into_seat(self) -> KcSeat {
+        let Caller { seat, lines: _ } = self;
+        seat
+    }
 }
 
 impl Store {
@@ -40,5 +49,17 @@ impl Store {
     {
         let Note { note } = note;
         self.table.join(&mut caller.seat, note);
+    }
+
+    /// All callers come back, and the one history shows: it is legal from the opening, and has just the entries of the callers.
+    pub fn finish(self, callers: Vec<Caller>) -> Past
+        requires { AreAll self callers.items }
+        ensures { IsPast self callers.items result }
+    {
+        let Store {
+            table,
+            most_steps: _,
+        } = self;
+        table.finish(callers)
     }
 }

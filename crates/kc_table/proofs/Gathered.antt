@@ -1,5 +1,5 @@
 -- Seats as they come back.
-use Rattle.std.proofs.Common.{◌≡◌, Bool, true, ℕ, zero, suc, ◌<◌, List, [], ◌∷◌, ◌++◌, length, get_or, refl, sym, ap, ◌∙◌, arith, subst}
+use Rattle.std.proofs.Common.{◌≡◌, Bool, true, ℕ, zero, suc, ◌<◌, List, [], ◌∷◌, ◌++◌, length, get_or, map, refl, sym, ap, ◌∙◌, arith, subst}
 use Rattle.std.specs.Prelude.{All}
 use Rattle.std.proofs.lemmas.List.Elements.{All-head, All-tail}
 use Rattle.atomic_table.specs.Seated.{TableId}
@@ -63,6 +63,18 @@ is_past z seats q es ps e w f m a = record {
 pub all_at : {A : Type 0} (P : A → Type 0) (xs ys : List A) (y : A) → All P (xs ++ y ∷ ys) → P y
 all_at P [] ys y a = All-head P y ys a
 all_at P (x ∷ xs) ys y a = all_at P xs ys y (All-tail P x (xs ++ y ∷ ys) a)
+
+pub mapped_at : {A B : Type 0} (f : A → B) (P : B → Type 0) (xs ys : List A) (y : A) → All P (map f (xs ++ y ∷ ys)) → P (f y)
+mapped_at f P [] ys y a = All-head P (f y) (map f ys) a
+mapped_at f P (x ∷ xs) ys y a = mapped_at f P xs ys y (All-tail P (f x) (map f (xs ++ y ∷ ys)) a)
+
+pub map_push : {A B : Type 0} (f : A → B) (xs : List A) (y : A) → map f (xs ++ y ∷ []) ≡ map f xs ++ f y ∷ []
+map_push f [] y = refl
+map_push f (x ∷ xs) y = ap (λ l. f x ∷ l) (map_push f xs y)
+
+pub map_same : {A : Type 0} (xs : List A) → map (λ x. x) xs ≡ xs
+map_same [] = refl
+map_same (x ∷ xs) = ap (λ l. x ∷ l) (map_same xs)
 
 pub none_left : {A : Type 0} (xs : List A) (n : ℕ) → n ≡ length xs → n ≡ 0 → xs ≡ []
 none_left [] n e z = refl

@@ -1,6 +1,6 @@
 //! What is left of a table when all seats came back.
 
-ghost use Rattle.std.specs.Prelude.{◌≡◌, ◌<◌, ◌≤◌, ℕ, true, All, IfErr, IfOk, get_or, length, slice_get};
+ghost use Rattle.std.specs.Prelude.{◌≡◌, ◌<◌, ◌≤◌, ℕ, true, All, IfErr, IfOk, get_or, length, map, slice_get};
 ghost use Rattle.std.specs.Mem.Slots.{IsFull, slots_items, slots_len};
 ghost use Rattle.kc_table_layout.specs.Cells.{base_of};
 ghost use Rattle.kc_model.specs.declared.footprint.Seen.{Seen};
@@ -30,11 +30,30 @@ impl Model for Past {
     ghost view = { λ p. record { origin = p.token.me.0.origin; schedule = p.token.me.0.heard } };
 }
 
+/// What holds a seat of the table, and gives it up.
+pub trait HoldsSeat: Drop {
+    ghost use Rattle.kc_table_moves.specs.Views.{SeatView};
+
+    ghost seat: { Self → SeatView };
+
+    /// The seat.
+    fn into_seat(self) -> KcSeat
+        ensures { result ≡ seat self };
+}
+
+impl HoldsSeat for KcSeat {
+    ghost seat = { λ s. s };
+
+    fn into_seat(self) -> KcSeat {
+        self
+    }
+}
+
 impl KcTable {
-    /// All seats come back, and the one history shows.
-    pub fn finish(self, seats: Vec<KcSeat>) -> Past
-        requires { AreAll self seats.items }
-        ensures { IsPast self seats.items result }
+    /// All seats come back, each with what holds it, and the one history shows.
+    pub fn finish<S: HoldsSeat>(self, seats: Vec<S>) -> Past
+        requires { AreAll self (map S.seat seats.items) }
+        ensures { IsPast self (map S.seat seats.items) result }
     {
         let KcTable {
             table,
@@ -133,15 +152,16 @@ fn seen_as(loc: Loc, word: Word) -> Seen
 }
 
 // All seats in one.
-fn gather(words: &Words, seats: Vec<KcSeat>) -> Token
+fn gather<S: HoldsSeat>(words: &Words, seats: Vec<S>) -> Token
     requires words { 0 < words.now.table_id.words }
-    requires table { All (λ s. (s.of.table ≡ words.now.table_id) × (s.of.origin ≡ words.now.key)) seats.items }
-    requires idle { All (λ s. is_idle s.seat.work ≡ true) seats.items }
+    requires table { All (λ s. (s.of.table ≡ words.now.table_id) × (s.of.origin ≡ words.now.key)) (map S.seat seats.items) }
+    requires idle { All (λ s. is_idle s.seat.work ≡ true) (map S.seat seats.items) }
     ensures table { (result.table_id ≡ words.now.table_id) × (result.me.0.origin ≡ words.now.key) }
-    ensures seats { Matches (opening_of words.now.key) result.me.0.parts seats.items }
+    ensures seats { Matches (opening_of words.now.key) result.me.0.parts (map S.seat seats.items) }
 {
     let mut keeper = words.load_new_seat::<Empty>(0).1;
-    for seat in seats {
+    for holder in seats {
+        let seat = holder.into_seat();
         let KcSeat {
             machine: _,
             token,

@@ -7,6 +7,6 @@ mod open;
 mod seat;
 mod table;
 
-pub use end::{CloseRefused, Closed, Past};
+pub use end::{CloseRefused, Closed, HoldsSeat, Past};
 pub use seat::{KcNote, KcSeat};
 pub use table::KcTable;

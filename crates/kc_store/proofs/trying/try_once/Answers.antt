@@ -1,8 +1,7 @@
 use Rattle.std.proofs.Common.{◌-◌, ◌∙◌, arith, sym, subst}
-use Rattle.kc_model.specs.Footprint.{IsBelow}
 use Rattle.kc_store.proofs.Counting.{left_on}
 use Rattle.kc_store.proofs.Seeing.{keeps_then}
-use Rattle.kc_store.proofs.Settling.{below_more, came_well, commits_after, commits_keep, counted, given_up, has_all, looked_fresh, looked_keeps, settled}
+use Rattle.kc_store.proofs.Settling.{came_well, commits_after, commits_keep, counted, given_up, has_all, looked_keeps, ready, settled}
 use Rattle.kc_store.specs.Answers.{Settles}
 use Rattle.kc_store.specs.Tries.{Sees}
 use Rattle.kc_xt.specs.Commit.{Looked}
@@ -27,21 +26,17 @@ returns-in-Busy-clause-keeps g c =
 
 pub commit-told-requires : goal.commit-told-requires
 commit-told-requires g c =
-    let m = g.T.Transact.meaning c.args.transaction.now in
-    let v = c.args.seat.now in
-    let t = c.look_and_run-tried.result in
-    let f = c.look_and_run-tried.new.footprint in
     let x = c.look_and_run-tried.ensures in
-    let has = has_all v c.args.table.now c.args.most_steps c.requires.table c.requires.steps in
-    let l = x.looked.looked v has in
-    let at = x.looked.advances.of ∙ c.requires.table in
+    let y =
+    ready (g.T.Transact.meaning c.args.transaction.now) c.look_and_run-tried.result c.args.footprint.now c.look_and_run-tried.new.footprint c.args.table.now c.args.seat.now c.look_and_run-tried.new.seat c.args.most_steps c.look_and_run-tried.new.left
+    (g.T.Transact.end c.args.transaction.now) c.requires.table c.requires.steps c.in_default.not-Busy x.came x.within c.requires.within x.looked in
     record {
-      table = at;
-      idle = x.looked.advances.idle;
+      table = y.table;
+      idle = y.idle;
       lines = sym (c.as_slice.ensures.value ∙ c.fill_lines.ensures);
       few = c.as_slice.ensures.fits;
-      made = (came_well m t c.args.footprint.now f c.in_default.not-Busy x.came, subst (λ z. IsBelow z.origin.locations f) (sym at) (below_more f (g.T.Transact.end c.args.transaction.now) c.args.table.now.origin.locations (x.within c.in_default.not-Busy) c.requires.within));
-      known = λ r y. (looked_fresh m t v f c.look_and_run-tried.new.seat l c.in_default.not-Busy r y).known;
+      made = y.made;
+      known = y.known;
     }
 
 pub verdict-requires : goal.verdict-requires

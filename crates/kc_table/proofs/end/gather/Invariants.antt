@@ -1,11 +1,11 @@
-use Rattle.std.proofs.Common.{◌≡◌, ◌++◌}
+use Rattle.std.proofs.Common.{◌≡◌, ◌++◌, map}
 use Rattle.kc_table_moves.specs.Origins.{opening_of}
 use Rattle.kc_table_moves.specs.Views.{Matches}
 use Rattle.kc_table.proofs.end.gather.Given as goal
 
-abbrev pub invariant-loop-seat : goal.invariant-loop-seat
-invariant-loop-seat l = record {
+abbrev pub invariant-loop-holder : goal.invariant-loop-holder
+invariant-loop-holder g l = record {
   table : (l.keeper.table_id ≡ l.words.table_id) × (l.keeper.me.0.origin ≡ l.words.key);
-  all : l.yielded ++ l.seat-iterator.rest.items ≡ l.fn.seats.items;
-  matches : Matches (opening_of l.words.key) l.keeper.me.0.parts l.yielded;
+  all : l.yielded ++ l.holder-iterator.rest.items ≡ l.fn.seats.items;
+  matches : Matches (opening_of l.words.key) l.keeper.me.0.parts (map g.S.HoldsSeat.seat l.yielded);
 }

@@ -1,4 +1,4 @@
-use Rattle.std.proofs.Common.{◌≡◌, sym, ap, ◌∙◌, subst, arith}
+use Rattle.std.proofs.Common.{◌≡◌, map, sym, ap, ◌∙◌, subst, arith}
 use Rattle.kc_table.proofs.Gathered.{is_past}
 use Rattle.kc_table.proofs.Loads.{ends}
 use Rattle.kc_table_moves.specs.Origins.{opening_of}
@@ -8,17 +8,17 @@ use Rattle.kc_table_views.specs.Known.{IsMeant}
 use Rattle.kc_table.proofs.table.KcTable.finish.Goals as goal
 
 pub gather-keeper-requires-clause-table : goal.gather-keeper-requires-clause-table
-gather-keeper-requires-clause-table c = λ k d lt. let e = c.requires.of k d lt in (ap (λ v. v.table) e ∙ sym (ap (λ v. v.table) c.self.view_is), ap (λ v. v.origin) e ∙ sym (ap (λ v. v.origin) c.self.view_is))
+gather-keeper-requires-clause-table g c = λ k d lt. let e = c.requires.of k d lt in (ap (λ v. v.table) e ∙ sym (ap (λ v. v.table) c.self.view_is), ap (λ v. v.origin) e ∙ sym (ap (λ v. v.origin) c.self.view_is))
 
 pub load-requires : goal.load-requires
-load-requires c = let i = c.self.invariant in (c.gather-keeper.ensures.table.0, omega arith, ends _ _ _ _ _ c.gather-keeper.ensures.table.1)
+load-requires g c = let i = c.self.invariant in (c.gather-keeper.ensures.table.0, omega arith, ends _ _ _ _ _ c.gather-keeper.ensures.table.1)
 
 pub returns : goal.returns
-returns c =
+returns g c =
     let e = c.load.ensures.2 in
     let q = c.self.inside.table.shared.key in
     let from : c.gather-keeper.result.me.0.origin ≡ q = c.gather-keeper.ensures.table.1 in
-    subst (λ m. IsPast c.args.self c.args.seats.items (record { origin = m.0.origin; schedule = m.0.heard })) (sym e.1)
-    (subst (λ x. IsPast c.args.self c.args.seats.items (record { origin = x; schedule = e.0 })) (sym from)
-    (is_past c.args.self c.args.seats.items q e.0 c.gather-keeper.result.me.0.parts (ap (λ v. v.origin) c.self.view_is) (subst (λ x. IsMeant (opening_of x) e.0) from e.3) (subst (λ x. EachFits (opening_of x) e.0 c.gather-keeper.result.me.0.parts) from e.2)
+    subst (λ m. IsPast c.args.self (map g.S.HoldsSeat.seat c.args.seats.items) (record { origin = m.0.origin; schedule = m.0.heard })) (sym e.1)
+    (subst (λ x. IsPast c.args.self (map g.S.HoldsSeat.seat c.args.seats.items) (record { origin = x; schedule = e.0 })) (sym from)
+    (is_past c.args.self (map g.S.HoldsSeat.seat c.args.seats.items) q e.0 c.gather-keeper.result.me.0.parts (ap (λ v. v.origin) c.self.view_is) (subst (λ x. IsMeant (opening_of x) e.0) from e.3) (subst (λ x. EachFits (opening_of x) e.0 c.gather-keeper.result.me.0.parts) from e.2)
     c.gather-keeper.ensures.seats c.requires))
