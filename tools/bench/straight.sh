@@ -24,7 +24,7 @@ for _ in $(seq "${1:-3}"); do
     for puts in 1 2; do
         for threads in 2 4; do
             for place in own same; do
-                "$room/bare" "$puts" "$threads" "$place" 30 100000
+                "$room/bare" "$puts" "$threads" "$place" 200 20000
             done
         done
     done
