@@ -1,13 +1,11 @@
 -- A bundle's threads, its opening store, and room for its records.
 use Rattle.std.proofs.Common.{◌≡◌, ℕ, zero, suc, ◌+◌, ◌<◌, ◌≤◌, List, [], ◌∷◌, length, map, get_or, vec_len, refl, sym, ap, ◌∙◌, subst, arith}
 use Rattle.std.specs.Prelude.{All, sum_by}
+use Rattle.std.proofs.lemmas.List.{length-map}
 use Rattle.std.proofs.lemmas.List.Sums.{sum_by-cons}
 use Rattle.std.specs.Global.{Vec}
 use Rattle.kc_model.specs.Store.{Store, store_of, opened}
-use Rattle.kc_model.specs.declared.footprint.Entry.{Entry}
 use Rattle.kc_model.specs.declared.plain_store.Cell.{Cell}
-use Rattle.std.proofs.lemmas.List.{length-map}
-use Rattle.kc_history.specs.Callers.{HasJust, IsBelowCallers, IsLegalFrom}
 use Rattle.kc_history.specs.Counts.{records_in}
 use Rattle.kc_history.specs.Ends.{AllCanStandIn}
 use Rattle.kc_history.specs.Moves.{placed_from}
@@ -28,12 +26,13 @@ use Rattle.kc_script_bundle.specs.Script.{Script, script_of, next_from}
 use Rattle.kc_script_bundle.specs.State.{opening_values}
 use Rattle.kc_script_bundle.specs.declared.bundle.Bundle.{Bundle}
 use Rattle.kc_script_bundle.specs.declared.operation.Command.{Command}
-use Rattle.kc_script_runs.proofs.Replayed.{opened_zero, run_just, run_list, run_made, run_of_order, run_threads_are}
+use Rattle.kc_script_runs.proofs.Replayed.{opened_zero, run_list, run_made, run_of_order, run_threads_are}
 use Rattle.kc_script_runs.specs.Labels.{AreThreads}
 use Rattle.kc_script_runs.specs.Run.{IsRun, opening_store}
 use Rattle.kc_script_runs.specs.Threads.{AreRun}
 use Rattle.kc_top.proofs.Asks.{ask_fit, ask_within}
 use Rattle.kc_top.specs.Runnable.{IsRunnable}
+use Rattle.kc_top.specs.Served.{HaveCommits}
 
 -- a script has as many opening values as cells, and one for the live threads
 pub length-opening_values : (script : Script) → length (opening_values script) ≡ next_from 1 script.objects
@@ -76,6 +75,23 @@ all_can_run s n can size (v ∷ vs) h zero d lt =
     }
 all_can_run s n can size (v ∷ vs) h (suc k) d lt = all_can_run s n can size vs h.2 k d (omega (arith, lt))
 
+-- its opening values and its threads are as a store wants them
+module _ (b : Bundle) (values : List ℕ) (ts : List (Vec Command)) (can : IsRunnable (script_of b)) (valued : values ≡ opening_values (script_of b)) (threaded : ts ≡ b.threads.items) where
+  valued_size : length values ≡ next_from 1 (script_of b).objects
+  valued_size = ap length valued ∙ length-opening_values (script_of b)
+
+  pub values_fit : (0 < length values) × (length values ≤ 65536)
+  values_fit = let few = can.lies.within in (omega (arith, valued_size, next_from-above 1 (script_of b).objects), omega (arith, valued_size, few))
+
+  pub threads_fit : 0 < length b.threads.items → (0 < length ts) × (length ts ≤ 64)
+  threads_fit some =
+      let same = ap length threaded in
+      let long = length-map b.threads.items (λ (v : Vec Command). v.items) in
+      let few = can.few in (omega (arith, same, some), omega (arith, same, long, few))
+
+  pub commands_fit : All (λ (v : Vec Command). CanRunAll (length values) v.items) ts
+  commands_fit = subst (All (λ (v : Vec Command). CanRunAll (length values) v.items)) (sym threaded) (all_can_run (script_of b) (length values) can valued_size b.threads.items can.threads)
+
 -- ---- room
 
 pub lists_length : (j : ℕ) (threads : List (Vec Command)) (records : List (Vec Record)) → AreThreads j (commands_of threads) (lists_of records) → length records ≡ length threads
@@ -100,34 +116,29 @@ records_counted j (v ∷ vs) (r ∷ rs) h =
 -- ---- from what ran to what is shown
 
 -- where a run opened and what its threads left: it can be settled, and is then a run of the script
-pub record Settles (script : Script) (threads : List (Vec Command)) (cells : List Cell) (vs : List (Vec Record)) (history : List Entry) : Type 0 where
+pub record Settles (script : Script) (threads : List (Vec Command)) (cells : List Cell) (vs : List (Vec Record)) : Type 0 where
   pub made : AllCanStandIn (length cells) (footprint_at (lists_of vs))
   pub opens : (l : ℕ) → (store_of cells l).version ≡ 0
   pub legal : (places : List Place) × (last : Store) × Legal (footprint_at (lists_of vs)) (λ _. 0) (store_of cells) places last
   pub lists : length vs ≡ length threads
   pub counted : records_in vs ≡ sum_by (λ (v : Vec Command). length v.items + 1) threads
-  pub just : HasJust (lists_of vs) history
   pub run : (order : List Place) (last : Store) → IsCanonical (footprint_at (lists_of vs)) order → Legal (footprint_at (lists_of vs)) (λ _. 0) (store_of cells) order last → IsRun script (lists_of vs) order last
 
-pub settles : (b : Bundle) (values : List ℕ) (ts : List (Vec Command)) (cells : List Cell) (vs : List (Vec Record)) (history : List Entry) → values ≡ opening_values (script_of b) → ts ≡ b.threads.items → cells ≡ opened (opening_values (script_of b))
-    → AreRun (length values) 0 history (commands_of ts) (lists_of vs) → IsLegalFrom values history → IsBelowCallers (length ts) history → Settles (script_of b) b.threads.items cells vs history
-settles b values ts cells vs history valued threaded stored ran legal below =
+pub settles : (b : Bundle) (cells : List Cell) (vs : List (Vec Record)) → cells ≡ opened (opening_values (script_of b)) → HaveCommits (script_of b) (lists_of vs) → Settles (script_of b) b.threads.items cells vs
+settles b cells vs stored have =
     let script = script_of b in
-    let same : length values ≡ length cells = ap length valued ∙ sym (ap length stored ∙ opened_length (opening_values script)) in
-    let run : AreRun (length cells) 0 history script.threads (lists_of vs) =
-    subst (λ (n : ℕ). AreRun n 0 history script.threads (lists_of vs)) same (subst (λ (x : List (Vec Command)). AreRun (length values) 0 history (commands_of x) (lists_of vs)) threaded ran) in
-    let callers : IsBelowCallers (length script.threads) history = subst (λ (n : ℕ). IsBelowCallers n history) (ap length threaded ∙ sym (length-map b.threads.items (λ (v : Vec Command). v.items))) below in
-    let (last, found) : IsLegalFrom (opening_values script) history = subst (λ (x : List ℕ). IsLegalFrom x history) valued legal in
-    let labelled = run_threads_are (length cells) 0 1 refl history script.threads (lists_of vs) run in
+    let same : length (opening_values script) ≡ length cells = sym (ap length stored ∙ opened_length (opening_values script)) in
+    let run : AreRun (length cells) 0 have.commits script.threads (lists_of vs) = subst (λ (n : ℕ). AreRun n 0 have.commits script.threads (lists_of vs)) same have.run in
+    let (last, found) = have.legal in
+    let labelled = run_threads_are (length cells) 0 1 refl have.commits script.threads (lists_of vs) run in
     let opening : opening_store script ≡ store_of cells = ap store_of (sym stored) in
     record {
-      made = run_made (length cells) history script.threads (lists_of vs) run;
+      made = run_made (length cells) have.commits script.threads (lists_of vs) run;
       opens = λ l. subst (λ (x : List Cell). (store_of x l).version ≡ 0) (sym stored) (opened_zero (opening_values script) l);
-      legal = (placed_from (λ _. 0) history, last, subst (λ (x : Store). Legal (footprint_at (lists_of vs)) (λ _. 0) x (placed_from (λ _. 0) history) last) opening (run_list script (length cells) history (lists_of vs) run last callers found));
+      legal = (placed_from (λ _. 0) have.commits, last, subst (λ (x : Store). Legal (footprint_at (lists_of vs)) (λ _. 0) x (placed_from (λ _. 0) have.commits) last) opening (run_list script (length cells) have.commits (lists_of vs) run last have.nobody_else found));
       lists = lists_length 1 b.threads.items vs labelled;
       counted = records_counted 1 b.threads.items vs labelled;
-      just = run_just (length cells) history script.threads (lists_of vs) run callers;
-      run = λ order end canonical listed. run_of_order script (length cells) history (lists_of vs) run order end canonical (subst (λ (x : Store). Legal (footprint_at (lists_of vs)) (λ _. 0) x order end) (sym opening) listed);
+      run = λ order end canonical listed. run_of_order script (length cells) have.commits (lists_of vs) run order end canonical (subst (λ (x : Store). Legal (footprint_at (lists_of vs)) (λ _. 0) x order end) (sym opening) listed);
     }
 
 -- a script without threads runs nothing

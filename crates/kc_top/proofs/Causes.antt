@@ -1,5 +1,5 @@
 -- Why reading failed.
-use Rattle.std.proofs.Common.{◌≡◌, ℕ, zero, suc, ◌≤◌, ◌<◌, true, Bool, List, [], ◌∷◌, drop, Contains, slice_get, Option, Some, None, Result, refl, sym, subst, ◌∙◌, arith}
+use Rattle.std.proofs.Common.{◌≡◌, ℕ, zero, suc, true, Bool, List, [], ◌∷◌, Contains, slice_get, Option, Some, Result, subst, ◌∙◌, arith}
 use Rattle.kc_model.specs.Outside.{CameFront, Rises}
 use Rattle.kc_model.specs.Shelves.{FetchedUntil, FetchFails, FetchPasses, IsLonger, Lacks}
 use Rattle.kc_model.specs.declared.outside.Failed.{Failed}

@@ -1,6 +1,7 @@
 pub mod Asks
 pub mod Bundles
 pub mod Causes
+pub mod Commits
 pub mod Shown
 pub mod Commands
 pub mod Parts

@@ -1,5 +1,5 @@
 -- What follows of what a command read.
-use Rattle.std.proofs.Common.{◌≡◌, ℕ, ◌≤◌, Bool, List, [], ◌∷◌, length, take, drop, Option, Some, Result, inl, inr, refl, sym, subst, arith}
+use Rattle.std.proofs.Common.{◌≡◌, ℕ, Bool, List, ◌∷◌, length, drop, Option, Some, Result, inl, inr, refl, sym, subst, arith}
 use Rattle.std.proofs.lemmas.List.{take_all}
 use Rattle.kc_model.specs.Shelves.{Fetched}
 use Rattle.kc_model.specs.declared.outside.Failed.{Failed}

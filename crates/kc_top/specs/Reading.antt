@@ -1,5 +1,5 @@
 -- What a command reads.
-use Rattle.std.specs.Prelude.{◌≡◌, ◌⊎◌, ℕ, ◌≤◌, Bool, List, [], ◌∷◌, drop, length, Option, Result}
+use Rattle.std.specs.Prelude.{◌≡◌, ◌⊎◌, ℕ, ◌≤◌, Bool, List, ◌∷◌, drop, length, Option, Result}
 use Rattle.kc_model.specs.Outside.{CameWhole, CamePast, CameSome, CameFront}
 use Rattle.kc_model.specs.Shelves.{Fetched, FetchFails, FetchPasses, FetchedUntil, FetchedPart}
 use Rattle.kc_model.specs.declared.outside.Failed.{Failed}

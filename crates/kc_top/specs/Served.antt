@@ -1,10 +1,13 @@
 -- Which commits a run was served.
-use Rattle.std.specs.Prelude.{◌≡◌, ◌<◌, List, [], length}
-use Rattle.kc_history.specs.Callers.{HasJust, IsLegalFrom}
+use Rattle.std.specs.Prelude.{◌≡◌, ◌<◌, ℕ, List, [], length}
+use Rattle.kc_history.specs.Callers.{HasJust, IsBelowCallers, IsLegalFrom}
 use Rattle.kc_history.specs.declared.record.Record.{Record}
 use Rattle.kc_locked.specs.Passes.{PastView}
+use Rattle.kc_model.specs.declared.footprint.Entry.{Entry}
 use Rattle.kc_script_bundle.specs.Script.{Script}
 use Rattle.kc_script_bundle.specs.State.{opening_values}
+use Rattle.kc_script_runs.specs.Looks.{GivesBehindLooks}
+use Rattle.kc_script_runs.specs.Threads.{AreRun, AreRunBy}
 use Rattle.kc_top.specs.declared.served.Served.{Served}
 use Rattle.kc_top.specs.declared.served.Served.TheVariants as serving
 
@@ -14,6 +17,21 @@ pub record IsPastOf (script : Script) (records : List (List Record)) (past : Pas
   pub opening : past.opening ≡ opening_values script
   pub legal : IsLegalFrom past.opening past.history
   pub just : HasJust records past.history
+
+-- The same of a store whose commits come behind looks, which opened with these values and has this history: each thread's own part of it is what its commands' and its end's commits give, with the footprints of its records, and nobody else has an entry in it.
+pub record IsPastBehindLooks (script : Script) (records : List (List Record)) (values : List ℕ) (history : List Entry) : Type 0 where
+  pub some : 0 < length script.threads
+  pub opening : values ≡ opening_values script
+  pub legal : IsLegalFrom values history
+  pub run : AreRunBy GivesBehindLooks (length values) 0 history script.threads records
+  pub nobody_else : IsBelowCallers (length script.threads) history
+
+-- The records are those of a list of commits that is legal from the script's opening values: each thread's are answered what its commands and its end mean, and nobody else has one.
+pub record HaveCommits (script : Script) (records : List (List Record)) : Type 0 where
+  pub commits : List Entry
+  pub legal : IsLegalFrom (opening_values script) commits
+  pub run : AreRun (length (opening_values script)) 0 commits script.threads records
+  pub nobody_else : IsBelowCallers (length script.threads) commits
 
 -- a script without a thread is served nothing
 abbrev pub IsServed : Script → List (List Record) → Served → Type 0

@@ -4,13 +4,17 @@ ghost use Rattle.std.specs.Prelude.{◌≡◌, ℕ, true, List, Contains, Some, 
 ghost use Rattle.kc_model.specs.Outside.{Rises};
 ghost use Rattle.kc_model.specs.Shelves.{IsLonger, Lacks};
 ghost use Rattle.kc_script.specs.declared.parser.TheConstants.{MOST_BYTES};
+ghost use Rattle.kc_history.specs.Callers.{HasJust, IsLegalFrom};
 ghost use Rattle.kc_history.specs.declared.record.Record.{Record};
+ghost use Rattle.kc_model.specs.declared.footprint.Entry.{Entry};
+ghost use Rattle.kc_script_bundle.specs.Script.{Script};
+ghost use Rattle.kc_script_runs.specs.Looks.{IsWithoutLooks};
 ghost use Rattle.kc_script_storm.specs.Storm.{storm_script};
 ghost use Rattle.kc_script_storm.specs.Summary.{commits, summary_text};
 ghost use Rattle.kc_top.specs.declared.command_line.Command.TheVariants as command;
 ghost use Rattle.kc_top.specs.declared.served.Served.{Served as Serving};
 ghost use Rattle.kc_top.specs.declared.status.Status.TheVariants as status;
-ghost use Rattle.kc_top.specs.Served.{IsServed};
+ghost use Rattle.kc_top.specs.Served.{IsPastBehindLooks, IsServed};
 ghost use Rattle.kc_top.specs.Statuses.{Says, Writes};
 ghost use Rattle.kc_top.specs.Words.{command_of};
 
@@ -36,4 +40,10 @@ pub fn storms_write_their_summary<S: Source, F: Shelf, K: Sink>()
         → Says S.left S.faults S.read_gives F.files F.faults F.sure F.fetch_gives K.written K.faults K.write_gives words s s' f f' k k' served status.Done → Writes K.written K.faults K.write_gives (λ text. text ≡ summary_text n) k k' }
     ensures served { (words : List (List ℕ)) (s s' : S) (f f' : F) (k k' : K) (served : Serving) (n : ℕ) → command_of words ≡ Some (command.Storm n)
         → Says S.left S.faults S.read_gives F.files F.faults F.sure F.fetch_gives K.written K.faults K.write_gives words s s' f f' k k' served status.Done → (records : List (List Record)) × (commits records ≡ 8004) × IsServed (storm_script n) records served }
+{}
+
+/// Where commits come behind looks, the past of a run has just its records once the looks are left out: each thread's in
+/// its order, and nobody else's. What is left is legal as before, and what was left out put nothing.
+pub fn pasts_have_just_the_records_behind_looks()
+    ensures { (script : Script) (records : List (List Record)) (values : List ℕ) (history : List Entry) → IsPastBehindLooks script records values history → (commits : List Entry) × IsWithoutLooks history commits × IsLegalFrom values commits × HasJust records commits }
 {}

@@ -12,7 +12,9 @@ mod threads;
 mod top;
 
 pub use command_line::Command;
-pub use laws::{reading_fails_for_a_cause, storms_write_their_summary};
+pub use laws::{
+    pasts_have_just_the_records_behind_looks, reading_fails_for_a_cause, storms_write_their_summary,
+};
 pub use served::Served;
 pub use status::{LONGEST_LINE, Status};
 pub use top::kcas_main;

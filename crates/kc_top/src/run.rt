@@ -16,7 +16,7 @@ ghost use Rattle.kc_top.specs.Statuses.{IsItsScript, Shows};
 use crate::command_line::Command;
 use crate::served::Served;
 use crate::settling::{room_for, settle};
-use crate::threads::run_locked;
+use crate::threads::run_on_store;
 use kc_history::{Record, Room, put_text};
 use kc_model::{Failed, MOST_LOCATIONS, ModelError, NoMemory, Pen, PlainStore, Sink};
 use kc_run::Gate;
@@ -89,13 +89,13 @@ fn run_bundle<G: Gate, R: Threads + Wait + Sync>(
             served: Served::Nothing,
         });
     }
-    let (records, past) = run_locked(rt, alloc, &values, &bundle.threads, gate)?;
+    let (records, served) = run_on_store(rt, alloc, bundle, &values, gate)?;
     settle(&records, &mut room, &mut store);
     Ok(Ran {
         records,
         room,
         store,
-        served: Served::Lock(past),
+        served,
     })
 }
 

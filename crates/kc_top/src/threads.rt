@@ -1,22 +1,45 @@
-//! Threads over the store behind one lock.
+//! Threads over a shared store.
 
 ghost use Rattle.std.specs.Prelude.{◌≡◌, ◌<◌, ◌≤◌, All, IfOk, length, map};
 ghost use Rattle.kc_history.specs.Callers.{IsBelowCallers, IsLegalFrom};
 ghost use Rattle.kc_history.specs.Records.{lists_of};
 ghost use Rattle.kc_run.specs.Run.{CanRunAll};
+ghost use Rattle.kc_script_bundle.specs.Script.{script_of};
+ghost use Rattle.kc_script_bundle.specs.State.{opening_values};
 ghost use Rattle.kc_script_runs.specs.Threads.{AreRun};
+ghost use Rattle.kc_top.specs.Runnable.{IsRunnable};
+ghost use Rattle.kc_top.specs.Served.{HaveCommits, IsServed};
 
+use crate::served::Served;
 use kc_history::Record;
 use kc_locked::{LockPast, MOST_CALLERS};
 use kc_model::{MOST_LOCATIONS, NoMemory};
 use kc_run::{Gate, open_locked, run_threads};
-use kc_script_bundle::Command;
+use kc_script_bundle::{Bundle, Command};
 use std::alloc::Global;
 use std::sync::Wait;
 use std::thread::Threads;
 
-/// Opens a store on these values and runs the threads on it: their records, and the store's past.
-pub fn run_locked<G: Gate, R: Threads + Wait + Sync>(
+/// Runs a bundle's threads on a store that opens with these values: their records, and what they were served.
+pub fn run_on_store<G: Gate, R: Threads + Wait + Sync>(
+    rt: &R,
+    alloc: Global,
+    bundle: &Bundle,
+    values: &[u32],
+    gate: &G,
+) -> Result<(Vec<Vec<Record>>, Served), NoMemory>
+    requires can { IsRunnable (script_of bundle.now) }
+    requires some { 0 < length bundle.now.threads.items }
+    requires values { values.now ≡ opening_values (script_of bundle.now) }
+    ensures served { IfOk result (λ r. IsServed (script_of bundle.now) (lists_of r.0.items) r.1) }
+    ensures commits { IfOk result (λ r. HaveCommits (script_of bundle.now) (lists_of r.0.items)) }
+{
+    let (records, past) = run_locked(rt, alloc, values, &bundle.threads, gate)?;
+    Ok((records, Served::Lock(past)))
+}
+
+// Opens a store behind one lock on these values and runs the threads on it: their records, and the store's past.
+fn run_locked<G: Gate, R: Threads + Wait + Sync>(
     rt: &R,
     alloc: Global,
     values: &[u32],

@@ -3,7 +3,6 @@ use Rattle.kc_top.proofs.Causes.{one_command, front_rises, fails_rises, fails_la
 use Rattle.kc_top.specs.Reading.{Refuses}
 use Rattle.kc_top.specs.declared.command_line.Command.{Command}
 use Rattle.kc_top.specs.declared.status.Status.TheVariants as status
-use Rattle.kc_top.specs.declared.command_line.Command.TheVariants as command
 use Rattle.kc_top.proofs.laws.reading_fails_for_a_cause.Goals as goal
 
 pub returns-clause-source : goal.returns-clause-source

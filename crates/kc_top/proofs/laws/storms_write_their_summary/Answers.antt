@@ -1,11 +1,7 @@
-use Rattle.std.proofs.Common.{◌≡◌, ℕ, List, Option, Some, refl, sym, ap, ◌∙◌, subst}
+use Rattle.std.proofs.Common.{◌≡◌, sym, ◌∙◌, subst}
 use Rattle.kc_history.proofs.Choice.{some_is}
-use Rattle.kc_history.specs.declared.record.Record.{Record}
 use Rattle.kc_script_bundle.specs.Script.{Script}
-use Rattle.kc_script_runs.specs.Run.{IsRun}
 use Rattle.kc_script_storm.proofs.Drawn.{storm_commits, summary_is}
-use Rattle.kc_script_storm.specs.Storm.{storm_script}
-use Rattle.kc_script_storm.specs.Summary.{commits, IsSummary}
 use Rattle.kc_top.specs.declared.command_line.Command.{Command}
 use Rattle.kc_top.specs.declared.command_line.Command.TheVariants as command
 use Rattle.kc_top.specs.Reading.{Reads}

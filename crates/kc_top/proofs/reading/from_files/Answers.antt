@@ -1,11 +1,11 @@
-use Rattle.std.proofs.Common.{◌≡◌, ◌<◌, ◌-◌, ℕ, List, length, take, drop, map, inl, string_bytes, subst, sym, refl, arith}
+use Rattle.std.proofs.Common.{◌<◌, ◌-◌, ℕ, List, length, take, drop, map, inl, string_bytes, subst, sym, arith}
 use Rattle.std.specs.Global.{Global, Vec}
 use Rattle.std.proofs.lemmas.List.{length-map, length-drop, take_all}
 use Rattle.kc_model.specs.Shelves.{all_items, Fetched}
 use Rattle.kc_script.specs.Parts.{PartsRefused}
 use Rattle.kc_script.specs.declared.parser.TheConstants.{MOST_BYTES}
 use Rattle.kc_script.specs.declared.part_error.PartError.{PartError}
-use Rattle.kc_top.proofs.Parts.{slice_on, as_many, parted, rest_within, first_within}
+use Rattle.kc_top.proofs.Parts.{slice_on, as_many, parted, rest_within}
 use Rattle.kc_top.proofs.reading.from_files.Goals as goal
 
 pub parse_parts-requires-clause-files : goal.parse_parts-requires-clause-files

@@ -1,7 +1,5 @@
-use Rattle.std.proofs.Common.{◌≡◌, refl}
 use Rattle.kc_history.specs.Records.{lists_of}
 use Rattle.kc_script_bundle.specs.Script.{script_of}
-use Rattle.kc_script_storm.specs.Storm.{storm_script}
 use Rattle.kc_top.specs.declared.command_line.Command.TheVariants as command
 use Rattle.kc_top.proofs.Shown.{shows_of, shown_formed, shown_named, shown_text, shown_within}
 use Rattle.kc_top.proofs.Stormed.{few_commits, summed_up}

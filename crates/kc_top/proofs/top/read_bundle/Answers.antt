@@ -1,12 +1,10 @@
-use Rattle.std.proofs.Common.{◌≤◌, List, ℕ, length, map, drop, string_bytes, refl, subst, arith}
+use Rattle.std.proofs.Common.{List, ℕ, map, string_bytes, refl, subst, arith}
 use Rattle.std.specs.Global.{Global}
 use Rattle.std.proofs.lemmas.List.{length-map, length-drop}
 use Rattle.kc_script_bundle.specs.Script.{script_of}
-use Rattle.kc_script_bundle.specs.declared.bundle.Bundle.{Bundle}
 use Rattle.kc_top.proofs.Commands.{files_named, for_ok, for_err, names_on}
 use Rattle.kc_top.proofs.Parts.{slice_on}
 use Rattle.kc_top.specs.Reading.{FilesSpell, FilesRefuse}
-use Rattle.kc_top.specs.declared.status.Status.{Status}
 use Rattle.kc_top.proofs.top.read_bundle.Goals as goal
 
 pub from_files-requires-clause-some : goal.from_files-requires-clause-some
