@@ -50,7 +50,6 @@ pub struct Stop {
     pub at: StopAt,
     /// Of an install or a check.
     pub line: u32,
-    /// The steps that the seat has made before.
     pub made: u64,
     /// At a scan and a take: what would be owned.
     pub held: Held,
