@@ -12,7 +12,7 @@ use Rattle.kc_run.specs.Shared.{count_from}
 use Rattle.kc_run.specs.declared.job.Job.{Job}
 use Rattle.kc_script_bundle.specs.declared.operation.Command.{Command}
 use Rattle.kc_script_runs.specs.Labels.{label, labels}
-use Rattle.kc_script_runs.specs.Threads.{AreRun}
+use Rattle.kc_script_runs.specs.Threads.{CommitGives, AreGiven, AreRunBy, meanings}
 
 -- ---- rooms
 
@@ -108,10 +108,10 @@ module _ {S P : Type 0} (belongs : S → P → Type 0) (number left : P → ℕ)
             (let z : 0 + i ≡ i = omega arith in subst (λ n. Ready belongs number left own store n (row_at threads i) (get_or (paired ps rs) i d)) z (ready_all 0 threads ps rs m r i d (let q = ap length e in omega arith)));
       }
 
-module _ {S P : Type 0} (belongs : S → P → Type 0) (number left : P → ℕ) (own : P → List Entry) (opening : S → List ℕ) (store : S) where
+module _ {S P : Type 0} (gives : CommitGives) (belongs : S → P → Type 0) (number left : P → ℕ) (own : P → List Entry) (opening : S → List ℕ) (store : S) where
   -- after the run
   abbrev AllRan : List (Vec Command) → List (Job P) → Type 0
-  AllRan threads js = (i : ℕ) (d : Job P) → i < length js → JobRan belongs number own opening store i (row_at threads i) (get_or js i d)
+  AllRan threads js = (i : ℕ) (d : Job P) → i < length js → JobRan gives belongs number own opening store i (row_at threads i) (get_or js i d)
 
   passes_belong : (threads : List (Vec Command)) (js : List (Job P)) → AllRan threads js → All (belongs store) (map pass_of js)
   passes_belong threads js ran = all_map pass_of (belongs store) js (λ i d lt. (ran i d lt).belongs_to)
@@ -122,22 +122,22 @@ module _ {S P : Type 0} (belongs : S → P → Type 0) (number left : P → ℕ)
     map_map [] = refl
     map_map (x ∷ xs) = ap (λ l. number x.pass ∷ l) (map_map xs)
 
-  run_from : (history : List Entry) (k : ℕ) (threads : List (Vec Command)) (js : List (Job P)) → length threads ≡ length js → ((i : ℕ) (d : Job P) → i < length js → JobRan belongs number own opening store (k + i) (row_at threads i) (get_or js i d))
-      → ((i : ℕ) (d : Job P) → i < length js → of_caller (number (get_or js i d).pass) history ≡ own (get_or js i d).pass) → AreRun (length (opening store)) k history (map (λ (v : Vec Command). v.items) threads) (lists_of (map list_of js))
+  run_from : (history : List Entry) (k : ℕ) (threads : List (Vec Command)) (js : List (Job P)) → length threads ≡ length js → ((i : ℕ) (d : Job P) → i < length js → JobRan gives belongs number own opening store (k + i) (row_at threads i) (get_or js i d))
+      → ((i : ℕ) (d : Job P) → i < length js → of_caller (number (get_or js i d).pass) history ≡ own (get_or js i d).pass) → AreRunBy gives (length (opening store)) k history (map (λ (v : Vec Command). v.items) threads) (lists_of (map list_of js))
   run_from history k [] [] len ran owns = tt
   run_from history k [] (j ∷ js) len ran owns = absurd (omega arith)
   run_from history k (v ∷ vs) [] len ran owns = absurd (omega arith)
   run_from history k (v ∷ vs) (j ∷ js) len ran owns =
       let z : k + 0 ≡ k = omega arith in
-      let r : Ran belongs number own opening store k v.items j.pass (padded_value j.records).items = subst (λ n. Ran belongs number own opening store n v.items j.pass (padded_value j.records).items) z (ran 0 j (omega arith)) in
+      let r : Ran gives belongs number own opening store k v.items j.pass (padded_value j.records).items = subst (λ n. Ran gives belongs number own opening store n v.items j.pass (padded_value j.records).items) z (ran 0 j (omega arith)) in
       let o : of_caller (number j.pass) history ≡ own j.pass = owns 0 j (omega arith) in (
-        record { labelled = r.labelled; answered = r.answered; committed = ap (λ n. of_caller n history) (sym r.number_is) ∙ o ∙ r.own_is },
-        run_from history (suc k) vs js (omega arith) (λ i d lt. let e : k + suc i ≡ suc k + i = omega arith in subst (λ n. Ran belongs number own opening store n (row_at vs i) (get_or js i d).pass (padded_value (get_or js i d).records).items) e (ran (suc i) d (omega arith))) (λ i d lt. owns (suc i) d (omega arith)),
+        record { labelled = r.labelled; answered = r.answered; committed = subst (AreGiven gives k (meanings v.items) [] (padded_value j.records).items) (sym (ap (λ n. of_caller n history) (sym r.number_is) ∙ o)) r.own_is },
+        run_from history (suc k) vs js (omega arith) (λ i d lt. let e : k + suc i ≡ suc k + i = omega arith in subst (λ n. Ran gives belongs number own opening store n (row_at vs i) (get_or js i d).pass (padded_value (get_or js i d).records).items) e (ran (suc i) d (omega arith))) (λ i d lt. owns (suc i) d (omega arith)),
       )
 
-  run_all : (history : List Entry) (threads : List (Vec Command)) (js : List (Job P)) → length threads ≡ length js → AllRan threads js → All (λ p. of_caller (number p) history ≡ own p) (map pass_of js) → AreRun (length (opening store)) 0 history (map (λ (v : Vec Command). v.items) threads) (lists_of (map list_of js))
+  run_all : (history : List Entry) (threads : List (Vec Command)) (js : List (Job P)) → length threads ≡ length js → AllRan threads js → All (λ p. of_caller (number p) history ≡ own p) (map pass_of js) → AreRunBy gives (length (opening store)) 0 history (map (λ (v : Vec Command). v.items) threads) (lists_of (map list_of js))
   run_all history threads js len ran owns =
-      run_from history 0 threads js len (λ i d lt. let z : i ≡ 0 + i = omega arith in subst (λ n. Ran belongs number own opening store n (row_at threads i) (get_or js i d).pass (padded_value (get_or js i d).records).items) z (ran i d lt))
+      run_from history 0 threads js len (λ i d lt. let z : i ≡ 0 + i = omega arith in subst (λ n. Ran gives belongs number own opening store n (row_at threads i) (get_or js i d).pass (padded_value (get_or js i d).records).items) z (ran i d lt))
       (λ i d lt. let p = pick js i lt in
       subst (λ (x : Job P). of_caller (number x.pass) history ≡ own x.pass) (sym (p.1 d)) (subst (λ q. of_caller (number q) history ≡ own q) (p.2 P pass_of p.0.pass) (owns i p.0.pass (let e = length-map js pass_of in omega arith))))
 
@@ -145,10 +145,10 @@ module _ {S P : Type 0} (belongs : S → P → Type 0) (number left : P → ℕ)
   pub record AreDone (threads : List (Vec Command)) (js : List (Job P)) (callers : ℕ) : Type 0 where
     pub belong : All (belongs store) (map pass_of js)
     pub numbered : map number (map pass_of js) ≡ count_from 0 callers
-    pub run : (history : List Entry) → All (λ p. of_caller (number p) history ≡ own p) (map pass_of js) → AreRun (length (opening store)) 0 history (map (λ (v : Vec Command). v.items) threads) (lists_of (map list_of js))
+    pub run : (history : List Entry) → All (λ p. of_caller (number p) history ≡ own p) (map pass_of js) → AreRunBy gives (length (opening store)) 0 history (map (λ (v : Vec Command). v.items) threads) (lists_of (map list_of js))
 
   pub ran_done : (threads : List (Vec Command)) (ps : List P) (rs : List Room) (before js : List (Job P)) (callers : ℕ) → AreReady belongs number left own store threads ps rs before → length js ≡ length before
-      → ((i : ℕ) (d : Job P) → i < length before → JobRan belongs number own opening store i (row_at threads i) (get_or js i d)) → length threads ≡ callers → AreDone threads js callers
+      → ((i : ℕ) (d : Job P) → i < length before → JobRan gives belongs number own opening store i (row_at threads i) (get_or js i d)) → length threads ≡ callers → AreDone threads js callers
   ran_done threads ps rs before js callers ready len ran all =
       let here : AllRan threads js = λ i d lt. ran i d (omega (arith, len, lt)) in record {
         belong = passes_belong threads js here;

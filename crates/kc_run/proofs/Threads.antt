@@ -10,9 +10,9 @@ use Rattle.kc_script_bundle.specs.Meaning.{thread_meaning, end_meaning}
 use Rattle.kc_loc.specs.declared.operation.LocOp.TheVariants as loc
 use Rattle.kc_history.specs.declared.record.Record.{Record}
 use Rattle.kc_history.specs.declared.record.Mark.TheVariants as mark
-use Rattle.kc_history.specs.Callers.{entry_of, entries_of}
 use Rattle.kc_script_runs.specs.Labels.{Label, label, labels}
-use Rattle.kc_script_runs.specs.Threads.{AreAnswered, IsAnswered, meanings}
+use Rattle.kc_script_runs.proofs.Given.{given_more}
+use Rattle.kc_script_runs.specs.Threads.{CommitGives, AreAnswered, AreGiven, IsAnswered, meanings}
 use Rattle.kc_xt.specs.Meaning.{Meaning}
 
 -- ---- commits
@@ -23,51 +23,36 @@ answered_more [] (q ∷ rs) m r done next = absurd done
 answered_more (p ∷ ms) [] m r done next = absurd done
 answered_more (p ∷ ms) (q ∷ rs) m r done next = (done.0, answered_more ms rs m r done.1 next)
 
-length-entries : (k n : ℕ) (rs : List Record) → length (entries_of k n rs) ≡ length rs
-length-entries k n [] = refl
-length-entries k n (r ∷ rs) = ap suc (length-entries k (n + 1) rs)
-
-entries_more : (k n : ℕ) (rs : List Record) (r : Record) → entries_of k n rs ++ entry_of k (length rs + n) r.footprint ∷ [] ≡ entries_of k n (rs ++ r ∷ [])
-entries_more k n [] r = let here : 0 + n ≡ n = omega arith in ap (λ (z : ℕ). entry_of k z r.footprint ∷ []) here
-entries_more k n (q ∷ rs) r =
-    let here : suc (length rs) + n ≡ length rs + (n + 1) = omega arith in
-    ap (λ (l : List Entry). entry_of k n q.footprint ∷ l) (ap (λ (z : ℕ). entries_of k (n + 1) rs ++ entry_of k z r.footprint ∷ []) here ∙ entries_more k (n + 1) rs r)
-
--- the pass's own list is that of the records, with one more
-own_more : (k j : ℕ) (own own' : List Entry) (rs : List Record) (r : Record) → own ≡ entries_of k 1 rs → j ≡ k → own' ≡ own ++ entry_of j (length own + 1) r.footprint ∷ [] → own' ≡ entries_of k 1 (rs ++ r ∷ [])
-own_more k j own own' rs r was same now =
-    let long : length own ≡ length rs = ap length was ∙ length-entries k 1 rs in
-    now ∙ ap (λ (l : List Entry). l ++ entry_of j (length own + 1) r.footprint ∷ []) was ∙ ap (λ (n : ℕ). entries_of k 1 rs ++ entry_of n (length own + 1) r.footprint ∷ []) same
-    ∙ ap (λ (n : ℕ). entries_of k 1 rs ++ entry_of k (n + 1) r.footprint ∷ []) long ∙ entries_more k 1 rs r
-
 -- the end of a thread is committed last
-pub thread_ends : {locations : ℕ} (commands : List Command) (k j : ℕ) (before after : List Entry) (records : List Record) (r : Record) → before ≡ entries_of k 1 (take (length commands) records) → AreAnswered locations (map (thread_meaning 0) commands) (take (length commands) records) → j ≡ k
-    → after ≡ before ++ entry_of j (length before + 1) r.footprint ∷ [] → IsAnswered locations (end_meaning 0) r → length records ≡ length commands + 1
-    → (after ≡ entries_of k 1 (set records (length commands) r)) × AreAnswered locations (meanings commands) (set records (length commands) r)
-thread_ends {locations} commands k j before after records r was done same now next room =
+pub thread_ends : (gives : CommitGives) {locations : ℕ} (commands : List Command) (k j : ℕ) (before after : List Entry) (records : List Record) (r : Record) → AreGiven gives k (map (thread_meaning 0) commands) [] (take (length commands) records) before
+    → AreAnswered locations (map (thread_meaning 0) commands) (take (length commands) records) → j ≡ k → gives j (end_meaning 0) before r.footprint after → IsAnswered locations (end_meaning 0) r → length records ≡ length commands + 1
+    → AreGiven gives k (meanings commands) [] (set records (length commands) r) after × AreAnswered locations (meanings commands) (set records (length commands) r)
+thread_ends gives {locations} commands k j before after records r was done same now next room =
     let n = length commands in
     let all : take (n + 1) (set records n r) ≡ set records n r = take_all (n + 1) (set records n r) (omega (arith, length-set records n r)) in
     let is : take n records ++ r ∷ [] ≡ set records n r = sym (take_more_set records n r (omega arith)) ∙ all in (
-      own_more k j before after (take n records) r was same now ∙ ap (entries_of k 1) is,
+      subst (λ (rs : List Record). AreGiven gives k (meanings commands) [] rs after) is (given_more gives k _ [] _ before after _ r was (subst (λ (i : ℕ). gives i (end_meaning 0) before r.footprint after) same now)),
       subst (λ (rs : List Record). AreAnswered locations (meanings commands) rs) is (answered_more _ _ _ _ done next),
     )
 
-module _ {S P : Type 0} (belongs : S → P → Type 0) (number left : P → ℕ) (own : P → List Entry) (opening : S → List ℕ) where
+module _ {S P : Type 0} (gives : CommitGives) (belongs : S → P → Type 0) (number left : P → ℕ) (own : P → List Entry) (opening : S → List ℕ) where
   -- the first i commands are committed
   pub record RanTo (store : S) (commands : List Command) (first now : P) (old new : List Record) (i : ℕ) : Type 0 where
     pub pass : belongs store now × (number now ≡ number first)
     pub share : length commands + 1 ≤ left now + i
-    pub own_is : own now ≡ entries_of (number first) 1 (take i new)
+    pub given : AreGiven gives (number first) (map (thread_meaning 0) (take i commands)) [] (take i new) (own now)
     pub answered : AreAnswered (length (opening store)) (map (thread_meaning 0) (take i commands)) (take i new)
     pub labels : map label new ≡ map label old
 
   pub ran_more : (store : S) (commands : List Command) (first now next : P) (old new : List Record) (i : ℕ) (d : Command) (q r : Record) → RanTo store commands first now old new i → i < length commands → i < length new
-      → belongs store next × (number next ≡ number now) → left next + 1 ≡ left now → own next ≡ own now ++ entry_of (number now) (length (own now) + 1) r.footprint ∷ [] → IsAnswered (length (opening store)) (thread_meaning 0 (get_or commands i d)) r
+      → belongs store next × (number next ≡ number now) → left next + 1 ≡ left now → gives (number now) (thread_meaning 0 (get_or commands i d)) (own now) r.footprint (own next) → IsAnswered (length (opening store)) (thread_meaning 0 (get_or commands i d)) r
       → label r ≡ label (get_or new i q) → RanTo store commands first next old (set new i r) (i + 1)
   ran_more store commands first now next old new i d q r so_far lt room pass left_is own_next answers same = record {
     pass = (pass.0, pass.1 ∙ so_far.pass.1);
     share = omega (arith, so_far.share, left_is);
-    own_is = rw (take_more_set new i r room) (own_more (number first) (number now) (own now) (own next) (take i new) r so_far.own_is so_far.pass.1 own_next);
+    given =
+        rw (take_more commands i d lt, map-append (thread_meaning 0) (take i commands) (get_or commands i d ∷ []), take_more_set new i r room)
+        (given_more gives (number first) _ [] _ (own now) (own next) _ r so_far.given (subst (λ (k : ℕ). gives k (thread_meaning 0 (get_or commands i d)) (own now) r.footprint (own next)) so_far.pass.1 own_next));
     answered = rw (take_more commands i d lt, map-append (thread_meaning 0) (take i commands) (get_or commands i d ∷ []), take_more_set new i r room) (answered_more _ _ _ _ so_far.answered answers);
     labels = map-set_same label new i r q same ∙ so_far.labels;
   }

@@ -3,13 +3,12 @@ use Rattle.std.specs.Prelude.{◌≡◌, ℕ, zero, suc, ◌+◌, ◌≤◌, Lis
 use Rattle.std.specs.Global.{Vec}
 use Rattle.crossbeam_utils.specs.declared.cache_padded.CachePadded.{CachePadded}
 use Rattle.crossbeam_utils.specs.Padded.{padded_value}
-use Rattle.kc_history.specs.Callers.{entries_of}
 use Rattle.kc_history.specs.declared.record.Record.{Record}
 use Rattle.kc_model.specs.declared.footprint.Entry.{Entry}
 use Rattle.kc_run.specs.declared.job.Job.{Job}
 use Rattle.kc_script_bundle.specs.declared.operation.Command.{Command}
 use Rattle.kc_script_runs.specs.Labels.{label, labels}
-use Rattle.kc_script_runs.specs.Threads.{AreAnswered, meanings}
+use Rattle.kc_script_runs.specs.Threads.{CommitGives, AreAnswered, AreGiven, meanings}
 
 -- the commands of the thread at this place
 abbrev pub row_at : List (Vec Command) → ℕ → List Command
@@ -62,14 +61,14 @@ module _ {S P : Type 0} (belongs : S → P → Type 0) (number left : P → ℕ)
     pub may : MayRun store k commands j.pass
     pub labelled : map label (padded_value j.records).items ≡ labels (k + 1) 1 commands
 
-module _ {S P : Type 0} (belongs : S → P → Type 0) (number : P → ℕ) (own : P → List Entry) (opening : S → List ℕ) where
-  -- the pass has made just the commits of these records, which are those of the commands and the end
+module _ {S P : Type 0} (gives : CommitGives) (belongs : S → P → Type 0) (number : P → ℕ) (own : P → List Entry) (opening : S → List ℕ) where
+  -- the pass's own list is what the commits of these records gave, which are those of the commands and the end
   pub record Ran (store : S) (k : ℕ) (commands : List Command) (p : P) (records : List Record) : Type 0 where
     pub belongs_to : belongs store p
     pub number_is : number p ≡ k
     pub labelled : map label records ≡ labels (k + 1) 1 commands
     pub answered : AreAnswered (length (opening store)) (meanings commands) records
-    pub own_is : own p ≡ entries_of k 1 records
+    pub own_is : AreGiven gives k (meanings commands) [] records (own p)
 
   abbrev pub JobRan : S → ℕ → List Command → Job P → Type 0
   JobRan store k commands j = Ran store k commands j.pass (padded_value j.records).items

@@ -2,6 +2,7 @@
 
 ghost use Rattle.std.specs.Prelude.{◌≡◌, ◌<◌, ◌≤◌, All, length, map, IfOk};
 ghost use Rattle.kc_history.specs.Callers.{of_caller, IsBelowCallers, IsLegalFrom};
+ghost use Rattle.kc_script_runs.specs.Threads.{GivesOne};
 ghost use Rattle.kc_run.specs.Shared.{count_from};
 ghost use Rattle.kc_run.specs.Locked.{AllDealt, shares_of};
 
@@ -15,6 +16,7 @@ use std::sync::Wait;
 
 impl Shared for LockedStore {
     ghost use Rattle.std.specs.Prelude.{◌≡◌};
+    ghost use Rattle.kc_script_runs.specs.Threads.{GivesOne};
 
     type Pass = LockPass;
 
@@ -31,6 +33,8 @@ impl Shared for LockedStore {
     ghost left = { λ pass. pass.left };
 
     ghost own = { λ pass. pass.own };
+
+    ghost gives = { GivesOne };
 
     ghost began = { λ past. past.opening };
 

@@ -4,7 +4,7 @@ ghost use Rattle.std.specs.Prelude.{◌≡◌, ◌+◌, ◌≤◌, ◌<◌, ℕ,
 ghost use Rattle.kc_history.specs.Callers.{IsBelowCallers, IsLegalFrom};
 ghost use Rattle.kc_history.specs.Records.{lists_of};
 ghost use Rattle.kc_script_runs.specs.Labels.{AreThreads};
-ghost use Rattle.kc_script_runs.specs.Threads.{AreRun};
+ghost use Rattle.kc_script_runs.specs.Threads.{AreRunBy};
 ghost use Rattle.kc_run.specs.Run.{CanRunAll};
 ghost use Rattle.kc_run.specs.Jobs.{AllMayRun, JobRan, Ready, row_at};
 
@@ -48,7 +48,7 @@ pub fn run_threads<S: Shared, G: Gate, R: Threads + Wait + Sync>(
     requires commands { All (λ v. CanRunAll (length (S.opening shared)) v.items) threads.now }
     ensures began { IfOk result (λ r. S.began r.1 ≡ S.opening shared) }
     ensures legal { IfOk result (λ r. IsLegalFrom (S.opening shared) (S.history r.1)) }
-    ensures run { IfOk result (λ r. AreRun (length (S.opening shared)) 0 (S.history r.1) (map (λ v. v.items) threads.now) (lists_of r.0.items)) }
+    ensures run { IfOk result (λ r. AreRunBy S.gives (length (S.opening shared)) 0 (S.history r.1) (map (λ v. v.items) threads.now) (lists_of r.0.items)) }
     ensures threads { IfOk result (λ r. AreThreads 1 (map (λ v. v.items) threads.now) (lists_of r.0.items)) }
     ensures nobody_else { IfOk result (λ r. IsBelowCallers (length threads.now) (S.history r.1)) }
     ensures refused { IfErr result (λ e. (e.shared ≡ shared) × (e.passes.items ≡ passes.items)) }
@@ -81,7 +81,7 @@ fn run_jobs<S: Shared, G: Gate, R: Threads + Wait + Sync>(
     requires commands { All (λ v. CanRunAll (length (S.opening shared.now)) v.items) threads.now }
     requires ready { (i : ℕ) (d : _) → i < length jobs.items → Ready S.belongs S.number S.left S.own shared.now i (row_at threads.now i) (slice_index_or jobs.items i d) }
     ensures len { length result.items ≡ length jobs.items }
-    ensures ran { (i : ℕ) (d : _) → i < length jobs.items → JobRan S.belongs S.number S.own S.opening shared.now i (row_at threads.now i) (slice_index_or result.items i d) }
+    ensures ran { (i : ℕ) (d : _) → i < length jobs.items → JobRan S.gives S.belongs S.number S.own S.opening shared.now i (row_at threads.now i) (slice_index_or result.items i d) }
 {
     run_each(rt, shared, gate, threads, jobs.as_mut_slice());
     jobs
@@ -99,12 +99,12 @@ fn run_each<S: Shared, G: Gate, R: Threads + Wait + Sync>(
     requires locations { 0 < length (S.opening shared.now) }
     requires commands { All (λ v. CanRunAll (length (S.opening shared.now)) v.items) threads.now }
     requires ready { (i : ℕ) (d : _) → i < length jobs.old → Ready S.belongs S.number S.left S.own shared.now i (row_at threads.now i) (slice_index_or jobs.old i d) }
-    ensures { (i : ℕ) (d : _) → i < length jobs.old → JobRan S.belongs S.number S.own S.opening shared.now i (row_at threads.now i) (slice_index_or jobs.new i d) }
+    ensures { (i : ℕ) (d : _) → i < length jobs.old → JobRan S.gives S.belongs S.number S.own S.opening shared.now i (row_at threads.now i) (slice_index_or jobs.new i d) }
 {
     let count = jobs.len();
     let run = |i: usize, job: &mut Job<S::Pass>|
         requires { (i < length threads.now) × (length threads.now ≤ 64) × (0 < length (S.opening shared.now)) × All (λ v. CanRunAll (length (S.opening shared.now)) v.items) threads.now × Ready S.belongs S.number S.left S.own shared.now i (row_at threads.now i) job.now }
-        ensures { JobRan S.belongs S.number S.own S.opening shared.entry.now i (row_at threads.entry.now i) job.exit.now }
+        ensures { JobRan S.gives S.belongs S.number S.own S.opening shared.entry.now i (row_at threads.entry.now i) job.exit.now }
     { run_at(rt, shared, gate, threads, i, job) };
     thread::for_each_mut(rt, jobs, count, &run);
 }
@@ -122,7 +122,7 @@ fn run_at<S: Shared, G: Gate, R: Wait>(
     requires locations { 0 < length (S.opening shared.now) }
     requires commands { All (λ v. CanRunAll (length (S.opening shared.now)) v.items) threads.now }
     requires ready { Ready S.belongs S.number S.left S.own shared.now i (row_at threads.now i) job.old }
-    ensures { JobRan S.belongs S.number S.own S.opening shared.now i (row_at threads.now i) job.new }
+    ensures { JobRan S.gives S.belongs S.number S.own S.opening shared.now i (row_at threads.now i) job.new }
 {
     run_job(rt, shared, gate, i as u32, threads[i].as_slice(), job);
 }
@@ -139,7 +139,7 @@ fn run_job<S: Shared, G: Gate, R: Wait>(
     requires locations { 0 < length (S.opening shared.now) }
     requires commands { CanRunAll (length (S.opening shared.now)) commands.now }
     requires ready { Ready S.belongs S.number S.left S.own shared.now caller commands.now job.old }
-    ensures { JobRan S.belongs S.number S.own S.opening shared.now caller commands.now job.new }
+    ensures { JobRan S.gives S.belongs S.number S.own S.opening shared.now caller commands.now job.new }
 {
     let records = job.records.as_mut_slice();
     run_thread(

@@ -1,10 +1,11 @@
 //! A store that threads share.
 
-ghost use Rattle.std.specs.Prelude.{◌≡◌, ◌+◌, ◌<◌, ◌≤◌, ◌++◌, ◌∷◌, [], ℕ, List, All, length, map};
+ghost use Rattle.std.specs.Prelude.{◌≡◌, ◌+◌, ◌<◌, ◌≤◌, ℕ, List, All, length, map};
 ghost use Rattle.kc_model.specs.declared.footprint.Entry.{Entry};
 ghost use Rattle.kc_model.specs.Footprint.{IsBelow};
 ghost use Rattle.kc_xt.specs.Commit.{Answers};
-ghost use Rattle.kc_history.specs.Callers.{entry_of, of_caller, IsBelowCallers, IsLegalFrom};
+ghost use Rattle.kc_history.specs.Callers.{of_caller, IsBelowCallers, IsLegalFrom};
+ghost use Rattle.kc_script_runs.specs.Threads.{CommitGives};
 ghost use Rattle.kc_run.specs.Shared.{count_from};
 
 use kc_model::{Answer, Footprint};
@@ -34,8 +35,12 @@ pub trait Shared: Sync {
     /// How many commits it may still make.
     ghost left: { Self.Pass → ℕ };
 
-    /// The commits that it made.
+    /// What its commits made: their entries, and what the store had to add to come to them.
     ghost own: { Self.Pass → List Entry };
+
+    /// What a commit of the pass of this number, whose transaction has this meaning, may make of the pass's own list with
+    /// the footprint that it fills.
+    ghost gives: { CommitGives };
 
     /// The values with which the store of the history was opened.
     ghost began: { Self.Whole → List ℕ };
@@ -57,7 +62,7 @@ pub trait Shared: Sync {
         requires within { T.end transaction.now ≤ length (opening self.now) }
         ensures pass { belongs self.now pass.new × (number pass.new ≡ number pass.old) }
         ensures left { left pass.new + 1 ≡ left pass.old }
-        ensures own { own pass.new ≡ own pass.old ++ entry_of (number pass.old) (length (own pass.old) + 1) footprint.new ∷ [] }
+        ensures own { gives (number pass.old) (T.meaning transaction.now) (own pass.old) footprint.new (own pass.new) }
         ensures answers { Answers (T.meaning transaction.now) result footprint.new }
         ensures bound { IsBelow (T.end transaction.now) footprint.new };
 

@@ -1,10 +1,9 @@
 //! One thread's commands on a shared store.
 
-ghost use Rattle.std.specs.Prelude.{◌≡◌, ◌+◌, ◌<◌, ◌≤◌, ◌++◌, ◌∷◌, [], length, map, take, All};
+ghost use Rattle.std.specs.Prelude.{◌≡◌, ◌+◌, ◌<◌, ◌≤◌, [], length, map, take, All};
 ghost use Rattle.kc_script_bundle.specs.Meaning.{thread_meaning};
-ghost use Rattle.kc_history.specs.Callers.{entry_of, entries_of};
 ghost use Rattle.kc_script_runs.specs.Labels.{label, labels};
-ghost use Rattle.kc_script_runs.specs.Threads.{AreAnswered, IsAnswered, meanings};
+ghost use Rattle.kc_script_runs.specs.Threads.{AreAnswered, AreGiven, IsAnswered, meanings};
 ghost use Rattle.kc_run.specs.Run.{CanRunAll};
 
 use crate::ask::Ask;
@@ -36,7 +35,7 @@ pub fn run_thread<S: Shared, R: Wait, G: Gate>(
     requires can { CanRunAll (length (S.opening shared.now)) commands.now }
     requires room { length records.old ≡ length commands.now + 1 }
     ensures pass { S.belongs shared.now pass.new × (S.number pass.new ≡ S.number pass.old) }
-    ensures own { S.own pass.new ≡ entries_of (S.number pass.old) 1 records.new }
+    ensures own { AreGiven S.gives (S.number pass.old) (meanings commands.now) [] records.new (S.own pass.new) }
     ensures answered { AreAnswered (length (S.opening shared.now)) (meanings commands.now) records.new }
     ensures labels { map label records.new ≡ map label records.old }
 {
@@ -60,7 +59,7 @@ fn run_commands<S: Shared, R: Wait, G: Gate>(
     requires room { length records.old ≡ length commands.now + 1 }
     ensures pass { S.belongs shared.now pass.new × (S.number pass.new ≡ S.number pass.old) }
     ensures share { 0 < S.left pass.new }
-    ensures own { S.own pass.new ≡ entries_of (S.number pass.old) 1 (take (length commands.now) records.new) }
+    ensures own { AreGiven S.gives (S.number pass.old) (map (thread_meaning 0) commands.now) [] (take (length commands.now) records.new) (S.own pass.new) }
     ensures answered { AreAnswered (length (S.opening shared.now)) (map (thread_meaning 0) commands.now) (take (length commands.now) records.new) }
     ensures labels { map label records.new ≡ map label records.old }
 {
@@ -89,7 +88,7 @@ fn commit_to<S: Shared, R: Wait, T: Transact>(
     requires within { T.end transaction.now ≤ length (S.opening shared.now) }
     ensures pass { S.belongs shared.now pass.new × (S.number pass.new ≡ S.number pass.old) }
     ensures left { S.left pass.new + 1 ≡ S.left pass.old }
-    ensures own { S.own pass.new ≡ S.own pass.old ++ entry_of (S.number pass.old) (length (S.own pass.old) + 1) slot.new.footprint ∷ [] }
+    ensures own { S.gives (S.number pass.old) (T.meaning transaction.now) (S.own pass.old) slot.new.footprint (S.own pass.new) }
     ensures answered { IsAnswered (length (S.opening shared.now)) (T.meaning transaction.now) slot.new }
     ensures label { label slot.new ≡ label slot.old }
 {

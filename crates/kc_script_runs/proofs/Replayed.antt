@@ -69,7 +69,7 @@ run_length n k history (cs ∷ threads) [] h = absurd h
 run_length n k history (cs ∷ threads) (rs ∷ records) h = ap suc (run_length n (suc k) history threads records h.1)
 
 -- who is no caller has no entry
-none_of : (u n : ℕ) → n ≤ u → (history : List Entry) → IsBelowCallers n history → of_caller u history ≡ []
+pub none_of : (u n : ℕ) → n ≤ u → (history : List Entry) → IsBelowCallers n history → of_caller u history ≡ []
 none_of u n le [] below = refl
 none_of u n le (e ∷ es) below =
     let other : e.caller ≢ u = λ same. (let b = below 0 e (omega arith) in omega arith) in

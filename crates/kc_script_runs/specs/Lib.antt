@@ -1,4 +1,5 @@
 pub mod Labels
 pub mod Threads
+pub mod Looks
 pub mod Run
 pub mod Worked

@@ -1,9 +1,10 @@
 -- What threads commit, and whose commits they are.
-use Rattle.std.specs.Prelude.{◌≡◌, ℕ, suc, ◌+◌, List, [], ◌∷◌, ◌++◌, map}
-use Rattle.kc_history.specs.Callers.{of_caller, entries_of}
+use Rattle.std.specs.Prelude.{◌≡◌, ℕ, suc, ◌+◌, List, [], ◌∷◌, ◌++◌, length, map}
+use Rattle.kc_history.specs.Callers.{of_caller, entry_of, entries_of}
 use Rattle.kc_history.specs.declared.record.Record.{Record}
 use Rattle.kc_model.specs.Footprint.{IsBelow}
 use Rattle.kc_model.specs.declared.footprint.Entry.{Entry}
+use Rattle.kc_model.specs.declared.footprint.Footprint.{Footprint}
 use Rattle.kc_script_bundle.specs.Meaning.{thread_meaning, end_meaning}
 use Rattle.kc_script_bundle.specs.declared.operation.Command.{Command}
 use Rattle.kc_script_runs.specs.Labels.{label, labels}
@@ -37,3 +38,34 @@ AreRun locations caller history [] [] = Unit {0}
 AreRun locations caller history (cs ∷ threads) (rs ∷ records) = IsThread locations caller history cs rs × AreRun locations (suc caller) history threads records
 AreRun locations caller history [] (rs ∷ records) = ⊥
 AreRun locations caller history (cs ∷ threads) [] = ⊥
+
+-- ---- on a store whose commits may add more than their entry
+
+-- what a commit may make of its caller's own list: the caller, the meaning, the list before, the footprint that was filled, the list after
+abbrev pub CommitGives : Type 1
+CommitGives = ℕ → Meaning → List Entry → Footprint → List Entry → Type 0
+
+-- one entry, with the next number from 1 on
+abbrev pub GivesOne : CommitGives
+GivesOne k m before f after = after ≡ before ++ entry_of k (length before + 1) f ∷ []
+
+module _ (gives : CommitGives) where
+  -- what commits of these meanings, one after another, make of their caller's own list, with the footprints of these records
+  abbrev pub AreGiven : ℕ → List Meaning → List Entry → List Record → List Entry → Type 0
+  AreGiven k [] before [] after = after ≡ before
+  AreGiven k (m ∷ ms) before (r ∷ rs) after = (between : List Entry) × gives k m before r.footprint between × AreGiven k ms between rs after
+  AreGiven k [] before (r ∷ rs) after = ⊥
+  AreGiven k (m ∷ ms) before [] after = ⊥
+
+  -- The records of a caller's thread as above, and the caller's part of the history is what its commits make of an empty list.
+  pub record IsThreadBy (locations caller : ℕ) (history : List Entry) (commands : List Command) (records : List Record) : Type 0 where
+    pub labelled : map label records ≡ labels (caller + 1) 1 commands
+    pub answered : AreAnswered locations (meanings commands) records
+    pub committed : AreGiven caller (meanings commands) [] records (of_caller caller history)
+
+  -- each thread's records, of the callers from this one on
+  abbrev pub AreRunBy : ℕ → ℕ → List Entry → List (List Command) → List (List Record) → Type 0
+  AreRunBy locations caller history [] [] = Unit {0}
+  AreRunBy locations caller history (cs ∷ threads) (rs ∷ records) = IsThreadBy locations caller history cs rs × AreRunBy locations (suc caller) history threads records
+  AreRunBy locations caller history [] (rs ∷ records) = ⊥
+  AreRunBy locations caller history (cs ∷ threads) [] = ⊥

@@ -116,3 +116,26 @@ two_history = entry_of 1 1 looked ∷ entry_of 0 1 added ∷ entry_of 0 2 first_
 
 abbrev pub two_contents : List Content
 two_contents = number 1 ∷ []
+
+-- ---- a look, and then a commit
+
+-- a second caller checks that x is 9 while it has 8
+abbrev pub missed : Footprint
+missed = print (saw live 0 2 ∷ saw x 0 8 ∷ []) []
+
+-- the first one sets it
+abbrev pub made_nine : Footprint
+made_nine = print (saw x 0 8 ∷ []) (put x 0 9 ∷ [])
+
+-- the second one tries again
+abbrev pub met : Footprint
+met = print (saw x 1 9 ∷ []) []
+
+abbrev pub look_and_commit : List Entry
+look_and_commit = entry_of 1 1 missed ∷ entry_of 1 2 met ∷ []
+
+abbrev pub waited_history : List Entry
+waited_history = entry_of 1 1 missed ∷ entry_of 0 1 made_nine ∷ entry_of 1 2 met ∷ []
+
+abbrev pub commits_alone : List Entry
+commits_alone = entry_of 0 1 made_nine ∷ entry_of 1 1 met ∷ []

@@ -8,6 +8,7 @@ ghost use Rattle.kc_xt.specs.Meaning.{values};
 ghost use Rattle.kc_script_bundle.specs.On.{CommandsAreOn};
 ghost use Rattle.kc_script_bundle.specs.Script.{Script, LieFrom};
 ghost use Rattle.kc_script_bundle.specs.State.{AreWellFormed};
+ghost use Rattle.kc_script_bundle.specs.declared.operation.Command.{Command};
 ghost use Rattle.kc_history.specs.declared.record.Record.{Record};
 ghost use Rattle.kc_history.specs.declared.record.Place.{Place};
 ghost use Rattle.kc_history.specs.Callers.{HasJust, IsBelowCallers};
@@ -15,7 +16,8 @@ ghost use Rattle.kc_history.specs.Ends.{AllCanStandIn, HasLegalList};
 ghost use Rattle.kc_history.specs.Records.{NamesRecords, footprint_at};
 ghost use Rattle.kc_history.specs.Order.{IsCanonical, Legal};
 ghost use Rattle.kc_script_runs.specs.Run.{IsRun, opening_store};
-ghost use Rattle.kc_script_runs.specs.Threads.{AreRun};
+ghost use Rattle.kc_script_runs.specs.Looks.{AreCommitsOf, GivesBehindLooks};
+ghost use Rattle.kc_script_runs.specs.Threads.{AreRun, AreRunBy, GivesOne};
 
 /// The order of a run is a legal history of the plain store: it takes in all records, each thread's in its order, and
 /// from the script's opening store to the last one each record finds what it read.
@@ -38,4 +40,16 @@ pub fn histories_are_runs()
     ensures made { (script : Script) (n : ℕ) (history : List Entry) (records : List (List Record)) → AreRun n 0 history script.threads records → AllCanStandIn n (footprint_at records) }
     ensures arranged { (script : Script) (n : ℕ) (history : List Entry) (records : List (List Record)) (last : Store) → AreRun n 0 history script.threads records → IsBelowCallers (length script.threads) history → IsLegal (opening_store script) history last → HasLegalList (footprint_at records) }
     ensures run { (script : Script) (n : ℕ) (history : List Entry) (records : List (List Record)) (order : List Place) (last : Store) → AreRun n 0 history script.threads records → IsBelowCallers (length script.threads) history → IsLegal (opening_store script) history last → IsCanonical (footprint_at records) order → IsRun script records order last }
+{}
+
+/// Where each commit gives one entry with the next number, 'run by' says what 'run' says.
+pub fn commits_of_one_entry_are_a_run()
+    ensures run { (n caller : ℕ) (history : List Entry) (threads : List (List Command)) (records : List (List Record)) → AreRunBy GivesOne n caller history threads records → AreRun n caller history threads records }
+    ensures by { (n caller : ℕ) (history : List Entry) (threads : List (List Command)) (records : List (List Record)) → AreRun n caller history threads records → AreRunBy GivesOne n caller history threads records }
+{}
+
+/// Where each commit gives one entry behind looks, and the history is legal and of these callers alone, the records are
+/// the commits of the history without its looks, which is as legal.
+pub fn looks_can_be_left_out()
+    ensures { (n : ℕ) (first last : Store) (history : List Entry) (threads : List (List Command)) (records : List (List Record)) → AreRunBy GivesBehindLooks n 0 history threads records → IsBelowCallers (length threads) history → IsLegal first history last → AreCommitsOf n first history last threads records }
 {}

@@ -4,4 +4,7 @@
 mod laws;
 pub mod worked;
 
-pub use laws::{histories_are_runs, runs_are_legal, runs_stay_well_formed};
+pub use laws::{
+    commits_of_one_entry_are_a_run, histories_are_runs, looks_can_be_left_out, runs_are_legal,
+    runs_stay_well_formed,
+};

@@ -6,10 +6,11 @@ ghost use Rattle.kc_xt.specs.Meaning.{replied, retried};
 ghost use Rattle.kc_xt.specs.Commit.{run_on};
 ghost use Rattle.kc_script_bundle.specs.Meaning.{thread_meaning, end_meaning};
 ghost use Rattle.kc_script_bundle.specs.State.{opening_values};
-ghost use Rattle.kc_history.specs.Callers.{of_caller, entries_of};
+ghost use Rattle.kc_history.specs.Callers.{of_caller, entries_of, entry_of};
 ghost use Rattle.kc_script_runs.specs.Labels.{AreThreads};
+ghost use Rattle.kc_script_runs.specs.Looks.{GivesBehindLooks, IsWithoutLooks};
 ghost use Rattle.kc_script_runs.specs.Run.{run_text};
-ghost use Rattle.kc_script_runs.specs.Worked.{first_script, first_records, first_order, first_last, first_contents, waits_for_nine, one_lives, looks_at_x_and_live, two_script, two_records, two_order, two_contents, two_history};
+ghost use Rattle.kc_script_runs.specs.Worked.{first_script, first_records, first_order, first_last, first_contents, waits_for_nine, one_lives, looks_at_x_and_live, two_script, two_records, two_order, two_contents, two_history, missed, met, look_and_commit, waited_history, commits_alone};
 
 /// One thread: what it has is numbered, its text is the printed one, and it opens with one live thread.
 pub fn first_script_by_hand()
@@ -35,4 +36,14 @@ pub fn two_threads_by_hand()
     ensures first { of_caller 0 two_history ≡ entries_of 0 1 (slice_index_or two_records 0 []) }
     ensures second { of_caller 1 two_history ≡ entries_of 1 1 (slice_index_or two_records 1 []) }
     ensures third { of_caller 2 two_history ≡ [] }
+{}
+
+/// A second caller checks that x is 9: while it has 8, which is a look, and when the first one has set it, which is its
+/// commit. The look stands before its commit, and puts nothing; without it the history has two commits.
+pub fn a_look_and_a_commit_by_hand()
+    ensures own { of_caller 1 waited_history ≡ look_and_commit }
+    ensures given { GivesBehindLooks 1 (thread_meaning 0 waits_for_nine) [] met look_and_commit }
+    ensures behind { GivesBehindLooks 1 (thread_meaning 0 waits_for_nine) [] missed look_and_commit → ⊥ }
+    ensures without { IsWithoutLooks waited_history commits_alone }
+    ensures numbered { of_caller 1 commits_alone ≡ entry_of 1 1 met ∷ [] }
 {}

@@ -9,7 +9,7 @@ use Rattle.kc_script_runs.specs.Threads.{IsAnswered}
 use Rattle.kc_run.proofs.thread.run_commands.Goals as goal
 
 pub loop-i-init : goal.loop-i-init
-loop-i-init g c = record { pass = (c.requires.pass.0, refl); share = omega (arith, c.requires.share); own_is = c.requires.pass.1; answered = tt; labels = refl }
+loop-i-init g c = record { pass = (c.requires.pass.0, refl); share = omega (arith, c.requires.share); given = c.requires.pass.1; answered = tt; labels = refl }
 
 pub commit_to-requires-clause-fit : goal.commit_to-requires-clause-fit
 commit_to-requires-clause-fit g c κs within =
@@ -30,5 +30,6 @@ loop-i-preserved g c =
     let d = c.index-commands-i.result in
     let e = c.commit_to.ensures in
     let answers = subst (λ (x : Command). IsAnswered (length (g.S.Shared.opening c.args.shared.now)) (thread_meaning 0 x) c.commit_to.new.slot) c.index-commands-i.is e.answered in
-    ran_more g.S.Shared.belongs g.S.Shared.number g.S.Shared.left g.S.Shared.own g.S.Shared.opening c.args.shared.now c.args.commands.now c.args.pass.now c.loop-i.pass c.commit_to.new.pass c.args.records.now c.loop-i.records c.loop-i.i d c.index-records-i.result c.commit_to.new.slot
-    inv c.loop-i-test.true room e.pass e.left e.own answers e.label
+    let given = subst (λ (x : Command). g.S.Shared.gives (g.S.Shared.number c.loop-i.pass) (thread_meaning 0 x) (g.S.Shared.own c.loop-i.pass) c.commit_to.new.slot.footprint (g.S.Shared.own c.commit_to.new.pass)) c.index-commands-i.is e.own in
+    ran_more g.S.Shared.gives g.S.Shared.belongs g.S.Shared.number g.S.Shared.left g.S.Shared.own g.S.Shared.opening c.args.shared.now c.args.commands.now c.args.pass.now c.loop-i.pass c.commit_to.new.pass c.args.records.now c.loop-i.records c.loop-i.i d c.index-records-i.result c.commit_to.new.slot
+    inv c.loop-i-test.true room e.pass e.left given answers e.label
