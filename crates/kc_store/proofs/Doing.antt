@@ -50,6 +50,9 @@ may_run_further v u w t r busy s = record { did = go r.did; stands = stands_furt
 pub may_run_halted : (v u : SeatView) (t : Task) → Runs v t u → MayRun v t (record u { seat = halted u.seat })
 may_run_halted v u t r = record { did = inr (u, r.does, refl); stands = stands_halted t v u r.stands }
 
+pub runs_may : (v u : SeatView) (t : Task) → Runs v t u → MayRun v t u
+runs_may v u t r = record { did = inl r.does; stands = r.stands }
+
 -- ---- what it keeps
 
 goes_on : (v w : SeatView) (more : List Event) → w.of ≡ v.of → w.number ≡ v.number → w.past ≡ v.past ++ more → IsMeant (opening_at_seat v) w.past → Keeps v w

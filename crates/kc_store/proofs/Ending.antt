@@ -1,10 +1,14 @@
 -- The steps of a task to its end.
-use Rattle.std.proofs.Common.{◌≡◌, ◌≢◌, ◌<◌, ◌≤◌, Bool, true, false, ℕ, ◌+◌, ◌⊎◌, inl, inr, Some, refl, sym, ap, ◌∙◌, arith, subst, if◌then◌else◌}
+use Rattle.std.proofs.Common.{◌≡◌, ◌≢◌, ◌<◌, ◌≤◌, Bool, true, false, not, ℕ, ◌+◌, ◌⊎◌, inl, inr, List, Some, length, refl, sym, ap, ◌∙◌, arith, subst, if◌then◌else◌}
+use Rattle.std.proofs.lemmas.List.{length-map}
+use Rattle.std.specs.Prelude.{IfOk, Result, Ok, Err}
 use Rattle.kc_machine.specs.Schedules.{IsWellMadeTask}
 use Rattle.kc_machine.specs.Seats.{begun, begun_idle, halted, is_idle}
 use Rattle.kc_machine.specs.Works.{Work}
 use Rattle.kc_machine.specs.Works as work
 use Rattle.kc_machine.specs.declared.seat.Seat.{Seat}
+use Rattle.kc_machine_steps.specs.Lines.{line_of, lines_of}
+use Rattle.kc_machine_steps.specs.declared.line.Line.{Line}
 use Rattle.kc_machine_steps.specs.declared.task.Task.{Task}
 use Rattle.kc_machine_steps.specs.declared.task.Task.TheVariants as task
 use Rattle.kc_machine_steps.specs.declared.task.Told.{Told}
@@ -14,11 +18,12 @@ use Rattle.kc_model.specs.declared.footprint.Footprint.{Footprint}
 use Rattle.kc_model.specs.declared.footprint.Loc.{Loc}
 use Rattle.kc_model.specs.declared.footprint.Seen.{Seen}
 use Rattle.kc_store.proofs.Counting.{ran_counts}
+use Rattle.kc_store.proofs.Doing.{did_does}
 use Rattle.kc_store.proofs.Fitting.{known_fits}
 use Rattle.kc_store.proofs.Gaining.{does_meant}
 use Rattle.kc_store.proofs.Standing.{halts, is_tried, ran_stands}
 use Rattle.kc_store.specs.Steps.{steps_made}
-use Rattle.kc_store.specs.Works.{Ends, MayRun, Runs, Stands, commits, is_told_committing, is_told_looking, looks}
+use Rattle.kc_store.specs.Works.{Ends, LooksAt, MayRun, Runs, Stands, commits, is_told_committing, is_told_looking, looks}
 use Rattle.kc_table_moves.specs.Straight.{Ran}
 use Rattle.kc_table_moves.specs.Views.{SeatView, Starts, Stepped, opening_at_seat}
 use Rattle.kc_table_seats.proofs.Halting.{halt_sends}
@@ -28,6 +33,7 @@ use Rattle.kc_table_seats.proofs.Stopping.{free_ran, halted_ends}
 use Rattle.kc_table_seats.specs.Halts.{is_halted, may_halt, steps_left, was_halted}
 use Rattle.kc_table_seats.specs.Tasks.{Does}
 use Rattle.kc_xt.specs.Peeks.{IsLook}
+use Rattle.kc_xt.specs.declared.peek.PeekBusy.{PeekBusy}
 
 -- how many steps a task that was halted makes at most
 abbrev pub left_to_the_end : Seat → ℕ
@@ -135,3 +141,21 @@ is_look v w l r below d says =
     let at : r.loc.0 ≡ l.0 = ap (λ (x : Loc). x.0) saw.of in
     let there : w.of.origin.locations ≡ v.of.origin.locations = ap (λ z. z.origin.locations) d.of in
     record { asked = at; version = known_fits (opening_at_seat w) w.past (does_meant v w (task.Look l) d) r (omega (arith, below, at, there)) saw.known }
+
+-- ---- tests
+
+pub busy_is : (x r : Bool) → r ≡ not x → r ≡ true → x ≡ false
+busy_is true r e t = absurd (cc)
+busy_is false r e t = refl
+
+pub idle_is : (x r : Bool) → r ≡ not x → r ≡ false → x ≡ true
+idle_is true r e t = refl
+idle_is false r e t = absurd (cc)
+
+pub few_reads : (f : Footprint) (xs : List Line) → lines_of f ≡ xs → length xs ≤ 64 → length f.reads.items ≤ 64
+few_reads f xs e few = let n = ap length (sym e) in let m = length-map f.reads.items (λ r. line_of f.puts.items r) in omega (arith, few, n, m)
+
+-- what a look gives
+pub look_of_ends : (v w : SeatView) (l : Loc) (left rest : ℕ) (r : Result Seen PeekBusy) → l.0 < v.of.origin.locations → LooksAt l.0 v left r w rest → IfOk r (λ seen. IsLook l.0 seen)
+look_of_ends v w l left rest (Ok r) below e = is_look v w l r below (did_does v w (task.Look l) (told.Seen r) e.ran.did e.idle e.says (λ x. absurd (cc))) e.says
+look_of_ends v w l left rest (Err b) below e = tt

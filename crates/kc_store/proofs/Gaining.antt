@@ -1,6 +1,6 @@
 -- The entry of a call, and the one that overtook it.
-use Rattle.std.proofs.Common.{◌≡◌, ◌≢◌, ◌==◌, ◌<◌, ◌≤◌, true, false, ℕ, ◌+◌, List, [], ◌∷◌, ◌++◌, Some, refl, sym, ap, ◌∙◌, arith, subst, length, append_assoc, append-nil, get_or}
-use Rattle.std.specs.Prelude.{All, Contains, slice_get}
+use Rattle.std.proofs.Common.{◌≡◌, ◌≢◌, ◌==◌, ◌<◌, ◌≤◌, true, false, ℕ, ◌+◌, List, [], ◌∷◌, ◌++◌, Option, None, Some, refl, sym, ap, ◌∙◌, arith, subst, length, append_assoc, append-nil, get_or}
+use Rattle.std.specs.Prelude.{All, Contains, IfSome, slice_get}
 use Rattle.std.proofs.lemmas.List.Elements.{Contains-append_left, Contains-append_right, Contains-get_or}
 use Rattle.kc_machine.specs.Machine.{Opening}
 use Rattle.kc_machine.specs.Seats.{is_idle}
@@ -14,9 +14,10 @@ use Rattle.kc_machine_traces.specs.Entries.{by}
 use Rattle.kc_machine_traces.specs.Outcomes.{GainsAsTold, GainsTheCall}
 use Rattle.kc_machine_words.specs.declared.words.Mode.{Mode}
 use Rattle.kc_model.proofs.Stores.{Contains-first}
-use Rattle.kc_model.specs.Footprint.{Reads}
+use Rattle.kc_model.specs.Footprint.{IsWellMade, Reads}
 use Rattle.kc_model.specs.declared.footprint.Footprint.{Footprint}
 use Rattle.kc_model.specs.declared.footprint.Seen.{Seen}
+use Rattle.kc_model.specs.declared.footprint.TheConstants.{LAST_VERSION}
 use Rattle.kc_store.proofs.Counting.{is_same}
 use Rattle.kc_store.proofs.Among.{filtered_in, grows_in, in_filtered, place_before, rises_filtered}
 use Rattle.kc_store.proofs.Seeing.{Fresh}
@@ -124,3 +125,7 @@ overtaken v c w i f m unput same none d says =
       there = there;
       ends = ends;
     })
+
+pub read_fits : (f : Footprint) (o : Option Seen) (i : ℕ) → IsWellMade f → o ≡ slice_get f.reads.items i → IfSome o (λ r. r.version ≤ LAST_VERSION)
+read_fits f (Some r) i w e = w.versions r (found f.reads.items i r (sym e))
+read_fits f None i w e = tt

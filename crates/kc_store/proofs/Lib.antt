@@ -8,7 +8,6 @@ pub mod Fitting
 pub mod Ending
 pub mod Looking
 pub mod ReadLooks
-pub mod Crossing
 pub mod Placing
-pub mod Worn
+pub mod Crossed
 pub mod Settling

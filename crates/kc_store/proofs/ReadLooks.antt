@@ -9,7 +9,7 @@ use Rattle.kc_xt.specs.declared.line.Line.{Line}
 
 one_more : (ls : List Line) (e r : Seen) → Contains (seens (with_line ls (seen_line e))) r → (e ≡ r) ⊎ Contains (seens ls) r
 one_more [] e r c = first_or_later e [] r c
-one_more (b ∷ bs) e r c = go (nat_lt b.seen.loc.0 e.loc.0) c
+one_more (b ∷ bs) e r c = go (nat_lt b.seen.loc.0 e.loc.0) (one_more bs e r) c
   where
     later : (b.seen ≡ r) ⊎ Contains (seens (with_line bs (seen_line e))) r → (Contains (seens (with_line bs (seen_line e))) r → (e ≡ r) ⊎ Contains (seens bs) r) → (e ≡ r) ⊎ Contains (b.seen ∷ seens bs) r
     later (inl s) ih = inr (subst (Contains (b.seen ∷ seens bs)) s (Contains-first b.seen (seens bs)))
@@ -19,9 +19,9 @@ one_more (b ∷ bs) e r c = go (nat_lt b.seen.loc.0 e.loc.0) c
         then (inl s) = inl s
         then (inr c) = inr (Contains-later b.seen (seens bs) r c)
 
-    go : (t : Bool) → Contains (seens (cond t (b ∷ with_line bs (seen_line e)) (seen_line e ∷ b ∷ bs))) r → (e ≡ r) ⊎ Contains (b.seen ∷ seens bs) r
-    go true c = later (first_or_later b.seen (seens (with_line bs (seen_line e))) r c) (one_more bs e r)
-    go false c = first_or_later e (b.seen ∷ seens bs) r c
+    go : (t : Bool) → (Contains (seens (with_line bs (seen_line e))) r → (e ≡ r) ⊎ Contains (seens bs) r) → Contains (seens (cond t (b ∷ with_line bs (seen_line e)) (seen_line e ∷ b ∷ bs))) r → (e ≡ r) ⊎ Contains (b.seen ∷ seens bs) r
+    go true ih c = later (first_or_later b.seen (seens (with_line bs (seen_line e))) r c) ih
+    go false ih c = first_or_later e (b.seen ∷ seens bs) r c
 
 all_more : (ls : List Line) (es : List Seen) (r : Seen) → Contains (seens (with_looks ls es)) r → Contains es r ⊎ Contains (seens ls) r
 all_more ls [] r c = inr c

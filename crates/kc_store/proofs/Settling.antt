@@ -1,6 +1,6 @@
 -- From what came of looks and commits to what a try answers.
-use Rattle.std.proofs.Common.{◌≡◌, ◌≢◌, ◌<◌, ◌≤◌, Bool, true, false, ℕ, ◌+◌, List, [], ◌∷◌, ◌++◌, Some, refl, sym, ap, ◌∙◌, arith, subst}
-use Rattle.std.specs.Prelude.{Contains, slice_get}
+use Rattle.std.proofs.Common.{◌≡◌, ◌≢◌, ◌<◌, ◌≤◌, Bool, true, false, ℕ, ◌+◌, ◌-◌, List, [], ◌∷◌, ◌++◌, Some, refl, sym, ap, ◌∙◌, arith, subst}
+use Rattle.std.specs.Prelude.{Contains, slice_get, Err}
 use Rattle.kc_machine.specs.Seats.{is_idle}
 use Rattle.kc_machine_claims.specs.Claims.{HasPut}
 use Rattle.kc_machine_steps.specs.declared.task.Task.{Task}
@@ -10,23 +10,23 @@ use Rattle.kc_machine_steps.specs.declared.task.Told.TheVariants as told
 use Rattle.kc_machine_traces.specs.Outcomes.{GainsAsTold}
 use Rattle.kc_machine_words.specs.declared.words.Mode.{Mode}
 use Rattle.kc_machine_words.specs.declared.words.Mode.TheVariants.{All, Light}
-use Rattle.kc_model.specs.Footprint.{IsWellMade, Reads}
+use Rattle.kc_model.specs.Footprint.{IsBelow, IsWellMade, Reads}
 use Rattle.kc_model.specs.declared.footprint.Footprint.{Footprint}
 use Rattle.kc_model.specs.declared.footprint.Seen.{Seen}
-use Rattle.kc_store.proofs.Crossing.{uncrossed}
 use Rattle.kc_store.proofs.Doing.{did_does, did_gains, did_keeps}
 use Rattle.kc_store.proofs.Among.{grows_in}
 use Rattle.kc_store.proofs.Gaining.{all_from, gains, overtaken}
 use Rattle.kc_store.proofs.ReadLooks.{was_looked_at}
 use Rattle.kc_store.proofs.Seeing.{Fresh, keeps_same, keeps_then, look_gains_none, look_keeps, looks_fresh, looks_gain_none, looks_keep}
-use Rattle.kc_store.proofs.Worn.{worn_out}
-use Rattle.kc_store.specs.Answers.{Gains, GainsNothing, IsBusy, IsWornOut, Settles, WasOvertaken, own_entries, placed_entry}
-use Rattle.kc_store.specs.Tries.{Commits, once, again, Did, Sees, WasTold, is_crossed}
+use Rattle.kc_store.specs.Answers.{Gains, GainsNothing, IsBusy, Settles, WasOvertaken, own_entries, placed_entry}
+use Rattle.kc_store.specs.Steps.{HasLeft, busy_bound}
+use Rattle.kc_store.specs.Tries.{Commits, CommitsAfter, once, again, Did, Sees, WasTold, is_crossed}
 use Rattle.kc_store.specs.Verdicts.{entered, is_final, lost_at, verdict_by}
 use Rattle.kc_store.specs.Works.{is_told_committing}
 use Rattle.kc_store.specs.declared.verdict.Verdict.{Verdict}
 use Rattle.kc_store.specs.declared.verdict.Verdict.TheVariants as verdict
-use Rattle.kc_table_moves.specs.Views.{SeatView, knows, opening_at_seat}
+use Rattle.kc_table_moves.specs.Views.{SeatView, TableView, knows, opening_at_seat}
+use Rattle.kc_table_seats.proofs.Causing.{worn_found}
 use Rattle.kc_table_seats.specs.Tasks.{Does, Keeps}
 use Rattle.kc_xt.specs.Commit.{Came, Looked, LooksIn, PutsWhereDone}
 use Rattle.kc_xt.specs.Lines.{seens, with_looks}
@@ -53,7 +53,7 @@ module _ (m : Meaning) (t : Tried) (v : SeatView) (f : Footprint) (c : SeatView)
       go tried.Later x = looks_keep v v l.looks c x
       go tried.TooLarge x = looks_keep v v l.looks c x
       go (tried.Worn loc) x = looks_keep v v l.looks c x
-      go tried.Busy (b, x, y) = keeps_then v b c (looks_keep v v l.looks b x) (look_keeps v b c y.loc _ y.fails)
+      go tried.Busy (b, x, y) = keeps_then v b c (looks_keep v v l.looks b x) (look_keeps v b c y.loc (Err y.busy) y.fails)
 
   pub looked_none : own_entries c ≡ own_entries v
   looked_none = go t l.made
@@ -63,7 +63,7 @@ module _ (m : Meaning) (t : Tried) (v : SeatView) (f : Footprint) (c : SeatView)
       go tried.Later x = looks_gain_none v v l.looks c x
       go tried.TooLarge x = looks_gain_none v v l.looks c x
       go (tried.Worn loc) x = looks_gain_none v v l.looks c x
-      go tried.Busy (b, x, y) = look_gains_none v b c y.loc _ y.fails ∙ looks_gain_none v v l.looks b x
+      go tried.Busy (b, x, y) = look_gains_none v b c y.loc (Err y.busy) y.fails ∙ looks_gain_none v v l.looks b x
 
   pub looked_fresh : t ≢ tried.Busy → (r : Seen) → Reads f r → Fresh v c r
   looked_fresh n r x = looks_fresh v v l.looks c r (looks_in t v l.looks c n l.made) (was_looked_at l.looks r (subst (λ es. Contains es r) (l.reads n) x))
@@ -99,18 +99,6 @@ pub commits_keep : (v c : SeatView) (f : Footprint) (a : Told) (w : SeatView) �
 commits_keep v c f a w (once b x was o) = did_keeps c w (task.Commit f Light) was.did
 commits_keep v c f a w (again i u b x first was) = keeps_then c u w (did_keeps c u (task.Commit f Light) first.did) (did_keeps u w (task.Commit f All) was.did)
 
--- a second commit is not crossed
-pub again_uncrossed : (v u w : SeatView) (f : Footprint) (a : Told) → WasTold v u (task.Commit f All) a w → is_told_committing (Some a) ≡ true → is_crossed a ≡ false
-again_uncrossed v u w f (told.Crossed i) was e = absurd (uncrossed u w i f (did_does u w (task.Commit f All) (told.Crossed i) was.did was.idle was.says (λ e. absurd (cc))) was.says)
-again_uncrossed v u w f (told.Succeeded n) was e = refl
-again_uncrossed v u w f (told.Failed i) was e = refl
-again_uncrossed v u w f told.Halted was e = refl
-again_uncrossed v u w f told.Worn was e = refl
-again_uncrossed v u w f (told.Seen r) was e = refl
-again_uncrossed v u w f told.Hung was e = refl
-again_uncrossed v u w f (told.Changed i) was e = refl
-again_uncrossed v u w f told.Free was e = refl
-
 -- ---- the answer
 
 entered_settles : (m : Meaning) (t : Tried) (before : Footprint) (v : SeatView) (f : Footprint) (w : SeatView) (steps : ℕ) → t ≢ tried.Busy → Came m t before f → PutsWhereDone t f → Gains v f w → Settles m (entered t steps) v f w
@@ -141,7 +129,7 @@ settled m t before v c f a w steps n came puts looked commits committing crossed
         let unput : (r : Seen) → Reads f r → ¬ HasPut (knows v) r = λ r y. (looked_fresh m t v f c looked n r y).unput in
         let o = overtaken v l.from w i f l.mode unput (same (told.Failed i) l) none (does (told.Failed i) l (λ e. absurd (cc))) l.was.says in
         subst (λ y. Settles m (lost_at y steps) v f w) (sym o.1) (o.2, none)
-    go told.Worn l e x = (worn_out l.from w f l.mode (does told.Worn l (λ e. absurd (cc))) l.was.says, gained told.Worn l ∙ l.none)
+    go told.Worn l e x = (worn_found l.from w (task.Commit f l.mode) (does told.Worn l (λ e. absurd (cc))) l.was.says, gained told.Worn l ∙ l.none)
     go told.Halted l e x = ((counts, l.was.spent refl), gained told.Halted l ∙ l.none)
     go (told.Crossed i) l e x = absurd (cc)
     go (told.Seen r) l e x = absurd (cc)
@@ -187,3 +175,21 @@ vain_none m (verdict.Done r) u f w e x = absurd (cc)
 vain_none m verdict.Later u f w e x = absurd (cc)
 vain_none m verdict.TooLarge u f w e x = absurd (cc)
 vain_none m (verdict.WornLocation loc) u f w e x = absurd (cc)
+
+-- ---- in a call
+
+pub has_all : (v : SeatView) (z : TableView) (most : ℕ) → v.of ≡ z → most ≡ busy_bound z.origin.callers → HasLeft v v most
+has_all v z most of e = let n : busy_bound v.of.origin.callers ≡ most = ap (λ x. busy_bound x.origin.callers) of ∙ sym e in omega (arith, n)
+
+pub counted : (a b s r : ℕ) → a ≤ b → s ≡ b → r ≡ a → a + (s - r) ≡ b
+counted a b s r up e f = omega (arith, up, e, f)
+
+pub commits_after : (t : Tried) (v : SeatView) (f : Footprint) (c : SeatView) (a : Told) (w : SeatView) → t ≢ tried.Busy → Commits v f c a w → CommitsAfter t v f c w
+commits_after (tried.Done r) v f c a w n x = (a, x)
+commits_after tried.Later v f c a w n x = (a, x)
+commits_after tried.TooLarge v f c a w n x = (a, x)
+commits_after (tried.Worn loc) v f c a w n x = (a, x)
+commits_after tried.Busy v f c a w n x = absurd (n refl)
+
+pub below_more : (f : Footprint) (n m : ℕ) → IsBelow n f → n ≤ m → IsBelow m f
+below_more f n m b up = λ r x. let y = b r x in omega (arith, y, up)

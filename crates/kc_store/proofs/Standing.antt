@@ -1,5 +1,5 @@
 -- A seat that runs a look or a commit: how it stands, behind each step.
-use Rattle.std.proofs.Common.{◌≡◌, ◌≤◌, Bool, true, false, ℕ, ◌+◌, ◌-◌, ◌&&◌, ◌==◌, List, Option, None, Some, refl, sym, ap, ◌∙◌, arith, subst, if◌then◌else◌}
+use Rattle.std.proofs.Common.{◌≡◌, ◌≤◌, Bool, true, false, ℕ, ◌+◌, ◌-◌, ◌&&◌, ◌==◌, List, [], Option, None, Some, refl, sym, ap, ◌∙◌, arith, subst, if◌then◌else◌}
 use Rattle.std.specs.Prelude.{nat_lt}
 use Rattle.kc_machine.specs.Machine.{found_at, run}
 use Rattle.kc_machine.specs.Seats.{access_of, after, answer_by, answer_of, begun, begun_idle, blocked_by, ended, halted, halted_by, is_idle}
@@ -228,6 +228,20 @@ halts t s e busy = go t s s.work e busy
     go (task.Commit f m) s (work.Leave h) e busy = absurd (cc)
     go (task.Hang reads) s w e busy = absurd (cc)
     go (task.Leave reads) s w e busy = absurd (cc)
+
+-- what may be halted stays so while it runs
+pub kind_kept : (v w : SeatView) → Stepped v w → is_idle v.seat.work ≡ false → may_halt v.seat.work ≡ true → is_idle w.seat.work ≡ false → may_halt w.seat.work ≡ true
+kind_kept v w st busy may on = go (some v.seat v.seat.work may)
+  where
+    some : (s : Seat) (x : Work) → may_halt x ≡ true → (t : Task) × (stands_in t (record s { work = x }) ≡ true)
+    some s (work.Look y) e = (task.Look y.loc, refl)
+    some s (work.Commit y) e = (task.Commit (record { reads = record { items = [] }; puts = record { items = [] } }) y.intent.mode, refl)
+    some s work.Idle e = absurd (cc)
+    some s (work.Hang y) e = absurd (cc)
+    some s (work.Leave y) e = absurd (cc)
+
+    go : (t : Task) × (stands_in t v.seat ≡ true) → may_halt w.seat.work ≡ true
+    go (t, e) = halts t w.seat (step_goes t v w st e busy).in_task on
 
 -- a halt that ends a task says so
 pub halt_told : (s : Seat) → is_idle s.work ≡ false → is_idle (halted s).work ≡ true → (halted s).told ≡ Some told.Halted

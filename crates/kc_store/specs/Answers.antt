@@ -1,11 +1,8 @@
 -- What a try answers, and by what.
-use Rattle.std.specs.Prelude.{◌≡◌, ◌≢◌, ℕ, ◌+◌, ◌<◌, ◌++◌, [], ◌∷◌, List, Contains}
-use Rattle.kc_machine.specs.Machine.{Opening, pool_size, run}
+use Rattle.std.specs.Prelude.{◌≡◌, ◌≢◌, ℕ, ◌+◌, ◌++◌, [], ◌∷◌, List, Contains}
 use Rattle.kc_machine_claims.specs.Histories.{Placed}
 use Rattle.kc_machine_traces.specs.Entries.{by}
-use Rattle.kc_machine_steps.specs.declared.task.Event.{Event}
 use Rattle.kc_machine_words.specs.declared.words.Mode.{Mode}
-use Rattle.kc_machine_words.specs.declared.words.TheConstants.{LAST_GENERATION}
 use Rattle.kc_model.specs.Footprint.{Puts, Reads}
 use Rattle.kc_model.specs.declared.footprint.Footprint.{Footprint}
 use Rattle.kc_model.specs.declared.footprint.Put.{Put}
@@ -15,6 +12,7 @@ use Rattle.kc_store.specs.Steps.{IsSpent}
 use Rattle.kc_store.specs.declared.verdict.Verdict.{Verdict}
 use Rattle.kc_store.specs.declared.verdict.Verdict.TheVariants as verdict
 use Rattle.kc_table_moves.specs.Views.{SeatView, knows, opening_at_seat}
+use Rattle.kc_table_seats.specs.Told.{IsWornOut}
 use Rattle.kc_table_views.specs.Tasks.{SuccessTaught}
 use Rattle.kc_xt.specs.Commit.{Answers, Waits, Wears}
 use Rattle.kc_xt.specs.Meaning.{Meaning}
@@ -51,10 +49,6 @@ pub record WasOvertaken (v : SeatView) (f : Footprint) (l version : ℕ) (w : Se
   pub puts : Puts by_entry.entry.footprint put
   pub there : put.loc ≡ read.loc
   pub ends : put.version ≡ read.version
-
--- each descriptor stands at its last generation
-abbrev pub IsWornOut : Opening → List Event → Type 0
-IsWornOut o past = (d : ℕ) → d < pool_size o.callers → ((run o past).world.control d).generation ≡ LAST_GENERATION
 
 -- what is answered where an entry was made that puts nothing
 abbrev pub Looks : SeatView → Footprint → SeatView → Type 0

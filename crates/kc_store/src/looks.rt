@@ -5,7 +5,7 @@ ghost use Rattle.kc_machine.specs.Seats.{is_idle};
 ghost use Rattle.kc_model.specs.Footprint.{IsBelow};
 ghost use Rattle.kc_xt.specs.Commit.{Came, PutsWhereDone, Looked};
 ghost use Rattle.kc_xt.specs.Peeks.{IsLook};
-ghost use Rattle.kc_xt.specs.declared.attempts.Tried.TheVariants as tried;
+ghost use Rattle.kc_xt.specs.declared.attempts.Tried.TheVariants as came;
 ghost use Rattle.kc_store.specs.Works.{AllLooked, LooksAt, is_told_looking, told_by};
 
 use crate::tasks::end_task;
@@ -91,7 +91,7 @@ pub(crate) fn look_and_run<T: Transact>(
     requires within { T.end transaction.now ≤ table.now.origin.locations }
     ensures came { Came (T.meaning transaction.now) result footprint.old footprint.new }
     ensures puts { PutsWhereDone result footprint.new }
-    ensures within { result ≢ tried.Busy → IsBelow (T.end transaction.now) footprint.new }
+    ensures within { result ≢ came.Busy → IsBelow (T.end transaction.now) footprint.new }
     ensures looked { AllLooked (T.meaning transaction.now) result footprint.new seat.old left.old seat.new left.new }
 {
     let peek = StorePeek {
@@ -99,7 +99,27 @@ pub(crate) fn look_and_run<T: Transact>(
         seat,
         left: *left,
     };
-    let (peek, tried) = attempt(peek, transaction, footprint);
+    let mut tried = Tried::Busy;
+    let peek = attempt_on(peek, transaction, footprint, &mut tried);
     *left = peek.left;
     tried
+}
+
+// An attempt that hands back the peek alone: of one inside a pair no proof follows what it borrows.
+fn attempt_on<P: Peek, T: Transact>(
+    peek: P,
+    transaction: &T,
+    footprint: &mut Footprint,
+    tried: &mut Tried,
+) -> P
+    requires fit { T.is_fit transaction.now }
+    requires within { T.end transaction.now ≤ P.locations peek }
+    ensures came { Came (T.meaning transaction.now) tried.new footprint.old footprint.new }
+    ensures puts { PutsWhereDone tried.new footprint.new }
+    ensures within { tried.new ≢ came.Busy → IsBelow (T.end transaction.now) footprint.new }
+    ensures looked { Looked P.peek_gives (T.meaning transaction.now) tried.new peek footprint.new result }
+{
+    let (peek, outcome) = attempt(peek, transaction, footprint);
+    *tried = outcome;
+    peek
 }

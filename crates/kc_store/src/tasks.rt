@@ -1,6 +1,7 @@
 //! Tasks of a call: each ends, by steps that are left to the call, or by a halt.
 
-ghost use Rattle.std.specs.Prelude.{◌≡◌, ◌≢◌, ◌+◌, ◌≤◌, true, false, Some};
+ghost use Rattle.std.specs.Prelude.{◌≡◌, ◌≢◌, ◌+◌, ◌≤◌, true, false, Some, length};
+ghost use Rattle.kc_model.specs.declared.footprint.TheConstants.{MOST};
 ghost use Rattle.kc_model.specs.Footprint.{IsBelow, IsWellMade};
 ghost use Rattle.kc_machine_steps.specs.Lines.{lines_of};
 ghost use Rattle.kc_machine_steps.specs.declared.task.Task.{Task};
@@ -86,6 +87,7 @@ pub(crate) fn commit(
     requires table { seat.old.of ≡ table.now }
     requires idle { is_idle seat.old.seat.work ≡ true }
     requires lines { lines_of footprint.now ≡ lines.now }
+    requires few { length lines.now ≤ MOST }
     requires made { IsWellMade footprint.now × IsBelow seat.old.of.origin.locations footprint.now }
     requires known { KnowsReads seat.old (task.Commit footprint.now mode.Light) }
     ensures { AllCommitted footprint.now result seat.old left.old seat.new left.new }
@@ -115,6 +117,7 @@ fn commit_in(
     requires table { seat.old.of ≡ table.now }
     requires idle { is_idle seat.old.seat.work ≡ true }
     requires lines { lines_of footprint.now ≡ lines.now }
+    requires few { length lines.now ≤ MOST }
     requires made { IsWellMade footprint.now × IsBelow seat.old.of.origin.locations footprint.now }
     requires known { KnowsReads seat.old (task.Commit footprint.now mode) }
     ensures ends { Ends (task.Commit footprint.now mode) seat.old left.old result seat.new left.new }

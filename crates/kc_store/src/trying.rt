@@ -8,6 +8,7 @@ ghost use Rattle.kc_model.specs.declared.footprint.TheConstants.{LAST_VERSION};
 ghost use Rattle.kc_table_seats.specs.Tasks.{Keeps};
 ghost use Rattle.kc_xt.specs.declared.attempts.Tried.TheVariants as tried;
 ghost use Rattle.kc_store.specs.Answers.{Settles};
+ghost use Rattle.kc_store.specs.Steps.{busy_bound};
 ghost use Rattle.kc_store.specs.Tries.{Tries};
 ghost use Rattle.kc_store.specs.Verdicts.{entered, has_entry, lost_at, verdict_by};
 
@@ -15,8 +16,10 @@ use crate::looks::look_and_run;
 use crate::store::{Caller, Store};
 use crate::tasks::commit;
 use crate::verdict::Verdict;
-use kc_machine_steps::{Told, fill_lines};
-use kc_model::{Footprint, Seen};
+use arrayvec::ArrayVec;
+use kc_machine_steps::{Line, Told, fill_lines};
+use kc_model::{Footprint, MOST, Seen};
+use kc_table::{KcSeat, KcTable};
 use kc_xt::{Transact, Tried};
 
 impl Store {
@@ -40,35 +43,54 @@ impl Store {
         ensures blocked { caller.new.seat.blocked ≡ caller.old.seat.blocked }
         ensures within { has_entry result ≡ true → IsBelow (T.end transaction.now) footprint.new }
     {
-        let before = caller.seat.steps();
-        let mut left = self.most_steps;
-        let tried = look_and_run(
+        try_once(
             &self.table,
+            self.most_steps,
             &mut caller.seat,
+            &mut caller.lines,
             transaction,
             footprint,
-            &mut left,
-        );
-        if let Tried::Busy = tried {
-            let steps = caller.seat.steps() - before;
-            return Verdict::Busy { steps };
-        }
-        fill_lines(&mut caller.lines, footprint);
-        let told = commit(
-            &self.table,
-            &mut caller.seat,
-            footprint,
-            caller.lines.as_slice(),
-            &mut left,
-        );
-        let steps = caller.seat.steps() - before;
-        verdict(told, tried, footprint, steps)
+        )
     }
+}
+
+// The try, by a seat of the table and with room for the lines.
+fn try_once<T: Transact>(
+    table: &KcTable,
+    most_steps: u32,
+    seat: &mut KcSeat,
+    lines: &mut ArrayVec<Line, MOST>,
+    transaction: &T,
+    footprint: &mut Footprint,
+) -> Verdict
+    requires table { seat.old.of ≡ table.now }
+    requires steps { most_steps ≡ busy_bound table.now.origin.callers }
+    requires idle { is_idle seat.old.seat.work ≡ true }
+    requires fit { T.is_fit transaction.now }
+    requires within { T.end transaction.now ≤ table.now.origin.locations }
+    ensures tries { Tries (T.meaning transaction.now) footprint.new seat.old seat.new }
+    ensures settles { Settles (T.meaning transaction.now) result seat.old footprint.new seat.new }
+    ensures keeps { Keeps seat.old seat.new }
+    ensures idle { is_idle seat.new.seat.work ≡ true }
+    ensures blocked { seat.new.seat.blocked ≡ seat.old.seat.blocked }
+    ensures within { has_entry result ≡ true → IsBelow (T.end transaction.now) footprint.new }
+{
+    let before = seat.steps();
+    let mut left = most_steps;
+    let tried = look_and_run(table, seat, transaction, footprint, &mut left);
+    if let Tried::Busy = tried {
+        let steps = seat.steps() - before;
+        return Verdict::Busy { steps };
+    }
+    fill_lines(lines, footprint);
+    let told = commit(table, seat, footprint, lines.as_slice(), &mut left);
+    let steps = seat.steps() - before;
+    verdict(told, tried, footprint, steps)
 }
 
 // What is answered where the commits were told this.
 fn verdict(told: Told, tried: Tried, footprint: &Footprint, steps: u64) -> Verdict
-    requires fits { IsWellMade footprint.now }
+    requires { IsWellMade footprint.now }
     ensures { result ≡ verdict_by told tried footprint.now steps }
 {
     match told {
@@ -92,9 +114,7 @@ fn entered(tried: Tried, steps: u64) -> Verdict
 }
 
 fn read_at(footprint: &Footprint, entry: u32) -> Option<Seen>
-    requires { IsWellMade footprint.now }
-    ensures read { result ≡ slice_get footprint.now.reads.items entry }
-    ensures fits { IfSome result (λ r. r.version ≤ LAST_VERSION) }
+    ensures { result ≡ slice_get footprint.now.reads.items entry }
 {
     footprint.reads.as_slice().get(entry as usize).copied()
 }

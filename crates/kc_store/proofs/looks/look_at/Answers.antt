@@ -1,0 +1,47 @@
+use Rattle.std.proofs.Common.{◌≡◌, ◌∙◌, true, false, Some, refl, sym, ap, subst}
+use Rattle.kc_machine.specs.Seats.{is_idle}
+use Rattle.kc_machine_steps.specs.declared.task.Task.TheVariants as task
+use Rattle.kc_machine_steps.specs.declared.task.Told.TheVariants as told
+use Rattle.kc_store.proofs.Ending.{ends_late, ends_straight, free, is_look, look_of_ends, looking_told, may_be_halted, runs}
+use Rattle.kc_store.specs.Works.{is_told_looking, told_by}
+use Rattle.kc_table_seats.proofs.Running.{does_ran, ran_same}
+use Rattle.kc_store.proofs.looks.look_at.Goals as goal
+
+pub returns-in-Some-clause-looks : goal.returns-in-Some-clause-looks
+returns-in-Some-clause-looks c =
+    ends_straight (task.Look c.args.loc) c.args.seat.now c.look.new.seat refl c.requires.idle c.requires.within c.look.ensures.ran (told.Seen c.in-Some.seen) c.args.left.now c.in-Some.ensures.some.0 c.in-Some.ensures.some.1
+
+pub returns-in-Some-clause-look : goal.returns-in-Some-clause-look
+returns-in-Some-clause-look c =
+    let r = runs (task.Look c.args.loc) c.args.seat.now c.look.new.seat refl c.requires.idle c.requires.within c.look.ensures.ran in
+    is_look c.args.seat.now c.look.new.seat c.args.loc c.in-Some.seen c.requires.within r.does c.in-Some.ensures.some.1
+
+pub end_task-requires-clause-table : goal.end_task-requires-clause-table
+end_task-requires-clause-table c = (ran_same c.args.seat.now c.look.new.seat (task.Look c.args.loc) c.look.ensures.ran).0 ∙ c.requires.table
+
+pub end_task-requires-clause-calm : goal.end_task-requires-clause-calm
+end_task-requires-clause-calm c = (free (task.Look c.args.loc) c.args.seat.now c.look.new.seat refl c.requires.idle c.requires.within c.look.ensures.ran).1
+
+pub end_task-requires-clause-halts : goal.end_task-requires-clause-halts
+end_task-requires-clause-halts c = may_be_halted (task.Look c.args.loc) c.args.seat.now c.look.new.seat refl c.requires.idle c.requires.within c.look.ensures.ran c.in_default.ensures.none
+
+pub seen_by-requires : goal.seen_by-requires
+seen_by-requires c =
+    let t = task.Look c.args.loc in
+    let r = runs t c.args.seat.now c.look.new.seat refl c.requires.idle c.requires.within c.look.ensures.ran in
+    subst (λ x. is_told_looking x ≡ true) (sym c.told.ensures) (looking_told c.args.seat.now c.end_task.new.seat c.args.loc (c.end_task.ensures.runs c.args.seat.now t r) c.end_task.ensures.idle)
+
+pub returns-clause-looks : goal.returns-clause-looks
+returns-clause-looks c =
+    let t = task.Look c.args.loc in
+    let e = c.end_task.ensures in
+    ends_late t c.args.seat.now c.look.new.seat refl c.requires.idle c.requires.within c.look.ensures.ran
+    c.end_task.new.seat (told_by c.seen_by.result) c.args.left.now c.end_task.new.left (e.runs c.args.seat.now t) e.idle e.spent e.made (sym c.told.ensures ∙ c.seen_by.ensures)
+
+pub returns-clause-look : goal.returns-clause-look
+returns-clause-look c =
+    let t = task.Look c.args.loc in
+    let e = c.end_task.ensures in
+    look_of_ends c.args.seat.now c.end_task.new.seat c.args.loc c.args.left.now c.end_task.new.left c.seen_by.result c.requires.within
+    (ends_late t c.args.seat.now c.look.new.seat refl c.requires.idle c.requires.within c.look.ensures.ran
+    c.end_task.new.seat (told_by c.seen_by.result) c.args.left.now c.end_task.new.left (e.runs c.args.seat.now t) e.idle e.spent e.made (sym c.told.ensures ∙ c.seen_by.ensures))
