@@ -1,8 +1,8 @@
 -- Elements of lists and of histories.
-use Rattle.std.proofs.Common.{◌≡◌, ◌<◌, Bool, true, false, ℕ, ◌⊎◌, inl, inr, List, [], ◌∷◌, ◌++◌, cond, refl, sym, ap, ◌∙◌, arith, subst, map}
+use Rattle.std.proofs.Common.{◌≡◌, ◌<◌, Bool, true, false, ℕ, ◌⊎◌, inl, inr, List, [], ◌∷◌, ◌++◌, cond, sym, ap, ◌∙◌, arith, subst, map}
 use Rattle.std.specs.Prelude.{Contains}
 use Rattle.std.specs.List.{filter}
-use Rattle.std.proofs.lemmas.List.Elements.{Contains-append_cases, Contains-append_right, Contains-push_cases}
+use Rattle.std.proofs.lemmas.List.Elements.{Contains-append_cases, Contains-push_cases}
 use Rattle.kc_machine_claims.specs.Claims.{HasPut}
 use Rattle.kc_machine_claims.specs.Histories.{Grows, History, IsAmong, none, here, later, Placed, RisesByPlace}
 use Rattle.kc_model.proofs.Stores.{Contains-first, Contains-later}

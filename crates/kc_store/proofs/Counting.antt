@@ -1,12 +1,11 @@
 -- Steps are counted.
-use Rattle.std.proofs.Common.{◌≡◌, ◌≢◌, ◌==◌, Bool, true, false, ℕ, ◌+◌, ◌≤◌, List, [], ◌∷◌, ◌++◌, refl, sym, ap, ◌∙◌, arith, if◌then◌else◌}
+use Rattle.std.proofs.Common.{◌≡◌, ◌≢◌, ◌==◌, Bool, true, false, ℕ, ◌+◌, ◌≤◌, List, [], ◌∷◌, ◌++◌, refl, ap, arith, if◌then◌else◌}
 use Rattle.std.proofs.lemmas.Bool.Decides.{nat_tests}
 use borrow.Author.Tests.{eqb-true}
-use Rattle.kc_machine.specs.Machine.{seat_of}
 use Rattle.kc_machine_steps.specs.declared.task.Event.{Event}
 use Rattle.kc_machine_steps.specs.declared.task.Event.TheVariants.{Begin, Step, Halt}
 use Rattle.kc_machine_traces.specs.Parts.{NoneOf}
-use Rattle.kc_store.specs.Steps.{HasLeft, IsSpent, busy_bound, steps_in, steps_made}
+use Rattle.kc_store.specs.Steps.{HasLeft, IsSpent, steps_in, steps_made}
 use Rattle.kc_table_moves.specs.Straight.{StepsTo, here, further, Ran, begun_at}
 use Rattle.kc_table_moves.specs.Views.{SeatView, Stepped}
 use Rattle.kc_table_views.specs.Pending.{AllWait}

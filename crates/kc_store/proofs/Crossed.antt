@@ -1,10 +1,8 @@
 -- The commits of a call.
 use Rattle.std.proofs.Common.{◌≡◌, true, false, ℕ, Some, refl, subst}
-use Rattle.kc_machine.specs.Seats.{is_idle}
 use Rattle.kc_machine_steps.specs.declared.task.Task.TheVariants as task
 use Rattle.kc_machine_steps.specs.declared.task.Told.{Told}
 use Rattle.kc_machine_steps.specs.declared.task.Told.TheVariants as told
-use Rattle.kc_machine_words.specs.declared.words.Mode.{Mode}
 use Rattle.kc_machine_words.specs.declared.words.Mode.TheVariants.{All, Light}
 use Rattle.kc_model.specs.declared.footprint.Footprint.{Footprint}
 use Rattle.kc_store.proofs.Doing.{did_does}

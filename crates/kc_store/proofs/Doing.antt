@@ -1,15 +1,13 @@
 -- What a seat knows by a task that it has done, also where it was halted since its last step.
-use Rattle.std.proofs.Common.{◌≡◌, ◌≢◌, ◌≤◌, Bool, true, false, ℕ, ◌⊎◌, inl, inr, List, [], ◌∷◌, ◌++◌, Option, Some, refl, sym, ap, ◌∙◌, arith, subst, append_assoc}
-use Rattle.std.specs.Prelude.{All}
+use Rattle.std.proofs.Common.{◌≡◌, ◌≢◌, ◌≤◌, Bool, true, false, ℕ, inl, inr, List, [], ◌∷◌, ◌++◌, Some, refl, sym, ap, ◌∙◌, subst, append_assoc}
 use Rattle.std.proofs.lemmas.List.Elements.{All-push}
-use Rattle.kc_machine.specs.Machine.{Opening, run}
+use Rattle.kc_machine.specs.Machine.{Opening}
 use Rattle.kc_machine.specs.Schedules.{BeginsWellMade}
 use Rattle.kc_machine.specs.Seats.{halted, is_idle}
-use Rattle.kc_machine.specs.declared.seat.Seat.{Seat}
 use Rattle.kc_machine_claims.specs.Histories.{Grows, IsKnown, ending}
 use Rattle.kc_machine_claims.specs.Traces.{first_store}
 use Rattle.kc_machine_steps.specs.declared.task.Event.{Event}
-use Rattle.kc_machine_steps.specs.declared.task.Event.TheVariants.{Begin, Step, Halt}
+use Rattle.kc_machine_steps.specs.declared.task.Event.TheVariants.{Begin, Halt}
 use Rattle.kc_machine_steps.specs.declared.task.Task.{Task}
 use Rattle.kc_machine_steps.specs.declared.task.Told.{Told}
 use Rattle.kc_machine_steps.specs.declared.task.Told.TheVariants as told
@@ -17,7 +15,6 @@ use Rattle.kc_machine_traces.proofs.Joins.{honest_joined}
 use Rattle.kc_machine_traces.proofs.Others.{history_kept}
 use Rattle.kc_machine_traces.specs.Entries.{by}
 use Rattle.kc_machine_traces.specs.Outcomes.{GainsAsTold}
-use Rattle.kc_model.specs.declared.footprint.Seen.{Seen}
 use Rattle.kc_store.proofs.Standing.{halt_told, idle_halted, stands_further, stands_halted}
 use Rattle.kc_store.specs.Answers.{own_entries}
 use Rattle.kc_store.specs.Tries.{Did}

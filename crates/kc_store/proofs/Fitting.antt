@@ -1,12 +1,11 @@
 -- Versions that are known have room in a word.
-use Rattle.std.proofs.Common.{◌≡◌, ◌≤◌, ◌<◌, Bool, true, false, ℕ, ◌+◌, List, [], refl, sym, ap, ◌∙◌, arith, subst, length, take, if◌then◌else◌}
+use Rattle.std.proofs.Common.{◌≡◌, ◌≤◌, ◌<◌, Bool, true, false, ℕ, ◌+◌, List, [], refl, ap, ◌∙◌, arith, subst, take, if◌then◌else◌}
 use Rattle.std.specs.Prelude.{nat_lt}
 use Rattle.std.proofs.lemmas.Bool.Decides.{nat_tests}
 use Rattle.kc_machine.specs.Machine.{Opening, World, run}
-use Rattle.kc_machine.specs.Schedules.{IsSchedule}
 use Rattle.kc_machine_claims.specs.Claims.{history_at, stands_for}
-use Rattle.kc_machine_claims.specs.Histories.{IsKnown, none, cell_of, ending, putting}
-use Rattle.kc_machine_claims.specs.Traces.{first_store, trace}
+use Rattle.kc_machine_claims.specs.Histories.{IsKnown, none, ending, putting}
+use Rattle.kc_machine_claims.specs.Traces.{first_store}
 use Rattle.kc_machine_histories.proofs.Growing.{stood_since}
 use Rattle.kc_machine_ranges.proofs.Runs.{words_in}
 use Rattle.kc_machine_ranges.specs.Ranges.{WordIn, WorldIn}

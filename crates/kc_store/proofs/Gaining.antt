@@ -1,11 +1,10 @@
 -- The entry of a call, and the one that overtook it.
-use Rattle.std.proofs.Common.{◌≡◌, ◌≢◌, ◌==◌, ◌<◌, ◌≤◌, true, false, ℕ, ◌+◌, List, [], ◌∷◌, ◌++◌, Option, None, Some, refl, sym, ap, ◌∙◌, arith, subst, length, append_assoc, append-nil, get_or}
+use Rattle.std.proofs.Common.{◌≡◌, ◌==◌, ◌<◌, ◌≤◌, true, ℕ, ◌+◌, [], ◌∷◌, ◌++◌, Option, None, Some, refl, sym, ap, ◌∙◌, arith, subst, append-nil, get_or}
 use Rattle.std.specs.Prelude.{All, Contains, IfSome, slice_get}
-use Rattle.std.proofs.lemmas.List.Elements.{Contains-append_left, Contains-append_right, Contains-get_or}
-use Rattle.kc_machine.specs.Machine.{Opening}
+use Rattle.std.proofs.lemmas.List.Elements.{Contains-append_right, Contains-get_or}
 use Rattle.kc_machine.specs.Seats.{is_idle}
 use Rattle.kc_machine_claims.specs.Claims.{HasPut}
-use Rattle.kc_machine_claims.specs.Histories.{EntriesDiffer, Grows, History, Placed, RisesByPlace}
+use Rattle.kc_machine_claims.specs.Histories.{History, Placed, RisesByPlace}
 use Rattle.kc_machine_histories.proofs.Filters.{found, got}
 use Rattle.kc_machine_histories.proofs.Places.{rises}
 use Rattle.kc_machine_steps.specs.declared.task.Task.TheVariants as task
@@ -20,7 +19,6 @@ use Rattle.kc_model.specs.declared.footprint.Seen.{Seen}
 use Rattle.kc_model.specs.declared.footprint.TheConstants.{LAST_VERSION}
 use Rattle.kc_store.proofs.Counting.{is_same}
 use Rattle.kc_store.proofs.Among.{filtered_in, grows_in, in_filtered, place_before, rises_filtered}
-use Rattle.kc_store.proofs.Seeing.{Fresh}
 use Rattle.kc_store.specs.Answers.{Gains, GainsNothing, WasOvertaken, own_entries, placed_entry}
 use Rattle.kc_table_moves.specs.Origins.{opening_of}
 use Rattle.kc_table_moves.specs.Views.{SeatView, knows, opening_at_seat}
@@ -28,7 +26,7 @@ use Rattle.kc_table_seats.proofs.Keeping.{failure_known, own_known, success_know
 use Rattle.kc_table_seats.specs.Tasks.{Does, Keeps}
 use Rattle.kc_table_views.proofs.Knowing.{whole}
 use Rattle.kc_table_views.specs.Known.{IsMeant, IsWhole, known}
-use Rattle.kc_table_views.specs.Tasks.{FailureTaught, SuccessTaught}
+use Rattle.kc_table_views.specs.Tasks.{SuccessTaught}
 
 -- what holds of the whole list that a seat knows
 pub does_meant : (v w : SeatView) (t : _) → Does v t w → IsMeant (opening_at_seat w) w.past
@@ -109,22 +107,25 @@ pub overtaken : (v c w : SeatView) (i : ℕ) (f : Footprint) (m : Mode) → ((r 
 overtaken v c w i f m unput same none d says =
     let (r, at, (x, p, known, puts, there, ends)) = failure_known c w i f m d says in
     let reads : Reads f r = found f.reads.items i r at in
-    let unknown : ¬ Contains (knows v) x = λ k. unput r reads (x, p, k, puts, there, ends) in
-    (r, at, record {
-      read = r;
-      reads = reads;
-      at = refl;
-      next = refl;
-      by_entry = x;
-      known = known;
-      unknown = unknown;
-      other = λ e. unknown (in_filtered (λ (y : Placed). y.entry.caller == v.number) (knows v) x
-        (subst (λ l. Contains l x) none (filtered_in (λ (y : Placed). y.entry.caller == w.number) (knows w) x (rw (e ∙ sym same) (is_same w.number)) known)));
-      put = p;
-      puts = puts;
-      there = there;
-      ends = ends;
-    })
+    let unknown : ¬ Contains (knows v) x = λ k. unput r reads (x, p, k, puts, there, ends) in (
+      r,
+      at,
+      record {
+        read = r;
+        reads = reads;
+        at = refl;
+        next = refl;
+        by_entry = x;
+        known = known;
+        unknown = unknown;
+        other = λ e. unknown (in_filtered (λ (y : Placed). y.entry.caller == v.number) (knows v) x
+            (subst (λ l. Contains l x) none (filtered_in (λ (y : Placed). y.entry.caller == w.number) (knows w) x (rw (e ∙ sym same) (is_same w.number)) known)));
+        put = p;
+        puts = puts;
+        there = there;
+        ends = ends;
+      },
+    )
 
 pub read_fits : (f : Footprint) (o : Option Seen) (i : ℕ) → IsWellMade f → o ≡ slice_get f.reads.items i → IfSome o (λ r. r.version ≤ LAST_VERSION)
 read_fits f (Some r) i w e = w.versions r (found f.reads.items i r (sym e))

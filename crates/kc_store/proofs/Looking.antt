@@ -1,5 +1,5 @@
 -- The looks of a peek, as looks of its seat.
-use Rattle.std.proofs.Common.{◌≡◌, ◌≢◌, ◌≤◌, true, false, ℕ, ◌+◌, ◌⊎◌, inl, inr, List, [], ◌∷◌, refl, sym, ap, ◌∙◌, arith, subst}
+use Rattle.std.proofs.Common.{◌≡◌, true, ℕ, List, [], ◌∷◌, refl, sym, ap, ◌∙◌, arith, subst}
 use Rattle.std.specs.Prelude.{Result, Ok, Err}
 use Rattle.kc_machine.specs.Seats.{is_idle}
 use Rattle.kc_machine_steps.specs.declared.task.Task.{Task}
@@ -10,17 +10,16 @@ use Rattle.kc_model.specs.declared.footprint.Seen.{Seen}
 use Rattle.kc_store.proofs.Counting.{left_on, none_left}
 use Rattle.kc_store.proofs.Doing.{did_keeps}
 use Rattle.kc_store.specs.Peeks.{PeekGives}
-use Rattle.kc_store.specs.Steps.{HasLeft, IsSpent, steps_made}
+use Rattle.kc_store.specs.Steps.{HasLeft}
 use Rattle.kc_store.specs.Tries.{Sees, WasTold, look_of}
-use Rattle.kc_store.specs.Works.{Advances, AllLooked, Ends, LooksAt, told_by}
+use Rattle.kc_store.specs.Works.{Advances, AllLooked, Ends, told_by}
 use Rattle.kc_store.specs.declared.looks.StorePeek.{StorePeek}
 use Rattle.kc_table_moves.specs.Views.{SeatView}
 use Rattle.kc_xt.specs.Commit.{Looked, LooksIn}
 use Rattle.kc_xt.specs.Meaning.{Meaning}
-use Rattle.kc_xt.specs.Peeks.{Looks, LookFails}
+use Rattle.kc_xt.specs.Peeks.{Looks}
 use Rattle.kc_xt.specs.declared.attempts.Tried.{Tried}
 use Rattle.kc_xt.specs.declared.attempts.Tried.TheVariants as tried
-use Rattle.kc_xt.specs.declared.line.Line.{Line}
 use Rattle.kc_xt.specs.declared.peek.PeekBusy.{PeekBusy}
 
 -- ---- a task that ended, in its call
@@ -96,13 +95,16 @@ all_seen start tried.Later p es q h l = sees_all start p es q h l
 all_seen start tried.TooLarge p es q h l = sees_all start p es q h l
 all_seen start (tried.Worn loc) p es q h l = sees_all start p es q h l
 all_seen start tried.Busy p es q h (b, l, f) =
-    let m = (went_all p es b l).advances.made in
-    (b.seat.now, sees_all start p es b h l, record {
-      loc = f.loc;
-      missing = f.missing;
-      busy = f.busy;
-      fails = sees_one start b f.loc (Err f.busy) q (left_on start p.seat.now b.seat.now p.left b.left h m) f.fails;
-    })
+    let m = (went_all p es b l).advances.made in (
+      b.seat.now,
+      sees_all start p es b h l,
+      record {
+        loc = f.loc;
+        missing = f.missing;
+        busy = f.busy;
+        fails = sees_one start b f.loc (Err f.busy) q (left_on start p.seat.now b.seat.now p.left b.left h m) f.fails;
+      },
+    )
 
 pub same_seat : (m : Meaning) (t : Tried) (p : StorePeek) (f : Footprint) (q : StorePeek) → Looked PeekGives m t p f q → q.seat.ghost_name ≡ p.seat.ghost_name
 same_seat m t p f q l = (all_went t p l.looks q l.made).name

@@ -1,5 +1,5 @@
 -- An entry finds its reads at its place.
-use Rattle.std.proofs.Common.{◌≡◌, ℕ, zero, suc, List, [], ◌∷◌, Some, refl, sym, ap, subst, take}
+use Rattle.std.proofs.Common.{◌≡◌, ℕ, zero, suc, [], ◌∷◌, Some, subst, take}
 use Rattle.std.specs.Prelude.{slice_get}
 use Rattle.kc_machine_claims.specs.Histories.{History, IsLegalHistory, Placed, ending}
 use Rattle.kc_model.specs.Store.{Store, Finds, after}

@@ -1,5 +1,5 @@
 -- What a footprint reads was looked at.
-use Rattle.std.proofs.Common.{◌≡◌, ◌≢◌, Bool, true, false, ℕ, ◌⊎◌, inl, inr, List, [], ◌∷◌, cond, refl, sym, subst}
+use Rattle.std.proofs.Common.{◌≡◌, Bool, true, false, ◌⊎◌, inl, inr, List, [], ◌∷◌, cond, subst}
 use Rattle.std.specs.Prelude.{Contains, nat_lt}
 use Rattle.kc_model.proofs.Stores.{Contains-first, Contains-later}
 use Rattle.kc_model.specs.declared.footprint.Seen.{Seen}

@@ -1,22 +1,18 @@
 -- The looks of a try: what they know, and that nothing known before put from what they saw.
-use Rattle.std.proofs.Common.{◌≡◌, ◌≢◌, ◌≤◌, ◌<◌, true, false, ℕ, ◌+◌, ◌⊎◌, inl, inr, List, [], ◌∷◌, ◌++◌, Option, Some, refl, sym, ap, ◌∙◌, arith, subst}
+use Rattle.std.proofs.Common.{◌≡◌, ℕ, ◌⊎◌, inl, inr, List, [], ◌∷◌, refl, sym, ap, ◌∙◌, arith, subst}
 use Rattle.std.specs.Prelude.{Contains, Result, Ok, Err}
-use Rattle.kc_machine.specs.Seats.{is_idle}
 use Rattle.kc_machine_claims.specs.Claims.{HasPut}
-use Rattle.kc_machine_claims.specs.Histories.{IsKnown, ending}
+use Rattle.kc_machine_claims.specs.Histories.{IsKnown}
 use Rattle.kc_machine_claims.specs.Traces.{first_store}
 use Rattle.kc_machine_histories.proofs.Insertions.{grows_on, grows_same}
-use Rattle.kc_machine_steps.specs.declared.task.Task.TheVariants as task
 use Rattle.kc_machine_steps.specs.declared.task.Told.TheVariants as told
-use Rattle.kc_model.specs.declared.footprint.Loc.{Loc}
 use Rattle.kc_model.specs.declared.footprint.Seen.{Seen}
 use Rattle.kc_store.proofs.Among.{first_or_later, grows_put, nothing_in}
 use Rattle.kc_store.proofs.Doing.{did_does, did_gains, did_keeps}
 use Rattle.kc_store.specs.Answers.{own_entries}
-use Rattle.kc_store.specs.Tries.{Did, Sees, WasTold, look_of}
+use Rattle.kc_store.specs.Tries.{Sees, look_of}
 use Rattle.kc_table_moves.specs.Views.{SeatView, knows, opening_at_seat}
 use Rattle.kc_table_seats.proofs.Keeping.{looks_saw, put_past}
-
 use Rattle.kc_table_seats.specs.Tasks.{Does, Keeps, Saw}
 use Rattle.kc_xt.specs.Peeks.{Looks}
 use Rattle.kc_xt.specs.declared.peek.PeekBusy.{PeekBusy}

@@ -1,9 +1,7 @@
 -- From what came of looks and commits to what a try answers.
-use Rattle.std.proofs.Common.{◌≡◌, ◌≢◌, ◌<◌, ◌≤◌, Bool, true, false, ℕ, ◌+◌, ◌-◌, List, [], ◌∷◌, ◌++◌, Some, refl, sym, ap, ◌∙◌, arith, subst}
-use Rattle.std.specs.Prelude.{Contains, slice_get, Err}
-use Rattle.kc_machine.specs.Seats.{is_idle}
+use Rattle.std.proofs.Common.{◌≡◌, ◌≢◌, ◌<◌, ◌≤◌, true, false, ℕ, ◌+◌, ◌-◌, List, [], ◌∷◌, ◌++◌, Some, refl, sym, ap, ◌∙◌, arith, subst}
+use Rattle.std.specs.Prelude.{Contains, Err}
 use Rattle.kc_machine_claims.specs.Claims.{HasPut}
-use Rattle.kc_machine_steps.specs.declared.task.Task.{Task}
 use Rattle.kc_machine_steps.specs.declared.task.Task.TheVariants as task
 use Rattle.kc_machine_steps.specs.declared.task.Told.{Told}
 use Rattle.kc_machine_steps.specs.declared.task.Told.TheVariants as told
@@ -17,19 +15,20 @@ use Rattle.kc_store.proofs.Doing.{did_does, did_gains, did_keeps}
 use Rattle.kc_store.proofs.Among.{grows_in}
 use Rattle.kc_store.proofs.Gaining.{all_from, gains, overtaken}
 use Rattle.kc_store.proofs.ReadLooks.{was_looked_at}
-use Rattle.kc_store.proofs.Seeing.{Fresh, keeps_same, keeps_then, look_gains_none, look_keeps, looks_fresh, looks_gain_none, looks_keep}
-use Rattle.kc_store.specs.Answers.{Gains, GainsNothing, IsBusy, Settles, WasOvertaken, own_entries, placed_entry}
+use Rattle.kc_store.proofs.Seeing.{Fresh, keeps_then, look_gains_none, look_keeps, looks_fresh, looks_gain_none, looks_keep}
+use Rattle.kc_store.specs.Answers.{Gains, GainsNothing, IsBusy, Settles, own_entries, placed_entry}
 use Rattle.kc_store.specs.Steps.{HasLeft, busy_bound}
-use Rattle.kc_store.specs.Tries.{Commits, CommitsAfter, once, again, Did, Sees, WasTold, is_crossed}
-use Rattle.kc_store.specs.Verdicts.{entered, is_final, lost_at, verdict_by}
+use Rattle.kc_store.specs.Tries.{Commits, CommitsAfter, once, again, Sees, WasTold, is_crossed}
+use Rattle.kc_store.specs.Verdicts.{entered, is_final, lost_at, verdict_by, verdict_of}
 use Rattle.kc_store.specs.Works.{is_told_committing}
+use Rattle.kc_store.specs.declared.verdict.Answered.{Answered}
+use Rattle.kc_store.specs.declared.verdict.Answered.TheVariants as answered
 use Rattle.kc_store.specs.declared.verdict.Verdict.{Verdict}
 use Rattle.kc_store.specs.declared.verdict.Verdict.TheVariants as verdict
-use Rattle.kc_table_moves.specs.Views.{SeatView, TableView, knows, opening_at_seat}
+use Rattle.kc_table_moves.specs.Views.{SeatView, TableView, knows}
 use Rattle.kc_table_seats.proofs.Causing.{worn_found}
 use Rattle.kc_table_seats.specs.Tasks.{Does, Keeps}
 use Rattle.kc_xt.specs.Commit.{Came, Looked, LooksIn, PutsWhereDone}
-use Rattle.kc_xt.specs.Lines.{seens, with_looks}
 use Rattle.kc_xt.specs.Meaning.{Meaning}
 use Rattle.kc_xt.specs.Peeks.{Looks}
 use Rattle.kc_xt.specs.declared.attempts.Tried.{Tried}
@@ -193,3 +192,10 @@ commits_after tried.Busy v f c a w n x = absurd (n refl)
 
 pub below_more : (f : Footprint) (n m : ℕ) → IsBelow n f → n ≤ m → IsBelow m f
 below_more f n m b up = λ r x. let y = b r x in omega (arith, y, up)
+
+pub final_is : (a : Answered) → is_final (verdict_of a) ≡ true
+final_is (answered.Done r) = refl
+final_is answered.Later = refl
+final_is answered.TooLarge = refl
+final_is (answered.WornLocation loc) = refl
+final_is answered.WornPool = refl

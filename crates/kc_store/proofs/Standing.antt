@@ -1,12 +1,11 @@
 -- A seat that runs a look or a commit: how it stands, behind each step.
-use Rattle.std.proofs.Common.{◌≡◌, ◌≤◌, Bool, true, false, ℕ, ◌+◌, ◌-◌, ◌&&◌, ◌==◌, List, [], Option, None, Some, refl, sym, ap, ◌∙◌, arith, subst, if◌then◌else◌}
+use Rattle.std.proofs.Common.{◌≡◌, ◌≤◌, Bool, true, false, ℕ, ◌+◌, ◌-◌, ◌&&◌, ◌==◌, [], Option, Some, refl, sym, ◌∙◌, arith, subst, if◌then◌else◌}
 use Rattle.std.specs.Prelude.{nat_lt}
-use Rattle.kc_machine.specs.Machine.{found_at, run}
-use Rattle.kc_machine.specs.Seats.{access_of, after, answer_by, answer_of, begun, begun_idle, blocked_by, ended, halted, halted_by, is_idle}
+use Rattle.kc_machine.specs.Seats.{after, answer_by, answer_of, begun, begun_idle, blocked_by, ended, halted, halted_by, is_idle}
 use Rattle.kc_machine.specs.Works.{Work}
 use Rattle.kc_machine.specs.Works as work
 use Rattle.kc_machine.specs.declared.seat.Seat.{Seat}
-use Rattle.kc_machine_commits.specs.Commits.{after_scan, commit_after, commit_onward, loaded, onward_by, own_next, scan_next, stage_next, take_next, tells_or_goes, told_of}
+use Rattle.kc_machine_commits.specs.Commits.{after_scan, commit_after, loaded, onward_by, scan_next, stage_next, take_next, tells_or_goes, told_of}
 use Rattle.kc_machine_commits.specs.Halts.{commit_halted, unowned}
 use Rattle.kc_machine_commits.specs.Nexts.{Next, Goes, Takes, Tells}
 use Rattle.kc_machine_commits.specs.declared.commit.Commit.{Commit}
@@ -15,12 +14,10 @@ use Rattle.kc_machine_commits.specs.declared.commit.OwnStep.TheVariants as own
 use Rattle.kc_machine_commits.specs.declared.commit.Stage.{Stage}
 use Rattle.kc_machine_commits.specs.declared.commit.Stage.TheVariants as stage
 use Rattle.kc_machine_steps.specs.Lines.{one_more}
-use Rattle.kc_machine_steps.specs.Looks.{halts_at_once, look_after, look_halted, look_next, look_tells, told_by}
+use Rattle.kc_machine_steps.specs.Looks.{halts_at_once, look_after, look_halted, look_next, told_by}
 use Rattle.kc_machine_steps.specs.declared.look.Look.{Look}
 use Rattle.kc_machine_steps.specs.declared.look.LookNext.{LookNext}
 use Rattle.kc_machine_steps.specs.declared.look.LookNext.TheVariants as looking
-use Rattle.kc_machine_steps.specs.declared.task.Onward.{Onward}
-use Rattle.kc_machine_steps.specs.declared.task.Onward.TheVariants as onward
 use Rattle.kc_machine_steps.specs.declared.task.Task.{Task}
 use Rattle.kc_machine_steps.specs.declared.task.Task.TheVariants as task
 use Rattle.kc_machine_steps.specs.declared.task.Told.{Told}
@@ -34,7 +31,7 @@ use Rattle.kc_machine_words.specs.declared.words.Mode.{Mode}
 use Rattle.kc_machine_words.specs.declared.words.TheConstants.{LAST_GENERATION}
 use Rattle.kc_model.specs.declared.footprint.Footprint.{Footprint}
 use Rattle.kc_model.specs.declared.footprint.Loc.{Loc}
-use Rattle.kc_store.specs.Works.{Stands, commits, is_told_committing, is_told_looking, looks, stands_in}
+use Rattle.kc_store.specs.Works.{Stands, is_told_committing, stands_in}
 use Rattle.kc_table_moves.specs.Straight.{StepsTo, here, further, Ran, begun_at}
 use Rattle.kc_table_moves.specs.Views.{SeatView, Stepped}
 use Rattle.kc_table_seats.specs.Halts.{may_halt}

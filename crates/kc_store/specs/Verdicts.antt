@@ -1,5 +1,5 @@
 -- The verdict on what came of the looks of a try, and of its commits.
-use Rattle.std.specs.Prelude.{◌≡◌, ℕ, ◌+◌, Bool, true, false, Option, None, Some, slice_get}
+use Rattle.std.specs.Prelude.{ℕ, ◌+◌, Bool, true, false, Option, None, Some, slice_get}
 use Rattle.kc_machine_steps.specs.declared.task.Told.{Told}
 use Rattle.kc_machine_steps.specs.declared.task.Told.TheVariants as told
 use Rattle.kc_model.specs.declared.footprint.Footprint.{Footprint}

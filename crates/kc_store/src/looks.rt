@@ -46,12 +46,7 @@ impl<'a> Peek for StorePeek<'a> {
 /// # Errors
 ///
 /// The look was halted, with no step left.
-fn look_at(
-    table: &KcTable,
-    seat: &mut KcSeat,
-    loc: Loc,
-    left: &mut u32,
-) -> Result<Seen, PeekBusy>
+fn look_at(table: &KcTable, seat: &mut KcSeat, loc: Loc, left: &mut u32) -> Result<Seen, PeekBusy>
     requires table { seat.old.of ≡ table.now }
     requires idle { is_idle seat.old.seat.work ≡ true }
     requires within { loc.0 < seat.old.of.origin.locations }

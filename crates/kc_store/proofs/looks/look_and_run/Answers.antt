@@ -1,4 +1,4 @@
-use Rattle.std.proofs.Common.{◌≡◌, refl, rules}
+use Rattle.std.proofs.Common.{refl, rules}
 use Rattle.kc_store.proofs.Looking.{all_looked, same_seat}
 use Rattle.kc_store.proofs.looks.look_and_run.Goals as goal
 

@@ -1,10 +1,9 @@
-use Rattle.std.proofs.Common.{◌≡◌, ◌∙◌, true, false, Some, refl, sym, ap, subst}
-use Rattle.kc_machine.specs.Seats.{is_idle}
+use Rattle.std.proofs.Common.{◌≡◌, ◌∙◌, true, refl, sym, subst}
 use Rattle.kc_machine_steps.specs.declared.task.Task.TheVariants as task
 use Rattle.kc_machine_steps.specs.declared.task.Told.TheVariants as told
 use Rattle.kc_store.proofs.Ending.{ends_late, ends_straight, free, is_look, look_of_ends, looking_told, may_be_halted, runs}
 use Rattle.kc_store.specs.Works.{is_told_looking, told_by}
-use Rattle.kc_table_seats.proofs.Running.{does_ran, ran_same}
+use Rattle.kc_table_seats.proofs.Running.{ran_same}
 use Rattle.kc_store.proofs.looks.look_at.Goals as goal
 
 pub returns-in-Some-clause-looks : goal.returns-in-Some-clause-looks

@@ -1,6 +1,6 @@
-use Rattle.std.proofs.Common.{◌≡◌, ◌∙◌, sym, ap, subst}
+use Rattle.std.proofs.Common.{◌∙◌, sym, subst}
 use Rattle.kc_machine_steps.specs.declared.task.Task.TheVariants as task
-use Rattle.kc_machine_words.specs.declared.words.Mode.TheVariants.{All, Light}
+use Rattle.kc_machine_words.specs.declared.words.Mode.TheVariants.{Light}
 use Rattle.kc_model.specs.Footprint.{IsBelow}
 use Rattle.kc_store.proofs.Crossed.{committed_again, committed_once}
 use Rattle.kc_store.proofs.Doing.{did_keeps}

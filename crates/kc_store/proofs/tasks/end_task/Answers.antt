@@ -1,4 +1,4 @@
-use Rattle.std.proofs.Common.{◌≡◌, sym, subst}
+use Rattle.std.proofs.Common.{sym, subst}
 use Rattle.kc_store.proofs.Doing.{may_run_halted, runs_may}
 use Rattle.kc_store.specs.Works.{MayRun}
 use Rattle.kc_store.proofs.tasks.end_task.Goals as goal

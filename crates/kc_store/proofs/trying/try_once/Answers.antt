@@ -1,4 +1,4 @@
-use Rattle.std.proofs.Common.{◌≡◌, ◌-◌, ◌≤◌, ◌∙◌, arith, sym, subst}
+use Rattle.std.proofs.Common.{◌-◌, ◌∙◌, arith, sym, subst}
 use Rattle.kc_model.specs.Footprint.{IsBelow}
 use Rattle.kc_store.proofs.Counting.{left_on}
 use Rattle.kc_store.proofs.Seeing.{keeps_then}

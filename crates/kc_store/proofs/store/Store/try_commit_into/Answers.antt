@@ -1,4 +1,4 @@
-use Rattle.std.proofs.Common.{◌≡◌, ◌∙◌, sym, subst}
+use Rattle.std.proofs.Common.{◌≡◌, subst}
 use Rattle.kc_store.specs.Answers.{Settles}
 use Rattle.kc_store.specs.Tries.{Tries}
 use Rattle.kc_table_seats.specs.Tasks.{Keeps}
