@@ -89,7 +89,7 @@ fn try_once<T: Transact>(
 }
 
 // What is answered where the commits were told this.
-fn verdict(told: Told, tried: Tried, footprint: &Footprint, steps: u64) -> Verdict
+pub(crate) fn verdict(told: Told, tried: Tried, footprint: &Footprint, steps: u64) -> Verdict
     requires { IsWellMade footprint.now }
     ensures { result ≡ verdict_by told tried footprint.now steps }
 {
