@@ -1,5 +1,5 @@
 -- What a caller that waits keeps: all that it knew, and its own entries while it hangs.
-use Rattle.std.proofs.Common.{◌≡◌, true, ℕ, List, [], Some, inl, refl, sym, ◌∙◌, ap, subst}
+use Rattle.std.proofs.Common.{◌≡◌, true, [], Some, inl, sym, ◌∙◌, ap, subst}
 use Rattle.arrayvec.specs.ArrayVec.{ArrayVec}
 use Rattle.kc_await.specs.Waiting.{CommitsAtLast, Ended, Hangs, changed, signalled, Waiting, none, again}
 use Rattle.kc_machine.specs.Machine.{run}
@@ -22,7 +22,7 @@ use Rattle.kc_store.specs.Commits.{AllTries, InVain, none as no_try, again as on
 use Rattle.kc_store.specs.Tries.{CommitsAfter, Tries}
 use Rattle.kc_store.specs.declared.verdict.Answered.{Answered}
 use Rattle.kc_table_moves.specs.Origins.{opening_of}
-use Rattle.kc_table_moves.specs.Views.{SeatView, Learns, Signalled, opening_at_seat}
+use Rattle.kc_table_moves.specs.Views.{SeatView, Learns, opening_at_seat}
 use Rattle.kc_table_seats.proofs.Keeping.{loads_keep}
 use Rattle.kc_table_seats.specs.Tasks.{Does, Keeps}
 use Rattle.kc_table_views.proofs.Knowing.{gains_none, owned_none}

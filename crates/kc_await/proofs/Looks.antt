@@ -1,8 +1,8 @@
 -- What a commit that waits adds to its caller's own entries.
-use Rattle.std.proofs.Common.{◌≡◌, ◌<◌, true, false, ℕ, List, [], ◌∷◌, ◌++◌, refl, sym, ◌∙◌, ap, subst, append_assoc, append-nil}
-use Rattle.std.specs.Prelude.{All, Contains}
+use Rattle.std.proofs.Common.{◌≡◌, ◌<◌, false, [], ◌∷◌, ◌++◌, sym, ◌∙◌, ap, subst, append_assoc, append-nil}
+use Rattle.std.specs.Prelude.{Contains}
 use Rattle.std.proofs.lemmas.List.Elements.{All-nil, All-push}
-use Rattle.kc_await.proofs.Keeping.{commit_keeps, hangs_none, waiting_keeps}
+use Rattle.kc_await.proofs.Keeping.{hangs_none, waiting_keeps}
 use Rattle.kc_await.specs.Looks.{Adds, AddsBehindLooks, AddsLooks, IsLook}
 use Rattle.kc_await.specs.Waiting.{CommitsAtLast, Waiting, none, again, is_later}
 use Rattle.kc_machine_claims.specs.Histories.{Placed}

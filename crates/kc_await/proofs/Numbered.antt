@@ -1,5 +1,5 @@
 -- The numbers of own entries behind a commit that waits.
-use Rattle.std.proofs.Common.{◌≡◌, ◌⊎◌, inl, inr, refl, sym, ap, subst}
+use Rattle.std.proofs.Common.{inl, inr, sym, subst}
 use Rattle.kc_await.proofs.Rising.{numbers_rise}
 use Rattle.kc_await.specs.Looks.{numbers}
 use Rattle.kc_await.specs.Waiting.{CommitsAtLast}
@@ -43,4 +43,4 @@ tries_meant m f v w t = go t.tried t.looked.made t.commits
     go tried.Busy (b, looks, gave_up) same = subst MeansIt (sym same) (did_meant b t.seen (look_of gave_up.loc) gave_up.fails.did)
 
 pub rises_at_last : (v w : SeatView) (m : Meaning) (a : Answered) (f : Footprint) → CommitsAtLast m a f v w → IsRising (numbers (own_entries w))
-rises_at_last v w m a f c = numbers_rise (opening_at_seat w) w.number w.past (tries_meant m f c.last w c.tries).0
+rises_at_last v w m a f c = numbers_rise (opening_at_seat w) w.number w.past (tries_meant m f c.tries.last w c.tries.tries).0

@@ -1,5 +1,5 @@
 -- The numbers of a caller's own entries rise.
-use Rattle.std.proofs.Common.{arith, ◌≡◌, ◌≢◌, ◌<◌, ◌≤◌, ◌⊎◌, inl, inr, ℕ, ◌++◌, ◌==◌, ◌&&◌, Bool, true, false, not, List, [], ◌∷◌, Option, None, Some, refl, sym, ap, subst, ◌∙◌, if◌then◌else◌, cond, map}
+use Rattle.std.proofs.Common.{arith, ◌≡◌, ◌≢◌, ◌<◌, ◌≤◌, ◌⊎◌, inl, inr, ℕ, ◌++◌, ◌==◌, ◌&&◌, Bool, true, false, not, List, [], ◌∷◌, Option, None, Some, refl, sym, ap, subst, ◌∙◌, if◌then◌else◌, cond}
 use Rattle.std.specs.Prelude.{Contains, nat_lt}
 use Rattle.std.specs.List.{filter}
 use Rattle.std.specs.Option.{is_some}
@@ -15,7 +15,7 @@ use Rattle.kc_machine.specs.Works as work
 use Rattle.kc_machine.specs.declared.hang.HangStep.{HangStep}
 use Rattle.kc_machine.specs.declared.hang.HangStep.TheVariants as hang
 use Rattle.kc_machine.specs.declared.seat.Seat.{Seat}
-use Rattle.kc_machine_claims.specs.Histories.{History, Placed, RisesByPlace, inserted}
+use Rattle.kc_machine_claims.specs.Histories.{History, Placed, inserted}
 use Rattle.kc_machine_claims.specs.Traces.{is_success, trace}
 use Rattle.kc_machine_commits.specs.declared.commit.Commit.{Commit}
 use Rattle.kc_machine_commits.specs.declared.commit.OwnStep.{OwnStep}

@@ -7,15 +7,13 @@ use Rattle.kc_await.specs.Hanging.{GoesOn, MayHang, MayStart, MayStep, RunsTask,
 use Rattle.kc_await.specs.HangingView.{HangingView}
 use Rattle.kc_await.specs.declared.hang_state.HangState.{HangState}
 use Rattle.kc_await.specs.declared.hang_state.HangState.TheVariants.{Going, Hung, Leaving, Free}
-use Rattle.kc_machine.specs.Machine.{found_at}
 use Rattle.kc_machine.specs.Schedules.{IsWellMadeTask}
-use Rattle.kc_machine.specs.Seats.{access_of, answer_of, begun, begun_idle, hanging, is_idle, working}
+use Rattle.kc_machine.specs.Seats.{begun, hanging, is_idle, working}
 use Rattle.kc_machine.specs.Works.{Work}
 use Rattle.kc_machine.specs.Works as work
 use Rattle.kc_machine.specs.declared.seat.Seat.{Seat}
 use Rattle.kc_machine_steps.specs.declared.task.Task.{Task}
 use Rattle.kc_machine_steps.specs.declared.task.Task.TheVariants as task
-use Rattle.kc_machine_words.specs.declared.access.Found.{Found}
 use Rattle.kc_model.specs.declared.footprint.Seen.{Seen}
 use Rattle.kc_model.specs.declared.footprint.TheConstants.{MOST}
 use Rattle.kc_table_moves.specs.Views.{KnowsReads, SeatView, Starts, Stepped}

@@ -1,12 +1,12 @@
 -- A seat that hangs or leaves, behind each of its steps.
-use Rattle.std.proofs.Common.{◌≡◌, Bool, true, false, ℕ, ◌==◌, List, Option, None, Some, refl, sym, ◌∙◌, ap, subst, if◌then◌else◌}
+use Rattle.std.proofs.Common.{◌≡◌, Bool, true, false, ℕ, ◌==◌, List, Option, None, Some, refl, if◌then◌else◌}
 use Rattle.std.specs.Prelude.{slice_get}
 use Rattle.arrayvec.specs.ArrayVec.{ArrayVec}
-use Rattle.kc_await.specs.Hanging.{GoesOn, MayHang, RunsTask, Shows, is_under_way, state_at, task_in}
+use Rattle.kc_await.specs.Hanging.{MayHang, RunsTask, Shows, is_under_way, state_at, task_in}
 use Rattle.kc_await.specs.declared.hang_state.HangState.{HangState}
 use Rattle.kc_await.specs.declared.hang_state.HangState.TheVariants.{Going, Hung, Leaving, Free}
-use Rattle.kc_machine.specs.Hangs.{after_clear, after_set, clear_or_changed, hang_after, hang_next, hang_onward, hang_step, hangs_on, leave_after, leave_onward, leaves_on, look_goes_on, look_of, look_or_end, looked, next_read, onward_of, unblocks_or_tells}
-use Rattle.kc_machine.specs.Seats.{after, answer_by, answer_of, is_idle}
+use Rattle.kc_machine.specs.Hangs.{clear_or_changed, hang_next, hang_step, hangs_on, leaves_on, look_goes_on, look_of, look_or_end, next_read, onward_of, unblocks_or_tells}
+use Rattle.kc_machine.specs.Seats.{after, answer_by, answer_of}
 use Rattle.kc_machine.specs.Waits.{Hang, Leave}
 use Rattle.kc_machine.specs.Works.{Work}
 use Rattle.kc_machine.specs.Works as work

@@ -1,15 +1,13 @@
 -- A commit that waits, between two tries.
-use Rattle.std.proofs.Common.{◌≡◌, ◌≢◌, ◌<◌, ◌≤◌, true, false, ℕ, Some, refl, sym, ◌∙◌, ap, subst, arith, get_or}
+use Rattle.std.proofs.Common.{◌≡◌, ◌≢◌, ◌<◌, ◌≤◌, true, false, ℕ, refl, subst, arith, get_or}
 use Rattle.std.specs.Prelude.{All}
 use Rattle.std.proofs.lemmas.List.Elements.{Contains-get_or}
 use Rattle.arrayvec.specs.ArrayVec.{ArrayVec}
-use Rattle.kc_await.proofs.Keeping.{at_last_keeps, waiting_keeps}
 use Rattle.kc_await.specs.Hanging.{Shows, is_under_way}
-use Rattle.kc_await.specs.Waiting.{CommitsAtLast, Ended, Hangs, changed, signalled, Waiting, none, again, is_later}
+use Rattle.kc_await.specs.Waiting.{CommitsAtLast, Hangs, changed, signalled, Waiting, none, again, is_later}
 use Rattle.kc_await.specs.declared.hang_state.HangState.{HangState}
 use Rattle.kc_await.specs.declared.hang_state.HangState.TheVariants.{Going, Hung, Leaving, Free}
 use Rattle.kc_machine.specs.Seats.{is_idle}
-use Rattle.kc_machine.specs.declared.seat.Seat.{Seat}
 use Rattle.kc_machine_steps.specs.declared.task.Task.TheVariants as task
 use Rattle.kc_model.specs.Footprint.{IsBelow}
 use Rattle.kc_model.specs.declared.footprint.Footprint.{Footprint}

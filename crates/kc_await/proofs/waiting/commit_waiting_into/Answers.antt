@@ -1,4 +1,4 @@
-use Rattle.std.proofs.Common.{◌≡◌, true, ◌∙◌, sym, ap, subst}
+use Rattle.std.proofs.Common.{◌∙◌, sym, ap, subst}
 use Rattle.kc_await.proofs.Keeping.{waiting_keeps}
 use Rattle.kc_await.proofs.SomeRead.{waits_reads}
 use Rattle.kc_await.proofs.Waits.{all_below, later_is, not_yet, waits_on}

@@ -2,8 +2,7 @@ use Rattle.std.proofs.Common.{◌≡◌, false, ap, subst, ◌∙◌}
 use Rattle.kc_await.proofs.Waits.{hangs_at_once, hangs_signalled}
 use Rattle.kc_await.specs.Hanging.{Shows, task_of}
 use Rattle.kc_await.specs.HangingView.{HangingView}
-use Rattle.kc_await.specs.declared.hang_state.HangState.TheVariants.{Going, Hung, Leaving}
-use Rattle.kc_machine_steps.specs.declared.task.Task.TheVariants as task
+use Rattle.kc_await.specs.declared.hang_state.HangState.TheVariants.{Hung, Leaving}
 use Rattle.kc_table_seats.specs.Tasks.{Does}
 use Rattle.kc_await.proofs.waiting.wait_for_a_change.Goals as goal
 
