@@ -12,6 +12,7 @@ mod tests;
 mod trying;
 mod values;
 mod verdict;
+mod waiting;
 
 pub use kc_table::Past;
 pub use laws::answers_hold_at_their_place;

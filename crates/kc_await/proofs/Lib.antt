@@ -1,0 +1,8 @@
+pub mod Tasks
+pub mod Steps
+pub mod SomeRead
+pub mod Keeping
+pub mod Looks
+pub mod Waits
+pub mod Rising
+pub mod Numbered

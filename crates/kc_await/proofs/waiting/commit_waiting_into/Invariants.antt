@@ -1,0 +1,6 @@
+use Rattle.kc_await.proofs.Waits.{StillWaits}
+use Rattle.kc_await.proofs.waiting.commit_waiting_into.Given as goal
+
+abbrev pub invariant-tries : goal.invariant-tries
+invariant-tries g l =
+    (goal.iterator-tries g).can_next l.iterator' × (goal.iterator-tries g).is_finite l.iterator' × StillWaits (g.T.Transact.meaning l.transaction) l.fn.caller l.caller
