@@ -58,7 +58,10 @@ fn a_hang_on_what_has_changed_is_free_at_once(rt: HostRuntime) -> Result<(), Fai
     };
     let mut footprint = Footprint::new();
     let one = LocOp::Check(Loc(0), Rel::Eq, 1);
-    assert_eq!(rt; store.try_commit_into(&mut b, &one, &mut footprint), Verdict::Later);
+    assert_eq!(rt;
+        store.try_commit_into(&mut b, &one, &mut footprint),
+        Verdict::Later
+    );
     let mut hanging = Hanging::begin(&footprint);
     commit_waiting(&rt, &store, &mut a, &LocOp::Set(Loc(0), 1));
     assert_eq!(rt; hang_step(&store, &mut b, &mut hanging), HangState::Going);

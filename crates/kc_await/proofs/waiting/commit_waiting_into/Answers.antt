@@ -35,6 +35,9 @@ wait_for_a_change-requires-clause-below g c =
 
 pub tries-preserved : goal.tries-preserved
 tries-preserved g c =
-    let r = c.commit_into-answered in
-    (tt, tt, waits_on _ c.args.caller.now c.tries.caller r.new.caller c.wait_for_a_change.new.caller r.new.footprint r.result c.tries.invariant.2 r.ensures.tries r.ensures.settles (sym c.if-not-is_later.ensures)
-      (c.wait_for_a_change.ensures.hangs, c.wait_for_a_change.ensures.free))
+    let r = c.commit_into-answered in (
+      tt,
+      tt,
+      waits_on _ c.args.caller.now c.tries.caller r.new.caller c.wait_for_a_change.new.caller r.new.footprint r.result c.tries.invariant.2 r.ensures.tries r.ensures.settles (sym c.if-not-is_later.ensures)
+          (c.wait_for_a_change.ensures.hangs, c.wait_for_a_change.ensures.free),
+    )

@@ -21,6 +21,9 @@ returns-then-not-is_under_way-clause-hanging g c =
 
 pub steps-preserved : goal.steps-preserved
 steps-preserved g c =
-    let r = c.hang_step-state in
-    (tt, tt, subst (λ k. Stepping c.args.hanging.now c.args.caller.now k r.new.caller) (sym r.ensures.hanging)
-      (goes_on c.args.hanging.now c.args.caller.now c.requires.start.0 c.requires.start.1 c.steps.hanging c.steps.caller c.steps.invariant.2 r.new.caller r.ensures.first r.ensures.further r.result r.ensures.shows (sym c.if-not-is_under_way.ensures)))
+    let r = c.hang_step-state in (
+      tt,
+      tt,
+      subst (λ k. Stepping c.args.hanging.now c.args.caller.now k r.new.caller) (sym r.ensures.hanging)
+          (goes_on c.args.hanging.now c.args.caller.now c.requires.start.0 c.requires.start.1 c.steps.hanging c.steps.caller c.steps.invariant.2 r.new.caller r.ensures.first r.ensures.further r.result r.ensures.shows (sym c.if-not-is_under_way.ensures)),
+    )
