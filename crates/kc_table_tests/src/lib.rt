@@ -2,4 +2,8 @@
 #![tactic(auto)]
 
 #[cfg(test)]
+mod contending;
+#[cfg(test)]
+mod stopped;
+#[cfg(test)]
 mod tests;

@@ -13,7 +13,7 @@ use std::test::Fail;
 use std::thread;
 
 // A table of these values, and the seats of two callers.
-fn open_two(rt: &HostRuntime, values: &[u32]) -> Option<(KcTable, KcSeat, KcSeat)>
+pub(crate) fn open_two(rt: &HostRuntime, values: &[u32]) -> Option<(KcTable, KcSeat, KcSeat)>
     ensures { IfSome result (λ t. (t.1.of ≡ t.0) × (t.2.of ≡ t.0) × (t.0.origin.locations ≡ length values.now) × (t.1.number ≡ 0) × (t.2.number ≡ 1) × (t.0.origin.callers ≡ 2) × (t.2.seat.blocked ≡ false)) }
 {
     let Ok((table, mut seats)) = KcTable::open(rt.alloc(), values, 2) else {
@@ -25,7 +25,7 @@ fn open_two(rt: &HostRuntime, values: &[u32]) -> Option<(KcTable, KcSeat, KcSeat
 }
 
 // Steps until the task has ended, at most so many; how many were made. What it read it still knows.
-fn steps(table: &KcTable, seat: &mut KcSeat, reads: &[Seen], most: u32) -> u32
+pub(crate) fn steps(table: &KcTable, seat: &mut KcSeat, reads: &[Seen], most: u32) -> u32
     requires table { seat.old.of ≡ table.now }
     requires reads { All (KnowsRead seat.old) reads.now }
     ensures same { IsSameSeat seat.old seat.new }
@@ -41,7 +41,7 @@ fn steps(table: &KcTable, seat: &mut KcSeat, reads: &[Seen], most: u32) -> u32
 }
 
 // What a look of the location tells.
-fn look(table: &KcTable, seat: &mut KcSeat, reads: &[Seen], loc: Loc) -> Option<Seen>
+pub(crate) fn look(table: &KcTable, seat: &mut KcSeat, reads: &[Seen], loc: Loc) -> Option<Seen>
     requires table { seat.old.of ≡ table.now }
     requires location { loc.0 < seat.old.of.origin.locations }
     requires reads { All (KnowsRead seat.old) reads.now }
@@ -67,7 +67,7 @@ fn look(table: &KcTable, seat: &mut KcSeat, reads: &[Seen], loc: Loc) -> Option<
 }
 
 // What looks of the first two locations tell.
-fn look_both(table: &KcTable, seat: &mut KcSeat) -> Option<[Seen; 2]>
+pub(crate) fn look_both(table: &KcTable, seat: &mut KcSeat) -> Option<[Seen; 2]>
     requires table { seat.old.of ≡ table.now }
     requires locations { 1 < seat.old.of.origin.locations }
     ensures same { IsSameSeat seat.old seat.new }
@@ -100,7 +100,7 @@ fn footprint(reads: &[Seen], puts: &[Option<u32>]) -> Footprint
 }
 
 // Begins a commit of these reads and puts; false where a task runs, or it is none.
-fn begin(seat: &mut KcSeat, mode: Mode, reads: &[Seen], puts: &[Option<u32>]) -> bool
+pub(crate) fn begin(seat: &mut KcSeat, mode: Mode, reads: &[Seen], puts: &[Option<u32>]) -> bool
     requires reads { All (KnowsRead seat.old) reads.now }
     ensures same { IsSameSeat seat.old seat.new }
     ensures reads { All (KnowsRead seat.new) reads.now }
@@ -114,7 +114,13 @@ fn begin(seat: &mut KcSeat, mode: Mode, reads: &[Seen], puts: &[Option<u32>]) ->
 }
 
 // Runs a commit of these reads and puts in one call; false where a task runs, or it is none.
-fn run(table: &KcTable, seat: &mut KcSeat, mode: Mode, reads: &[Seen], puts: &[Option<u32>]) -> bool
+pub(crate) fn run(
+    table: &KcTable,
+    seat: &mut KcSeat,
+    mode: Mode,
+    reads: &[Seen],
+    puts: &[Option<u32>],
+) -> bool
     requires table { seat.old.of ≡ table.now }
     requires reads { All (KnowsRead seat.old) reads.now }
     ensures same { IsSameSeat seat.old seat.new }
@@ -185,7 +191,7 @@ fn leave(seat: &mut KcSeat, read: Seen) -> bool
 }
 
 // Both seats, where no task runs.
-fn together(
+pub(crate) fn together(
     rt: &HostRuntime,
     table: &KcTable,
     first: KcSeat,
