@@ -1,5 +1,5 @@
 -- A commit of the only seat: how many steps it makes, and what it is told.
-use Rattle.std.proofs.Common.{Some, ap, arith, false, inl, inr, refl, subst, sym, true, ℕ, ◌<◌, ◌∙◌, ◌≡◌, ◌++◌}
+use Rattle.std.proofs.Common.{Some, ap, arith, false, inl, inr, refl, subst, suc, sym, true, ℕ, ◌<◌, ◌∙◌, ◌≡◌, ◌≤◌, ◌++◌}
 use Rattle.kc_machine.specs.Machine.{Opening, State, World, run}
 use Rattle.kc_machine.specs.Schedules.{IsWellMadeTask}
 use Rattle.kc_machine.specs.Seats.{begun, begun_idle, is_idle}
@@ -27,7 +27,7 @@ use Rattle.kc_model.specs.declared.footprint.Footprint.{Footprint}
 use Rattle.kc_model.specs.declared.footprint.TheConstants.{MOST}
 use Rattle.kc_model.specs.declared.plain_store.Cell.{Cell}
 use Rattle.kc_table_moves.specs.Origins.{opening_of}
-use Rattle.kc_table_moves.specs.Straight.{Ran, begun_at}
+use Rattle.kc_table_moves.specs.Straight.{Ran, StepsTo, begun_at, further, here}
 use Rattle.kc_table_moves.specs.Views.{SeatView, TableView, Starts, knows, opening_at_seat}
 use Rattle.kc_table_seats.proofs.Causing.{crossed_so, worn_found}
 use Rattle.kc_table_seats.proofs.Keeping.{failure_known, own_known, put_past}
@@ -38,7 +38,7 @@ use Rattle.kc_table_seats.specs.Tasks.{Does}
 use Rattle.kc_table_seats.specs.Told.{IsUndecided}
 use Rattle.kc_table_sole.proofs.Alone.{Along, along}
 use Rattle.kc_table_sole.proofs.Bounding.{bounded, stands_at}
-use Rattle.kc_table_sole.proofs.Knowing.{knows_same}
+use Rattle.kc_table_sole.proofs.Knowing.{knows_same, rests_so}
 use Rattle.kc_table_sole.proofs.Running.{Stands, ends, is_end, owns, searches, worn}
 use Rattle.kc_table_sole.specs.Sole.{HasNoLife, IsMadeOrWorn, IsSole, count, standing, words_at}
 
@@ -132,7 +132,7 @@ module _ (v w : SeatView) (f : Footprint) (r : Ran v (task.Commit f All) w) (sol
     made_or_worn = go (stands_at o sole k x.within x.base x.meant.0 (searches commit base_work refl refl) n)
       where
         worn_so : w.seat.told ≡ Some told.Worn → IsMadeOrWorn v w
-        worn_so e = inr (e, worn_out e, record { knows = knows_same v w t sole does (gained told.Worn e); generations = λ d i. ((words e i).control d).generation })
+        worn_so e = inr (e, worn_out e, rests_so v w does.of (knows_same v w t sole does (gained told.Worn e)) (words e))
 
         by_told : (a : Told) → w.seat.told ≡ Some a → is_end a ≡ true → IsMadeOrWorn v w
         by_told (told.Succeeded m) e y = inl (m, e, lives m e)
@@ -153,3 +153,18 @@ module _ (v w : SeatView) (f : Footprint) (r : Ran v (task.Commit f All) w) (sol
         go (owns c is q a) = busy c is
         go (worn is q same) = worn_so (ap (λ (s : Seat). s.told) seat_is ∙ q)
         go (ends a is q y) = by_told a (ap (λ (s : Seat). s.told) seat_is ∙ q) y
+
+-- with its last step
+pub ends_within : (v w : SeatView) (f : Footprint) (r : Ran v (task.Commit f All) w) → IsSole v → is_idle v.seat.work ≡ true → count (begun_at v (task.Commit f All)) w r.steps ≤ stretch 1 MOST
+ends_within v w f r sole idle = go w r.steps r.shown (count (begun_at v t) w r.steps) refl
+  where
+    t : Task
+    t = task.Commit f All
+
+    last : (u : SeatView) (d : StepsTo (begun_at v (task.Commit f All)) u) → is_idle u.seat.work ≡ false → suc (count (begun_at v (task.Commit f All)) u d) ≤ stretch 1 MOST
+    last u here busy = omega arith
+    last u (further x _ d b s) busy = let l = ends_soon v u f (record { steps = further x u d b s; shown = s.began }) sole idle busy in omega (arith, l)
+
+    go : (w : SeatView) (d : StepsTo (begun_at v (task.Commit f All)) w) → w.began ≡ false → (n : ℕ) → n ≡ count (begun_at v (task.Commit f All)) w d → n ≤ stretch 1 MOST
+    go w here old n e = absurd (cc)
+    go w (further u _ d busy s) old n e = let l = last u d busy in omega (arith, l, e)

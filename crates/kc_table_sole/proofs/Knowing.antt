@@ -4,14 +4,16 @@ use Rattle.std.specs.Prelude.{All}
 use Rattle.std.proofs.lemmas.List.Elements.{All-head, All-tail}
 use borrow.Author.Tests.{eq-eqb}
 use Rattle.kc_machine.specs.Machine.{Opening}
-use Rattle.kc_machine_claims.specs.Histories.{History, Placed}
+use Rattle.kc_machine_claims.specs.Histories.{History, Placed, ending}
+use Rattle.kc_machine_claims.specs.Traces.{first_store}
 use Rattle.kc_machine_steps.specs.declared.task.Event.{Event}
 use Rattle.kc_machine_steps.specs.declared.task.Task.{Task}
 use Rattle.kc_machine_traces.proofs.Entries.{entries_of_callers}
 use Rattle.kc_machine_traces.specs.Entries.{by}
+use Rattle.kc_table_moves.specs.Origins.{opening_of}
 use Rattle.kc_table_moves.specs.Views.{SeatView, TableView, knows, opening_at_seat}
 use Rattle.kc_table_seats.specs.Tasks.{Does}
-use Rattle.kc_table_sole.specs.Sole.{IsSole}
+use Rattle.kc_table_sole.specs.Sole.{IsSole, Rests, words_at}
 use Rattle.kc_table_views.specs.Known.{known}
 
 all_by : (k n : ℕ) (h : History) → n ≡ 1 → k ≡ 0 → All (λ (x : Placed). x.entry.caller < n) h → by k h ≡ h
@@ -39,3 +41,11 @@ own_behind v w t sole d =
 -- where it gained none
 pub knows_same : (v w : SeatView) (t : Task) → IsSole v → Does v t w → by v.number (knows w) ≡ by v.number (knows v) → knows w ≡ knows v
 knows_same v w t sole d e = sym (own_behind v w t sole d) ∙ ap (λ k. by k (knows w)) d.number ∙ e ∙ own_before v w t sole d
+
+-- and what stood stands
+pub rests_so : (v w : SeatView) → w.of ≡ v.of → knows w ≡ knows v → words_at w ≡ words_at v → Rests v w
+rests_so v w of e words = record {
+  stands = λ i. ending (first_store (opening_of (of i).origin)) (e i);
+  knows = e;
+  generations = λ d i. ((words i).control d).generation;
+}

@@ -28,7 +28,7 @@ use Rattle.kc_table_seats.proofs.Keeping.{own_known}
 use Rattle.kc_table_seats.proofs.Running.{does_ran}
 use Rattle.kc_table_seats.specs.Tasks.{Does}
 use Rattle.kc_table_sole.proofs.Alone.{Along, along}
-use Rattle.kc_table_sole.proofs.Knowing.{knows_same}
+use Rattle.kc_table_sole.proofs.Knowing.{knows_same, rests_so}
 use Rattle.kc_table_sole.proofs.Steps.{next_alone, none_yet}
 use Rattle.kc_table_sole.specs.Sole.{IsSole, TellsWhatStands, count, standing, words_at}
 use Rattle.kc_table_views.proofs.Knowing.{plain_words}
@@ -125,10 +125,7 @@ module _ (v : SeatView) (l : Loc) (sole : IsSole v) (idle : is_idle v.seat.work 
       record {
         idle = x.idle;
         told = x.told;
-        rests = record {
-          knows = knows_same v w t sole does (subst (λ a. GainsAsTold k t a (by k (knows v)) (by k (knows w))) x.told (own_known v w t does x.idle));
-          generations = λ d i. ((x.words i).control d).generation;
-        };
+        rests = rests_so v w does.of (knows_same v w t sole does (subst (λ a. GainsAsTold k t a (by k (knows v)) (by k (knows w))) x.told (own_known v w t does x.idle))) x.words;
         one = one;
       }
 

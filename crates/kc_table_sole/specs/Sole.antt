@@ -27,8 +27,9 @@ words_at v = (run (opening_at_seat v) v.past).world
 abbrev pub HasNoLife : SeatView → Type 0
 HasNoLife v = IsWornOut (opening_at_seat v) v.past
 
--- it knows what it knew, and each descriptor stands at its generation
+-- what stood stands, in the same history, and each descriptor is at its generation
 pub record Rests (v w : SeatView) : Type 0 where
+  pub stands : standing w ≡ standing v
   pub knows : knows w ≡ knows v
   pub generations : (d : ℕ) → ((words_at w).control d).generation ≡ ((words_at v).control d).generation
 

@@ -1,6 +1,6 @@
 //! Tasks of the only seat of a table. An empty body: the contract is the law.
 
-ghost use Rattle.std.specs.Prelude.{◌≡◌, ◌<◌, true, false};
+ghost use Rattle.std.specs.Prelude.{◌≡◌, ◌<◌, ◌≤◌, true, false};
 ghost use Rattle.kc_machine.specs.Schedules.{IsWellMadeTask};
 ghost use Rattle.kc_machine.specs.Seats.{is_idle};
 ghost use Rattle.kc_machine_alone.specs.Stretches.{stretch};
@@ -28,10 +28,10 @@ pub fn sole_looks_tell_what_stands()
     ensures { (v w : SeatView) (l : Loc) (r : Ran v (task.Look l) w) → IsSole v → is_idle v.seat.work ≡ true → l.0 < v.of.origin.locations → TellsWhatStands v l w (count (begun_at v (task.Look l)) w r.steps) }
 {}
 
-/// While a commit of the only seat runs it has made few steps: it meets no other, so it begins no aid.
+/// A commit of the only seat ends within few steps: it meets no other, so it begins no aid.
 pub fn sole_commits_end()
-    ensures { (v w : SeatView) (f : Footprint) (r : Ran v (task.Commit f All) w) → IsSole v → is_idle v.seat.work ≡ true → IsWellMadeTask v.of.origin.locations (task.Commit f All) → is_idle w.seat.work ≡ false
-        → count (begun_at v (task.Commit f All)) w r.steps < stretch 1 MOST }
+    ensures busy { (v w : SeatView) (f : Footprint) (r : Ran v (task.Commit f All) w) → IsSole v → is_idle v.seat.work ≡ true → is_idle w.seat.work ≡ false → count (begun_at v (task.Commit f All)) w r.steps < stretch 1 MOST }
+    ensures all { (v w : SeatView) (f : Footprint) (r : Ran v (task.Commit f All) w) → IsSole v → is_idle v.seat.work ≡ true → count (begun_at v (task.Commit f All)) w r.steps ≤ stretch 1 MOST }
 {}
 
 /// A commit of the only seat whose reads are what stands is made; or it is told Worn, exactly where no descriptor has a life left, and

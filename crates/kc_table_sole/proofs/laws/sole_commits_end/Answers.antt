@@ -1,5 +1,8 @@
-use Rattle.kc_table_sole.proofs.Ending.{ends_soon}
+use Rattle.kc_table_sole.proofs.Ending.{ends_soon, ends_within}
 use Rattle.kc_table_sole.proofs.laws.sole_commits_end.Goals as goal
 
-pub returns : goal.returns
-returns c = λ v w f r sole idle made busy. ends_soon v w f r sole idle busy
+pub returns-clause-busy : goal.returns-clause-busy
+returns-clause-busy c = ends_soon
+
+pub returns-clause-all : goal.returns-clause-all
+returns-clause-all c = ends_within
