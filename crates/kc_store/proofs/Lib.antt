@@ -12,3 +12,6 @@ pub mod Placing
 pub mod Crossed
 pub mod Settling
 pub mod Back
+pub mod LoneLooking
+pub mod LoneCommits
+pub mod Concluding

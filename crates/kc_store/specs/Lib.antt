@@ -6,3 +6,6 @@ pub mod Peeks
 pub mod Verdicts
 pub mod Commits
 pub mod Values
+pub mod Alone
+pub mod Lone
+pub mod LoneLooks

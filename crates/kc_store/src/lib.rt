@@ -1,10 +1,12 @@
 //! Transactions on a store that threads share with no lock.
 #![tactic(auto)]
 
+mod alone;
 mod committing;
 mod laws;
 mod looks;
 mod notes;
+mod sole_peek;
 mod store;
 mod tasks;
 #[cfg(test)]
@@ -14,6 +16,7 @@ mod values;
 mod verdict;
 mod waiting;
 
+pub use alone::Sole;
 pub use kc_table::Past;
 pub use laws::answers_hold_at_their_place;
 pub use notes::Note;

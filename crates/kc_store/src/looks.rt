@@ -100,8 +100,8 @@ pub(crate) fn look_and_run<T: Transact>(
     tried
 }
 
-// An attempt that hands back the peek alone: of one inside a pair no proof follows what it borrows.
-fn attempt_on<P: Peek, T: Transact>(
+/// An attempt that hands back the peek alone: of one inside a pair no proof follows what it borrows.
+pub(crate) fn attempt_on<P: Peek, T: Transact>(
     peek: P,
     transaction: &T,
     footprint: &mut Footprint,

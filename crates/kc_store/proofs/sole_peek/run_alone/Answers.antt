@@ -1,0 +1,8 @@
+use Rattle.std.proofs.Common.{refl, rules}
+use Rattle.kc_store.proofs.LoneLooking.{all_alone, same_seat}
+use Rattle.kc_store.proofs.sole_peek.run_alone.Goals as goal
+
+pub returns-clause-looked : goal.returns-clause-looked
+returns-clause-looked g c =
+    let e = same_seat _ _ _ _ _ c.attempt_on.ensures.looked in
+    all_alone _ _ _ _ _ _ _ c.attempt_on.ensures.looked refl (search rules)

@@ -1,0 +1,166 @@
+//! Transactions by the only caller of a store.
+
+ghost use Rattle.std.specs.Prelude.{◌≡◌, ◌≤◌, ◌+◌, true, Some, length};
+ghost use Rattle.kc_machine.specs.Seats.{is_idle};
+ghost use Rattle.kc_machine_steps.specs.Lines.{lines_of};
+ghost use Rattle.kc_machine_steps.specs.declared.task.Task.TheVariants as task;
+ghost use Rattle.kc_machine_words.specs.declared.words.Mode.TheVariants as mode;
+ghost use Rattle.kc_model.specs.Footprint.{IsBelow, IsWellMade};
+ghost use Rattle.kc_model.specs.Store.{Finds};
+ghost use Rattle.kc_model.specs.declared.footprint.TheConstants.{MOST};
+ghost use Rattle.kc_table_moves.specs.Views.{KnowsReads};
+ghost use Rattle.kc_table_seats.specs.Tasks.{Keeps};
+ghost use Rattle.kc_table_sole.specs.Sole.{standing};
+ghost use Rattle.kc_store.specs.Alone.{AnswersAlone, EndsAlone, Says};
+ghost use Rattle.kc_store.specs.Lone.{CommitsAlone, is_worn};
+ghost use Rattle.kc_store.specs.Steps.{steps_made};
+
+use crate::sole_peek::run_alone;
+use crate::store::{Caller, Store};
+use crate::values::Wear;
+use crate::verdict::Answered;
+use arrayvec::ArrayVec;
+use kc_machine_steps::{Line, Told, fill_lines};
+use kc_machine_words::Mode;
+use kc_model::{Footprint, MOST, Reply};
+use kc_table::{KcSeat, KcTable};
+use kc_xt::{Transact, Tried};
+
+/// What a transaction by the only caller answers, with what it read and put.
+#[derive(Debug, Drop)]
+pub enum Sole {
+    Done { reply: Reply, footprint: Footprint },
+    /// It would wait, and nobody is there who could change what it read.
+    Later { footprint: Footprint },
+    /// It would touch more than `MOST` locations.
+    TooLarge { footprint: Footprint },
+    Worn(Wear),
+}
+
+impl Sole {
+    fn of(answered: Answered, footprint: Footprint) -> Sole
+        ensures { Says result answered footprint }
+    {
+        match answered {
+            Answered::Done(reply) => Sole::Done { reply, footprint },
+            Answered::Later => Sole::Later { footprint },
+            Answered::TooLarge => Sole::TooLarge { footprint },
+            Answered::WornLocation(loc) => Sole::Worn(Wear::Location { loc, footprint }),
+            Answered::WornPool => Sole::Worn(Wear::Pool),
+        }
+    }
+}
+
+impl Store {
+    /// A transaction by the only caller, of a store that was opened for one: it is told exactly what the transaction comes to on
+    /// what stands, or what is worn out. The footprint is filled with what stood at each location touched, and at Done with
+    /// what it put. It takes no memory, never waits, and makes at most 8,192 steps.
+    pub fn sole_into<T: Transact>(
+        &mut self,
+        caller: &mut Caller,
+        transaction: &T,
+        footprint: &mut Footprint,
+    ) -> Answered
+        requires alone { self.old.origin.callers ≡ 1 }
+        requires caller { caller.old.of ≡ self.old }
+        requires idle { is_idle caller.old.seat.work ≡ true }
+        requires fit { T.is_fit transaction.now }
+        requires within { T.end transaction.now ≤ self.old.origin.locations }
+        ensures store { self.new ≡ self.old }
+        ensures ends { EndsAlone (T.meaning transaction.now) result caller.old footprint.new caller.new }
+        ensures steps { steps_made caller.new ≤ steps_made caller.old + 8192 }
+        ensures keeps { Keeps caller.old caller.new }
+        ensures idle { is_idle caller.new.seat.work ≡ true }
+        ensures blocked { caller.new.seat.blocked ≡ caller.old.seat.blocked }
+        ensures within { IsBelow (T.end transaction.now) footprint.new }
+    {
+        end_alone(
+            &self.table,
+            &mut caller.seat,
+            &mut caller.lines,
+            transaction,
+            footprint,
+        )
+    }
+
+    /// A transaction by the only caller, answered by value: see `sole_into`.
+    pub fn sole<T: Transact>(&mut self, caller: &mut Caller, transaction: &T) -> Sole
+        requires alone { self.old.origin.callers ≡ 1 }
+        requires caller { caller.old.of ≡ self.old }
+        requires idle { is_idle caller.old.seat.work ≡ true }
+        requires fit { T.is_fit transaction.now }
+        requires within { T.end transaction.now ≤ self.old.origin.locations }
+        ensures store { self.new ≡ self.old }
+        ensures ends { AnswersAlone (T.meaning transaction.now) (T.end transaction.now) result caller.old caller.new }
+        ensures steps { steps_made caller.new ≤ steps_made caller.old + 8192 }
+        ensures keeps { Keeps caller.old caller.new }
+        ensures idle { is_idle caller.new.seat.work ≡ true }
+        ensures blocked { caller.new.seat.blocked ≡ caller.old.seat.blocked }
+    {
+        let mut footprint = Footprint::new();
+        let answered = self.sole_into(caller, transaction, &mut footprint);
+        Sole::of(answered, footprint)
+    }
+}
+
+// The transaction, by the only seat of the table and with room for the lines.
+fn end_alone<T: Transact>(
+    table: &KcTable,
+    seat: &mut KcSeat,
+    lines: &mut ArrayVec<Line, MOST>,
+    transaction: &T,
+    footprint: &mut Footprint,
+) -> Answered
+    requires alone { table.now.origin.callers ≡ 1 }
+    requires table { seat.old.of ≡ table.now }
+    requires idle { is_idle seat.old.seat.work ≡ true }
+    requires fit { T.is_fit transaction.now }
+    requires within { T.end transaction.now ≤ table.now.origin.locations }
+    ensures ends { EndsAlone (T.meaning transaction.now) result seat.old footprint.new seat.new }
+    ensures steps { steps_made seat.new ≤ steps_made seat.old + 8192 }
+    ensures keeps { Keeps seat.old seat.new }
+    ensures idle { is_idle seat.new.seat.work ≡ true }
+    ensures blocked { seat.new.seat.blocked ≡ seat.old.seat.blocked }
+    ensures within { IsBelow (T.end transaction.now) footprint.new }
+{
+    let tried = run_alone(table, seat, transaction, footprint);
+    prove!(footprint.reads.len() <= MOST);
+    match tried {
+        Tried::Done(reply) => {
+            fill_lines(lines, footprint);
+            if commit_alone(table, seat, footprint, lines.as_slice()) {
+                return Answered::Done(reply);
+            }
+            Answered::WornPool
+        }
+        Tried::Later => Answered::Later,
+        Tried::TooLarge => Answered::TooLarge,
+        Tried::Worn(loc) => Answered::WornLocation(loc),
+        Tried::Busy => unreachable!("no look of the only caller is given up"),
+    }
+}
+
+// Whether the footprint was committed, whose reads are what stands. Else no descriptor had a life left.
+fn commit_alone(table: &KcTable, seat: &mut KcSeat, footprint: &Footprint, lines: &[Line]) -> bool
+    requires alone { table.now.origin.callers ≡ 1 }
+    requires table { seat.old.of ≡ table.now }
+    requires idle { is_idle seat.old.seat.work ≡ true }
+    requires lines { lines_of footprint.now ≡ lines.now }
+    requires few { length lines.now ≤ MOST }
+    requires made { IsWellMade footprint.now × IsBelow seat.old.of.origin.locations footprint.now }
+    requires known { KnowsReads seat.old (task.Commit footprint.now mode.All) }
+    requires stands { Finds footprint.now (standing seat.old) }
+    ensures { CommitsAlone footprint.now result seat.old seat.new }
+{
+    table.commit(seat, footprint, Mode::All, lines);
+    'steps: while seat.busy() {
+        table.step(seat);
+    }
+    !is_worn(seat.told())
+}
+
+fn is_worn(told: Option<Told>) -> bool
+    ensures { result ≡ is_worn told }
+{
+    matches!(told, Some(Told::Worn))
+}
