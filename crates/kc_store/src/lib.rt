@@ -14,7 +14,7 @@ mod values;
 mod verdict;
 mod waiting;
 
-pub use kc_table::Past;
+pub use kc_table::{HoldsSeat, KcSeat, Past};
 pub use laws::answers_hold_at_their_place;
 pub use notes::Note;
 pub use store::{Caller, Store};
