@@ -1,9 +1,10 @@
 -- A commit that waits, between two tries.
-use Rattle.std.proofs.Common.{◌≡◌, ◌≢◌, ◌<◌, ◌≤◌, true, false, ℕ, refl, subst, arith, get_or}
-use Rattle.std.specs.Prelude.{All}
+use Rattle.std.proofs.Common.{◌≡◌, ◌≢◌, ◌<◌, ◌≤◌, ◌⊎◌, inl, inr, true, false, ℕ, Option, None, Some, refl, sym, ap, subst, arith, get_or}
+use Rattle.std.specs.Prelude.{All, IfSome}
 use Rattle.std.proofs.lemmas.List.Elements.{Contains-get_or}
 use Rattle.arrayvec.specs.ArrayVec.{ArrayVec}
 use Rattle.kc_await.specs.Hanging.{Shows, is_under_way}
+use Rattle.kc_await.specs.HangingView.{HangingView}
 use Rattle.kc_await.specs.Waiting.{CommitsAtLast, Hangs, changed, signalled, Waiting, none, again, is_later}
 use Rattle.kc_await.specs.declared.hang_state.HangState.{HangState}
 use Rattle.kc_await.specs.declared.hang_state.HangState.TheVariants.{Going, Hung, Leaving, Free}
@@ -12,11 +13,14 @@ use Rattle.kc_machine_steps.specs.declared.task.Task.TheVariants as task
 use Rattle.kc_model.specs.Footprint.{IsBelow}
 use Rattle.kc_model.specs.declared.footprint.Footprint.{Footprint}
 use Rattle.kc_model.specs.declared.footprint.Seen.{Seen}
+use Rattle.kc_model.specs.declared.reply.Reply.{Reply}
 use Rattle.kc_store.specs.Answers.{Settles}
 use Rattle.kc_store.specs.Commits.{AllTries}
-use Rattle.kc_store.specs.Verdicts.{verdict_of}
+use Rattle.kc_store.specs.Verdicts.{has_entry, verdict_of}
 use Rattle.kc_store.specs.declared.verdict.Answered.{Answered}
 use Rattle.kc_store.specs.declared.verdict.Answered.TheVariants as answered
+use Rattle.kc_store.specs.declared.verdict.Verdict.{Verdict}
+use Rattle.kc_store.specs.declared.verdict.Verdict.TheVariants as verdict
 use Rattle.kc_table_moves.specs.Views.{SeatView, Signalled}
 use Rattle.kc_table_seats.specs.Tasks.{Does}
 use Rattle.kc_xt.specs.Meaning.{Meaning}
@@ -68,3 +72,11 @@ commits_at_last m v u w f a still t s e = record { last = u; waiting = still.wai
 
 pub all_below : (n l : ℕ) (f : Footprint) → n ≤ l → IsBelow n f → All (λ r. r.loc.0 < l) f.reads.items
 all_below n l f le below = λ k d lt. let b = below (get_or f.reads.items k d) (Contains-get_or f.reads.items k d lt) in omega (arith, b, le)
+
+pub begun_below : (n : ℕ) (f : Footprint) (r : Option HangingView) → All (λ r. r.loc.0 < n) f.reads.items → IfSome r (λ h. h ≡ record { reads = f.reads; state = Going; begun = false }) → IfSome r (λ h. All (λ r. r.loc.0 < n) h.reads.items)
+begun_below n f None below is = tt
+begun_below n f (Some h) below is = subst (λ (k : HangingView). All (λ r. r.loc.0 < n) k.reads.items) (sym is) below
+
+pub done_or_later : (v : Verdict) → ((r : Reply) × (v ≡ verdict.Done r)) ⊎ (v ≡ verdict.Later) → has_entry v ≡ true
+done_or_later v (inl (r, is)) = ap has_entry is
+done_or_later v (inr is) = ap has_entry is

@@ -4,6 +4,8 @@
 mod hang_state;
 mod hanging;
 mod laws;
+#[cfg(test)]
+mod tests;
 mod waiting;
 
 pub use hang_state::HangState;

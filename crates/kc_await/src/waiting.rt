@@ -103,8 +103,13 @@ fn wait_for_a_change<R: Wait>(rt: &R, store: &Store, caller: &mut Caller, footpr
     }
 }
 
-// Steps until the task of the state has ended.
-fn step_on<R: Wait>(rt: &R, store: &Store, caller: &mut Caller, hanging: &mut Hanging) -> HangState
+/// Steps until the task of the state has ended.
+pub(crate) fn step_on<R: Wait>(
+    rt: &R,
+    store: &Store,
+    caller: &mut Caller,
+    hanging: &mut Hanging,
+) -> HangState
     requires caller { caller.old.of ≡ store.now }
     requires below { All (λ r. r.loc.0 < store.now.origin.locations) hanging.old.reads.items }
     requires under_way { is_under_way hanging.old.state ≡ true }

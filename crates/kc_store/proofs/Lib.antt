@@ -15,3 +15,4 @@ pub mod Back
 pub mod LoneLooking
 pub mod LoneCommits
 pub mod Concluding
+pub mod Within

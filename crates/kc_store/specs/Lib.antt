@@ -9,3 +9,4 @@ pub mod Values
 pub mod Alone
 pub mod Lone
 pub mod LoneLooks
+pub mod Within

@@ -1,6 +1,6 @@
 //! What callers tell each other, and what is left when all came back.
 
-ghost use Rattle.std.specs.Prelude.{◌≡◌};
+ghost use Rattle.std.specs.Prelude.{◌≡◌, map};
 ghost use Rattle.kc_table_moves.specs.Views.{AreAll, IsPast, Joined};
 
 use crate::store::{Caller, Store};
@@ -51,10 +51,11 @@ impl Store {
         self.table.join(&mut caller.seat, note);
     }
 
-    /// All callers come back, and the one history shows: it is legal from the opening, and has just the entries of the callers.
-    pub fn finish(self, callers: Vec<Caller>) -> Past
-        requires { AreAll self callers.items }
-        ensures { IsPast self callers.items result }
+    /// All callers come back, each with what holds it, and the one history shows: it is legal from the opening, and has just the
+    /// entries of the callers.
+    pub fn finish<H: HoldsSeat>(self, callers: Vec<H>) -> Past
+        requires { AreAll self (map H.seat callers.items) }
+        ensures { IsPast self (map H.seat callers.items) result }
     {
         let Store {
             table,
