@@ -1,5 +1,6 @@
--- The numbers of own entries behind a commit that waits.
-use Rattle.std.proofs.Common.{inl, inr, sym, subst}
+-- The numbers of own entries behind a commit that waits, and where they lie.
+use Rattle.std.proofs.Common.{inl, inr, ◌==◌, sym, subst}
+use Rattle.std.specs.Prelude.{All}
 use Rattle.kc_await.proofs.Rising.{numbers_rise}
 use Rattle.kc_await.specs.Looks.{numbers}
 use Rattle.kc_await.specs.Waiting.{CommitsAtLast}
@@ -7,13 +8,17 @@ use Rattle.kc_machine_steps.specs.declared.task.Task.{Task}
 use Rattle.kc_machine_steps.specs.declared.task.Task.TheVariants as task
 use Rattle.kc_machine_steps.specs.declared.task.Told.{Told}
 use Rattle.kc_machine_words.specs.declared.words.Mode.TheVariants as mode
+use Rattle.kc_machine_claims.specs.Histories.{Placed}
 use Rattle.kc_model.specs.Rising.{IsRising}
 use Rattle.kc_model.specs.declared.footprint.Footprint.{Footprint}
-use Rattle.kc_store.proofs.Gaining.{does_meant}
+use Rattle.kc_store.proofs.Among.{in_filtered}
+use Rattle.kc_store.proofs.Gaining.{all_from, does_meant}
+use Rattle.kc_store.proofs.Within.{known_lie}
 use Rattle.kc_store.specs.Answers.{own_entries}
 use Rattle.kc_store.specs.Tries.{Commits, once, again, CommitsAfter, Did, Sees, Tries, look_of}
 use Rattle.kc_store.specs.declared.verdict.Answered.{Answered}
-use Rattle.kc_table_moves.specs.Views.{SeatView, opening_at_seat}
+use Rattle.kc_store.specs.Within.{LiesIn}
+use Rattle.kc_table_moves.specs.Views.{SeatView, knows, opening_at_seat}
 use Rattle.kc_table_views.specs.Known.{IsMeant}
 use Rattle.kc_xt.specs.Commit.{LooksIn}
 use Rattle.kc_xt.specs.Meaning.{Meaning}
@@ -44,3 +49,7 @@ tries_meant m f v w t = go t.tried t.looked.made t.commits
 
 pub rises_at_last : (v w : SeatView) (m : Meaning) (a : Answered) (f : Footprint) → CommitsAtLast m a f v w → IsRising (numbers (own_entries w))
 rises_at_last v w m a f c = numbers_rise (opening_at_seat w) w.number w.past (tries_meant m f c.tries.last w c.tries.tries).0
+
+pub lie_at_last : (v w : SeatView) (m : Meaning) (a : Answered) (f : Footprint) → CommitsAtLast m a f v w → All (LiesIn w.of.origin.locations) (own_entries w)
+lie_at_last v w m a f c =
+    all_from (LiesIn w.of.origin.locations) (own_entries w) (knows w) (λ x i. in_filtered (λ (y : Placed). y.entry.caller == w.number) (knows w) x i) (known_lie (opening_at_seat w) w.past (tries_meant m f c.tries.last w c.tries.tries).0)

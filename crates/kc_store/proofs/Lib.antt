@@ -12,3 +12,4 @@ pub mod Placing
 pub mod Crossed
 pub mod Settling
 pub mod Back
+pub mod Within

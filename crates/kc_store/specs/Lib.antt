@@ -6,3 +6,4 @@ pub mod Peeks
 pub mod Verdicts
 pub mod Commits
 pub mod Values
+pub mod Within

@@ -1,11 +1,18 @@
-//! What holds of entries in any legal history. An empty body: the contract is the law.
+//! What holds of entries in any legal history, and in those of a store. An empty body: the contract is the law.
 
-ghost use Rattle.std.specs.Prelude.{◌≡◌, ℕ, Some, slice_get, take};
+ghost use Rattle.std.specs.Prelude.{◌≡◌, ℕ, Some, All, List, slice_get, take};
+ghost use Rattle.kc_machine.specs.Machine.{Opening};
+ghost use Rattle.kc_machine.specs.Schedules.{IsSchedule};
+ghost use Rattle.kc_machine_steps.specs.declared.task.Event.{Event};
 ghost use Rattle.kc_model.specs.Store.{Store as Cells};
 ghost use Rattle.kc_model.specs.declared.reply.Answer.{Answer};
 ghost use Rattle.kc_machine_claims.specs.Histories.{History, IsLegalHistory, Placed, ending};
 ghost use Rattle.kc_xt.specs.Commit.{Answers, IsWorn, Waits, Wears, answer_of, run_on};
 ghost use Rattle.kc_xt.specs.Meaning.{Meaning, retried};
+ghost use Rattle.kc_store.specs.Within.{LiesIn};
+ghost use Rattle.kc_table_moves.specs.Origins.{opening_of};
+ghost use Rattle.kc_table_moves.specs.Views.{IsPast, PastView, SeatView, TableView};
+ghost use Rattle.kc_table_views.specs.Known.{known};
 
 /// What an answer says of its meaning on every store that the entry's reads show holds of the store at the entry's place, in
 /// any legal history that has the entry.
@@ -13,4 +20,11 @@ pub fn answers_hold_at_their_place()
     ensures answers { (s : Cells) (h : History) (i : ℕ) (x : Placed) (m : Meaning) (a : Answer) → IsLegalHistory s h → slice_get h i ≡ Some x → Answers m a x.entry.footprint → answer_of (run_on m (ending s (take i h))).outcome ≡ Some a }
     ensures waits { (s : Cells) (h : History) (i : ℕ) (x : Placed) (m : Meaning) → IsLegalHistory s h → slice_get h i ≡ Some x → Waits m x.entry.footprint → (run_on m (ending s (take i h))).outcome ≡ retried }
     ensures wears { (s : Cells) (h : History) (i l : ℕ) (x : Placed) (m : Meaning) → IsLegalHistory s h → slice_get h i ≡ Some x → Wears m l x.entry.footprint → IsWorn (ending s (take i h)) (run_on m (ending s (take i h))).touches l }
+{}
+
+/// Each entry of a schedule of well-made tasks reads and puts locations of the opening alone; so does each entry of what is left
+/// when all callers came back.
+pub fn entries_lie_in_the_store()
+    ensures known { (o : Opening) (es : List Event) → IsSchedule o es → All (LiesIn o.locations) (known o es) }
+    ensures past { (z : TableView) (seats : List SeatView) (p : PastView) → IsPast z seats p → All (LiesIn z.origin.locations) (known (opening_of p.origin) p.schedule) }
 {}

@@ -15,7 +15,7 @@ mod verdict;
 mod waiting;
 
 pub use kc_table::{HoldsSeat, KcSeat, Past};
-pub use laws::answers_hold_at_their_place;
+pub use laws::{answers_hold_at_their_place, entries_lie_in_the_store};
 pub use notes::Note;
 pub use store::{Caller, Store};
 pub use values::{Outcome, Try, Wear};
