@@ -6,7 +6,8 @@ use Rattle.std.specs.Prelude.{All, sum}
 use Rattle.std.specs.Global.{Vec}
 use Rattle.kc_locked.specs.Passes.{StoreView, PassView, passes_of}
 use Rattle.kc_run.specs.Jobs.{AllMayRun}
-use Rattle.kc_run.specs.Locked.{AllDealt, shares_of}
+use Rattle.kc_run.specs.Locked.{AllDealt}
+use Rattle.kc_run.specs.Shares.{shares_of}
 use Rattle.kc_script_bundle.specs.declared.operation.Command.{Command}
 
 pub shares_more : (threads : List (Vec Command)) (i n : ℕ) (v : Vec Command) (shares shares' : List ℕ) → i < length threads → v ≡ get_or threads i v → n ≡ length v.items + 1 → shares ≡ shares_of (take i threads) → shares' ≡ shares ++ n ∷ [] → shares' ≡ shares_of (take (i + 1) threads)

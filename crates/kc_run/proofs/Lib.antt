@@ -2,3 +2,5 @@ pub mod Asks
 pub mod Threads
 pub mod Jobs
 pub mod Dealt
+pub mod Pasts
+pub mod Passes

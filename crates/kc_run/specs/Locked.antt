@@ -1,13 +1,9 @@
 -- A store behind one lock, opened for threads.
-use Rattle.std.specs.Prelude.{◌≡◌, ℕ, ◌+◌, List, length, map}
+use Rattle.std.specs.Prelude.{◌≡◌, List}
 use Rattle.std.specs.Global.{Vec}
 use Rattle.kc_locked.specs.Passes.{StoreView, PassView}
 use Rattle.kc_run.specs.Jobs.{AllMayRun}
 use Rattle.kc_script_bundle.specs.declared.operation.Command.{Command}
-
--- a share for each thread: its commands and one more
-abbrev pub shares_of : List (Vec Command) → List ℕ
-shares_of threads = map (λ v. length v.items + 1) threads
 
 -- the passes of the store are those of the threads, in their order
 abbrev pub AllDealt : StoreView → List (Vec Command) → List PassView → Type 0

@@ -4,9 +4,10 @@ ghost use Rattle.std.specs.Prelude.{◌≡◌, ◌<◌, ◌≤◌, All, length, 
 ghost use Rattle.kc_history.specs.Callers.{of_caller, IsBelowCallers, IsLegalFrom};
 ghost use Rattle.kc_script_runs.specs.Threads.{GivesOne};
 ghost use Rattle.kc_run.specs.Shared.{count_from};
-ghost use Rattle.kc_run.specs.Locked.{AllDealt, shares_of};
+ghost use Rattle.kc_run.specs.Locked.{AllDealt};
 
 use crate::shared::Shared;
+use crate::shares::shares;
 use kc_locked::{LockPass, LockPast, LockedStore, MOST_CALLERS};
 use kc_model::{Answer, Footprint, MOST_LOCATIONS, NoMemory};
 use kc_script_bundle::{Command, MOST_COMMANDS};
@@ -84,15 +85,4 @@ pub fn open_locked(
         Ok(opened) => Ok(opened),
         Err(_) => Err(NoMemory),
     }
-}
-
-fn shares(alloc: Global, threads: &[Vec<Command>]) -> Result<Vec<u32>, NoMemory>
-    requires { All (λ v. length v.items ≤ MOST_COMMANDS) threads.now }
-    ensures { IfOk result (λ v. v.items ≡ shares_of threads.now) }
-{
-    let mut shares = Vec::with_capacity(alloc, threads.len())?;
-    for i in 0..threads.len() {
-        shares.push(threads[i].len() as u32 + 1)?;
-    }
-    Ok(shares)
 }

@@ -4,10 +4,13 @@ use Rattle.kc_history.specs.Callers.{HasJust, IsBelowCallers, IsLegalFrom}
 use Rattle.kc_history.specs.declared.record.Record.{Record}
 use Rattle.kc_locked.specs.Passes.{PastView}
 use Rattle.kc_model.specs.declared.footprint.Entry.{Entry}
+use Rattle.kc_run.specs.Kcas.{values_in, history_in}
 use Rattle.kc_script_bundle.specs.Script.{Script}
 use Rattle.kc_script_bundle.specs.State.{opening_values}
 use Rattle.kc_script_runs.specs.Looks.{GivesBehindLooks}
 use Rattle.kc_script_runs.specs.Threads.{AreRun, AreRunBy}
+use Rattle.kc_top.specs.declared.command_line.StoreName.{StoreName}
+use Rattle.kc_top.specs.declared.command_line.StoreName.TheVariants as store
 use Rattle.kc_top.specs.declared.served.Served.{Served}
 use Rattle.kc_top.specs.declared.served.Served.TheVariants as serving
 
@@ -33,7 +36,8 @@ pub record HaveCommits (script : Script) (records : List (List Record)) : Type 0
   pub run : AreRun (length (opening_values script)) 0 commits script.threads records
   pub nobody_else : IsBelowCallers (length script.threads) commits
 
--- a script without a thread is served nothing
-abbrev pub IsServed : Script → List (List Record) → Served → Type 0
-IsServed script records serving.Nothing = script.threads ≡ []
-IsServed script records (serving.Lock past) = IsPastOf script records past
+-- A script with a thread is served the past of the store of this name, and one without is served nothing.
+abbrev pub IsServed : StoreName → Script → List (List Record) → Served → Type 0
+IsServed name script records serving.Nothing = script.threads ≡ []
+IsServed name script records (serving.Lock past) = (name ≡ store.Lock) × IsPastOf script records past
+IsServed name script records (serving.Kcas past) = (name ≡ store.Kcas) × IsPastBehindLooks script records (values_in past) (history_in past)

@@ -10,13 +10,14 @@ use Rattle.kc_script_storm.specs.Storm.{storm_script}
 use Rattle.kc_script_storm.specs.Summary.{IsSummary}
 use Rattle.kc_top.specs.declared.command_line.Command.{Command}
 use Rattle.kc_top.specs.declared.command_line.Command.TheVariants as command
+use Rattle.kc_top.specs.declared.command_line.StoreName.{StoreName}
 use Rattle.kc_top.specs.declared.served.Served.{Served}
 use Rattle.kc_top.specs.declared.served.Served.TheVariants as serving
 use Rattle.kc_top.specs.declared.status.Status.{Status}
 use Rattle.kc_top.specs.declared.status.Status.TheVariants as status
 use Rattle.kc_top.specs.Reading.{Reads, Refuses}
 use Rattle.kc_top.specs.Served.{IsServed}
-use Rattle.kc_top.specs.Words.{command_of}
+use Rattle.kc_top.specs.Words.{command_of, store_of}
 
 -- a storm's script is that of its number
 abbrev pub IsItsScript : Command → Script → Type 0
@@ -43,31 +44,31 @@ module _ {K : Type 0} (written : K → Option (List ℕ)) (faults : K → ℕ) (
     pub such : IsSuch text
     pub front : TookFront written faults gives k text k'
 
-  -- the sink took what is written of a run of the script, and what was served is this run's
-  pub record ShowsRun (command : Command) (script : Script) (served : Served) (k k' : K) : Type 0 where
+  -- the sink took what is written of a run of the script, and what was served is this run's, on the store of this name
+  pub record ShowsRun (store : StoreName) (command : Command) (script : Script) (served : Served) (k k' : K) : Type 0 where
     pub records : List (List Record)
-    pub serves : IsServed script records served
+    pub serves : IsServed store script records served
     pub shows : Writes (IsShown command script records) k k'
 
-  -- the sink took a front of what is written of a run of the script, and what was served is this run's
-  pub record ShowsPart (command : Command) (script : Script) (served : Served) (k k' : K) : Type 0 where
+  -- the sink took a front of what is written of a run of the script, and what was served is this run's, on the store of this name
+  pub record ShowsPart (store : StoreName) (command : Command) (script : Script) (served : Served) (k k' : K) : Type 0 where
     pub records : List (List Record)
-    pub serves : IsServed script records served
+    pub serves : IsServed store script records served
     pub shows : WritesPart (IsShown command script records) k k'
 
   -- what comes of a run that is shown, or whose showing fails
-  abbrev pub Shows : Command → Script → Served → K → K → Result (Unit {0}) Failed → Type 0
-  Shows command script served k k' (Ok u) = ShowsRun command script served k k'
-  Shows command script served k k' (Err e) = ShowsPart command script served k k'
+  abbrev pub Shows : StoreName → Command → Script → Served → K → K → Result (Unit {0}) Failed → Type 0
+  Shows store command script served k k' (Ok u) = ShowsRun store command script served k k'
+  Shows store command script served k k' (Err e) = ShowsPart store command script served k k'
 
 module _ {S F K : Type 0} (left : S → Option (List ℕ)) (source_faults : S → ℕ) (read_gives : S → List ℕ → Result ℕ Failed → List ℕ → S → Type 0)
     (files : F → Option (List (List ℕ × List ℕ))) (shelf_faults : F → ℕ) (sure : F → Bool) (fetch_gives : F → List ℕ → ℕ → Result (List ℕ) ShelfError → F → Type 0)
     (written : K → Option (List ℕ)) (sink_faults : K → ℕ) (write_gives : K → List ℕ → Result ℕ Failed → K → Type 0) (words : List (List ℕ)) where
-  -- a command read a script, and ran it
-  pub record Ran (Shown : Command → Script → Served → K → K → Type 0) (command : Command) (s s' : S) (f f' : F) (k k' : K) (served : Served) : Type 0 where
+  -- a command read a script, and ran it on the store that the words name
+  pub record Ran (Shown : StoreName → Command → Script → Served → K → K → Type 0) (command : Command) (s s' : S) (f f' : F) (k k' : K) (served : Served) : Type 0 where
     pub script : Script
     pub reads : Reads left source_faults read_gives files shelf_faults sure fetch_gives words command s s' f f' script
-    pub shows : Shown command script served k k'
+    pub shows : Shown (store_of words) command script served k k'
 
   -- a command read no script, or found no memory to run it; nothing was written, and nothing served
   pub record RanNone (command : Command) (s s' : S) (f f' : F) (k k' : K) (served : Served) (status : Status) : Type 0 where

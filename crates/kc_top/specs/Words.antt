@@ -1,5 +1,5 @@
 -- What the words of the command line ask for. The first is the program's name, the second the command's.
-use Rattle.std.specs.Prelude.{ℕ, ◌+◌, Bool, false, not, ◌&&◌, ◌==◌, nat_le, List, [], ◌∷◌, length, drop, slice_get, slice_index_or, codes, Option, Some, None, if◌then◌else◌}
+use Rattle.std.specs.Prelude.{ℕ, ◌+◌, Bool, false, not, ◌&&◌, ◌||◌, ◌==◌, nat_le, List, [], ◌∷◌, length, drop, slice_get, slice_index_or, codes, Option, Some, None, if◌then◌else◌}
 use Rattle.std.specs.List.{list_all}
 use Rattle.std.specs.Str.{bytes_eq}
 use Rattle.std.specs.Option.{option_map}
@@ -7,6 +7,8 @@ use Rattle.kc_script_bundle.specs.declared.bundle.TheConstants.{MOST_THREADS}
 use Rattle.kc_script_lines.specs.Words.{number}
 use Rattle.kc_top.specs.declared.command_line.Command.{Command}
 use Rattle.kc_top.specs.declared.command_line.Command.TheVariants as command
+use Rattle.kc_top.specs.declared.command_line.StoreName.{StoreName}
+use Rattle.kc_top.specs.declared.command_line.StoreName.TheVariants as store
 
 -- whether the word at a place, counted from 0, is this
 abbrev pub is_word : List (List ℕ) → ℕ → List ℕ → Bool
@@ -15,12 +17,16 @@ is_word words place text = is_text (slice_get words place) where
   is_text None = false
   is_text (Some word) = bytes_eq word text
 
--- how many words behind the command's name are a store option: `--store=lock`, or `--store` and `lock`
+-- how many words behind the command's name are a store option: `--store=V`, or `--store` and V, where V is `lock` or `kcas`
 abbrev pub option_words : List (List ℕ) → ℕ
 option_words words =
-    if is_word words 2 (codes "--store=lock") then 1
-    else if is_word words 2 (codes "--store") && is_word words 3 (codes "lock") then 2
+    if is_word words 2 (codes "--store=lock") || is_word words 2 (codes "--store=kcas") then 1
+    else if is_word words 2 (codes "--store") && (is_word words 3 (codes "lock") || is_word words 3 (codes "kcas")) then 2
     else 0
+
+-- the store that the option names; without one it is the lock-free one
+abbrev pub store_of : List (List ℕ) → StoreName
+store_of words = if is_word words 2 (codes "--store=lock") || (is_word words 2 (codes "--store") && is_word words 3 (codes "lock")) then store.Lock else store.Kcas
 
 -- a file's name isn't empty, and doesn't begin with `-`
 abbrev pub is_name : List ℕ → Bool

@@ -3,7 +3,7 @@
 ghost use Rattle.std.specs.Prelude.{◌≡◌, ◌≤◌, ◌<◌, ◌+◌, ◌&&◌, ◌==◌, true, length, drop, map, codes};
 ghost use Rattle.std.specs.List.{list_all};
 ghost use Rattle.std.specs.String.{string_bytes};
-ghost use Rattle.kc_top.specs.Words.{are_names, command_of, is_name, is_word, option_words, storm_at};
+ghost use Rattle.kc_top.specs.Words.{are_names, command_of, is_name, is_word, option_words, store_of, storm_at};
 
 use kc_script_bundle::MOST_THREADS;
 use kc_script_lines::number_of;
@@ -20,9 +20,18 @@ pub enum Command {
     Storm { number: u32 },
 }
 
+/// The store that a run's threads share.
+#[derive(Clone, Copy, Debug, PartialEq, Eq)]
+pub enum StoreName {
+    /// The store behind one lock.
+    Lock,
+    /// The lock-free store.
+    Kcas,
+}
+
 /// What the words ask for, the program's name first. Behind it stands `run`, or `files` and the names of a setup and of 1
-/// to 16 files, or `storm` and a number. Directly behind the command's name may stand one store option, `--store lock`
-/// or `--store=lock`. No other word begins with `-`, and none is empty.
+/// to 16 files, or `storm` and a number. Directly behind the command's name may stand one store option, as `--store V` or
+/// `--store=V`, where V is `lock` or `kcas`. No other word begins with `-`, and none is empty.
 pub fn command_of(words: &[String]) -> Option<Command>
     ensures { result ≡ command_of (map string_bytes words.now) }
 {
@@ -33,6 +42,19 @@ pub fn command_of(words: &[String]) -> Option<Command>
         Some(Command::Files { setup })
     } else {
         storm_at(words, setup)
+    }
+}
+
+/// The store that the words' store option names; the lock-free one where they have none.
+pub fn store_of(words: &[String]) -> StoreName
+    ensures { result ≡ store_of (map string_bytes words.now) }
+{
+    if is_word(words, 2, "--store=lock")
+        || is_word(words, 2, "--store") && is_word(words, 3, "lock")
+    {
+        StoreName::Lock
+    } else {
+        StoreName::Kcas
     }
 }
 
@@ -77,10 +99,10 @@ fn option_words(words: &[String]) -> usize
     ensures within { 2 ≤ length words.now → 2 + result ≤ length words.now }
     ensures few { result ≤ 2 }
 {
-    if is_word(words, 2, "--store=lock") {
+    if is_word(words, 2, "--store=lock") || is_word(words, 2, "--store=kcas") {
         return 1;
     }
-    if is_word(words, 2, "--store") && is_word(words, 3, "lock") {
+    if is_word(words, 2, "--store") && (is_word(words, 3, "lock") || is_word(words, 3, "kcas")) {
         return 2;
     }
     0

@@ -16,7 +16,7 @@ ghost use Rattle.kc_top.specs.declared.served.Served.{Served as Serving};
 ghost use Rattle.kc_top.specs.declared.status.Status.TheVariants as status;
 ghost use Rattle.kc_top.specs.Served.{IsPastBehindLooks, IsServed};
 ghost use Rattle.kc_top.specs.Statuses.{Says, Writes};
-ghost use Rattle.kc_top.specs.Words.{command_of};
+ghost use Rattle.kc_top.specs.Words.{command_of, store_of};
 
 use kc_model::{Shelf, Sink, Source};
 
@@ -39,7 +39,7 @@ pub fn storms_write_their_summary<S: Source, F: Shelf, K: Sink>()
     ensures summary { (words : List (List ℕ)) (s s' : S) (f f' : F) (k k' : K) (served : Serving) (n : ℕ) → command_of words ≡ Some (command.Storm n)
         → Says S.left S.faults S.read_gives F.files F.faults F.sure F.fetch_gives K.written K.faults K.write_gives words s s' f f' k k' served status.Done → Writes K.written K.faults K.write_gives (λ text. text ≡ summary_text n) k k' }
     ensures served { (words : List (List ℕ)) (s s' : S) (f f' : F) (k k' : K) (served : Serving) (n : ℕ) → command_of words ≡ Some (command.Storm n)
-        → Says S.left S.faults S.read_gives F.files F.faults F.sure F.fetch_gives K.written K.faults K.write_gives words s s' f f' k k' served status.Done → (records : List (List Record)) × (commits records ≡ 8004) × IsServed (storm_script n) records served }
+        → Says S.left S.faults S.read_gives F.files F.faults F.sure F.fetch_gives K.written K.faults K.write_gives words s s' f f' k k' served status.Done → (records : List (List Record)) × (commits records ≡ 8004) × IsServed (store_of words) (storm_script n) records served }
 {}
 
 /// Where commits come behind looks, the past of a run has just its records once the looks are left out: each thread's in

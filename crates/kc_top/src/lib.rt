@@ -11,7 +11,7 @@ mod status;
 mod threads;
 mod top;
 
-pub use command_line::Command;
+pub use command_line::{Command, StoreName};
 pub use laws::{
     pasts_have_just_the_records_behind_looks, reading_fails_for_a_cause, storms_write_their_summary,
 };

@@ -1,6 +1,6 @@
 //! A script from its opening to its text.
 
-ghost use Rattle.std.specs.Prelude.{◌≡◌, ◌≤◌, ◌++◌, List, length, codes, IfOk, OnErr};
+ghost use Rattle.std.specs.Prelude.{◌≡◌, ◌≤◌, ◌++◌, List, length, codes, IfErr, IfOk, OnErr};
 ghost use Rattle.kc_model.specs.Pen.{Puts, Prints};
 ghost use Rattle.kc_model.specs.Store.{store_of, opened};
 ghost use Rattle.kc_script_bundle.specs.Script.{script_of, names_of, CellsWithin};
@@ -11,9 +11,10 @@ ghost use Rattle.kc_history.specs.Text.{records_text};
 ghost use Rattle.kc_script_runs.specs.Run.{run_text};
 ghost use Rattle.kc_top.specs.Ran.{HasRun};
 ghost use Rattle.kc_top.specs.Runnable.{IsRunnable};
-ghost use Rattle.kc_top.specs.Statuses.{IsItsScript, Shows};
+ghost use Rattle.kc_top.specs.Served.{IsServed};
+ghost use Rattle.kc_top.specs.Statuses.{IsItsScript, IsShown, Shows, Writes, WritesPart};
 
-use crate::command_line::Command;
+use crate::command_line::{Command, StoreName};
 use crate::served::Served;
 use crate::settling::{room_for, settle};
 use crate::threads::run_on_store;
@@ -35,11 +36,12 @@ struct Ran {
     served: Served,
 }
 
-/// Runs the bundle that a command asks for, and writes its text; of a storm, the summary. All memory is taken before the
-/// first command.
+/// Runs the bundle that a command asks for on the store of this name, and writes its text; of a storm, the summary. All
+/// memory is taken before the first command.
 pub fn perform<K: Sink, G: Gate, R: Threads + Wait + Sync>(
     rt: &R,
     alloc: Global,
+    name: StoreName,
     command: Command,
     bundle: &Bundle,
     sink: &mut K,
@@ -47,10 +49,10 @@ pub fn perform<K: Sink, G: Gate, R: Threads + Wait + Sync>(
 ) -> Result<(Result<(), Failed>, Served), NoMemory>
     requires can { IsRunnable (script_of bundle.now) }
     requires own { IsItsScript command (script_of bundle.now) }
-    ensures shows { IfOk result (λ r. Shows K.written K.faults K.write_gives command (script_of bundle.now) r.1 sink.old sink.new r.0) }
+    ensures shows { IfOk result (λ r. Shows K.written K.faults K.write_gives name command (script_of bundle.now) r.1 sink.old sink.new r.0) }
     ensures untouched { OnErr result (sink.new ≡ sink.old) }
 {
-    let ran = run_bundle(rt, alloc, bundle, gate)?;
+    let ran = run_bundle(rt, alloc, name, bundle, gate)?;
     let shown = show(command, bundle, &ran, sink);
     Ok((shown, ran.served))
 }
@@ -60,7 +62,8 @@ fn show<K: Sink>(command: Command, bundle: &Bundle, ran: &Ran, sink: &mut K) -> 
     requires can { IsRunnable (script_of bundle.now) }
     requires own { IsItsScript command (script_of bundle.now) }
     requires has { HasRun (script_of bundle.now) ran.now }
-    ensures { Shows K.written K.faults K.write_gives command (script_of bundle.now) ran.now.served sink.old sink.new result }
+    ensures whole { IfOk result (λ _. Writes K.written K.faults K.write_gives (IsShown command (script_of bundle.now) (lists_of ran.now.records.items)) sink.old sink.new) }
+    ensures front { IfErr result (λ _. WritesPart K.written K.faults K.write_gives (IsShown command (script_of bundle.now) (lists_of ran.now.records.items)) sink.old sink.new) }
 {
     match command {
         Command::Run => write_run(bundle, ran, sink),
@@ -72,11 +75,13 @@ fn show<K: Sink>(command: Command, bundle: &Bundle, ran: &Ran, sink: &mut K) -> 
 fn run_bundle<G: Gate, R: Threads + Wait + Sync>(
     rt: &R,
     alloc: Global,
+    name: StoreName,
     bundle: &Bundle,
     gate: &G,
 ) -> Result<Ran, NoMemory>
     requires { IsRunnable (script_of bundle.now) }
-    ensures { IfOk result (HasRun (script_of bundle.now)) }
+    ensures run { IfOk result (HasRun (script_of bundle.now)) }
+    ensures served { IfOk result (λ ran. IsServed name (script_of bundle.now) (lists_of ran.records.items) ran.served) }
 {
     let values = opening(alloc, bundle)?;
     let mut store = open_store(alloc, &values)?;
@@ -89,7 +94,7 @@ fn run_bundle<G: Gate, R: Threads + Wait + Sync>(
             served: Served::Nothing,
         });
     }
-    let (records, served) = run_on_store(rt, alloc, bundle, &values, gate)?;
+    let (records, served) = run_on_store(rt, alloc, name, bundle, &values, gate)?;
     settle(&records, &mut room, &mut store);
     Ok(Ran {
         records,

@@ -1,6 +1,7 @@
 //! Which commits a run was served.
 
 use kc_locked::LockPast;
+use kc_store::Past;
 
 /// What the store of a run's threads came to.
 #[derive(Drop)]
@@ -9,4 +10,6 @@ pub enum Served {
     Nothing,
     /// The past of the store behind one lock.
     Lock(LockPast),
+    /// The past of the lock-free store.
+    Kcas(Past),
 }

@@ -7,7 +7,7 @@ ghost use Rattle.kc_top.specs.Words.{command_of};
 ghost use Rattle.kc_top.specs.Reading.{Reads, Refuses};
 ghost use Rattle.kc_top.specs.Statuses.{Says, SaysOf};
 
-use crate::command_line::{Command, command_of};
+use crate::command_line::{Command, command_of, store_of};
 use crate::reading::{from_files, from_source};
 use crate::run::perform;
 use crate::served::Served;
@@ -24,7 +24,8 @@ use std::thread::Threads;
 /// then a command: `run` reads the script from the source, `files SETUP FILE..` from the shelf, a file for each thread;
 /// `storm N` runs the storm of that number, and writes its summary in place of a text.
 /// All is read before it is parsed. Each thread of the script runs in a thread of its own, behind the gate, on one
-/// store; a thread's command may wait for another's, and nothing is promised of when it ends.
+/// store: the one that a store option directly behind the command names, `--store lock` or `--store kcas`, and else the
+/// lock-free one. A thread's command may wait for another's, and nothing is promised of when it ends.
 pub fn kcas_main<S: Source, F: Shelf, K: Sink, G: Gate, R: Threads + Wait + Sync>(
     rt: &R,
     alloc: Global,
@@ -59,7 +60,7 @@ fn run<S: Source, F: Shelf, K: Sink, G: Gate, R: Threads + Wait + Sync>(
         Ok(bundle) => bundle,
         Err(status) => return (status, Served::Nothing),
     };
-    match perform(rt, alloc, command, &bundle, sink, gate) {
+    match perform(rt, alloc, store_of(words), command, &bundle, sink, gate) {
         Ok((Ok(()), served)) => (Status::Done, served),
         Ok((Err(Failed), served)) => (Status::WriteFault, served),
         Err(NoMemory) => (Status::NoMemory, Served::Nothing),

@@ -3,11 +3,11 @@
 ghost use Rattle.std.specs.Prelude.{◌≤◌, IsTrue};
 ghost use Rattle.kc_model.specs.Forms.{are_calls};
 
-use crate::runs::ROOM;
+use crate::runs::{ROOM, call};
 use kc_model::{FrailSink, FrailSource, MemShelf};
 use kc_run::OpenGate;
 use kc_script_lines::Why;
-use kc_top::{Status, kcas_main};
+use kc_top::Status;
 use std::alloc::Global;
 use std::sync::Wait;
 use std::test::Fail;
@@ -18,14 +18,6 @@ const SETUP: (&str, &str) = ("S", "kcas 1\nloc x 0\n");
 const ONE: (&str, &str) = ("A", "incr x\n");
 
 const OTHER: (&str, &str) = ("B", "incr x\n");
-
-fn strings(alloc: Global, texts: &[&str]) -> Result<Vec<String>, Fail> {
-    let mut strings = Vec::new(alloc);
-    for text in texts {
-        strings.push(String::from_str(alloc, text)?)?;
-    }
-    Ok(strings)
-}
 
 fn shelf(alloc: Global, files: &[(&str, &str)], failing: Vec<u64>) -> Result<MemShelf, Fail>
     requires { IsTrue (are_calls failing.items) }
@@ -47,13 +39,9 @@ fn run_over<R: Threads + Wait + Sync>(
     words: &[&str],
     shelf: &mut MemShelf,
 ) -> Result<(Status, Vec<u8>), Fail> {
-    let mut all = strings(alloc, &["kcas"])?;
-    for word in words {
-        all.push(String::from_str(alloc, word)?)?;
-    }
     let mut source = FrailSource::new(Vec::new(alloc), vec![in alloc; 1]?);
     let mut sink = FrailSink::new(alloc, ROOM, Vec::new(alloc))?;
-    let (status, _) = kcas_main(rt, alloc, &all, &mut source, shelf, &mut sink, &OpenGate);
+    let (status, _) = call(rt, alloc, words, &mut source, shelf, &mut sink, &OpenGate)?;
     Ok((status, sink.bytes().to_vec(alloc)?))
 }
 
@@ -76,12 +64,14 @@ fn has_added_twice(written: &[u8]) -> bool {
 fn each_file_is_a_thread_of_its_own(rt: HostRuntime) -> Result<(), Fail> {
     let alloc = rt.alloc();
     let files = [SETUP, ONE, OTHER, ("./-x", "incr x\n")];
-    let rows: [&[&str]; 6] = [
+    let rows: [&[&str]; 8] = [
         &["files", "S", "A", "B"],
         &["files", "S", "A", "A"],
         &["files", "S", "A", "./-x"],
         &["files", "--store", "lock", "S", "A", "B"],
         &["files", "--store=lock", "S", "A", "B"],
+        &["files", "--store", "kcas", "S", "A", "B"],
+        &["files", "--store=kcas", "S", "A", "B"],
         &["files", "S", "B", "A"],
     ];
     for words in rows {
@@ -212,22 +202,23 @@ fn one_long_file_is_too_long_though_another_is_not_there(rt: HostRuntime) -> Res
 
 #[test]
 fn words_that_are_no_command_are_usage(rt: HostRuntime) -> Result<(), Fail> {
-    let rows: [&[&str]; 18] = [
+    let rows: [&[&str]; 19] = [
         &[],
         &["run", "now"],
         &["run", ""],
         &["run", "--store"],
-        &["run", "--store", "kcas"],
-        &["run", "--store=kcas"],
+        &["run", "--store", "plain"],
+        &["run", "--store=plain"],
+        &["run", "--store="],
         &["run", "--store", "lock", "--store", "lock"],
-        &["--store", "lock", "run"],
+        &["--store", "kcas", "run"],
         &["storm", "-1"],
         &["files"],
         &["files", "S"],
-        &["files", "--store", "lock", "S"],
-        &["files", "--store=kcas", "S", "A"],
-        &["files", "--store=lock", "--store=lock", "S", "A"],
-        &["files", "S", "--store=lock", "A"],
+        &["files", "--store", "kcas", "S"],
+        &["files", "--store=plain", "S", "A"],
+        &["files", "--store=lock", "--store=kcas", "S", "A"],
+        &["files", "S", "--store=kcas", "A"],
         &["files", "S", ""],
         &["files", "S", "-x"],
         &["--help"],
@@ -259,26 +250,27 @@ fn as_many_files_as_threads_may_be(rt: HostRuntime) -> Result<(), Fail> {
 #[test]
 fn run_takes_the_store_option_and_no_file(rt: HostRuntime) -> Result<(), Fail> {
     let alloc = rt.alloc();
-    let rows: [&[&str]; 3] = [
-        &["kcas", "run"],
-        &["kcas", "run", "--store", "lock"],
-        &["kcas", "run", "--store=lock"],
+    let rows: [&[&str]; 4] = [
+        &["run"],
+        &["run", "--store", "lock"],
+        &["run", "--store=lock"],
+        &["run", "--store", "kcas"],
     ];
-    for row in rows {
-        let words = strings(alloc, row)?;
+    for words in rows {
         let mut source = FrailSource::new(b"kcas 1\n".to_vec(alloc)?, Vec::new(alloc));
         let mut shelf = shelf(alloc, &[], vec![in alloc; 1]?)?;
         let mut sink = FrailSink::new(alloc, 100, Vec::new(alloc))?;
-        let (status, _) = kcas_main(
+        let (status, store) = call(
             &rt,
             alloc,
-            &words,
+            words,
             &mut source,
             &mut shelf,
             &mut sink,
             &OpenGate,
-        );
+        )?;
         assert_eq!(rt; status, Status::Done);
+        assert!(rt; store.is_none());
         assert_eq!(rt; sink.bytes(), b"order\nstate\n".as_slice());
     }
     Ok(())

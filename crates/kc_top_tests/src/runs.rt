@@ -2,10 +2,10 @@
 
 ghost use Rattle.std.specs.Prelude.{◌≤◌, None};
 
-use kc_model::{Failed, FrailSink, FrailSource, MemShelf, Sink, SureSource};
+use kc_model::{Failed, FrailSink, FrailSource, MemShelf, Shelf, Sink, Source, SureSource};
 use kc_run::{Gate, OpenGate};
 use kc_script_lines::{Limit, Why};
-use kc_top::{Status, kcas_main};
+use kc_top::{Served, Status, StoreName, kcas_main};
 use std::alloc::Global;
 use std::fmt::Write;
 use std::sync::Wait;
@@ -13,46 +13,74 @@ use std::test::Fail;
 use std::thread::Threads;
 
 // More bytes than any text of these scripts has.
-pub const ROOM: usize = 4096;
+pub(crate) const ROOM: usize = 4096;
+
+// The store options, in one word.
+pub(crate) const STORES: [&str; 2] = ["--store=lock", "--store=kcas"];
 
 const FIRST: &str = "kcas 1\nloc x 5\nthread\nget x\nset x 7\nadd x 1\n";
 
 const FIRST_TEXT: &str = "1.1 5\n1.2 ok\n1.3 7\norder\n1.1\n1.2\n1.3\n1.end\nstate\nx 8\n";
 
 // A shelf without files.
-pub fn no_files(alloc: Global) -> MemShelf {
+pub(crate) fn no_files(alloc: Global) -> MemShelf {
     MemShelf::new(Vec::new(alloc), Vec::new(alloc))
 }
 
-pub fn words(alloc: Global, second: &str) -> Result<Vec<String>, Fail> {
+// What the words behind the program's name come to over a source, a shelf and a sink, and which store served.
+pub(crate) fn call<S: Source, F: Shelf, K: Sink, G: Gate, R: Threads + Wait + Sync>(
+    rt: &R,
+    alloc: Global,
+    behind: &[&str],
+    source: &mut S,
+    shelf: &mut F,
+    sink: &mut K,
+    gate: &G,
+) -> Result<(Status, Option<StoreName>), Fail> {
     let mut words = Vec::new(alloc);
     words.push(String::from_str(alloc, "kcas")?)?;
-    words.push(String::from_str(alloc, second)?)?;
-    Ok(words)
+    for word in behind {
+        words.push(String::from_str(alloc, word)?)?;
+    }
+    let (status, served) = kcas_main(rt, alloc, &words, source, shelf, sink, gate);
+    let store = match served {
+        Served::Nothing => None,
+        Served::Lock(_) => Some(StoreName::Lock),
+        Served::Kcas(_) => Some(StoreName::Kcas),
+    };
+    Ok((status, store))
 }
 
-// The status of `kcas run` on these bytes, and what it wrote.
-pub fn run<R: Threads + Wait + Sync>(
+// The status of these words on these bytes behind a gate, and what they wrote.
+pub(crate) fn run_behind<R: Threads + Wait + Sync, G: Gate>(
     rt: &R,
     alloc: Global,
-    script: &[u8],
-) -> Result<(Status, Vec<u8>), Fail> {
-    run_behind(rt, alloc, script, &OpenGate)
-}
-
-// The same, behind a gate.
-pub fn run_behind<R: Threads + Wait + Sync, G: Gate>(
-    rt: &R,
-    alloc: Global,
+    behind: &[&str],
     script: &[u8],
     gate: &G,
 ) -> Result<(Status, Vec<u8>), Fail> {
-    let words = words(alloc, "run")?;
     let mut source = FrailSource::new(script.to_vec(alloc)?, Vec::new(alloc));
     let mut sink = FrailSink::new(alloc, ROOM, Vec::new(alloc))?;
     let mut shelf = no_files(alloc);
-    let (status, _) = kcas_main(rt, alloc, &words, &mut source, &mut shelf, &mut sink, gate);
+    let (status, _) = call(rt, alloc, behind, &mut source, &mut shelf, &mut sink, gate)?;
     Ok((status, sink.bytes().to_vec(alloc)?))
+}
+
+// The status of `kcas run` on these bytes, and what it wrote: the same with each store option and with none. So the
+// script has one thread, or one order.
+pub(crate) fn run<R: Threads + Wait + Sync>(
+    rt: &R,
+    alloc: Global,
+    script: &[u8],
+) -> Result<(Status, Vec<u8>), Fail> {
+    let (status, written) = run_behind(rt, alloc, &["run"], script, &OpenGate)?;
+    for option in STORES {
+        let (other, text) = run_behind(rt, alloc, &["run", option], script, &OpenGate)?;
+        if other != status || text.as_slice() != written.as_slice() {
+            return Err(Fail::from("the stores tell different things"));
+        }
+    }
+    Ok((status, written))
 }
 
 #[test]
@@ -255,29 +283,46 @@ fn what_is_no_script_has_its_fault_and_writes_nothing(rt: HostRuntime) -> Result
 
 #[test]
 fn other_words_are_usage(rt: HostRuntime) -> Result<(), Fail> {
+    for word in ["", "runs", "--help", "storm"] {
+        let (status, written) = run_behind(&rt, rt.alloc(), &[word], FIRST.as_bytes(), &OpenGate)?;
+        assert_eq!(rt; status, Status::Usage, "{word}");
+        assert!(rt; written.is_empty());
+    }
+    Ok(())
+}
+
+#[test]
+fn the_store_that_the_words_name_serves(rt: HostRuntime) -> Result<(), Fail> {
     let alloc = rt.alloc();
-    for second in ["", "runs", "--help", "storm"] {
-        let words = words(alloc, second)?;
-        let mut source = FrailSource::new(FIRST.as_bytes().to_vec(alloc)?, Vec::new(alloc));
-        let mut sink = FrailSink::new(alloc, 100, Vec::new(alloc))?;
+    let rows: [(&[&str], StoreName); 5] = [
+        (&["run"], StoreName::Kcas),
+        (&["run", "--store", "kcas"], StoreName::Kcas),
+        (&["run", "--store=kcas"], StoreName::Kcas),
+        (&["run", "--store", "lock"], StoreName::Lock),
+        (&["run", "--store=lock"], StoreName::Lock),
+    ];
+    for (words, named) in rows {
+        let mut source = SureSource::new(FIRST.as_bytes().to_vec(alloc)?);
+        let mut sink = FrailSink::new(alloc, ROOM, Vec::new(alloc))?;
         let mut shelf = no_files(alloc);
-        let (status, _) = kcas_main(
+        let (status, store) = call(
             &rt,
             alloc,
-            &words,
+            words,
             &mut source,
             &mut shelf,
             &mut sink,
             &OpenGate,
-        );
-        assert_eq!(rt; status, Status::Usage, "{second}");
-        assert!(rt; sink.bytes().is_empty());
+        )?;
+        assert_eq!(rt; status, Status::Done);
+        assert!(rt; store == Some(named));
+        assert_eq!(rt; sink.bytes(), FIRST_TEXT.as_bytes());
     }
     Ok(())
 }
 
 // The status of `kcas run` on a script where one read and one write fail, and what it wrote.
-pub fn run_failing<R: Threads + Wait + Sync>(
+pub(crate) fn run_failing<R: Threads + Wait + Sync>(
     rt: &R,
     alloc: Global,
     script: &str,
@@ -287,12 +332,12 @@ pub fn run_failing<R: Threads + Wait + Sync>(
     requires read { (1 ≤ failing_read) × (failing_read ≤ 9) }
     requires write { (1 ≤ failing_write) × (failing_write ≤ 9) }
 {
-    let words = words(alloc, "run")?;
     let script = script.as_bytes().to_vec(alloc)?;
     let mut source = FrailSource::new(script, vec![in alloc; failing_read]?);
-    let mut sink = FrailSink::new(alloc, 4096, vec![in alloc; failing_write]?)?;
+    let mut sink = FrailSink::new(alloc, ROOM, vec![in alloc; failing_write]?)?;
     let mut shelf = no_files(alloc);
-    let (status, _) = kcas_main(
+    let words = ["run"];
+    let (status, _) = call(
         rt,
         alloc,
         &words,
@@ -300,7 +345,7 @@ pub fn run_failing<R: Threads + Wait + Sync>(
         &mut shelf,
         &mut sink,
         &OpenGate,
-    );
+    )?;
     Ok((status, sink.bytes().to_vec(alloc)?))
 }
 
@@ -357,7 +402,7 @@ impl Sink for CountingSink {
 }
 
 #[test]
-fn as_many_commands_as_may_be_are_run_and_written_by_the_page(rt: HostRuntime) -> Result<(), Fail> {
+fn as_many_commands_as_may_be_are_run(rt: HostRuntime) -> Result<(), Fail> {
     let alloc = rt.alloc();
     let mut script = String::from_str(alloc, "kcas 1\nloc x 0\nthread\n")?;
     let mut text = String::new(alloc);
@@ -369,25 +414,38 @@ fn as_many_commands_as_may_be_are_run_and_written_by_the_page(rt: HostRuntime) -
     }
     text.push_str(&order)?;
     text.push_str("1.end\nstate\nx 4096\n")?;
-    let words = words(alloc, "run")?;
-    let mut source = SureSource::new(script.as_bytes().to_vec(alloc)?);
-    let mut sink = FrailSink::new(alloc, 100_000, Vec::new(alloc))?;
-    let mut shelf = no_files(alloc);
-    let (status, _) = kcas_main(
-        &rt,
-        alloc,
-        &words,
-        &mut source,
-        &mut shelf,
-        &mut sink,
-        &OpenGate,
-    );
-    assert_eq!(rt; status, Status::Done);
-    assert_eq!(rt; sink.bytes(), text.as_bytes());
+    for option in STORES {
+        let words = ["run", option];
+        let mut source = SureSource::new(script.as_bytes().to_vec(alloc)?);
+        let mut sink = FrailSink::new(alloc, 100_000, Vec::new(alloc))?;
+        let mut shelf = no_files(alloc);
+        let (status, _) = call(
+            &rt,
+            alloc,
+            &words,
+            &mut source,
+            &mut shelf,
+            &mut sink,
+            &OpenGate,
+        )?;
+        assert_eq!(rt; status, Status::Done);
+        assert_eq!(rt; sink.bytes(), text.as_bytes());
+    }
+    Ok(())
+}
+
+#[test]
+fn a_text_is_written_by_the_page(rt: HostRuntime) -> Result<(), Fail> {
+    let alloc = rt.alloc();
+    let mut script = String::from_str(alloc, "kcas 1\nloc x 0\nthread\n")?;
+    for _ in 0..4096 {
+        script.push_str("add x 1\n")?;
+    }
     let mut source = SureSource::new(script.as_bytes().to_vec(alloc)?);
     let mut counting = CountingSink { calls: 0, bytes: 0 };
     let mut shelf = no_files(alloc);
-    let (status, _) = kcas_main(
+    let words = ["run"];
+    let (status, _) = call(
         &rt,
         alloc,
         &words,
@@ -395,9 +453,9 @@ fn as_many_commands_as_may_be_are_run_and_written_by_the_page(rt: HostRuntime) -
         &mut shelf,
         &mut counting,
         &OpenGate,
-    );
+    )?;
     assert_eq!(rt; status, Status::Done);
-    assert_eq!(rt; counting.bytes, text.len());
+    assert!(rt; 40_000 < counting.bytes);
     assert!(rt;
         counting.calls <= counting.bytes / 4000 + 1,
         "{}",
@@ -416,21 +474,23 @@ fn as_many_locations_as_may_be_are_opened(rt: HostRuntime) -> Result<(), Fail> {
         write!(text, "n{n} {}\n", n % 10)?;
     }
     script.push_str("thread\nget n65534\n")?;
-    let words = words(alloc, "run")?;
-    let mut source = SureSource::new(script.as_bytes().to_vec(alloc)?);
-    let mut sink = FrailSink::new(alloc, 1_000_000, Vec::new(alloc))?;
-    let mut shelf = no_files(alloc);
-    let (status, _) = kcas_main(
-        &rt,
-        alloc,
-        &words,
-        &mut source,
-        &mut shelf,
-        &mut sink,
-        &OpenGate,
-    );
-    assert_eq!(rt; status, Status::Done);
-    assert_eq!(rt; sink.bytes(), text.as_bytes());
+    for option in STORES {
+        let words = ["run", option];
+        let mut source = SureSource::new(script.as_bytes().to_vec(alloc)?);
+        let mut sink = FrailSink::new(alloc, 1_000_000, Vec::new(alloc))?;
+        let mut shelf = no_files(alloc);
+        let (status, _) = call(
+            &rt,
+            alloc,
+            &words,
+            &mut source,
+            &mut shelf,
+            &mut sink,
+            &OpenGate,
+        )?;
+        assert_eq!(rt; status, Status::Done);
+        assert_eq!(rt; sink.bytes(), text.as_bytes());
+    }
     Ok(())
 }
 

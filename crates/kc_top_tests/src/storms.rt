@@ -1,9 +1,9 @@
 //! Storms.
 
-use crate::runs::no_files;
+use crate::runs::{STORES, call, no_files};
 use kc_model::{FrailSink, SureSource};
 use kc_run::{Gate, OpenGate};
-use kc_top::{Served, Status, kcas_main};
+use kc_top::{Status, StoreName};
 use std::alloc::Global;
 use std::sync::Wait;
 use std::sync::atomic::{AtomicU32, Ordering};
@@ -19,39 +19,43 @@ const STORM_7: &str =
 const STORM_LAST: &str =
     "storm 4294967295\ncommits 8004\nok 8000\nl0 40823\nl1 33262\nl2 33715\nl3 37259\nl4 27450\nl5 36223\nl6 28180\nl7 30420\na 262859\n";
 
-// What the program's words behind its name come to, on a source and a shelf of nothing.
+// What these words come to on a source and a shelf of nothing, and which store served.
 fn asked<R: Threads + Wait + Sync, G: Gate>(
     rt: &R,
     alloc: Global,
-    behind: &[&str],
+    words: &[&str],
     gate: &G,
-) -> Result<(Status, Vec<u8>, bool), Fail> {
-    let mut words = Vec::new(alloc);
-    words.push(String::from_str(alloc, "kcas")?)?;
-    for word in behind {
-        words.push(String::from_str(alloc, word)?)?;
-    }
+) -> Result<(Status, Vec<u8>, Option<StoreName>), Fail> {
     let mut source = SureSource::new(Vec::new(alloc));
     let mut shelf = no_files(alloc);
     let mut sink = FrailSink::new(alloc, 1000, Vec::new(alloc))?;
-    let (status, served) = kcas_main(rt, alloc, &words, &mut source, &mut shelf, &mut sink, gate);
-    let ran = matches!(served, Served::Lock(_));
-    Ok((status, sink.bytes().to_vec(alloc)?, ran))
+    let (status, store) = call(rt, alloc, words, &mut source, &mut shelf, &mut sink, gate)?;
+    Ok((status, sink.bytes().to_vec(alloc)?, store))
 }
 
 #[test]
 fn a_storm_writes_its_summary_at_each_run(rt: HostRuntime) -> Result<(), Fail> {
-    let rows = [
-        ("0", STORM_0),
-        ("7", STORM_7),
-        ("007", STORM_7),
-        ("4294967295", STORM_LAST),
+    let rows: [(&[&str], &str, StoreName); 6] = [
+        (&["storm", "0"], STORM_0, StoreName::Kcas),
+        (&["storm", "7"], STORM_7, StoreName::Kcas),
+        (
+            &["storm", "--store", "kcas", "007"],
+            STORM_7,
+            StoreName::Kcas,
+        ),
+        (&["storm", "4294967295"], STORM_LAST, StoreName::Kcas),
+        (&["storm", "--store=lock", "7"], STORM_7, StoreName::Lock),
+        (
+            &["storm", "--store", "lock", "4294967295"],
+            STORM_LAST,
+            StoreName::Lock,
+        ),
     ];
-    for (number, summary) in rows {
-        let (status, written, ran) = asked(&rt, rt.alloc(), &["storm", number], &OpenGate)?;
-        assert_eq!(rt; status, Status::Done, "{number}");
-        assert_eq!(rt; written.as_slice(), summary.as_bytes(), "{number}");
-        assert!(rt; ran, "{number}");
+    for (words, summary, named) in rows {
+        let (status, written, store) = asked(&rt, rt.alloc(), words, &OpenGate)?;
+        assert_eq!(rt; status, Status::Done);
+        assert_eq!(rt; written.as_slice(), summary.as_bytes());
+        assert!(rt; store == Some(named));
     }
     Ok(())
 }
@@ -67,10 +71,10 @@ fn other_words_are_no_storm(rt: HostRuntime) -> Result<(), Fail> {
         &["storm", "1", "2"],
     ];
     for words in rows {
-        let (status, written, ran) = asked(&rt, rt.alloc(), words, &OpenGate)?;
+        let (status, written, store) = asked(&rt, rt.alloc(), words, &OpenGate)?;
         assert_eq!(rt; status, Status::Usage);
         assert!(rt; written.is_empty());
-        assert!(rt; !ran);
+        assert!(rt; store.is_none());
     }
     Ok(())
 }
@@ -94,15 +98,16 @@ impl Gate for Counting {
 
 #[test]
 fn each_command_of_a_storm_passes_the_gate(rt: HostRuntime) -> Result<(), Fail> {
-    let gate = Counting {
-        before: AtomicU32::new(0),
-        after: AtomicU32::new(0),
-    };
-    let words = ["storm", "--store", "lock", "0"];
-    let (status, written, _) = asked(&rt, rt.alloc(), &words, &gate)?;
-    assert_eq!(rt; status, Status::Done);
-    assert_eq!(rt; written.as_slice(), STORM_0.as_bytes());
-    assert_eq!(rt; gate.before.load(Ordering::SeqCst), 8000);
-    assert_eq!(rt; gate.after.load(Ordering::SeqCst), 8000);
+    for option in STORES {
+        let gate = Counting {
+            before: AtomicU32::new(0),
+            after: AtomicU32::new(0),
+        };
+        let (status, written, _) = asked(&rt, rt.alloc(), &["storm", option, "0"], &gate)?;
+        assert_eq!(rt; status, Status::Done);
+        assert_eq!(rt; written.as_slice(), STORM_0.as_bytes());
+        assert_eq!(rt; gate.before.load(Ordering::SeqCst), 8000);
+        assert_eq!(rt; gate.after.load(Ordering::SeqCst), 8000);
+    }
     Ok(())
 }

@@ -1,9 +1,9 @@
 //! Scripts of several threads.
 
-use crate::runs::{no_files, run, run_behind, run_failing, words};
+use crate::runs::{STORES, call, no_files, run_behind, run_failing};
 use kc_model::{FrailSink, SureSource};
 use kc_run::{Gate, OpenGate};
-use kc_top::{Status, kcas_main};
+use kc_top::Status;
 use std::alloc::Global;
 use std::fmt::Write;
 use std::sync::Wait;
@@ -43,17 +43,18 @@ fn team(
     Ok(script)
 }
 
-// The text of a script that is longer than the others.
+// The text of a script that is longer than the others, with a store option.
 fn text_of<R: Threads + Wait + Sync>(
     rt: &R,
     alloc: Global,
+    option: &str,
     script: &str,
 ) -> Result<(Status, Vec<u8>), Fail> {
-    let words = words(alloc, "run")?;
     let mut source = SureSource::new(script.as_bytes().to_vec(alloc)?);
     let mut sink = FrailSink::new(alloc, 2_000_000, Vec::new(alloc))?;
     let mut shelf = no_files(alloc);
-    let (status, _) = kcas_main(
+    let words = ["run", option];
+    let (status, _) = call(
         rt,
         alloc,
         &words,
@@ -61,7 +62,7 @@ fn text_of<R: Threads + Wait + Sync>(
         &mut shelf,
         &mut sink,
         &OpenGate,
-    );
+    )?;
     Ok((status, sink.bytes().to_vec(alloc)?))
 }
 
@@ -83,40 +84,48 @@ fn replies(alloc: Global, text: &str, most: usize) -> Result<usize, Fail> {
 fn two_threads_add_to_one_location(rt: HostRuntime) -> Result<(), Fail> {
     let alloc = rt.alloc();
     let script = team(alloc, "kcas 1\nloc x 0\n", 2, "add x 1\n", 1000)?;
-    let (status, written) = text_of(&rt, alloc, &script)?;
-    assert_eq!(rt; status, Status::Done);
-    let text = str::from_utf8(&written)?;
-    let Some((shown, rest)) = text.split_once("order\n") else {
-        return Err(Fail::from("there is no order"));
-    };
-    assert_eq!(rt; replies(alloc, shown, 2000)?, 2000);
-    assert!(rt; rest.ends_with("state\nx 2000\n"));
+    for option in STORES {
+        let (status, written) = text_of(&rt, alloc, option, &script)?;
+        assert_eq!(rt; status, Status::Done);
+        let text = str::from_utf8(&written)?;
+        let Some((shown, rest)) = text.split_once("order\n") else {
+            return Err(Fail::from("there is no order"));
+        };
+        assert_eq!(rt; replies(alloc, shown, 2000)?, 2000);
+        assert!(rt; rest.ends_with("state\nx 2000\n"));
+    }
     Ok(())
 }
 
 #[test]
 fn values_are_handed_over_by_waiting(rt: HostRuntime) -> Result<(), Fail> {
     let rows = [
-        (HANDOVER, HANDOVER_TEXT),
+        (HANDOVER, HANDOVER_TEXT, "state\nm none\nn none\n"),
         (
             "kcas 1\nqueue q 4\nthread\nenq q 7\nenq q 8\nenq q 9\nthread\ndeqw q\ndeqw q\ndeqw q\n",
             "1.1 ok\n1.2 ok\n1.3 ok\n2.1 7\n2.2 8\n2.3 9\norder\n",
+            "state\nq\n",
         ),
         (
             "kcas 1\nmvar m\nmvar n\nthread\nmput m 1\nmtake n\nthread\nmtake m\nmput n 2\n",
             "1.1 ok\n1.2 2\n2.1 1\n2.2 ok\norder\n1.1\n2.1\n2.2\n1.2\n",
+            "state\nm none\nn none\n",
         ),
     ];
-    let ends = [
-        "state\nm none\nn none\n",
-        "state\nq\n",
-        "state\nm none\nn none\n",
-    ];
-    for ((script, front), end) in rows.into_iter().zip(ends) {
-        let (status, written) = run(&rt, rt.alloc(), script.as_bytes())?;
-        assert_eq!(rt; status, Status::Done, "{script}");
-        assert!(rt; written.starts_with(front.as_bytes()), "{script}");
-        assert!(rt; written.ends_with(end.as_bytes()), "{script}");
+    for (script, front, end) in rows {
+        for option in STORES {
+            let words = ["run", option];
+            let (status, written) = run_behind(
+                &rt,
+                rt.alloc(),
+                &words,
+                script.as_bytes(),
+                &OpenGate,
+            )?;
+            assert_eq!(rt; status, Status::Done, "{script}");
+            assert!(rt; written.starts_with(front.as_bytes()), "{script}");
+            assert!(rt; written.ends_with(end.as_bytes()), "{script}");
+        }
     }
     Ok(())
 }
@@ -153,15 +162,18 @@ impl Gate for Holding {
 fn a_thread_that_is_held_up_waits_for_another(rt: HostRuntime) -> Result<(), Fail> {
     let alloc = rt.alloc();
     let script = team(alloc, "kcas 1\nloc x 0\n", 2, "incr x\n", 1)?;
-    let gate = Holding {
-        answered: AtomicBool::new(false),
-        used_up: AtomicBool::new(false),
-    };
-    let (status, written) = run_behind(&rt, alloc, script.as_bytes(), &gate)?;
-    assert_eq!(rt; status, Status::Done);
-    assert!(rt; !gate.used_up.load(Ordering::SeqCst));
-    assert!(rt; written.starts_with(b"1.1 ok\n2.1 ok\norder\n2.1\n1.1\n"));
-    assert!(rt; written.ends_with(b"state\nx 2\n"));
+    for option in STORES {
+        let gate = Holding {
+            answered: AtomicBool::new(false),
+            used_up: AtomicBool::new(false),
+        };
+        let words = ["run", option];
+        let (status, written) = run_behind(&rt, alloc, &words, script.as_bytes(), &gate)?;
+        assert_eq!(rt; status, Status::Done);
+        assert!(rt; !gate.used_up.load(Ordering::SeqCst));
+        assert!(rt; written.starts_with(b"1.1 ok\n2.1 ok\norder\n2.1\n1.1\n"));
+        assert!(rt; written.ends_with(b"state\nx 2\n"));
+    }
     Ok(())
 }
 
@@ -195,15 +207,18 @@ impl Gate for Meeting {
 fn all_threads_of_a_script_run_at_the_same_time(rt: HostRuntime) -> Result<(), Fail> {
     let alloc = rt.alloc();
     let script = team(alloc, "kcas 1\nloc x 0\n", 16, "incr x\n", 1)?;
-    let gate = Meeting {
-        threads: 16,
-        came: AtomicU32::new(0),
-        used_up: AtomicBool::new(false),
-    };
-    let (status, written) = run_behind(&rt, alloc, script.as_bytes(), &gate)?;
-    assert_eq!(rt; status, Status::Done);
-    assert!(rt; !gate.used_up.load(Ordering::SeqCst));
-    assert!(rt; written.ends_with(b"state\nx 16\n"));
+    for option in STORES {
+        let gate = Meeting {
+            threads: 16,
+            came: AtomicU32::new(0),
+            used_up: AtomicBool::new(false),
+        };
+        let words = ["run", option];
+        let (status, written) = run_behind(&rt, alloc, &words, script.as_bytes(), &gate)?;
+        assert_eq!(rt; status, Status::Done);
+        assert!(rt; !gate.used_up.load(Ordering::SeqCst));
+        assert!(rt; written.ends_with(b"state\nx 16\n"));
+    }
     Ok(())
 }
 
@@ -320,11 +335,14 @@ fn replayed(
     Ok((right, a, b))
 }
 
-#[test]
-fn the_largest_script_is_right_in_the_printed_order(rt: HostRuntime) -> Result<(), Fail> {
-    let alloc = rt.alloc();
-    let (status, written) = text_of(&rt, alloc, &largest(alloc)?)?;
-    assert_eq!(rt; status, Status::Done);
+// How many commands of the largest script reply what their place in the printed order makes, and whether the values at
+// last are those too.
+fn right_of_largest<R: Threads + Wait + Sync>(
+    rt: &R,
+    alloc: Global,
+    option: &str,
+) -> Result<(usize, bool), Fail> {
+    let (_, written) = text_of(rt, alloc, option, &largest(alloc)?)?;
     let text = str::from_utf8(&written)?;
     let Some((shown, rest)) = text.split_once("order\n") else {
         return Err(Fail::from("there is no order"));
@@ -333,10 +351,21 @@ fn the_largest_script_is_right_in_the_printed_order(rt: HostRuntime) -> Result<(
         return Err(Fail::from("there is no state"));
     };
     let replies = printed_replies(alloc, shown)?;
-    assert_eq!(rt; replies.len(), 65_536);
     let (right, a, b) = replayed(alloc, order, &replies)?;
-    assert_eq!(rt; right, 65_536);
     let last = format!(in alloc; "a {a}\nb {b}\n")?;
-    assert_eq!(rt; state, last.as_str());
+    Ok((right, state == last.as_str()))
+}
+
+#[test]
+fn the_largest_script_is_right_in_the_printed_order(rt: HostRuntime) -> Result<(), Fail> {
+    let found = right_of_largest(&rt, rt.alloc(), "--store=lock")?;
+    assert!(rt; found == (65_536, true), "{}", found.0);
+    Ok(())
+}
+
+#[test]
+fn the_largest_script_is_right_on_the_lock_free_store(rt: HostRuntime) -> Result<(), Fail> {
+    let found = right_of_largest(&rt, rt.alloc(), "--store=kcas")?;
+    assert!(rt; found == (65_536, true), "{}", found.0);
     Ok(())
 }

@@ -16,16 +16,18 @@ pub room_for-requires-clause-commands : goal.room_for-requires-clause-commands
 room_for-requires-clause-commands g c =
     subst (All (λ (v : Vec Command). length v.items ≤ 4096)) (sym c.deref-2.ensures.value) (all_few (script_of c.args.bundle.now) c.args.bundle.now.threads.items c.requires.threads)
 
-pub returns-then-is_empty : goal.returns-then-is_empty
-returns-then-is_empty g c =
+pub returns-then-is_empty-clause-run : goal.returns-then-is_empty-clause-run
+returns-then-is_empty-clause-run g c =
     let script = script_of c.args.bundle.now in
     let stored : c.in_ok-store.store ≡ opened (opening_values script) = c.in_ok-store.ensures ∙ ap opened (c.deref.ensures.value ∙ c.in_ok-values.ensures) in
     let none : script.threads ≡ [] = no_thread c.args.bundle.now.threads.items (search (rules, c.is_empty.ensures, c.if-is_empty.true, c.args.bundle.now.threads.ok.0)) in
     record {
       run = rw (c.new.ensures.items, c.in_ok-room.ensures.order, stored) (run_of_none script none);
-      served = none;
       size = store_length script c.in_ok-store.store stored;
     }
+
+pub returns-then-is_empty-clause-served : goal.returns-then-is_empty-clause-served
+returns-then-is_empty-clause-served g c = no_thread c.args.bundle.now.threads.items (search (rules, c.is_empty.ensures, c.if-is_empty.true, c.args.bundle.now.threads.ok.0))
 
 pub run_on_store-requires-clause-values : goal.run_on_store-requires-clause-values
 run_on_store-requires-clause-values g c κs within = c.deref-3.ensures.value ∙ c.in_ok-values.ensures
@@ -65,8 +67,8 @@ settle-requires-clause-records g c =
     let here = ap records_in c.deref-4.ensures.value in
     omega (arith, s.counted, room, here)
 
-pub returns : goal.returns
-returns g c =
+pub returns-clause-run : goal.returns-clause-run
+returns-clause-run g c =
     let script = script_of c.args.bundle.now in
     let stored : c.in_ok-store.store ≡ opened (opening_values script) = c.in_ok-store.ensures ∙ ap opened (c.deref.ensures.value ∙ c.in_ok-values.ensures) in
     let s = settles c.args.bundle.now c.in_ok-store.store c.in_ok-records.records.items stored c.in_ok-records.ensures.commits in
@@ -74,6 +76,5 @@ returns g c =
     let legal = rw c.deref-4.ensures.value at c.settle.ensures.legal in
     record {
       run = s.run c.settle.new.room.order (store_of c.settle.new.store) canonical legal;
-      served = c.in_ok-records.ensures.served;
       size = c.settle.ensures.size ∙ store_length script c.in_ok-store.store stored;
     }
