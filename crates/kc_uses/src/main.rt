@@ -10,6 +10,7 @@ ghost use Rattle.kc_uses.specs.Serving.{HasServer};
 
 mod finish_job;
 mod server;
+mod shared;
 
 use finish_job::FinishJob;
 use kc_cache::{CacheAct, CacheOp};
@@ -19,6 +20,7 @@ use kc_queue::{Queue, QueueAct, QueueOp, touches_its_own_cells as each_replies_o
 use kc_term::Term;
 use kc_xt::{Transact, Tried, commit};
 use server::Server;
+use shared::serve;
 use std::alloc::Global;
 use std::io;
 
@@ -30,7 +32,8 @@ fn main(rt: HostRuntime) -> io::Result<()> {
     finish_a_job(&rt, &server, &mut store)?;
     read_a_result(&rt, &server, &mut store)?;
     wait_for_a_job(&rt, &server, &mut store)?;
-    take_the_first_job(&rt, rt.alloc(), &server, &mut store)
+    take_the_first_job(&rt, rt.alloc(), &server, &mut store)?;
+    serve(&rt, rt.alloc(), &server)
 }
 
 // Commits a transaction, and prints what came of it.

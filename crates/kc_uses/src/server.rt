@@ -1,11 +1,12 @@
 //! What the server keeps, and where.
 
-ghost use Rattle.std.specs.Prelude.{◌<◌, IfOk, length};
-ghost use Rattle.kc_uses.specs.Serving.{IsServer, HasServer};
+ghost use Rattle.std.specs.Prelude.{◌≡◌, ◌<◌, IfOk, length};
+ghost use Rattle.kc_uses.specs.Serving.{HasServer, IsFree, IsServer};
 
 use kc_cache::Cache;
 use kc_model::{Loc, PlainStore};
 use kc_queue::Queue;
+use kc_store::{Caller, Store};
 use std::alloc::Global;
 use std::io;
 
@@ -39,11 +40,37 @@ impl Server {
         requires { IsServer self.now }
         ensures { IfOk result (λ store. HasServer self.now (length store)) }
     {
+        let values = self.values(alloc)?;
+        PlainStore::open(alloc, &values).map_err(|_| io::ErrorKind::OutOfMemory.into())
+    }
+
+    /// A store with nothing in it that threads share without a lock, for two callers.
+    pub fn share(&self, alloc: Global) -> io::Result<(Store, Caller, Caller)>
+        requires { IsServer self.now }
+        ensures server { IfOk result (λ t. HasServer self.now t.0.origin.locations) }
+        ensures first { IfOk result (λ t. IsFree t.0 t.1) }
+        ensures second { IfOk result (λ t. IsFree t.0 t.2) }
+    {
+        let values = self.values(alloc)?;
+        let Ok((store, mut callers)) = Store::open(alloc, &values, 2) else {
+            return Err(io::ErrorKind::OutOfMemory.into());
+        };
+        let (Some(second), Some(first)) = (callers.pop(), callers.pop()) else {
+            unreachable!("a store has as many callers as it was opened for");
+        };
+        Ok((store, first, second))
+    }
+
+    // What all its locations open with.
+    fn values(&self, alloc: Global) -> io::Result<Vec<u32>>
+        requires { IsServer self.now }
+        ensures { IfOk result (λ values. length values.items ≡ CELLS) }
+    {
         let mut values = Vec::new(alloc);
         for i in 0..CELLS {
             values.push(self.opening(i))?;
         }
-        PlainStore::open(alloc, &values).map_err(|_| io::ErrorKind::OutOfMemory.into())
+        Ok(values)
     }
 
     // What each location opens with.

@@ -1,0 +1,96 @@
+//! The same server on a store that threads share without a lock: a worker, and a client.
+
+ghost use Rattle.std.specs.Prelude.{◌≤◌};
+ghost use Rattle.kc_uses.specs.Serving.{HasServer, IsFree, IsServer};
+
+use crate::finish_job::FinishJob;
+use crate::server::Server;
+use kc_await::commit_waiting;
+use kc_cache::{CacheAct, CacheOp};
+use kc_model::Reply;
+use kc_queue::{QueueAct, QueueOp};
+use kc_store::{Caller, Outcome, Store};
+use kc_xt::Transact;
+use std::alloc::Global;
+use std::io;
+use std::io::Print;
+use std::sync::Wait;
+use std::thread;
+use std::thread::Threads;
+
+// How many jobs the client queues, and the worker finishes.
+const JOBS: u32 = 3;
+
+/// The client queues jobs while the worker finishes each as it comes. Then the client learns what the worker knew, and
+/// reads the last result.
+pub fn serve<R: Print + Threads + Wait + Sync>(
+    rt: &R,
+    alloc: Global,
+    server: &Server,
+) -> io::Result<()>
+    requires { IsServer server.now }
+{
+    let (store, worker, client) = server.share(alloc)?;
+    let shared = &store;
+    let (mut worker, mut client) = thread::join(
+        rt,
+        move || work(rt, shared, worker, server),
+        move || queue_jobs(rt, shared, client, server),
+    );
+    let note = store.note(&mut worker);
+    store.learn(&mut client, note);
+    let last = CacheOp {
+        cache: server.results,
+        act: CacheAct::CGet(JOBS),
+    };
+    let reply = run(rt, &store, &mut client, &last);
+    println!(rt; "the result of job {JOBS}, by another thread: {reply:?}")
+}
+
+// Finishes as many jobs as the client queues, and waits where there is none.
+fn work<R: Wait>(rt: &R, store: &Store, mut worker: Caller, server: &Server) -> Caller
+    requires worker { IsFree store.now worker }
+    requires server { HasServer server.now store.now.origin.locations }
+    ensures { IsFree store.now result }
+{
+    for _ in 0..JOBS {
+        run(rt, store, &mut worker, &FinishJob::new(server));
+    }
+    worker
+}
+
+fn queue_jobs<R: Wait>(rt: &R, store: &Store, mut client: Caller, server: &Server) -> Caller
+    requires client { IsFree store.now client }
+    requires server { HasServer server.now store.now.origin.locations }
+    ensures { IsFree store.now result }
+{
+    for job in 1..JOBS + 1 {
+        let queue = QueueOp {
+            queue: server.jobs,
+            act: QueueAct::Enq(job),
+        };
+        run(rt, store, &mut client, &queue);
+    }
+    client
+}
+
+// Commits a transaction, where it would wait as soon as it needn't: its reply.
+fn run<R: Wait, T: Transact>(
+    rt: &R,
+    store: &Store,
+    caller: &mut Caller,
+    transaction: &T,
+) -> Option<Reply>
+    requires caller { IsFree store.now caller.old }
+    requires fit { T.is_fit transaction.now }
+    requires within { T.end transaction.now ≤ store.now.origin.locations }
+    ensures { IsFree store.now caller.new }
+{
+    match commit_waiting(rt, store, caller, transaction) {
+        Outcome::Done {
+            reply,
+            footprint: _,
+        } => Some(reply),
+        _ => None,
+    }
+}
