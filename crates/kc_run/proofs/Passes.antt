@@ -1,8 +1,8 @@
 -- The commits of a pass of the lock-free store, and its passes as they open.
-use Rattle.std.proofs.Common.{◌≡◌, ℕ, zero, suc, ◌+◌, ◌≤◌, true, List, [], ◌∷◌, ◌++◌, length, map, refl, sym, ap, ◌∙◌, subst, arith}
+use Rattle.std.proofs.Common.{◌≡◌, ℕ, zero, suc, ◌<◌, replicate, true, List, [], ◌∷◌, ◌++◌, length, map, refl, sym, ap, ◌∙◌, subst, append_assoc, arith}
 use Rattle.std.specs.Prelude.{All}
 use Rattle.std.specs.Global.{Vec}
-use Rattle.std.proofs.lemmas.List.{map-append}
+use Rattle.std.proofs.lemmas.List.{get_or-replicate, map-append}
 use Rattle.std.proofs.lemmas.List.Elements.{All-cons, All-map, All-nil, All-weaker}
 use Rattle.kc_await.proofs.Looks.{adds_at_last}
 use Rattle.kc_await.proofs.Numbered.{rises_at_last}
@@ -15,17 +15,17 @@ use Rattle.kc_model.specs.declared.footprint.Entry.{Entry}
 use Rattle.kc_model.specs.declared.footprint.Footprint.{Footprint}
 use Rattle.kc_model.specs.declared.reply.Answer.{Answer}
 use Rattle.kc_model.specs.declared.reply.Answer.TheVariants as answer
+use Rattle.kc_run.proofs.Pasts.{values_are}
 use Rattle.kc_run.specs.Jobs.{AllMayRun}
-use Rattle.kc_run.specs.Kcas.{AllKcDealt, BelongsTo, CommitsSince, KcPassView, OnlyCommits, Rests, answered_as, more, none, opened_seat, own_in, passes_with}
+use Rattle.kc_run.specs.Kcas.{AllKcDealt, BelongsTo, CommitsSince, KcPassView, OnlyCommits, Opened, OpensAtZero, Rests, answered_as, more, none, opened_seat, own_in, passes_with}
 use Rattle.kc_run.specs.Shares.{shares_of}
 use Rattle.kc_script_bundle.specs.declared.operation.Command.{Command}
 use Rattle.kc_script_runs.specs.Looks.{GivesBehindLooks, IsLook}
-use Rattle.kc_store.specs.Answers.{Settles, own_entries, placed_entry}
+use Rattle.kc_store.specs.Answers.{own_entries, placed_entry}
 use Rattle.kc_store.specs.Verdicts.{has_entry, verdict_of}
 use Rattle.kc_store.specs.declared.verdict.Answered.{Answered}
-use Rattle.kc_table_moves.specs.Views.{SeatView, TableView, opened_seats}
+use Rattle.kc_table_moves.specs.Views.{OpensAt, SeatView, TableView, opened_seats}
 use Rattle.kc_table_seats.specs.Tasks.{Keeps}
-use Rattle.kc_xt.specs.Commit.{Answers}
 use Rattle.kc_xt.specs.Meaning.{Meaning}
 
 -- ---- a commit
@@ -57,13 +57,6 @@ commit_gives m a f v w c = gives_behind m f v w (go a (adds_at_last v w m (answe
     go (answer.Reply r) b = b
     go answer.TooLarge b = b
 
-pub commit_answers : (m : Meaning) (a : Answer) (f : Footprint) (v w : SeatView) → CommitsAtLast m (answered_as a) f v w → Answers m a f
-commit_answers m a f v w c = go a c.settles
-  where
-    go : (a : Answer) → Settles m (verdict_of (answered_as a)) c.last f w → Answers m a f
-    go (answer.Reply r) s = s.0
-    go answer.TooLarge s = s.0
-
 pub has_one : (a : Answer) → has_entry (verdict_of (answered_as a)) ≡ true
 has_one (answer.Reply r) = refl
 has_one answer.TooLarge = refl
@@ -92,3 +85,23 @@ deals store k (v ∷ vs) = (record { belongs_to = record { of = refl; rests = re
 
 pub all_dealt : (store : TableView) (threads : List (Vec Command)) (shares : List ℕ) (passes : List KcPassView) → shares ≡ shares_of threads → passes ≡ passes_with (opened_seats store 0 (length shares)) shares → AllKcDealt store threads passes
 all_dealt store threads shares passes is dealt = subst (AllKcDealt store threads) (sym (dealt ∙ ap (λ l. passes_with (opened_seats store 0 (length l)) l) is)) (deals store 0 threads)
+
+pub opens : (values shares : List ℕ) (store : TableView) (callers : List SeatView) (passes : List KcPassView) (n : ℕ) → n ≡ length shares → OpensAt values (replicate (length values) 0) n 0 store → callers ≡ opened_seats store 0 n → passes ≡ passes_with callers shares → Opened values shares store passes
+opens values shares store callers passes n count o seats dealt = record {
+  opening = values_are store.origin values o.locations (λ l lt. (o.cells l lt).1);
+  callers = o.seats ∙ count;
+  dealt = dealt ∙ ap (λ s. passes_with s shares) (seats ∙ ap (opened_seats store 0) count);
+}
+
+pub opens_at_zero : (values : List ℕ) (n g : ℕ) (z : TableView) → OpensAt values (replicate (length values) 0) n g z → OpensAtZero z
+opens_at_zero values n g z o l lt =
+    let within = subst (λ m. l < m) o.locations lt in
+    (o.cells l within).0 ∙ get_or-replicate (length values) l 0 0 within
+
+pub dealt_more : (before after : List KcPassView) (s : SeatView) (n : ℕ) (seats rest : List SeatView) (shares left : List ℕ) (all : List KcPassView) → seats ≡ s ∷ rest → shares ≡ n ∷ left → after ≡ before ++ record { seat = s; left = n } ∷ [] → before ++ passes_with seats shares ≡ all → after ++ passes_with rest left ≡ all
+dealt_more before after s n seats rest shares left all first given pushed was =
+    let p : KcPassView = record { seat = s; left = n } in
+    ap (λ (l : List KcPassView). l ++ passes_with rest left) pushed ∙ append_assoc before (p ∷ []) (passes_with rest left) ∙ sym (λ i. before ++ passes_with (first i) (given i)) ∙ was
+
+pub same_more : (s : SeatView) (n : ℕ) (seats rest : List SeatView) (shares left : List ℕ) → seats ≡ s ∷ rest → shares ≡ n ∷ left → length seats ≡ length shares → length rest ≡ length left
+same_more s n seats rest shares left first given same = let a = ap length first in let b = ap length given in omega (arith, a, b, same)

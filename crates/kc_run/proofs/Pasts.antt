@@ -1,5 +1,5 @@
 -- The values and the one history of a lock-free store whose passes came back.
-use Rattle.std.proofs.Common.{◌≡◌, ℕ, zero, suc, ◌+◌, ◌<◌, Bool, true, false, cond, List, [], ◌∷◌, length, map, get_or, refl, sym, ap, ◌∙◌, subst, arith}
+use Rattle.std.proofs.Common.{◌≡◌, ℕ, zero, suc, ◌+◌, ◌<◌, ◌==◌, Bool, true, false, cond, List, [], ◌∷◌, length, map, get_or, refl, sym, ap, ◌∙◌, subst, arith}
 use Rattle.std.specs.Prelude.{All}
 use Rattle.std.proofs.lemmas.List.{get_or-map, length-map}
 use Rattle.std.proofs.lemmas.List.Elements.{All-head, All-map, All-tail, All-weaker}
@@ -12,8 +12,7 @@ use Rattle.kc_model.specs.Footprint.{IsBelow, put_at}
 use Rattle.kc_model.specs.Legal.{IsLegal}
 use Rattle.kc_model.specs.Store.{Finds, Store, after, cell_after, opened, store_of}
 use Rattle.kc_model.specs.declared.footprint.Entry.{Entry}
-use Rattle.kc_model.specs.declared.plain_store.Cell.{Cell}
-use Rattle.kc_run.specs.Kcas.{BelongsTo, KcPassView, OpensAtZero, history_in, own_in, values_in, values_of}
+use Rattle.kc_run.specs.Kcas.{BelongsTo, KcPassView, OpensAtZero, history_in, own_in, values_of}
 use Rattle.kc_run.specs.Shared.{count_from}
 use Rattle.kc_store.proofs.Within.{past_lies}
 use Rattle.kc_store.specs.Within.{LiesIn}
@@ -68,8 +67,8 @@ legal_from_values z seats p zeros past =
     let o = opening_of p.origin in
     let h = known o p.schedule in
     let at_zero : (l : ℕ) → l < z.origin.locations → first_store o l ≡ store_of (opened (values_of z.origin)) l =
-        λ l lt. let at : 0 + l ≡ l = omega arith in
-        ap (λ (q : Origin). first_store (opening_of q) l) past.origin ∙ ap (λ v. record { version = v; value = (opening_of z.origin).value l }) (zeros l lt) ∙ sym (cells_at (opening_of z.origin).value 0 z.origin.locations l lt ∙ ap (λ m. record { version = 0; value = (opening_of z.origin).value m }) at) in
+    λ l lt. let at : 0 + l ≡ l = omega arith in
+    ap (λ (q : Origin). first_store (opening_of q) l) past.origin ∙ ap (λ v. record { version = v; value = (opening_of z.origin).value l }) (zeros l lt) ∙ sym (cells_at (opening_of z.origin).value 0 z.origin.locations l lt ∙ ap (λ m. record { version = 0; value = (opening_of z.origin).value m }) at) in
     legal_there z.origin.locations (first_store o) (store_of (opened (values_of z.origin))) (ending (first_store o) h) (entries h) at_zero (entries_lie z.origin.locations h (past_lies z seats p past)) past.whole.legal
 
 -- ---- callers
@@ -93,7 +92,7 @@ own_parts z passes p past k d lt =
 pub below_callers : (z : TableView) (seats : List SeatView) (p : PastView) → IsPast z seats p → IsBelowCallers z.origin.callers (history_in p)
 below_callers z seats p past =
     subst (λ (q : Origin). IsBelowCallers q.callers (history_in p)) past.origin
-        (All-map (λ (e : Entry). e.caller < p.origin.callers) (λ (x : Placed). x.entry) (known (opening_of p.origin) p.schedule) past.whole.of_callers)
+    (All-map (λ (e : Entry). e.caller < p.origin.callers) (λ (x : Placed). x.entry) (known (opening_of p.origin) p.schedule) past.whole.of_callers)
 
 -- ---- all passes
 

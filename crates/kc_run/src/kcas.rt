@@ -121,14 +121,16 @@ impl Shared for KcShared {
 fn answer_of<R: Wait>(rt: &R, answered: Answered) -> Answer
     ensures { answered ≡ answered_as result }
 {
-    for _ in rt.forever() {
-        match answered {
-            Answered::Done(reply) => return Answer::Reply(reply),
-            Answered::TooLarge => return Answer::TooLarge,
-            Answered::Later | Answered::WornLocation(_) | Answered::WornPool => thread::yield_now(),
+    match answered {
+        Answered::Done(reply) => Answer::Reply(reply),
+        Answered::TooLarge => Answer::TooLarge,
+        Answered::Later | Answered::WornLocation(_) | Answered::WornPool => {
+            for _ in rt.forever() {
+                thread::yield_now();
+            }
+            unreachable!()
         }
     }
-    unreachable!()
 }
 
 impl KcShared {
@@ -149,19 +151,20 @@ impl KcShared {
         ensures locations { (result ≡ Err OpenError.TooManyLocs) ↔ (MOST_LOCATIONS < length values.now) }
         ensures callers { (result ≡ Err OpenError.TooManyCallers) ↔ ((length values.now ≤ MOST_LOCATIONS) × ((length shares.now ≡ 0) ⊎ (MOST_CALLERS < length shares.now))) }
     {
-        let count = shares.len().min(MOST_CALLERS + 1) as u32;
-        let (store, callers) = Store::open(alloc, values, count)?;
+        if values.len() > MOST_LOCATIONS {
+            return Err(OpenError::TooManyLocs);
+        }
+        if shares.len() > MOST_CALLERS {
+            return Err(OpenError::TooManyCallers);
+        }
+        let (store, callers) = Store::open(alloc, values, shares.len() as u32)?;
         let passes = deal(alloc, callers, shares)?;
         Ok((KcShared { store }, passes))
     }
 }
 
 // A pass for each caller, with the share at its place.
-fn deal(
-    alloc: Global,
-    callers: Vec<Caller>,
-    shares: &[u32],
-) -> Result<Vec<KcPass>, AllocError>
+fn deal(alloc: Global, callers: Vec<Caller>, shares: &[u32]) -> Result<Vec<KcPass>, AllocError>
     requires same { length callers.items ≡ length shares.now }
     requires rest { All Rests callers.items }
     requires only { All OnlyCommits callers.items }

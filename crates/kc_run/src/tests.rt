@@ -2,10 +2,10 @@ ghost use Rattle.std.specs.Prelude.{◌≡◌, ◌<◌, ◌≤◌, All, IfOk, le
 ghost use Rattle.kc_script_bundle.specs.Meaning.{OpIsFit, op_end};
 ghost use Rattle.kc_run.specs.Run.{CanRunAll};
 
-use crate::{OpenGate, open_locked, run_threads};
+use crate::{KcShared, OpenGate, open_kcas, open_locked, run_threads};
 use kc_history::{Mark, Record};
 use kc_loc::LocOp;
-use kc_model::{Answer, Item, Loc, NoMemory, Reply};
+use kc_model::{Answer, Item, Loc, NoMemory, OpenError, Reply};
 use kc_queue::{Queue, QueueAct, QueueOp};
 use kc_script_bundle::{Command, Op};
 use std::alloc::Global;
@@ -38,8 +38,18 @@ fn team(alloc: Global, op: Op, count: usize, threads: usize) -> Result<Vec<Vec<C
     Ok(team)
 }
 
-// The records of these threads, on a store of 64 locations that are zero but for the number of threads.
-fn run<R: Threads + Wait + Sync>(
+// The opening values of a store of 64 locations: they are zero but for the number of threads.
+fn opening(alloc: Global, threads: &[Vec<Command>]) -> Result<Vec<u32>, NoMemory>
+    requires { length threads.now ≤ 64 }
+    ensures { IfOk result (λ v. length v.items ≡ 64) }
+{
+    let mut values = vec![in alloc; 0; 64]?;
+    values[0] = threads.len() as u32;
+    Ok(values)
+}
+
+// The records of these threads on the store behind one lock.
+fn run_locked<R: Threads + Wait + Sync>(
     rt: &R,
     alloc: Global,
     threads: &[Vec<Command>],
@@ -47,9 +57,25 @@ fn run<R: Threads + Wait + Sync>(
     requires threads { (0 < length threads.now) × (length threads.now ≤ 64) }
     requires commands { All (λ v. CanRunAll 64 v.items) threads.now }
 {
-    let mut values = vec![in alloc; 0; 64]?;
-    values[0] = threads.len() as u32;
+    let values = opening(alloc, threads)?;
     let (store, passes) = open_locked(alloc, &values, threads)?;
+    match run_threads(rt, alloc, threads, store, passes, &OpenGate) {
+        Ok((records, _)) => Ok(records),
+        Err(_) => Err(NoMemory),
+    }
+}
+
+// The records of these threads on the lock-free store.
+fn run_kcas<R: Threads + Wait + Sync>(
+    rt: &R,
+    alloc: Global,
+    threads: &[Vec<Command>],
+) -> Result<Vec<Vec<Record>>, NoMemory>
+    requires threads { (0 < length threads.now) × (length threads.now ≤ 64) }
+    requires commands { All (λ v. CanRunAll 64 v.items) threads.now }
+{
+    let values = opening(alloc, threads)?;
+    let (store, passes) = open_kcas(alloc, &values, threads)?;
     match run_threads(rt, alloc, threads, store, passes, &OpenGate) {
         Ok((records, _)) => Ok(records),
         Err(_) => Err(NoMemory),
@@ -75,8 +101,10 @@ fn replies(alloc: Global, records: &[Vec<Record>], most: usize) -> Result<usize,
 fn two_threads_add_to_one_location(rt: HostRuntime) -> Result<(), Fail> {
     let alloc = rt.alloc();
     let threads = team(alloc, Op::Loc(LocOp::FetchAdd(Loc(1), 1)), 500, 2)?;
-    let records = run(&rt, alloc, &threads)?;
-    assert_eq!(rt; replies(alloc, &records, 1000)?, 1000);
+    let locked = run_locked(&rt, alloc, &threads)?;
+    assert_eq!(rt; replies(alloc, &locked, 1000)?, 1000);
+    let free = run_kcas(&rt, alloc, &threads)?;
+    assert_eq!(rt; replies(alloc, &free, 1000)?, 1000);
     Ok(())
 }
 
@@ -84,8 +112,10 @@ fn two_threads_add_to_one_location(rt: HostRuntime) -> Result<(), Fail> {
 fn sixteen_threads_add_to_one_location(rt: HostRuntime) -> Result<(), Fail> {
     let alloc = rt.alloc();
     let threads = team(alloc, Op::Loc(LocOp::FetchAdd(Loc(1), 1)), 100, 16)?;
-    let records = run(&rt, alloc, &threads)?;
-    assert_eq!(rt; replies(alloc, &records, 1600)?, 1600);
+    let locked = run_locked(&rt, alloc, &threads)?;
+    assert_eq!(rt; replies(alloc, &locked, 1600)?, 1600);
+    let free = run_kcas(&rt, alloc, &threads)?;
+    assert_eq!(rt; replies(alloc, &free, 1600)?, 1600);
     Ok(())
 }
 
@@ -98,7 +128,35 @@ fn a_queue_is_handed_over_by_a_wait(rt: HostRuntime) -> Result<(), Fail> {
     threads.push(same(alloc, Op::Queue(QueueOp { queue, act: take }), 1)?)?;
     let put = QueueAct::Enq(7);
     threads.push(same(alloc, Op::Queue(QueueOp { queue, act: put }), 1)?)?;
-    let records = run(&rt, alloc, &threads)?;
-    assert_eq!(rt; replies(alloc, &records, 8)?, 1);
+    let locked = run_locked(&rt, alloc, &threads)?;
+    assert_eq!(rt; replies(alloc, &locked, 8)?, 1);
+    let free = run_kcas(&rt, alloc, &threads)?;
+    assert_eq!(rt; replies(alloc, &free, 8)?, 1);
+    Ok(())
+}
+
+#[test]
+fn a_lock_free_store_opens_within_its_limits(rt: HostRuntime) -> Result<(), Fail> {
+    let alloc = rt.alloc();
+    let many = vec![in alloc; 0u32; 65_537]?;
+    assert!(rt;
+        matches!(
+            &KcShared::open(alloc, &many, &[1, 1]),
+            Err(OpenError::TooManyLocs)
+        )
+    );
+    assert!(rt;
+        matches!(
+            &KcShared::open(alloc, &[7, 8, 9], &[1; 65]),
+            Err(OpenError::TooManyCallers)
+        )
+    );
+    assert!(rt;
+        matches!(
+            &KcShared::open(alloc, &[7, 8, 9], &[]),
+            Err(OpenError::TooManyCallers)
+        )
+    );
+    assert!(rt; KcShared::open(alloc, &[7, 8, 9], &[1, 2]).is_ok());
     Ok(())
 }
