@@ -5,8 +5,7 @@ mod hostile;
 
 use hostile::{HOSTILE, Hostile};
 use kc_model::{FrailSink, FrailSource, MemShelf};
-use kc_run::OpenGate;
-use kc_top::{Status, kcas_main};
+use kc_top::{OpenGate, Status, kcas_main};
 use std::alloc::Global;
 use std::sync::Wait;
 use std::thread::Threads;

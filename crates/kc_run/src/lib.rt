@@ -15,6 +15,7 @@ mod thread;
 
 pub use ask::Ask;
 pub use gate::{Gate, OpenGate};
+pub use kc_store::Past;
 pub use kcas::{KcPass, KcShared, open_kcas};
 pub use locked::open_locked;
 pub use run::{RunRefused, run_threads};

@@ -12,6 +12,7 @@ mod threads;
 mod top;
 
 pub use command_line::{Command, StoreName};
+pub use kc_run::{Gate, OpenGate};
 pub use laws::{
     pasts_have_just_the_records_behind_looks, reading_fails_for_a_cause, storms_write_their_summary,
 };

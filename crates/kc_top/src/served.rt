@@ -1,7 +1,7 @@
 //! Which commits a run was served.
 
 use kc_locked::LockPast;
-use kc_store::Past;
+use kc_run::Past;
 
 /// What the store of a run's threads came to.
 #[derive(Drop)]

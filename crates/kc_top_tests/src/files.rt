@@ -5,9 +5,8 @@ ghost use Rattle.kc_model.specs.Forms.{are_calls};
 
 use crate::runs::{ROOM, call};
 use kc_model::{FrailSink, FrailSource, MemShelf};
-use kc_run::OpenGate;
 use kc_script_lines::Why;
-use kc_top::Status;
+use kc_top::{OpenGate, Status};
 use std::alloc::Global;
 use std::sync::Wait;
 use std::test::Fail;

@@ -3,9 +3,8 @@
 ghost use Rattle.std.specs.Prelude.{◌≤◌, None};
 
 use kc_model::{Failed, FrailSink, FrailSource, MemShelf, Shelf, Sink, Source, SureSource};
-use kc_run::{Gate, OpenGate};
 use kc_script_lines::{Limit, Why};
-use kc_top::{Served, Status, StoreName, kcas_main};
+use kc_top::{Gate, OpenGate, Served, Status, StoreName, kcas_main};
 use std::alloc::Global;
 use std::fmt::Write;
 use std::sync::Wait;

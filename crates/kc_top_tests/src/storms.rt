@@ -2,8 +2,7 @@
 
 use crate::runs::{STORES, call, no_files};
 use kc_model::{FrailSink, SureSource};
-use kc_run::{Gate, OpenGate};
-use kc_top::{Status, StoreName};
+use kc_top::{Gate, OpenGate, Status, StoreName};
 use std::alloc::Global;
 use std::sync::Wait;
 use std::sync::atomic::{AtomicU32, Ordering};

@@ -2,8 +2,7 @@
 
 use crate::runs::{STORES, call, no_files, run_behind, run_failing};
 use kc_model::{FrailSink, SureSource};
-use kc_run::{Gate, OpenGate};
-use kc_top::Status;
+use kc_top::{Gate, OpenGate, Status};
 use std::alloc::Global;
 use std::fmt::Write;
 use std::sync::Wait;

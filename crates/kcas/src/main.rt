@@ -15,8 +15,7 @@ mod words;
 
 use dir_shelf::DirShelf;
 use ends::{StdinSource, StdoutSink};
-use kc_run::OpenGate;
-use kc_top::{Status, kcas_main};
+use kc_top::{OpenGate, Status, kcas_main};
 use line::report;
 use std::alloc::Global;
 use std::io::{Read, Write};
