@@ -12,11 +12,10 @@ use kc_queue::{QueueAct, QueueOp};
 use kc_store::{Caller, Outcome, Store};
 use kc_xt::Transact;
 use std::alloc::Global;
-use std::io;
 use std::io::Print;
 use std::sync::Wait;
-use std::thread;
 use std::thread::Threads;
+use std::{io, thread};
 
 // How many jobs the client queues, and the worker finishes.
 const JOBS: u32 = 3;
