@@ -71,11 +71,6 @@ pub(crate) fn run_alone<T: Transact>(
     ensures looked { AllAlone result seat.old footprint.new seat.new }
 {
     let mut tried = Tried::Busy;
-    attempt_on(
-        SolePeek { table, seat },
-        transaction,
-        footprint,
-        &mut tried,
-    );
+    attempt_on(SolePeek { table, seat }, transaction, footprint, &mut tried);
     tried
 }

@@ -11,6 +11,7 @@ use kc_xt::Transact;
 use std::test::Fail;
 
 const GET: LocOp = LocOp::Get(Loc(0));
+
 const SET: LocOp = LocOp::Set(Loc(0), 1);
 
 // What the only caller is told.
