@@ -1,11 +1,9 @@
 -- From what came of the looks and the commit of the only caller to what it is told.
-use Rattle.std.proofs.Common.{List, None, Option, Some, [], ap, arith, refl, subst, sym, true, ℕ, ◌++◌, ◌+◌, ◌<◌, ◌∙◌, ◌∷◌, ◌≡◌, ◌≢◌, ◌≤◌, cond, Bool, false, ◌==◌, inl, length}
+use Rattle.std.proofs.Common.{List, Some, [], ap, arith, refl, subst, sym, true, ℕ, ◌++◌, ◌+◌, ◌∙◌, ◌∷◌, ◌≡◌, ◌≤◌, cond, Bool, false, ◌==◌, inl, length}
 use Rattle.std.specs.Option.{option_map}
-use Rattle.std.specs.Prelude.{Contains, is_some}
+use Rattle.std.specs.Prelude.{Contains}
 use Rattle.kc_machine.specs.Machine.{pool_size}
 use Rattle.kc_machine.specs.Schedules.{IsWellMadeTask}
-use Rattle.kc_machine.specs.Seats.{is_idle}
-use Rattle.kc_machine_alone.specs.Stretches.{stretch}
 use Rattle.kc_machine_claims.specs.Histories.{History, Placed, ending}
 use Rattle.kc_machine_claims.specs.Traces.{first_store}
 use Rattle.kc_machine_steps.specs.declared.task.Task.TheVariants as task
@@ -13,22 +11,20 @@ use Rattle.kc_machine_steps.specs.declared.task.Task.{Task}
 use Rattle.kc_machine_steps.specs.declared.task.Told.TheVariants as told
 use Rattle.kc_machine_traces.specs.Entries.{by}
 use Rattle.kc_machine_words.specs.declared.words.Mode.TheVariants.{All}
-use Rattle.kc_machine_words.specs.declared.words.TheConstants.{LAST_GENERATION}
 use Rattle.kc_model.proofs.Stores.{Contains-first, Contains-later}
-use Rattle.kc_model.specs.Footprint.{IsBelow, IsWellMade, Puts, put_at}
+use Rattle.kc_model.specs.Footprint.{IsBelow, IsWellMade, put_at}
 use Rattle.kc_model.specs.Store.{Finds, Store, after}
 use Rattle.kc_model.specs.declared.footprint.Footprint.{Footprint}
 use Rattle.kc_model.specs.declared.footprint.Loc.{Loc}
 use Rattle.kc_model.specs.declared.footprint.Put.{Put}
-use Rattle.kc_model.specs.declared.footprint.TheConstants.{LAST_VERSION, MOST}
-use Rattle.kc_model.specs.declared.reply.Answer.{Answer}
+use Rattle.kc_model.specs.declared.footprint.TheConstants.{MOST}
 use Rattle.kc_model.specs.declared.reply.Answer.TheVariants as answer
 use Rattle.kc_model.specs.declared.reply.Reply.{Reply}
 use Rattle.kc_store.proofs.Doing.{did_keeps}
 use Rattle.kc_store.proofs.Ending.{runs, tried_starts}
 use Rattle.kc_store.proofs.Gaining.{gains}
 use Rattle.kc_store.proofs.Seeing.{keeps_then}
-use Rattle.kc_store.specs.Alone.{Concludes, EndsAlone, IsEntered}
+use Rattle.kc_store.specs.Alone.{EndsAlone}
 use Rattle.kc_store.specs.Answers.{Gains, own_entries, placed_entry}
 use Rattle.kc_store.specs.Lone.{AllAlone, CommitsAlone}
 use Rattle.kc_store.specs.Steps.{steps_made}
@@ -39,8 +35,8 @@ use Rattle.kc_table_seats.proofs.Running.{does_ran}
 use Rattle.kc_table_seats.specs.Tasks.{Does, Keeps}
 use Rattle.kc_table_sole.proofs.Knowing.{own_before, own_behind}
 use Rattle.kc_table_sole.specs.Sole.{HasNoLife, IsSole, Rests, standing}
-use Rattle.kc_xt.specs.Commit.{Answers, Came, Waits, Wears, answer_of, run_on}
-use Rattle.kc_xt.specs.Meaning.{CanMake, Makes, Meaning, Outcome, Touch, given_up, last_written, replied, retried, too_large}
+use Rattle.kc_xt.specs.Commit.{Came, answer_of, run_on}
+use Rattle.kc_xt.specs.Meaning.{CanMake, Makes, Meaning, Outcome, Touch, replied, retried, too_large}
 use Rattle.kc_xt.specs.declared.attempts.Tried.{Tried}
 use Rattle.kc_xt.specs.declared.attempts.Tried.TheVariants as tried
 

@@ -1,5 +1,5 @@
 -- The commit of the only caller.
-use Rattle.std.proofs.Common.{Bool, Some, ap, arith, false, inl, inr, length, not, refl, subst, sym, take, true, ℕ, ◌+◌, ◌-◌, ◌<◌, ◌∙◌, ◌≡◌, ◌≤◌, ◌⊎◌}
+use Rattle.std.proofs.Common.{Bool, Some, ap, arith, false, inl, inr, length, not, sym, true, ℕ, ◌+◌, ◌<◌, ◌∙◌, ◌≡◌}
 use Rattle.std.proofs.Math.Seq.{take-length}
 use Rattle.kc_machine.specs.Schedules.{IsWellMadeTask}
 use Rattle.kc_machine.specs.Seats.{is_idle}

@@ -4,7 +4,6 @@ use Rattle.std.specs.Prelude.{Contains, Err, Ok, Result}
 use Rattle.kc_machine.specs.Seats.{is_idle}
 use Rattle.kc_machine_steps.specs.declared.task.Task.TheVariants as task
 use Rattle.kc_machine_steps.specs.declared.task.Told.TheVariants as told
-use Rattle.kc_model.specs.Store.{Finds}
 use Rattle.kc_model.specs.declared.footprint.Footprint.{Footprint}
 use Rattle.kc_model.specs.declared.footprint.Loc.{Loc}
 use Rattle.kc_model.specs.declared.footprint.Seen.{Seen}

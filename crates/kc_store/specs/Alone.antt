@@ -1,5 +1,5 @@
 -- A transaction by the only caller of a store: what it answers, by what stands, and what it leaves.
-use Rattle.std.specs.Prelude.{◌≡◌, ℕ, true}
+use Rattle.std.specs.Prelude.{◌≡◌, ℕ}
 use Rattle.kc_model.specs.Footprint.{IsBelow}
 use Rattle.kc_model.specs.Store.{Store, after}
 use Rattle.kc_model.specs.declared.footprint.Footprint.{Footprint}

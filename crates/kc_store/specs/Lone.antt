@@ -2,8 +2,6 @@
 use Rattle.std.specs.Prelude.{◌≡◌, ◌≢◌, ℕ, ◌+◌, ◌≤◌, Bool, true, false, Option, Some, length}
 use Rattle.kc_machine.specs.Seats.{is_idle}
 use Rattle.kc_machine_alone.specs.Stretches.{stretch}
-use Rattle.kc_machine_claims.specs.Histories.{IsKnown}
-use Rattle.kc_machine_claims.specs.Traces.{first_store}
 use Rattle.kc_machine_steps.specs.declared.task.Task.TheVariants as task
 use Rattle.kc_machine_steps.specs.declared.task.Told.{Told}
 use Rattle.kc_machine_steps.specs.declared.task.Told.TheVariants as told
@@ -14,7 +12,7 @@ use Rattle.kc_model.specs.declared.footprint.Seen.{Seen}
 use Rattle.kc_model.specs.declared.footprint.TheConstants.{MOST}
 use Rattle.kc_store.specs.Steps.{steps_made}
 use Rattle.kc_table_moves.specs.Straight.{Ran}
-use Rattle.kc_table_moves.specs.Views.{SeatView, knows, opening_at_seat}
+use Rattle.kc_table_moves.specs.Views.{SeatView}
 use Rattle.kc_table_seats.specs.Tasks.{Keeps}
 use Rattle.kc_table_sole.specs.Sole.{HasNoLife, Rests, standing}
 use Rattle.kc_xt.specs.Lines.{look}

@@ -1,7 +1,4 @@
-use Rattle.std.proofs.Common.{◌≡◌, ◌∙◌, ap, sym}
-use Rattle.kc_machine.specs.Schedules.{IsWellMadeTask}
-use Rattle.kc_machine_steps.specs.declared.task.Task.TheVariants as task
-use Rattle.kc_machine_words.specs.declared.words.Mode.TheVariants.{All}
+use Rattle.std.proofs.Common.{◌∙◌, ap, sym}
 use Rattle.kc_store.proofs.Concluding.{blocked_both, done, finds_so, fits_table, keeps_both, large, later, wears, worn_pool}
 use Rattle.kc_store.proofs.Ending.{few_reads}
 use Rattle.kc_store.proofs.LoneCommits.{stands_known}

@@ -1,4 +1,4 @@
-use Rattle.std.proofs.Common.{◌≡◌, subst}
+use Rattle.std.proofs.Common.{subst}
 use Rattle.kc_store.specs.Alone.{EndsAlone}
 use Rattle.kc_store.proofs.store.Store.sole_into.Goals as goal
 
