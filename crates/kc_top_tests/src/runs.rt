@@ -456,7 +456,7 @@ fn a_text_is_written_by_the_page(rt: HostRuntime) -> Result<(), Fail> {
     assert_eq!(rt; status, Status::Done);
     assert!(rt; 40_000 < counting.bytes);
     assert!(rt;
-        counting.calls <= counting.bytes / 4000 + 1,
+        counting.calls <= (counting.bytes / 4000).wrapping_add(1),
         "{}",
         counting.calls
     );
