@@ -1,7 +1,11 @@
 -- A step of a seat that is not written.
-use Rattle.std.proofs.Common.{◌≡◌, ℕ, ◌<◌, ◌++◌, Bool, false, refl, sym, ap, ◌∙◌, subst}
+use Rattle.std.proofs.Common.{◌≡◌, ◌≢◌, ℕ, zero, suc, ◌<◌, ◌++◌, Bool, false, refl, sym, ap, ◌∙◌, arith, subst}
+use Rattle.std.proofs.lemmas.List.{set-get_or}
+use Rattle.std.specs.Prelude.{slice_index}
+use Rattle.atomic_table.proofs.Lists.{set_again}
 use Rattle.atomic_table.specs.Seated.{TableId}
-use Rattle.atomic_table.specs.Table.{Me, Allows}
+use Rattle.atomic_table.specs.Table as table
+use Rattle.atomic_table.specs.Table.{Me, Act, Allows, Valid, keeps, stepped, carried_after}
 use Rattle.kc_machine.specs.Machine.{World, run, found_at, pool_size}
 use Rattle.kc_machine.specs.Seats.{access_of, answer_of, is_idle}
 use Rattle.kc_machine.specs.declared.seat.Seat.{Seat}
@@ -9,10 +13,11 @@ use Rattle.kc_table_layout.proofs.Stored.{Agrees}
 use Rattle.kc_table_layout.specs.Cells.{base_of, size_of}
 use Rattle.kc_table_layout.specs.Changes.{changed}
 use Rattle.kc_table_layout.specs.declared.change.Change.{Change}
+use Rattle.kc_table_layout.specs.declared.change.Change.TheVariants as change
 use Rattle.kc_table_moves.proofs.Allowed.{arm, within_table, ready_after}
 use Rattle.kc_table_moves.specs.Origins.{Origin, opening_of}
 use Rattle.kc_table_moves.specs.Rule.{number_of, past_of, Kept, Ready, Steps, Moved}
-use Rattle.kc_table_moves.specs.Straight.{further, On, Aims, Went, Makes}
+use Rattle.kc_table_moves.specs.Straight.{further, On, Aims, Peeked, Went, Makes}
 use Rattle.kc_table_moves.specs.Views.{SeatView, Stepped, seen_as}
 use Rattle.kc_table_moves.specs.declared.atoms.Run.{Run}
 use Rattle.kc_table_moves.specs.declared.view.View.{View}
@@ -28,6 +33,27 @@ by_aim agrees q slots id me began s word ch r from busy aims =
 pub aim_within : (q : Origin) (me : Me Unit View) (began : Bool) (s : Seat) (word n : ℕ) (ch : Change) → Ready me began s → me.0.origin ≡ q → is_idle s.work ≡ false → Aims q s word ch → n ≡ size_of q.locations (pool_size q.callers) → word < n
 aim_within q me began s word n ch r from busy aims size =
     within_table q me began s (access_of s) (base_of q.locations) n (record { word = word; change = ch }) r from busy refl refl (λ i. record { word = aims.place i; change = sym aims.makes i }) size
+
+-- a load of a word that the seat exchanges for 0, by what it finds
+peeks_at : (q : Origin) (st : table.State Unit View) (id word n : ℕ) (me : Me Unit View) (began : Bool) (s : Seat) → Kept q (stepped st word n id me.1 me.0 keeps)
+    → (w : View) × (a : Act Unit) × Valid st.homes me.1 a × Kept q (stepped st word 0 id me.1 w a) × Moved s began me n (w, carried_after me.1 a)
+    → (w : View) × (a : Act Unit) × Valid st.homes me.1 a × Kept q (stepped st word n id me.1 w a) × Peeked s began me n (w, carried_after me.1 a)
+peeks_at q st id word zero me began s stays steps = steps
+peeks_at q st id word (suc n) me began s stays steps = (me.0, keeps, tt, stays, refl)
+
+pub by_peek : (agrees : Agrees) (q : Origin) (slots id : ℕ) (me : Me Unit View) (began : Bool) (s : Seat) (word : ℕ) → Ready me began s → me.0.origin ≡ q → is_idle s.work ≡ false → Aims q s word (change.Swap 0)
+    → Allows (Kept q) slots id me word (λ n. n) (Peeked s began me)
+by_peek agrees q slots id me began s word r from busy aims st kept count at small =
+    let same : stepped st word (slice_index st.words word) id me.1 me.0 keeps ≡ st = λ k. record { words = set-get_or st.words word 0 k; homes = st.homes; views = set_again st.views id me.0 at k } in
+    peeks_at q st id word (slice_index st.words word) me began s (subst (Kept q) (sym same) kept) (by_aim agrees q slots id me began s word (change.Swap 0) r from busy aims st kept count at small)
+
+pub peeked_none : (s : Seat) (began : Bool) (me after : Me Unit View) (n : ℕ) → n ≡ 0 → Peeked s began me n after → Moved s began me n after
+peeked_none s began me after zero e p = p
+peeked_none s began me after (suc n) e p = absurd (omega arith)
+
+pub peeked_some : (s : Seat) (began : Bool) (me after : Me Unit View) (n : ℕ) → n ≢ 0 → Peeked s began me n after → after ≡ me
+peeked_some s began me after zero ne p = absurd (ne refl)
+peeked_some s began me after (suc n) ne p = p
 
 -- ---- the seat behind it
 
@@ -64,6 +90,10 @@ went start r z y me later began s n on busy same m = record {
 
     stands : t ≡ (run (opening_of me.0.origin) (past_of later.0.parts)).seats (number_of me.0.parts)
     stands = sym m.2.stands ∙ ap (λ (x : Me Unit View). (run (opening_of me.0.origin) (past_of x.0.parts)).seats (number_of me.0.parts)) (sym m.1)
+
+-- a load that is no step leaves a seat as it is
+pub stays_on : (start : SeatView) (r : Run) (z y : TableId) (me later : Me Unit View) (began : Bool) (s : Seat) → On start r z me began s → y ≡ z → later ≡ me → On start r y later began s
+stays_on start r z y me later began s on same_table same = subst (λ t. On start r t later began s) (sym same_table) (subst (λ m. On start r z m began s) (sym same) on)
 
 -- where the seat's answer is known
 pub went_on : (start : SeatView) (r : Run) (token : TableId) (later : Me Unit View) (s t : Seat) (n : ℕ) → (w : Went start r token later s n) → Makes s n t → On start r token later false t

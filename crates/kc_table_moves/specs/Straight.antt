@@ -1,5 +1,5 @@
 -- A task that runs on while its seat lies as it was.
-use Rattle.std.specs.Prelude.{◌≡◌, ℕ, ◌≤◌, List, Bool, true, false, Option, None, Some}
+use Rattle.std.specs.Prelude.{◌≡◌, ℕ, zero, suc, ◌≤◌, List, Bool, true, false, Option, None, Some}
 use Rattle.atomic_table.specs.Seated.{TableId}
 use Rattle.atomic_table.specs.Table.{Me}
 use Rattle.kc_machine_steps.specs.declared.line.Line.{Line}
@@ -22,7 +22,7 @@ use Rattle.kc_table_layout.specs.Cells.{CellFits, base_of, bits, cell_of, place,
 use Rattle.kc_table_layout.specs.Changes.{change_of}
 use Rattle.kc_table_layout.specs.declared.change.Change.{Change}
 use Rattle.kc_table_moves.specs.Origins.{Origin}
-use Rattle.kc_table_moves.specs.Rule.{Ready}
+use Rattle.kc_table_moves.specs.Rule.{Moved, Ready}
 use Rattle.kc_table_moves.specs.Views.{SeatView, Stepped, seen_as}
 use Rattle.kc_table_moves.specs.declared.atoms.Held.{Held}
 use Rattle.kc_table_moves.specs.declared.atoms.Run.{Run}
@@ -84,6 +84,11 @@ pub record Went (start : SeatView) (r : Run) (token : TableId) (later : Me Unit 
   pub fits : CellFits world (cell_of (access_of s))
   pub found : bits world (cell_of (access_of s)) ≡ n
   pub on : On start r token later false (answer_of s (found_at world (access_of s)))
+
+-- a load by a seat that stands as s and exchanges its word for 0: where it finds 0 it is that step, and else it is none
+abbrev pub Peeked : Seat → Bool → Me Unit View → ℕ → Me Unit View → Type 0
+Peeked s began me zero after = Moved s began me 0 after
+Peeked s began me (suc n) after = after ≡ me
 
 -- what the seat makes of n, wherever it finds it
 abbrev pub Makes : Seat → ℕ → Seat → Type 0

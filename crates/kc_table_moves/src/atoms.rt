@@ -4,15 +4,17 @@ ghost use Rattle.std.specs.Prelude.{◌≡◌, false};
 ghost use Rattle.kc_machine.specs.Seats.{is_idle};
 ghost use Rattle.kc_table_layout.specs.declared.change.Change.TheVariants as change;
 ghost use Rattle.kc_table_moves.specs.Rule.{Moved, Ready};
-ghost use Rattle.kc_table_moves.specs.Straight.{Aims, Here, On, Went, found_of, point_of, seat_in, stage_of};
+ghost use Rattle.kc_table_moves.specs.Straight.{Aims, Here, On, Peeked, Went, found_of, point_of, seat_in, stage_of};
 
 use crate::rule::{Moves, Now};
 use crate::touch::{Token, Words};
+use crate::view::View;
+use atomic_table::Play;
 use kc_machine::{OwnStep, Point, Seat, Stage};
 use kc_machine_steps::{Line, PassStep};
 use kc_machine_words::{Handle, Mode, Phase};
 use kc_table_layout::touches_agree;
-use std::marker::Brand;
+use std::marker::{Brand, PhantomData};
 
 /// What a straight commit goes by. The seat lies as it was before it began.
 #[derive(Clone, Copy)]
@@ -180,6 +182,42 @@ pub fn swaps<C: Chain>(run: &Run, token: &mut Token, at: Point, word: usize, new
     ensures { Went C.start run.now token.new.table_id token.new.me (seat_in run.now at) result }
 {
     swap_at::<Brand>(run, token, at, word, new)
+}
+
+// A load that is the seat's exchange for 0 where it finds 0, and no step where it doesn't.
+struct Peeks<B: Now>(PhantomData<B>);
+
+impl<B: Now> Play<(), View> for Peeks<B> {
+    ghost use Rattle.kc_table_moves.specs.Straight.{Peeked};
+
+    ghost then = { λ step me found after. Peeked B.now B.began me found after };
+}
+
+// Only the proof reads the point.
+#[inline(always)]
+fn peek_at<B: Now>(run: &Run, token: &mut Token, _at: Point, word: usize) -> u64
+    requires here { Here run.now.words.now.key run.now.words.now.table_id run.now.base token.old.table_id token.old.me }
+    requires seat { (is_idle B.now.work ≡ false) × Ready token.old.me B.began B.now }
+    requires aim { Aims run.now.words.now.key B.now word (change.Swap 0) }
+    ensures table { token.new.table_id ≡ token.old.table_id }
+    ensures peeked { Peeked B.now B.began token.old.me result token.new.me }
+{
+    touches_agree();
+    run.words.load::<Peeks<B>>(token, word)
+}
+
+// The seat at a point exchanges what stands there for 0. Where 0 stands already, a load is that exchange, and locks nothing.
+#[inline(always)]
+pub fn clears<C: Chain>(run: &Run, token: &mut Token, at: Point, word: usize) -> u64
+    requires on { On C.start run.now token.old.table_id token.old.me false (seat_in run.now at) }
+    requires aim { Aims run.now.words.now.key (seat_in run.now at) word (change.Swap 0) }
+    ensures { Went C.start run.now token.new.table_id token.new.me (seat_in run.now at) result }
+{
+    let number = peek_at::<Brand>(run, token, at, word);
+    if number == 0 {
+        return number;
+    }
+    swaps::<C>(run, token, at, word, 0)
 }
 
 // Only the proof reads the point.

@@ -13,7 +13,7 @@ ghost use Rattle.kc_machine_commits.specs.Commits.{after_own_pass, fill_next, in
 ghost use Rattle.kc_machine.specs.Points.{first_point, seat_told};
 ghost use Rattle.kc_table_moves.specs.Straight.{On, Stopped, at_own, at_take, seat_in};
 
-use crate::atoms::{Chain, Held, Run, Stop, StopAt, exchanges, loads, subtracts, swaps};
+use crate::atoms::{Chain, Held, Run, Stop, StopAt, clears, exchanges, loads, subtracts, swaps};
 use crate::touch::Token;
 use kc_machine::{OwnStep, Point, Stage};
 use kc_machine_steps::{Line, PassStep, first_of, one_more, second_of};
@@ -519,7 +519,7 @@ fn wake<C: Chain>(
     ensures { On C.start run.now token.new.table_id token.new.me false (seat_in run.now (at_own (one_more made) held (wake_or_signal result (next_line Put run.now.mode run.now.lines.now (after_line index))))) }
 {
     let at = point_at(made, held, OwnStep::Wake { line: index, owed });
-    let number = swaps::<C>(run, token, at, awaiters_at(line.seen.loc), 0);
+    let number = clears::<C>(run, token, at, awaiters_at(line.seen.loc));
     owed | number
 }
 

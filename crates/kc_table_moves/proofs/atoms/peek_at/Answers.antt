@@ -1,0 +1,16 @@
+use Rattle.kc_table_layout.specs.declared.change.Change.TheVariants as change
+use Rattle.kc_table_moves.proofs.Straights.{by_peek, aim_within}
+use Rattle.kc_table_moves.proofs.atoms.peek_at.Goals as goal
+
+pub load-requires : goal.load-requires
+load-requires g c =
+    let h = c.requires.here in
+    let s = c.requires.seat in
+    let q = c.args.run.now.words.now.key in
+    let slots = c.args.run.now.words.now.table_id.slots in
+    let size = c.args.run.now.words.now.table_id.words in
+    let me = c.args.token.now.me in (
+      h.table,
+      aim_within q me g.B.Now.began g.B.Now.now c.args.word size (change.Swap 0) s.1 h.origin s.0 c.requires.aim h.size,
+      by_peek c.touches_agree.ensures q slots c.args.token.now.id me g.B.Now.began g.B.Now.now c.args.word s.1 h.origin s.0 c.requires.aim,
+    )
