@@ -3,7 +3,7 @@ ghost use Rattle.kc_cache.specs.Meaning.{cache_end};
 
 use crate::*;
 use kc_model::{Loc, PlainStore, Reply};
-use kc_xt::{PlainPeek, Stop, Transact, Xt};
+use kc_xt::{PlainPeek, Room, Stop, Transact, Xt};
 use std::test::Fail;
 
 // Fails where the operation answers something else.
@@ -41,7 +41,8 @@ fn the_least_recent_pair_is_dropped(rt: HostRuntime) -> Result<(), Fail> {
     if store.len() < 22 {
         return Err(Fail::from("too few locations"));
     }
-    let mut xt = Xt::new(PlainPeek::new(&store));
+    let mut room = Room::new();
+    let mut xt = Xt::new(PlainPeek::new(&store), &mut room);
     expect(&mut xt, on(c, CacheAct::CPut(1, 10)), Ok(Reply::Unit))?;
     expect(&mut xt, on(c, CacheAct::CPut(2, 20)), Ok(Reply::Unit))?;
     expect(&mut xt, on(c, CacheAct::CGet(1)), Ok(Reply::Value(10)))?;
@@ -65,7 +66,8 @@ fn a_waiting_put_takes_a_place_that_is_free_again(rt: HostRuntime) -> Result<(),
     if store.len() < 22 {
         return Err(Fail::from("too few locations"));
     }
-    let mut xt = Xt::new(PlainPeek::new(&store));
+    let mut room = Room::new();
+    let mut xt = Xt::new(PlainPeek::new(&store), &mut room);
     expect(&mut xt, on(c, CacheAct::CPutWait(1, 10)), Ok(Reply::Unit))?;
     expect(&mut xt, on(c, CacheAct::CPutWait(2, 20)), Ok(Reply::Unit))?;
     expect(&mut xt, on(c, CacheAct::CPutWait(4, 40)), Err(Stop::Retry))?;
@@ -117,7 +119,8 @@ fn a_cache_out_of_order_answers_and_ends(rt: HostRuntime) -> Result<(), Fail> {
     if store.len() < 21 {
         return Err(Fail::from("too few locations"));
     }
-    let mut xt = Xt::new(PlainPeek::new(&store));
+    let mut room = Room::new();
+    let mut xt = Xt::new(PlainPeek::new(&store), &mut room);
     expect(&mut xt, on(c, CacheAct::CGet(5)), Ok(Reply::Empty))?;
     expect(&mut xt, on(c, CacheAct::CPut(5, 1)), Ok(Reply::Full))?;
     expect(&mut xt, on(c, CacheAct::CPut(6, 1)), Ok(Reply::Full))?;

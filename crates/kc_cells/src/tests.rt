@@ -2,7 +2,7 @@ ghost use Rattle.std.specs.Prelude.{◌≡◌, IfOk, length};
 
 use crate::*;
 use kc_model::{Loc, PlainStore, Reply};
-use kc_xt::{PlainPeek, Stop, Transact, Xt};
+use kc_xt::{PlainPeek, Room, Stop, Transact, Xt};
 use std::alloc::Global;
 use std::test::Fail;
 
@@ -20,7 +20,8 @@ fn a_put_waits_while_there_is_a_value_and_a_take_until_there_is_one(
     rt: HostRuntime,
 ) -> Result<(), Fail> {
     let store = store_of(rt.alloc(), &[5, 0, 9])?;
-    let mut xt = Xt::new(PlainPeek::new(&store));
+    let mut room = Room::new();
+    let mut xt = Xt::new(PlainPeek::new(&store), &mut room);
     let mvar = Mvar::layout(Loc(1));
     let op = |act: MvarAct| MvarOp { mvar, act };
     assert_eq!(rt; mvar.cells(), 2);
@@ -40,7 +41,8 @@ fn a_put_waits_while_there_is_a_value_and_a_take_until_there_is_one(
 #[test]
 fn a_promise_keeps_its_first_value(rt: HostRuntime) -> Result<(), Fail> {
     let store = store_of(rt.alloc(), &[0, 0])?;
-    let mut xt = Xt::new(PlainPeek::new(&store));
+    let mut room = Room::new();
+    let mut xt = Xt::new(PlainPeek::new(&store), &mut room);
     let promise = Promise::layout(Loc(0));
     let op = |act: PromiseAct| PromiseOp { promise, act };
     assert_eq!(rt; promise.cells(), 2);
@@ -67,7 +69,8 @@ fn a_promise_keeps_its_first_value(rt: HostRuntime) -> Result<(), Fail> {
 #[test]
 fn a_flag_that_no_operation_leaves_says_that_there_is_a_value(rt: HostRuntime) -> Result<(), Fail> {
     let store = store_of(rt.alloc(), &[7, 3])?;
-    let mut xt = Xt::new(PlainPeek::new(&store));
+    let mut room = Room::new();
+    let mut xt = Xt::new(PlainPeek::new(&store), &mut room);
     let promise = Promise::layout(Loc(0));
     let mvar = Mvar::layout(Loc(0));
     let op = |act: MvarAct| MvarOp { mvar, act };
@@ -92,7 +95,8 @@ fn a_flag_that_no_operation_leaves_says_that_there_is_a_value(rt: HostRuntime) -
 #[test]
 fn a_bump_goes_round_the_cells_and_a_total_wraps(rt: HostRuntime) -> Result<(), Fail> {
     let store = store_of(rt.alloc(), &[1, u32::MAX, 0, 4])?;
-    let mut xt = Xt::new(PlainPeek::new(&store));
+    let mut room = Room::new();
+    let mut xt = Xt::new(PlainPeek::new(&store), &mut room);
     let acc = Accumulator::layout(Loc(1), 3);
     let op = |act: AccAct| AccOp { acc, act };
     assert_eq!(rt; acc.cells(), 3);
@@ -110,7 +114,8 @@ fn a_bump_goes_round_the_cells_and_a_total_wraps(rt: HostRuntime) -> Result<(), 
 #[test]
 fn two_totals_of_32_cells_fill_a_log(rt: HostRuntime) -> Result<(), Fail> {
     let store = store_of(rt.alloc(), &[0; 65])?;
-    let mut xt = Xt::new(PlainPeek::new(&store));
+    let mut room = Room::new();
+    let mut xt = Xt::new(PlainPeek::new(&store), &mut room);
     let a = Accumulator::layout(Loc(0), 32);
     let b = Accumulator::layout(Loc(32), 32);
     let on = |acc: Accumulator, act: AccAct| AccOp { acc, act };

@@ -3,7 +3,7 @@ ghost use Rattle.kc_dllist.specs.Meaning.{NamesNode, cells_end};
 
 use crate::*;
 use kc_model::{Loc, PlainStore, Reply};
-use kc_xt::{PlainPeek, Transact, Xt};
+use kc_xt::{PlainPeek, Room, Transact, Xt};
 use std::test::Fail;
 
 // Fails where the operation replies something else.
@@ -32,7 +32,8 @@ fn a_list_of_one_node_is_full_with_it(rt: HostRuntime) -> Result<(), Fail> {
     if store.len() < 7 {
         return Err(Fail::from("too few locations"));
     }
-    let mut xt = Xt::new(PlainPeek::new(&store));
+    let mut room = Room::new();
+    let mut xt = Xt::new(PlainPeek::new(&store), &mut room);
     let l = Dllist::layout(Loc(1), 1);
     assert_eq!(rt; l.cells(), 6);
     assert_eq!(rt; l.opening(2), 1);
@@ -55,7 +56,8 @@ fn the_last_of_three_nodes_moves_to_the_front(rt: HostRuntime) -> Result<(), Fai
     if store.len() < 12 {
         return Err(Fail::from("too few locations"));
     }
-    let mut xt = Xt::new(PlainPeek::new(&store));
+    let mut room = Room::new();
+    let mut xt = Xt::new(PlainPeek::new(&store), &mut room);
     let l = Dllist::layout(Loc(0), 3);
     expect(&mut xt, l, DllistAct::PushFront(10), Reply::Value(1))?;
     expect(&mut xt, l, DllistAct::PushFront(20), Reply::Value(2))?;
@@ -105,7 +107,8 @@ fn links_past_the_nodes_count_as_none(rt: HostRuntime) -> Result<(), Fail> {
     if store.len() < 6 {
         return Err(Fail::from("too few locations"));
     }
-    let mut xt = Xt::new(PlainPeek::new(&store));
+    let mut room = Room::new();
+    let mut xt = Xt::new(PlainPeek::new(&store), &mut room);
     let l = Dllist::layout(Loc(0), 1);
     expect(&mut xt, l, DllistAct::Last, Reply::Empty)?;
     expect(&mut xt, l, DllistAct::Remove(1), Reply::Value(5))?;

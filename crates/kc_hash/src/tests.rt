@@ -1,6 +1,6 @@
 use crate::*;
 use kc_model::{Loc, PlainStore, Reply};
-use kc_xt::{PlainPeek, Transact, Xt};
+use kc_xt::{PlainPeek, Room, Transact, Xt};
 use std::test::Fail;
 
 #[test]
@@ -17,7 +17,8 @@ fn a_table_is_a_finite_map_with_room_for_some_keys(rt: HostRuntime) -> Result<()
     assert_eq!(rt; hash.opening(5), 2);
     assert_eq!(rt; hash.opening(8), 3);
     assert_eq!(rt; hash.opening(11), 0);
-    let mut xt = Xt::new(PlainPeek::new(&store));
+    let mut room = Room::new();
+    let mut xt = Xt::new(PlainPeek::new(&store), &mut room);
     let op = |act: HashAct| HashOp { hash, act };
     assert_eq!(rt; op(HashAct::Put(1, 10)).run(&mut xt), Ok(Reply::Unit));
     assert_eq!(rt; op(HashAct::Put(2, 20)).run(&mut xt), Ok(Reply::Unit));
@@ -42,7 +43,8 @@ fn a_walk_round_a_circle_of_links_ends(rt: HostRuntime) -> Result<(), Fail> {
         return Err(Fail::from("too few locations"));
     }
     let hash = Hash::layout(Loc(1), 1, 2);
-    let mut xt = Xt::new(PlainPeek::new(&store));
+    let mut room = Room::new();
+    let mut xt = Xt::new(PlainPeek::new(&store), &mut room);
     let find = HashOp {
         hash,
         act: HashAct::Find(9),

@@ -1,6 +1,6 @@
 use crate::*;
 use kc_model::{Loc, PlainStore, Reply};
-use kc_xt::{PlainPeek, Stop, Transact, Xt};
+use kc_xt::{PlainPeek, Room, Stop, Transact, Xt};
 use std::test::Fail;
 
 #[test]
@@ -11,7 +11,8 @@ fn operations_answer(rt: HostRuntime) -> Result<(), Fail> {
     if store.len() < 4 {
         return Err(Fail::from("too few locations"));
     }
-    let mut xt = Xt::new(PlainPeek::new(&store));
+    let mut room = Room::new();
+    let mut xt = Xt::new(PlainPeek::new(&store), &mut room);
     let (x, y) = (Loc(0), Loc(1));
     assert_eq!(rt; LocOp::Swap(x, y).run(&mut xt), Ok(Reply::Unit));
     assert_eq!(rt; LocOp::Get(x).run(&mut xt), Ok(Reply::Value(2)));
@@ -36,7 +37,8 @@ fn a_value_wraps_and_a_check_waits(rt: HostRuntime) -> Result<(), Fail> {
     if store.len() < 2 {
         return Err(Fail::from("too few locations"));
     }
-    let mut xt = Xt::new(PlainPeek::new(&store));
+    let mut room = Room::new();
+    let mut xt = Xt::new(PlainPeek::new(&store), &mut room);
     let (x, y) = (Loc(0), Loc(1));
     assert_eq!(rt; LocOp::Decr(x).run(&mut xt), Ok(Reply::Unit));
     assert_eq!(rt; LocOp::Get(x).run(&mut xt), Ok(Reply::Value(4_294_967_295)));

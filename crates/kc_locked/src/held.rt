@@ -11,7 +11,7 @@ ghost use Rattle.kc_history.specs.Callers.{entry_of};
 
 use crate::history::History;
 use kc_model::{Answer, Footprint, MOST_LOCATIONS, ModelError, PlainStore};
-use kc_xt::{Ended, Transact, Tried, commit};
+use kc_xt::{Ended, Room, Transact, Trial, Went, commit_over};
 use std::alloc::Global;
 use std::marker::Model;
 
@@ -75,16 +75,17 @@ impl Held {
         ensures waits { IsErr result ↔ ((run_on (T.meaning transaction.now) (store_of self.old.cells)).outcome ≡ retried) }
         ensures unchanged { OnErr result (self.new ≡ self.old) }
     {
-        let mut footprint = Footprint::new();
-        let answer = self.commit_into(caller, number, transaction, &mut footprint)?;
+        let (mut room, mut footprint) = (Room::new(), Footprint::new());
+        let answer = self.commit_into(caller, number, &mut room, transaction, &mut footprint)?;
         Ok(Ended::of(answer, footprint))
     }
 
-    /// The same, with the footprint filled where it lies. Where it waits, the footprint has what it read, and no puts.
+    /// The same, with the footprint filled where it lies, over room that the caller keeps. Where it waits, the footprint has what it read, and no puts.
     pub fn commit_into<T: Transact>(
         &mut self,
         caller: u32,
         number: u64,
+        room: &mut Room,
         transaction: &T,
         footprint: &mut Footprint,
     ) -> Result<Answer, Waits>
@@ -97,12 +98,14 @@ impl Held {
         ensures unchanged { OnErr result (self.new ≡ self.old) }
         ensures waiting { OnErr result (WaitsFor (T.meaning transaction.now) footprint.new × Finds footprint.new (store_of self.old.cells) × (footprint.new.puts.items ≡ [])) }
     {
-        let answer = match commit(&mut self.store, transaction, footprint) {
-            Tried::Done(reply) => Answer::Reply(reply),
-            Tried::TooLarge => Answer::TooLarge,
-            Tried::Later => return Err(Waits),
-            Tried::Worn(_) => unreachable!("no location has had so many commits"),
-            Tried::Busy => unreachable!("no look at a plain store is given up"),
+        let mut trial = Trial::new();
+        commit_over(&mut self.store, room, transaction, &mut trial, footprint);
+        let answer = match trial.went {
+            Went::Done => Answer::Reply(trial.reply),
+            Went::TooLarge => Answer::TooLarge,
+            Went::Later => return Err(Waits),
+            Went::Worn(_) => unreachable!("no location has had so many commits"),
+            Went::Busy => unreachable!("no look at a plain store is given up"),
         };
         self.history.add(caller, number, footprint);
         self.spare -= 1;

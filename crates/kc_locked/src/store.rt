@@ -14,7 +14,7 @@ use crate::held::{Held, MOST_COMMITS, Waits};
 use crate::rule::{Commits, Deals, Empty, Ends, Gathers, Gives, Knows, Origin, Rule, Takes, View};
 use atomic_table::{Seat, Shared, Table};
 use kc_model::{Answer, Footprint, MOST_LOCATIONS, OpenError};
-use kc_xt::{Ended, Transact};
+use kc_xt::{Ended, Room, Transact};
 use std::alloc::{AllocError, Global};
 use std::marker::{Brand, Model};
 use std::sync::{Condvar, Mutex, Wait};
@@ -30,7 +30,7 @@ type Memory = Shared<Option<Held>, View, Origin, Rule>;
 /// A store behind one lock.
 #[derive(Drop)]
 pub struct LockedStore {
-    // The lock: who has it takes what lies in the slot, and gives it back.
+    // The lock, and how many wait: who has it takes what lies in the slot, and gives it back.
     gate: Mutex<u32>,
     // Another commit put something.
     changed: Condvar,
@@ -56,6 +56,8 @@ pub struct LockPass {
     left: u32,
     made: u64,
     token: Token,
+    /// Room for the logs of its attempts.
+    room: Room,
 }
 
 impl Model for LockPass {
@@ -165,12 +167,14 @@ impl LockedStore {
         let mut gate = self.gate.lock(rt);
         for _ in rt.forever() {
             if let Ok(answer) = self.attempt(rt, pass, transaction, footprint) {
-                if !footprint.puts.is_empty() {
+                if *gate > 0 && !footprint.puts.is_empty() {
                     self.changed.notify_all();
                 }
                 return answer;
             }
+            *gate = gate.saturating_add(1);
             gate = self.changed.wait(rt, gate);
+            *gate = gate.saturating_sub(1);
         }
         unreachable!()
     }
@@ -214,6 +218,7 @@ impl LockedStore {
             &mut pass.token,
             caller,
             number,
+            &mut pass.room,
             transaction,
             footprint,
         );
@@ -247,6 +252,7 @@ fn enter<T: Transact>(
     token: &mut Token,
     caller: u32,
     number: u64,
+    room: &mut Room,
     transaction: &T,
     footprint: &mut Footprint,
 ) -> Result<Answer, Waits>
@@ -264,7 +270,7 @@ fn enter<T: Transact>(
 {
     match memory.exchange(token, 0, None) {
         Some(mut held) => {
-            let answer = held.commit_into(caller, number, transaction, footprint);
+            let answer = held.commit_into(caller, number, room, transaction, footprint);
             memory.exchange(token, 0, Some(held));
             answer
         }
@@ -338,6 +344,7 @@ fn deal(
             left: shares[i],
             made: 0,
             token,
+            room: Room::new(),
         });
     }
     Ok(passes)
@@ -357,6 +364,7 @@ fn gather(memory: &Memory, passes: Vec<LockPass>) -> Token
             left: _,
             made: _,
             token,
+            room: _,
         } = pass;
         memory.join_seat::<Gathers>(&mut keeper, token);
     }

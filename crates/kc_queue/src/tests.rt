@@ -2,7 +2,7 @@ ghost use Rattle.std.specs.Prelude.{◌≡◌};
 
 use crate::*;
 use kc_model::{Loc, PlainStore, Reply};
-use kc_xt::{PlainPeek, Stop, Transact, Xt};
+use kc_xt::{PlainPeek, Room, Stop, Transact, Xt};
 use std::test::Fail;
 
 fn on(queue: Queue, act: QueueAct) -> QueueOp
@@ -19,7 +19,8 @@ fn items_leave_in_the_order_they_came(rt: HostRuntime) -> Result<(), Fail> {
     if store.len() < 5 {
         return Err(Fail::from("too few locations"));
     }
-    let mut xt = Xt::new(PlainPeek::new(&store));
+    let mut room = Room::new();
+    let mut xt = Xt::new(PlainPeek::new(&store), &mut room);
     let q = Queue::layout(Loc(0), 3);
     assert_eq!(rt; q.cells(), 5);
     assert_eq!(rt; q.opening(4), 0);
@@ -45,7 +46,8 @@ fn an_empty_queue_waits_or_says_so(rt: HostRuntime) -> Result<(), Fail> {
     if store.len() < 4 {
         return Err(Fail::from("too few locations"));
     }
-    let mut xt = Xt::new(PlainPeek::new(&store));
+    let mut room = Room::new();
+    let mut xt = Xt::new(PlainPeek::new(&store), &mut room);
     let q = Queue::layout(Loc(1), 1);
     assert_eq!(rt; on(q, QueueAct::Deq).run(&mut xt), Ok(Reply::Empty));
     assert_eq!(rt; on(q, QueueAct::Front).run(&mut xt), Ok(Reply::Empty));
@@ -64,7 +66,8 @@ fn a_head_past_the_ring_counts_as_its_first_place(rt: HostRuntime) -> Result<(),
     if store.len() < 5 {
         return Err(Fail::from("too few locations"));
     }
-    let mut xt = Xt::new(PlainPeek::new(&store));
+    let mut room = Room::new();
+    let mut xt = Xt::new(PlainPeek::new(&store), &mut room);
     let q = Queue::layout(Loc(0), 2);
     let count = q.count(&store);
     assert_eq!(rt; count, 2);

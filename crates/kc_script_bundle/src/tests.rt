@@ -10,7 +10,7 @@ use kc_model::{FrailSink, Loc, PlainStore, Reply};
 use kc_queue::Queue;
 use kc_stack::{Stack, StackAct, StackOp};
 use kc_term::Term;
-use kc_xt::{PlainPeek, Stop, Transact, Xt};
+use kc_xt::{PlainPeek, Room, Stop, Transact, Xt};
 use std::test::Fail;
 
 // A bundle of one object, with no threads.
@@ -137,7 +137,8 @@ fn a_command_is_one_operation_or_a_block(rt: HostRuntime) -> Result<(), Fail> {
     if store.len() < 4 {
         return Err(Fail::from("too few locations"));
     }
-    let mut xt = Xt::new(PlainPeek::new(&store));
+    let mut room = Room::new();
+    let mut xt = Xt::new(PlainPeek::new(&store), &mut room);
     let stack = Stack::layout(Loc(1), 2);
     let op = |act: StackAct| Op::Stack(StackOp { stack, act });
     let push = Command::One(op(StackAct::Push(4)));

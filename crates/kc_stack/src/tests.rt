@@ -1,6 +1,6 @@
 use crate::*;
 use kc_model::{Loc, PlainStore, Reply};
-use kc_xt::{PlainPeek, Stop, Transact, Xt};
+use kc_xt::{PlainPeek, Room, Stop, Transact, Xt};
 use std::test::Fail;
 
 #[test]
@@ -11,7 +11,8 @@ fn items_leave_in_the_order_last_in_first_out(rt: HostRuntime) -> Result<(), Fai
     if store.len() < 4 {
         return Err(Fail::from("too few locations"));
     }
-    let mut xt = Xt::new(PlainPeek::new(&store));
+    let mut room = Room::new();
+    let mut xt = Xt::new(PlainPeek::new(&store), &mut room);
     let stack = Stack::layout(Loc(1), 2);
     let op = |act: StackAct| StackOp { stack, act };
     assert_eq!(rt; stack.cells(), 3);
@@ -37,7 +38,8 @@ fn a_count_above_the_capacity_counts_as_the_capacity(rt: HostRuntime) -> Result<
     if store.len() < 4 {
         return Err(Fail::from("too few locations"));
     }
-    let mut xt = Xt::new(PlainPeek::new(&store));
+    let mut room = Room::new();
+    let mut xt = Xt::new(PlainPeek::new(&store), &mut room);
     let stack = Stack::layout(Loc(0), 2);
     let op = |act: StackAct| StackOp { stack, act };
     let count = stack.count(&store);

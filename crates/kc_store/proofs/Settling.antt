@@ -22,7 +22,7 @@ use Rattle.kc_store.proofs.Seeing.{Fresh, keeps_then, look_gains_none, look_keep
 use Rattle.kc_store.specs.Answers.{Gains, GainsNothing, IsBusy, Settles, own_entries, placed_entry}
 use Rattle.kc_store.specs.Steps.{HasLeft, busy_bound}
 use Rattle.kc_store.specs.Tries.{Commits, CommitsAfter, once, again, Sees, WasTold, is_crossed}
-use Rattle.kc_store.specs.Verdicts.{entered, is_final, lost_at, verdict_by, verdict_of}
+use Rattle.kc_store.specs.Verdicts.{entered, fate_by, is_final, lost_at, verdict_as, verdict_of}
 use Rattle.kc_store.specs.Works.{AllLooked, is_told_committing}
 use Rattle.kc_store.specs.declared.verdict.Answered.{Answered}
 use Rattle.kc_store.specs.declared.verdict.Answered.TheVariants as answered
@@ -31,9 +31,12 @@ use Rattle.kc_store.specs.declared.verdict.Verdict.TheVariants as verdict
 use Rattle.kc_table_moves.specs.Views.{SeatView, TableView, knows, opening_at_seat}
 use Rattle.kc_table_seats.proofs.Causing.{worn_found}
 use Rattle.kc_table_seats.specs.Tasks.{Does, Keeps}
-use Rattle.kc_xt.specs.Commit.{Came, Looked, LooksIn, PutsWhereDone}
+use Rattle.kc_xt.specs.Commit.{Came, Looked, LooksIn, PutsWhereDone, tried_of}
 use Rattle.kc_xt.specs.Meaning.{Meaning}
 use Rattle.kc_xt.specs.Peeks.{Looks}
+use Rattle.kc_model.specs.declared.reply.Reply.{Reply}
+use Rattle.kc_xt.specs.declared.room.Went.{Went}
+use Rattle.kc_xt.specs.declared.room.Went.TheVariants as went
 use Rattle.kc_xt.specs.declared.attempts.Tried.{Tried}
 use Rattle.kc_xt.specs.declared.attempts.Tried.TheVariants as tried
 
@@ -103,6 +106,14 @@ commits_keep v c f a w (again i u b x first was) = keeps_then c u w (did_keeps c
 
 -- ---- the answer
 
+-- what went otherwise was not given up
+pub not_busy : (w : Went) (r : Reply) → w ≢ went.Busy → tried_of w r ≢ tried.Busy
+not_busy went.Done r n = λ e. absurd (cc)
+not_busy went.Later r n = λ e. absurd (cc)
+not_busy went.TooLarge r n = λ e. absurd (cc)
+not_busy went.Busy r n = absurd (n refl)
+not_busy (went.Worn loc) r n = λ e. absurd (cc)
+
 entered_settles : (m : Meaning) (t : Tried) (before : Footprint) (v : SeatView) (f : Footprint) (w : SeatView) (steps : ℕ) → t ≢ tried.Busy → Came m t before f → PutsWhereDone t f → Gains v f w → Settles m (entered t steps) v f w
 entered_settles m (tried.Done r) before v f w steps n came puts g = (came, g)
 entered_settles m tried.Later before v f w steps n came puts g = (came, (puts, g))
@@ -111,7 +122,7 @@ entered_settles m (tried.Worn loc) before v f w steps n came puts g = (came, (pu
 entered_settles m tried.Busy before v f w steps n came puts g = absurd (n refl)
 
 pub settled : (m : Meaning) (t : Tried) (before : Footprint) (v c : SeatView) (f : Footprint) (a : Told) (w : SeatView) (steps : ℕ) → t ≢ tried.Busy → Came m t before f → PutsWhereDone t f → Looked (Sees v) m t v f c → Commits v f c a w
-    → is_told_committing (Some a) ≡ true → is_crossed a ≡ false → v.seat.made + steps ≡ w.seat.made → Settles m (verdict_by a t f steps) v f w
+    → is_told_committing (Some a) ≡ true → is_crossed a ≡ false → v.seat.made + steps ≡ w.seat.made → Settles m (verdict_as (fate_by a f steps) t) v f w
 settled m t before v c f a w steps n came puts looked commits committing crossed counts =
     go a (last_of v c f a w (looked_keeps m t v f c looked) (looked_none m t v f c looked) commits) committing crossed
   where
@@ -124,13 +135,13 @@ settled m t before v c f a w steps n came puts looked commits committing crossed
     same : (a : Told) (l : Last v f a w) → w.number ≡ v.number
     same a l = (did_keeps l.from w (task.Commit f l.mode) l.was.did).number ∙ l.keeps.number
 
-    go : (a : Told) → Last v f a w → is_told_committing (Some a) ≡ true → is_crossed a ≡ false → Settles m (verdict_by a t f steps) v f w
+    go : (a : Told) → Last v f a w → is_told_committing (Some a) ≡ true → is_crossed a ≡ false → Settles m (verdict_as (fate_by a f steps) t) v f w
     go (told.Succeeded k) l e x = entered_settles m t before v f w steps n came puts (gains v l.from w k f l.mode l.keeps l.none (does (told.Succeeded k) l (λ e. absurd (cc))) l.was.idle l.was.says)
     go (told.Failed i) l e x =
         let none : GainsNothing v w = gained (told.Failed i) l ∙ l.none in
         let unput : (r : Seen) → Reads f r → ¬ HasPut (knows v) r = λ r y. (looked_fresh m t v f c looked n r y).unput in
         let o = overtaken v l.from w i f l.mode unput (same (told.Failed i) l) none (does (told.Failed i) l (λ e. absurd (cc))) l.was.says in
-        subst (λ y. Settles m (lost_at y steps) v f w) (sym o.1) (o.2, none)
+        subst (λ y. Settles m (verdict_as (lost_at y steps) t) v f w) (sym o.1) (o.2, none)
     go told.Worn l e x = (worn_found l.from w (task.Commit f l.mode) (does told.Worn l (λ e. absurd (cc))) l.was.says, gained told.Worn l ∙ l.none)
     go told.Halted l e x = ((counts, l.was.spent refl), gained told.Halted l ∙ l.none)
     go (told.Crossed i) l e x = absurd (cc)

@@ -6,6 +6,8 @@ use Rattle.kc_model.specs.declared.footprint.Footprint.{Footprint}
 use Rattle.kc_model.specs.declared.footprint.Seen.{Seen}
 use Rattle.kc_store.specs.declared.verdict.Answered.{Answered}
 use Rattle.kc_store.specs.declared.verdict.Answered.TheVariants as answered
+use Rattle.kc_store.specs.declared.verdict.Fate.{Fate}
+use Rattle.kc_store.specs.declared.verdict.Fate.TheVariants as fate
 use Rattle.kc_store.specs.declared.verdict.Verdict.{Verdict}
 use Rattle.kc_store.specs.declared.verdict.Verdict.TheVariants as verdict
 use Rattle.kc_xt.specs.declared.attempts.Tried.{Tried}
@@ -20,15 +22,23 @@ entered (tried.Worn loc) steps = verdict.WornLocation loc
 entered tried.Busy steps = verdict.Busy steps
 
 -- where this read was overtaken
-abbrev pub lost_at : Option Seen → ℕ → Verdict
-lost_at (Some r) steps = verdict.Lost r.loc (r.version + 1)
-lost_at None steps = verdict.Busy steps
+abbrev pub lost_at : Option Seen → ℕ → Fate
+lost_at (Some r) steps = fate.Lost r.loc (r.version + 1)
+lost_at None steps = fate.Busy steps
 
-abbrev pub verdict_by : Told → Tried → Footprint → ℕ → Verdict
-verdict_by (told.Succeeded n) t f steps = entered t steps
-verdict_by (told.Failed i) t f steps = lost_at (slice_get f.reads.items i) steps
-verdict_by told.Worn t f steps = verdict.WornPool
-verdict_by _ t f steps = verdict.Busy steps
+-- what became of a try whose commits were told this
+abbrev pub fate_by : Told → Footprint → ℕ → Fate
+fate_by (told.Succeeded n) f steps = fate.Entered steps
+fate_by (told.Failed i) f steps = lost_at (slice_get f.reads.items i) steps
+fate_by told.Worn f steps = fate.WornPool
+fate_by _ f steps = fate.Busy steps
+
+-- the verdict on what a transaction came to, whose try ended so
+abbrev pub verdict_as : Fate → Tried → Verdict
+verdict_as (fate.Entered steps) t = entered t steps
+verdict_as (fate.Lost loc version) t = verdict.Lost loc version
+verdict_as fate.WornPool t = verdict.WornPool
+verdict_as (fate.Busy steps) t = verdict.Busy steps
 
 -- whether the call has an entry
 abbrev pub has_entry : Verdict → Bool

@@ -16,10 +16,9 @@ ghost use Rattle.kc_store.specs.Lone.{CommitsAlone, is_worn};
 ghost use Rattle.kc_store.specs.Steps.{steps_made};
 
 use crate::sole_peek::run_alone;
-use crate::store::{Caller, Store};
+use crate::store::{Caller, Rooms, Store};
 use crate::values::Wear;
 use crate::verdict::Answered;
-use arrayvec::ArrayVec;
 use kc_machine_steps::{Line, Told, fill_lines};
 use kc_machine_words::Mode;
 use kc_model::{Footprint, MOST, Reply};
@@ -77,7 +76,7 @@ impl Store {
         end_alone(
             &self.table,
             &mut caller.seat,
-            &mut caller.lines,
+            &mut caller.rooms,
             transaction,
             footprint,
         )
@@ -103,11 +102,11 @@ impl Store {
     }
 }
 
-// The transaction, by the only seat of the table and with room for the lines.
+// The transaction, by the only seat of the table, with room for the lines and for the attempt.
 fn end_alone<T: Transact>(
     table: &KcTable,
     seat: &mut KcSeat,
-    lines: &mut ArrayVec<Line, MOST>,
+    rooms: &mut Rooms,
     transaction: &T,
     footprint: &mut Footprint,
 ) -> Answered
@@ -123,12 +122,12 @@ fn end_alone<T: Transact>(
     ensures blocked { seat.new.seat.blocked ≡ seat.old.seat.blocked }
     ensures within { IsBelow (T.end transaction.now) footprint.new }
 {
-    let tried = run_alone(table, seat, transaction, footprint);
+    let tried = run_alone(table, seat, &mut rooms.log, transaction, footprint);
     prove!(footprint.reads.len() <= MOST);
     match tried {
         Tried::Done(reply) => {
-            fill_lines(lines, footprint);
-            if commit_alone(table, seat, footprint, lines.as_slice()) {
+            fill_lines(&mut rooms.lines, footprint);
+            if commit_alone(table, seat, footprint, rooms.lines.as_slice()) {
                 return Answered::Done(reply);
             }
             Answered::WornPool

@@ -1,17 +1,19 @@
 //! Commits that try again.
 
-ghost use Rattle.std.specs.Prelude.{◌≡◌, ◌≤◌, true, false, IfSome, IfNone};
+ghost use Rattle.std.specs.Prelude.{◌≡◌, ◌≤◌, true};
 ghost use Rattle.kc_machine.specs.Seats.{is_idle};
 ghost use Rattle.kc_model.specs.Footprint.{IsBelow};
 ghost use Rattle.kc_table_seats.specs.Tasks.{Keeps};
 ghost use Rattle.kc_store.specs.Answers.{Settles};
 ghost use Rattle.kc_store.specs.Commits.{AllTries};
-ghost use Rattle.kc_store.specs.Verdicts.{has_entry, is_final, verdict_of};
+ghost use Rattle.kc_store.specs.Verdicts.{has_entry, verdict_of};
 
-use crate::store::{Caller, Store};
-use crate::verdict::{Answered, Verdict};
+use crate::store::{Caller, Rooms, Store};
+use crate::trying::try_once;
+use crate::verdict::{Answered, answer_on, is_final};
 use kc_model::Footprint;
-use kc_xt::Transact;
+use kc_table::KcSeat;
+use kc_xt::{Transact, Trial};
 use std::sync::Wait;
 
 impl Store {
@@ -34,27 +36,52 @@ impl Store {
         ensures blocked { caller.new.seat.blocked ≡ caller.old.seat.blocked }
         ensures within { has_entry (verdict_of result) ≡ true → IsBelow (T.end transaction.now) footprint.new }
     {
-        for _ in rt.forever() {
-            let verdict = self.try_commit_into(caller, transaction, footprint);
-            if let Some(answered) = answered(verdict) {
-                return answered;
-            }
-        }
-        unreachable!()
+        commit_by(
+            rt,
+            self,
+            &mut caller.seat,
+            &mut caller.rooms,
+            transaction,
+            footprint,
+        )
     }
 }
 
-// The answer of a commit whose try was neither lost nor given up.
-fn answered(verdict: Verdict) -> Option<Answered>
-    ensures some { IfSome result (λ a. verdict ≡ verdict_of a) }
-    ensures none { IfNone result (is_final verdict ≡ false) }
+// The commit, by a seat of the store's table and with room for the lines.
+#[inline(always)]
+fn commit_by<R: Wait, T: Transact>(
+    rt: &R,
+    store: &Store,
+    seat: &mut KcSeat,
+    rooms: &mut Rooms,
+    transaction: &T,
+    footprint: &mut Footprint,
+) -> Answered
+    requires store { seat.old.of ≡ store.now }
+    requires idle { is_idle seat.old.seat.work ≡ true }
+    requires fit { T.is_fit transaction.now }
+    requires within { T.end transaction.now ≤ store.now.origin.locations }
+    ensures tries { AllTries (T.meaning transaction.now) footprint.new seat.old seat.new }
+    ensures settles { Settles (T.meaning transaction.now) (verdict_of result) seat.old footprint.new seat.new }
+    ensures keeps { Keeps seat.old seat.new }
+    ensures idle { is_idle seat.new.seat.work ≡ true }
+    ensures blocked { seat.new.seat.blocked ≡ seat.old.seat.blocked }
+    ensures within { has_entry (verdict_of result) ≡ true → IsBelow (T.end transaction.now) footprint.new }
 {
-    match verdict {
-        Verdict::Done(reply) => Some(Answered::Done(reply)),
-        Verdict::Later => Some(Answered::Later),
-        Verdict::TooLarge => Some(Answered::TooLarge),
-        Verdict::WornLocation(loc) => Some(Answered::WornLocation(loc)),
-        Verdict::WornPool => Some(Answered::WornPool),
-        Verdict::Lost { .. } | Verdict::Busy { .. } => None,
+    let mut trial = Trial::new();
+    for _ in rt.forever() {
+        let fate = try_once(
+            &store.table,
+            store.most_steps,
+            seat,
+            rooms,
+            transaction,
+            &mut trial,
+            footprint,
+        );
+        if is_final(fate, &trial) {
+            return answer_on(fate, &trial);
+        }
     }
+    unreachable!()
 }

@@ -7,8 +7,6 @@ mod laws;
 mod looks;
 mod notes;
 mod sole_peek;
-#[cfg(test)]
-mod sole_tests;
 mod store;
 mod tasks;
 #[cfg(test)]

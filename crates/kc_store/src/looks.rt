@@ -3,7 +3,7 @@
 ghost use Rattle.std.specs.Prelude.{◌≡◌, ◌≢◌, ◌<◌, ◌≤◌, true, Some, IfOk};
 ghost use Rattle.kc_machine.specs.Seats.{is_idle};
 ghost use Rattle.kc_model.specs.Footprint.{IsBelow};
-ghost use Rattle.kc_xt.specs.Commit.{Came, PutsWhereDone, Looked};
+ghost use Rattle.kc_xt.specs.Commit.{Came, PutsWhereDone, tried_of};
 ghost use Rattle.kc_xt.specs.Peeks.{IsLook};
 ghost use Rattle.kc_xt.specs.declared.attempts.Tried.TheVariants as came;
 ghost use Rattle.kc_store.specs.Works.{AllLooked, LooksAt, is_told_looking, told_by};
@@ -12,7 +12,7 @@ use crate::tasks::end_task;
 use kc_machine_steps::Told;
 use kc_model::{Footprint, Loc, Seen};
 use kc_table::{KcSeat, KcTable};
-use kc_xt::{Peek, PeekBusy, Transact, Tried, attempt};
+use kc_xt::{Peek, PeekBusy, Room, Transact, Trial, attempt};
 
 /// Looks at a store by a seat, as long as the call has steps left.
 #[derive(Drop)]
@@ -73,48 +73,30 @@ fn seen_by(told: Option<Told>) -> Result<Seen, PeekBusy>
 }
 
 /// Runs a transaction on looks, and fills the footprint with what may be committed of it.
+#[inline(always)]
 pub(crate) fn look_and_run<T: Transact>(
     table: &KcTable,
     seat: &mut KcSeat,
+    room: &mut Room,
     transaction: &T,
+    trial: &mut Trial,
     footprint: &mut Footprint,
     left: &mut u32,
-) -> Tried
+)
     requires table { seat.old.of ≡ table.now }
     requires idle { is_idle seat.old.seat.work ≡ true }
     requires fit { T.is_fit transaction.now }
     requires within { T.end transaction.now ≤ table.now.origin.locations }
-    ensures came { Came (T.meaning transaction.now) result footprint.old footprint.new }
-    ensures puts { PutsWhereDone result footprint.new }
-    ensures within { result ≢ came.Busy → IsBelow (T.end transaction.now) footprint.new }
-    ensures looked { AllLooked (T.meaning transaction.now) result footprint.new seat.old left.old seat.new left.new }
+    ensures came { Came (T.meaning transaction.now) (tried_of trial.new.went trial.new.reply) footprint.old footprint.new }
+    ensures puts { PutsWhereDone (tried_of trial.new.went trial.new.reply) footprint.new }
+    ensures within { tried_of trial.new.went trial.new.reply ≢ came.Busy → IsBelow (T.end transaction.now) footprint.new }
+    ensures looked { AllLooked (T.meaning transaction.now) (tried_of trial.new.went trial.new.reply) footprint.new seat.old left.old seat.new left.new }
 {
     let peek = StorePeek {
         table,
         seat,
         left: *left,
     };
-    let mut tried = Tried::Busy;
-    let peek = attempt_on(peek, transaction, footprint, &mut tried);
+    let peek = attempt(peek, room, transaction, trial, footprint);
     *left = peek.left;
-    tried
-}
-
-/// An attempt that hands back the peek alone: of one inside a pair no proof follows what it borrows.
-pub(crate) fn attempt_on<P: Peek, T: Transact>(
-    peek: P,
-    transaction: &T,
-    footprint: &mut Footprint,
-    tried: &mut Tried,
-) -> P
-    requires fit { T.is_fit transaction.now }
-    requires within { T.end transaction.now ≤ P.locations peek }
-    ensures came { Came (T.meaning transaction.now) tried.new footprint.old footprint.new }
-    ensures puts { PutsWhereDone tried.new footprint.new }
-    ensures within { tried.new ≢ came.Busy → IsBelow (T.end transaction.now) footprint.new }
-    ensures looked { Looked P.peek_gives (T.meaning transaction.now) tried.new peek footprint.new result }
-{
-    let (peek, outcome) = attempt(peek, transaction, footprint);
-    *tried = outcome;
-    peek
 }

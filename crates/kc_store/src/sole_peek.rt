@@ -8,10 +8,9 @@ ghost use Rattle.kc_xt.specs.Peeks.{IsLook};
 ghost use Rattle.kc_xt.specs.declared.attempts.Tried.TheVariants as came;
 ghost use Rattle.kc_store.specs.Lone.{AllAlone, LooksAlone};
 
-use crate::looks::attempt_on;
 use kc_model::{Footprint, Loc, Seen};
 use kc_table::{KcSeat, KcTable};
-use kc_xt::{Peek, PeekBusy, Transact, Tried};
+use kc_xt::{Peek, PeekBusy, Room, Transact, Trial, Tried, attempt};
 
 /// Looks at a store by its only seat.
 #[derive(Drop)]
@@ -58,6 +57,7 @@ fn look_alone(table: &KcTable, seat: &mut KcSeat, loc: Loc) -> Seen
 pub(crate) fn run_alone<T: Transact>(
     table: &KcTable,
     seat: &mut KcSeat,
+    room: &mut Room,
     transaction: &T,
     footprint: &mut Footprint,
 ) -> Tried
@@ -70,7 +70,13 @@ pub(crate) fn run_alone<T: Transact>(
     ensures within { result ≢ came.Busy → IsBelow (T.end transaction.now) footprint.new }
     ensures looked { AllAlone result seat.old footprint.new seat.new }
 {
-    let mut tried = Tried::Busy;
-    attempt_on(SolePeek { table, seat }, transaction, footprint, &mut tried);
-    tried
+    let mut trial = Trial::new();
+    attempt(
+        SolePeek { table, seat },
+        room,
+        transaction,
+        &mut trial,
+        footprint,
+    );
+    trial.tried()
 }

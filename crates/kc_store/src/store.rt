@@ -10,6 +10,7 @@ use kc_machine_steps::Line;
 use kc_machine_words::LAST_GENERATION;
 use kc_model::{LAST_VERSION, MOST, OpenError};
 use kc_table::{KcSeat, KcTable, Past};
+use kc_xt::Room;
 use std::alloc::{AllocError, Global};
 use std::marker::Model;
 
@@ -40,8 +41,14 @@ impl Model for Store {
 #[derive(Drop)]
 pub struct Caller {
     pub(crate) seat: KcSeat,
-    /// Room for the lines of a commit.
+    pub(crate) rooms: Rooms,
+}
+
+/// Room for the lines of a commit, and for the log of an attempt.
+#[derive(Drop)]
+pub(crate) struct Rooms {
     pub(crate) lines: ArrayVec<Line, MOST>,
+    pub(crate) log: Room,
 }
 
 impl Model for Caller {
@@ -123,7 +130,10 @@ fn shared(
     for seat in seats {
         given.push(Caller {
             seat,
-            lines: ArrayVec::new(),
+            rooms: Rooms {
+                lines: ArrayVec::new(),
+                log: Room::new(),
+            },
         })?;
     }
     let most_steps = (callers + 1) * (callers + 1) * STEPS_EACH;

@@ -1,22 +1,20 @@
-ghost use Rattle.std.specs.Prelude.{◌≡◌, ◌+◌, ◌<◌, ◌≤◌, true, length, IfOk, IfSome};
-ghost use Rattle.kc_hash.specs.Meaning.{cells_end};
+//! Tries that another overtakes, and looks that are given up.
+
+ghost use Rattle.std.specs.Prelude.{◌≡◌, ◌<◌, ◌≤◌, true, length, IfSome};
 ghost use Rattle.kc_machine.specs.Seats.{is_idle};
 
 use crate::looks::look_and_run;
 use crate::tasks::commit;
-use crate::trying::verdict;
-use crate::{Answered, Caller, Outcome, Store, Try, Verdict, Wear};
-use kc_hash::{Hash, HashAct, HashOp};
-use kc_loc::{LocOp, Rel};
+use crate::trying::fate_of;
+use crate::verdict::verdict_on;
+use crate::{Caller, Store, Verdict};
+use kc_loc::LocOp;
 use kc_machine_steps::{Task, fill_lines};
-use kc_machine_words::{LAST_GENERATION, Mode};
-use kc_model::{Footprint, LAST_VERSION, Loc, MOST, OpenError, Reply};
+use kc_machine_words::Mode;
+use kc_model::{Footprint, Loc, MOST};
 use kc_table::{KcSeat, KcTable};
-use kc_xt::{Transact, Tried};
-use std::sync::Wait;
+use kc_xt::{Transact, Trial, Went};
 use std::test::Fail;
-use std::thread;
-use std::thread::Threads;
 
 const ADD: LocOp = LocOp::FetchAdd(Loc(0), 1);
 
@@ -50,158 +48,6 @@ fn tried<T: Transact>(
     store.try_commit_into(caller, transaction, footprint)
 }
 
-// The version and the value of the first read.
-fn first_read(footprint: &Footprint) -> Option<(u32, u32)> {
-    let read = footprint.reads.as_slice().get(0).copied()?;
-    Some((read.version, read.value))
-}
-
-#[test]
-fn open_refuses_by_number(rt: HostRuntime) -> Result<(), Fail> {
-    let many = vec![in rt.alloc(); 0u32; 65_537]?;
-    assert!(rt;
-        matches!(
-            &Store::open(rt.alloc(), &many, 1),
-            Err(OpenError::TooManyLocs)
-        )
-    );
-    for callers in [0, 65] {
-        assert!(rt;
-            matches!(
-                &Store::open(rt.alloc(), &[5], callers),
-                Err(OpenError::TooManyCallers)
-            )
-        );
-        assert!(rt;
-            matches!(
-                &Store::open_at(rt.alloc(), &[5], &[0], callers, 0),
-                Err(OpenError::TooManyCallers)
-            )
-        );
-    }
-    assert!(rt; Store::open(rt.alloc(), &[5, 6, 7], 2).is_ok());
-    Ok(())
-}
-
-#[test]
-fn two_callers_put_in_turn(rt: HostRuntime) -> Result<(), Fail> {
-    let Some((store, mut a, mut b)) = open_two(&rt, &[5]) else {
-        return Err(Fail::from("not opened"));
-    };
-    let mut footprint = Footprint::new();
-    let first = tried(&store, &mut a, &ADD, &mut footprint);
-    assert_eq!(rt; first, Verdict::Done(Reply::Value(5)));
-    assert_eq!(rt; a.steps(), 12);
-    assert_eq!(rt; (footprint.reads.len(), footprint.puts.len()), (1, 1));
-    let second = tried(&store, &mut b, &ADD, &mut footprint);
-    assert_eq!(rt; second, Verdict::Done(Reply::Value(6)));
-    assert_eq!(rt; first_read(&footprint), Some((1, 6)));
-    let third = tried(&store, &mut a, &LocOp::Get(Loc(0)), &mut footprint);
-    assert_eq!(rt; third, Verdict::Done(Reply::Value(7)));
-    assert_eq!(rt;
-        (first_read(&footprint), footprint.puts.len()),
-        (Some((2, 7)), 0)
-    );
-    Ok(())
-}
-
-#[test]
-fn what_would_wait_is_for_later(rt: HostRuntime) -> Result<(), Fail> {
-    let Some((store, mut a, _b)) = open_two(&rt, &[0]) else {
-        return Err(Fail::from("not opened"));
-    };
-    let mut footprint = Footprint::new();
-    let until_one = LocOp::Check(Loc(0), Rel::Eq, 1);
-    assert_eq!(rt;
-        tried(&store, &mut a, &until_one, &mut footprint),
-        Verdict::Later
-    );
-    assert_eq!(rt;
-        (first_read(&footprint), footprint.puts.len()),
-        (Some((0, 0)), 0)
-    );
-    let Try::Later { footprint } = store.try_commit(&mut a, &until_one) else {
-        return Err(Fail::from("another answer"));
-    };
-    assert_eq!(rt; footprint.reads.len(), 1);
-    Ok(())
-}
-
-// How many keys are put before a put is too large.
-fn puts(store: &Store, caller: &mut Caller, hash: Hash, footprint: &mut Footprint) -> u32
-    requires caller { (caller.old.of ≡ store.now) × (is_idle caller.old.seat.work ≡ true) }
-    requires within { cells_end hash ≤ store.now.origin.locations }
-{
-    for key in 0..40 {
-        let act = HashAct::Put(key, key);
-        if tried(store, caller, &HashOp { hash, act }, footprint) == Verdict::TooLarge {
-            return key;
-        }
-    }
-    40
-}
-
-#[test]
-fn a_long_chain_is_too_large(rt: HostRuntime) -> Result<(), Fail> {
-    let hash = Hash::layout(Loc(0), 1, 40);
-    let mut values = vec![in rt.alloc(); 0u32; hash.cells() as usize]?;
-    for i in 0..values.len() {
-        values[i] = hash.opening(i as u32);
-    }
-    let Some((store, mut a, _b)) = open_two(&rt, &values) else {
-        return Err(Fail::from("not opened"));
-    };
-    let mut footprint = Footprint::new();
-    assert_eq!(rt; puts(&store, &mut a, hash, &mut footprint), 30);
-    assert_eq!(rt; (footprint.reads.len(), footprint.puts.len()), (64, 0));
-    Ok(())
-}
-
-#[test]
-fn a_location_at_its_last_version_is_worn(rt: HostRuntime) -> Result<(), Fail> {
-    let Ok((store, mut callers)) = Store::open_at(rt.alloc(), &[5], &[LAST_VERSION - 1], 1, 0)
-    else {
-        return Err(Fail::from("not opened"));
-    };
-    let Some(mut a) = callers.pop() else {
-        return Err(Fail::from("no caller"));
-    };
-    let mut footprint = Footprint::new();
-    let last = tried(&store, &mut a, &ADD, &mut footprint);
-    assert_eq!(rt; last, Verdict::Done(Reply::Value(5)));
-    let worn = tried(&store, &mut a, &ADD, &mut footprint);
-    assert_eq!(rt; worn, Verdict::WornLocation(Loc(0)));
-    assert_eq!(rt;
-        (first_read(&footprint), footprint.puts.len()),
-        (Some((LAST_VERSION, 6)), 0)
-    );
-    let Outcome::Worn(Wear::Location { loc, footprint: _ }) = store.commit(&rt, &mut a, &ADD) else {
-        return Err(Fail::from("another answer"));
-    };
-    assert_eq!(rt; loc, Loc(0));
-    Ok(())
-}
-
-#[test]
-fn a_pool_at_its_last_generation_is_worn(rt: HostRuntime) -> Result<(), Fail> {
-    let Ok((store, mut callers)) = Store::open_at(rt.alloc(), &[5], &[0], 1, LAST_GENERATION) else {
-        return Err(Fail::from("not opened"));
-    };
-    let Some(mut a) = callers.pop() else {
-        return Err(Fail::from("no caller"));
-    };
-    let mut footprint = Footprint::new();
-    assert_eq!(rt;
-        tried(&store, &mut a, &ADD, &mut footprint),
-        Verdict::WornPool
-    );
-    assert_eq!(rt;
-        store.commit_into(&rt, &mut a, &ADD, &mut footprint),
-        Answered::WornPool
-    );
-    Ok(())
-}
-
 // A try of the first, between whose looks and commit the second commits.
 fn overtaken(store: &Store, a: &mut Caller, b: &mut Caller) -> Option<Verdict>
     requires first { (a.old.of ≡ store.now) × (is_idle a.old.seat.work ≡ true) }
@@ -209,22 +55,30 @@ fn overtaken(store: &Store, a: &mut Caller, b: &mut Caller) -> Option<Verdict>
     requires location { 0 < store.now.origin.locations }
 {
     let mut left = store.most_steps;
-    let mut footprint = Footprint::new();
-    let came = look_and_run(&store.table, &mut a.seat, &ADD, &mut footprint, &mut left);
-    if let Tried::Busy = came {
+    let (mut trial, mut footprint) = (Trial::new(), Footprint::new());
+    look_and_run(
+        &store.table,
+        &mut a.seat,
+        &mut a.rooms.log,
+        &ADD,
+        &mut trial,
+        &mut footprint,
+        &mut left,
+    );
+    if let Went::Busy = trial.went {
         return None;
     }
     let mut other = Footprint::new();
     store.try_commit_into(b, &ADD, &mut other);
-    fill_lines(&mut a.lines, &footprint);
+    fill_lines(&mut a.rooms.lines, &footprint);
     let told = commit(
         &store.table,
         &mut a.seat,
         &footprint,
-        a.lines.as_slice(),
+        a.rooms.lines.as_slice(),
         &mut left,
     );
-    Some(verdict(told, came, &footprint, 0))
+    Some(verdict_on(fate_of(told, &footprint, 0), &trial))
 }
 
 #[test]
@@ -254,15 +108,17 @@ fn stop_within(store: &Store, caller: &mut Caller) -> bool
     requires location { 0 < store.now.origin.locations }
 {
     let mut left = store.most_steps;
-    let mut footprint = Footprint::new();
-    let came = look_and_run(
+    let (mut trial, mut footprint) = (Trial::new(), Footprint::new());
+    look_and_run(
         &store.table,
         &mut caller.seat,
+        &mut caller.rooms.log,
         &ADD,
+        &mut trial,
         &mut footprint,
         &mut left,
     );
-    if let Tried::Busy = came {
+    if let Went::Busy = trial.went {
         return false;
     }
     if footprint.reads.as_slice().len() > MOST {
@@ -275,14 +131,24 @@ fn stop_within(store: &Store, caller: &mut Caller) -> bool
 }
 
 // What comes of a look with no step left.
-fn look_once(store: &Store, caller: &mut Caller, footprint: &mut Footprint) -> Tried
+fn look_once(store: &Store, caller: &mut Caller, footprint: &mut Footprint) -> Went
     requires caller { (caller.old.of ≡ store.now) × (is_idle caller.old.seat.work ≡ true) }
     requires location { 0 < store.now.origin.locations }
     ensures of { caller.new.of ≡ caller.old.of }
     ensures idle { is_idle caller.new.seat.work ≡ true }
 {
     let mut left = 0;
-    look_and_run(&store.table, &mut caller.seat, &ADD, footprint, &mut left)
+    let mut trial = Trial::new();
+    look_and_run(
+        &store.table,
+        &mut caller.seat,
+        &mut caller.rooms.log,
+        &ADD,
+        &mut trial,
+        footprint,
+        &mut left,
+    );
+    trial.went
 }
 
 #[test]
@@ -292,82 +158,9 @@ fn a_look_is_given_up_with_no_step_left(rt: HostRuntime) -> Result<(), Fail> {
     };
     assert!(rt; stop_within(&store, &mut b));
     let mut footprint = Footprint::new();
-    assert_eq!(rt; look_once(&store, &mut a, &mut footprint), Tried::Busy);
+    assert_eq!(rt; look_once(&store, &mut a, &mut footprint), Went::Busy);
     let loc = Loc(0);
     let lost = Verdict::Lost { loc, version: 1 };
     assert_eq!(rt; tried(&store, &mut a, &ADD, &mut footprint), lost);
-    Ok(())
-}
-
-#[test]
-fn a_note_passes_on_what_a_caller_knows(rt: HostRuntime) -> Result<(), Fail> {
-    let Some((store, mut a, mut b)) = open_two(&rt, &[5]) else {
-        return Err(Fail::from("not opened"));
-    };
-    let mut footprint = Footprint::new();
-    tried(&store, &mut a, &ADD, &mut footprint);
-    let note = store.note(&mut a);
-    store.learn(&mut b, note);
-    assert_eq!(rt; b.steps(), 0);
-    Ok(())
-}
-
-// Adds one to the first location, so often.
-fn count<R: Wait>(rt: &R, store: &Store, mut caller: Caller, times: u32) -> Caller
-    requires caller { (caller.of ≡ store.now) × (is_idle caller.seat.work ≡ true) }
-    requires location { 0 < store.now.origin.locations }
-    ensures of { result.of ≡ store.now }
-    ensures idle { is_idle result.seat.work ≡ true }
-{
-    let mut footprint = Footprint::new();
-    for _ in 0..times {
-        store.commit_into(rt, &mut caller, &ADD, &mut footprint);
-    }
-    caller
-}
-
-// The same by two threads.
-fn count_both<R: Threads + Wait + Sync>(
-    rt: &R,
-    store: &Store,
-    a: Caller,
-    b: Caller,
-) -> (Caller, Caller)
-    requires first { (a.of ≡ store.now) × (is_idle a.seat.work ≡ true) }
-    requires second { (b.of ≡ store.now) × (is_idle b.seat.work ≡ true) }
-    requires location { 0 < store.now.origin.locations }
-    ensures first { (result.0.of ≡ store.now) × (is_idle result.0.seat.work ≡ true) }
-    ensures second { (result.1.of ≡ store.now) × (is_idle result.1.seat.work ≡ true) }
-{
-    thread::join(
-        rt,
-        move || count(rt, store, a, 1_000),
-        move || count(rt, store, b, 1_000),
-    )
-}
-
-#[test]
-fn four_threads_count(rt: HostRuntime) -> Result<(), Fail> {
-    let Ok((store, mut callers)) = Store::open(rt.alloc(), &[0], 4) else {
-        return Err(Fail::from("not opened"));
-    };
-    let (Some(d), Some(c), Some(b), Some(a)) = (
-        callers.pop(),
-        callers.pop(),
-        callers.pop(),
-        callers.pop(),
-    ) else {
-        return Err(Fail::from("no callers"));
-    };
-    let (shared, run) = (&store, &rt);
-    let ((mut a, _b), _) = thread::join(
-        run,
-        move || count_both(run, shared, a, b),
-        move || count_both(run, shared, c, d),
-    );
-    let mut footprint = Footprint::new();
-    let all = store.commit_into(&rt, &mut a, &LocOp::Get(Loc(0)), &mut footprint);
-    assert_eq!(rt; all, Answered::Done(Reply::Value(4_000)));
-    assert_eq!(rt; first_read(&footprint), Some((4_000, 4_000)));
     Ok(())
 }

@@ -6,21 +6,20 @@ ghost use Rattle.kc_machine_steps.specs.declared.task.Told.TheVariants as told;
 ghost use Rattle.kc_model.specs.Footprint.{IsBelow, IsWellMade};
 ghost use Rattle.kc_model.specs.declared.footprint.TheConstants.{LAST_VERSION};
 ghost use Rattle.kc_table_seats.specs.Tasks.{Keeps};
-ghost use Rattle.kc_xt.specs.declared.attempts.Tried.TheVariants as tried;
+ghost use Rattle.kc_xt.specs.Commit.{tried_of};
 ghost use Rattle.kc_store.specs.Answers.{Settles};
 ghost use Rattle.kc_store.specs.Steps.{busy_bound};
 ghost use Rattle.kc_store.specs.Tries.{Tries};
-ghost use Rattle.kc_store.specs.Verdicts.{entered, has_entry, lost_at, verdict_by};
+ghost use Rattle.kc_store.specs.Verdicts.{fate_by, has_entry, lost_at, verdict_as};
 
 use crate::looks::look_and_run;
-use crate::store::{Caller, Store};
+use crate::store::{Caller, Rooms, Store};
 use crate::tasks::commit;
-use crate::verdict::Verdict;
-use arrayvec::ArrayVec;
-use kc_machine_steps::{Line, Told, fill_lines};
-use kc_model::{Footprint, MOST, Seen};
+use crate::verdict::{Fate, Verdict, verdict_on};
+use kc_machine_steps::{Told, fill_lines};
+use kc_model::{Footprint, Seen};
 use kc_table::{KcSeat, KcTable};
-use kc_xt::{Transact, Tried};
+use kc_xt::{Transact, Trial, Went};
 
 impl Store {
     /// Tries a transaction once: runs it on looks, commits what it read and wrote in mode Light, and where that was crossed
@@ -43,73 +42,74 @@ impl Store {
         ensures blocked { caller.new.seat.blocked ≡ caller.old.seat.blocked }
         ensures within { has_entry result ≡ true → IsBelow (T.end transaction.now) footprint.new }
     {
-        try_once(
+        let mut trial = Trial::new();
+        let fate = try_once(
             &self.table,
             self.most_steps,
             &mut caller.seat,
-            &mut caller.lines,
+            &mut caller.rooms,
             transaction,
+            &mut trial,
             footprint,
-        )
+        );
+        verdict_on(fate, &trial)
     }
 }
 
-// The try, by a seat of the table and with room for the lines.
-fn try_once<T: Transact>(
+/// The try, by a seat of the table and with room for the lines. What the transaction came to lies in the trial.
+#[inline(always)]
+pub(crate) fn try_once<T: Transact>(
     table: &KcTable,
     most_steps: u32,
     seat: &mut KcSeat,
-    lines: &mut ArrayVec<Line, MOST>,
+    rooms: &mut Rooms,
     transaction: &T,
+    trial: &mut Trial,
     footprint: &mut Footprint,
-) -> Verdict
+) -> Fate
     requires table { seat.old.of ≡ table.now }
     requires steps { most_steps ≡ busy_bound table.now.origin.callers }
     requires idle { is_idle seat.old.seat.work ≡ true }
     requires fit { T.is_fit transaction.now }
     requires within { T.end transaction.now ≤ table.now.origin.locations }
     ensures tries { Tries (T.meaning transaction.now) footprint.new seat.old seat.new }
-    ensures settles { Settles (T.meaning transaction.now) result seat.old footprint.new seat.new }
+    ensures settles { Settles (T.meaning transaction.now) (verdict_as result (tried_of trial.new.went trial.new.reply)) seat.old footprint.new seat.new }
     ensures keeps { Keeps seat.old seat.new }
     ensures idle { is_idle seat.new.seat.work ≡ true }
     ensures blocked { seat.new.seat.blocked ≡ seat.old.seat.blocked }
-    ensures within { has_entry result ≡ true → IsBelow (T.end transaction.now) footprint.new }
+    ensures within { has_entry (verdict_as result (tried_of trial.new.went trial.new.reply)) ≡ true → IsBelow (T.end transaction.now) footprint.new }
 {
     let before = seat.steps();
     let mut left = most_steps;
-    let tried = look_and_run(table, seat, transaction, footprint, &mut left);
-    if let Tried::Busy = tried {
+    look_and_run(
+        table,
+        seat,
+        &mut rooms.log,
+        transaction,
+        trial,
+        footprint,
+        &mut left,
+    );
+    if let Went::Busy = trial.went {
         let steps = seat.steps() - before;
-        return Verdict::Busy { steps };
+        return Fate::Busy { steps };
     }
-    fill_lines(lines, footprint);
-    let told = commit(table, seat, footprint, lines.as_slice(), &mut left);
+    fill_lines(&mut rooms.lines, footprint);
+    let told = commit(table, seat, footprint, rooms.lines.as_slice(), &mut left);
     let steps = seat.steps() - before;
-    verdict(told, tried, footprint, steps)
+    fate_of(told, footprint, steps)
 }
 
-// What is answered where the commits were told this.
-pub(crate) fn verdict(told: Told, tried: Tried, footprint: &Footprint, steps: u64) -> Verdict
+// What became of a try whose commits were told this.
+pub(crate) fn fate_of(told: Told, footprint: &Footprint, steps: u64) -> Fate
     requires { IsWellMade footprint.now }
-    ensures { result ≡ verdict_by told tried footprint.now steps }
+    ensures { result ≡ fate_by told footprint.now steps }
 {
     match told {
-        Told::Succeeded { .. } => entered(tried, steps),
+        Told::Succeeded { .. } => Fate::Entered { steps },
         Told::Failed { entry } => lost_at(read_at(footprint, entry), steps),
-        Told::Worn => Verdict::WornPool,
-        _ => Verdict::Busy { steps },
-    }
-}
-
-fn entered(tried: Tried, steps: u64) -> Verdict
-    ensures { result ≡ entered tried steps }
-{
-    match tried {
-        Tried::Done(reply) => Verdict::Done(reply),
-        Tried::Later => Verdict::Later,
-        Tried::TooLarge => Verdict::TooLarge,
-        Tried::Worn(loc) => Verdict::WornLocation(loc),
-        Tried::Busy => Verdict::Busy { steps },
+        Told::Worn => Fate::WornPool,
+        _ => Fate::Busy { steps },
     }
 }
 
@@ -119,15 +119,15 @@ fn read_at(footprint: &Footprint, entry: u32) -> Option<Seen>
     footprint.reads.as_slice().get(entry as usize).copied()
 }
 
-fn lost_at(read: Option<Seen>, steps: u64) -> Verdict
+fn lost_at(read: Option<Seen>, steps: u64) -> Fate
     requires { IfSome read (λ r. r.version ≤ LAST_VERSION) }
     ensures { result ≡ lost_at read steps }
 {
     match read {
-        Some(seen) => Verdict::Lost {
+        Some(seen) => Fate::Lost {
             loc: seen.loc,
             version: seen.version + 1,
         },
-        None => Verdict::Busy { steps },
+        None => Fate::Busy { steps },
     }
 }

@@ -1,6 +1,11 @@
 //! What a call answers, in few bytes: the footprint lies with the caller.
 
+ghost use Rattle.std.specs.Prelude.{◌≡◌, true};
+ghost use Rattle.kc_store.specs.Verdicts.{is_final, verdict_as, verdict_of};
+ghost use Rattle.kc_xt.specs.Commit.{tried_of};
+
 use kc_model::{Loc, Reply};
+use kc_xt::{Trial, Went};
 
 /// What one try answers.
 #[derive(Clone, Copy, Debug, PartialEq, Eq)]
@@ -34,4 +39,64 @@ pub enum Answered {
     WornLocation(Loc),
     /// Each descriptor has had its last life.
     WornPool,
+}
+
+/// What became of a try whose transaction ran to an end, its reply and its other outcomes aside: few bytes.
+#[derive(Clone, Copy)]
+pub(crate) enum Fate {
+    /// Its entry was made, within so many steps.
+    Entered { steps: u64 },
+    /// Another caller has put this location, and made this version of it.
+    Lost { loc: Loc, version: u32 },
+    /// Each descriptor has had its last life.
+    WornPool,
+    /// It was given up after so many steps.
+    Busy { steps: u64 },
+}
+
+/// The verdict on what a transaction came to, whose try ended so.
+pub(crate) fn verdict_on(fate: Fate, trial: &Trial) -> Verdict
+    ensures { result ≡ verdict_as fate (tried_of trial.now.went trial.now.reply) }
+{
+    match fate {
+        Fate::Entered { steps } => match trial.went {
+            Went::Done => Verdict::Done(trial.reply),
+            Went::Later => Verdict::Later,
+            Went::TooLarge => Verdict::TooLarge,
+            Went::Worn(loc) => Verdict::WornLocation(loc),
+            Went::Busy => Verdict::Busy { steps },
+        },
+        Fate::Lost { loc, version } => Verdict::Lost { loc, version },
+        Fate::WornPool => Verdict::WornPool,
+        Fate::Busy { steps } => Verdict::Busy { steps },
+    }
+}
+
+/// Whether a commit that tries again answers it.
+pub(crate) fn is_final(fate: Fate, trial: &Trial) -> bool
+    ensures { result ≡ is_final (verdict_as fate (tried_of trial.now.went trial.now.reply)) }
+{
+    match fate {
+        Fate::Entered { .. } => trial.went != Went::Busy,
+        Fate::WornPool => true,
+        Fate::Lost { .. } | Fate::Busy { .. } => false,
+    }
+}
+
+/// The answer of a commit whose try is final.
+pub(crate) fn answer_on(fate: Fate, trial: &Trial) -> Answered
+    requires { is_final (verdict_as fate (tried_of trial.now.went trial.now.reply)) ≡ true }
+    ensures { verdict_of result ≡ verdict_as fate (tried_of trial.now.went trial.now.reply) }
+{
+    match fate {
+        Fate::Entered { .. } => match trial.went {
+            Went::Done => Answered::Done(trial.reply),
+            Went::Later => Answered::Later,
+            Went::TooLarge => Answered::TooLarge,
+            Went::Worn(loc) => Answered::WornLocation(loc),
+            Went::Busy => unreachable!("a look that was given up has no entry"),
+        },
+        Fate::WornPool => Answered::WornPool,
+        Fate::Lost { .. } | Fate::Busy { .. } => unreachable!("it is tried again"),
+    }
 }

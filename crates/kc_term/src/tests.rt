@@ -10,7 +10,7 @@ ghost use Rattle.kc_term.specs.Worked.{add_program};
 
 use crate::*;
 use kc_model::{Item, Items, Loc, PlainStore, Reply};
-use kc_xt::{Peek, PlainPeek, Stop, Transact, Xt};
+use kc_xt::{Peek, PlainPeek, Room, Stop, Transact, Xt};
 use std::alloc::Global;
 use std::test::Fail;
 
@@ -121,7 +121,8 @@ fn many(items: &[Item]) -> Reply
 #[test]
 fn a_sequence_of_nothing_replies_no_items(rt: HostRuntime) -> Result<(), Fail> {
     let store = store_of(rt.alloc(), &[5])?;
-    let mut xt = Xt::new(PlainPeek::new(&store));
+    let mut room = Room::new();
+    let mut xt = Xt::new(PlainPeek::new(&store), &mut room);
     let nothing = one_after_another(Vec::new(rt.alloc()))?;
     assert_eq!(rt; answer(&nothing, &store, &mut xt)?, Ok(many(&[])));
     Ok(())
@@ -130,7 +131,8 @@ fn a_sequence_of_nothing_replies_no_items(rt: HostRuntime) -> Result<(), Fail> {
 #[test]
 fn items_of_a_part_stand_in_its_place(rt: HostRuntime) -> Result<(), Fail> {
     let store = store_of(rt.alloc(), &[5, 6])?;
-    let mut xt = Xt::new(PlainPeek::new(&store));
+    let mut room = Room::new();
+    let mut xt = Xt::new(PlainPeek::new(&store), &mut room);
     let inner = one_after_another(vec![in rt.alloc(); adding(1, 1), adding(0, 2)]?)?;
     let outer = one_after_another(vec![in rt.alloc(); adding(0, 3), inner, adding(1, 0)]?)?;
     let items = [
@@ -146,7 +148,8 @@ fn items_of_a_part_stand_in_its_place(rt: HostRuntime) -> Result<(), Fail> {
 #[test]
 fn a_sequence_ends_where_a_part_would_wait(rt: HostRuntime) -> Result<(), Fail> {
     let store = store_of(rt.alloc(), &[5, 6, 7])?;
-    let mut xt = Xt::new(PlainPeek::new(&store));
+    let mut room = Room::new();
+    let mut xt = Xt::new(PlainPeek::new(&store), &mut room);
     let term = one_after_another(vec![in rt.alloc(); adding(0, 1), waiting(1, 9), adding(2, 1)]?)?;
     assert_eq!(rt; answer(&term, &store, &mut xt)?, Err(Stop::Retry));
     let (_, footprint) = xt.into_parts();
@@ -160,7 +163,8 @@ fn an_alternative_that_would_wait_is_rolled_back_and_its_reads_stay(
     rt: HostRuntime,
 ) -> Result<(), Fail> {
     let store = store_of(rt.alloc(), &[5, 6, 7])?;
-    let mut xt = Xt::new(PlainPeek::new(&store));
+    let mut room = Room::new();
+    let mut xt = Xt::new(PlainPeek::new(&store), &mut room);
     let given_up = one_after_another(vec![in rt.alloc();
         adding(0, 10),
         adding(1, 10),
@@ -182,7 +186,8 @@ fn an_alternative_that_would_wait_is_rolled_back_and_its_reads_stay(
 #[test]
 fn the_second_alternative_is_not_run_where_the_first_replies(rt: HostRuntime) -> Result<(), Fail> {
     let store = store_of(rt.alloc(), &[5, 6])?;
-    let mut xt = Xt::new(PlainPeek::new(&store));
+    let mut room = Room::new();
+    let mut xt = Xt::new(PlainPeek::new(&store), &mut room);
     let term = either(rt.alloc(), adding(0, 1), adding(1, 1))?;
     assert_eq!(rt; answer(&term, &store, &mut xt)?, Ok(Reply::Value(5)));
     let (_, footprint) = xt.into_parts();
@@ -195,7 +200,8 @@ fn the_second_alternative_is_not_run_where_the_first_is_too_large(
     rt: HostRuntime,
 ) -> Result<(), Fail> {
     let store = store_of(rt.alloc(), &[5; 65])?;
-    let mut xt = Xt::new(PlainPeek::new(&store));
+    let mut room = Room::new();
+    let mut xt = Xt::new(PlainPeek::new(&store), &mut room);
     for at in 0..64 {
         assert_eq!(rt;
             answer(&adding(at, 0), &store, &mut xt)?,

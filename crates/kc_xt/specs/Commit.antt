@@ -11,6 +11,8 @@ use Rattle.kc_model.specs.Store.{Store, Finds}
 use Rattle.kc_model.specs.declared.reply.Reply.{Reply}
 use Rattle.kc_xt.specs.declared.attempts.Tried.{Tried}
 use Rattle.kc_xt.specs.declared.attempts.Tried.TheVariants as tried
+use Rattle.kc_xt.specs.declared.room.Went.{Went}
+use Rattle.kc_xt.specs.declared.room.Went.TheVariants as went
 use Rattle.kc_xt.specs.declared.line.Line.{Line}
 use Rattle.kc_xt.specs.declared.stop.Stop.{Stop}
 use Rattle.kc_xt.specs.declared.stop.Stop.TheVariants as stop
@@ -56,6 +58,14 @@ pub record IsWorn (s : Store) (touches : List Touch) (l : ℕ) : Type 0 where
 -- the meaning replies, and can't be committed, since a location has no version left
 abbrev pub Wears : Meaning → ℕ → Footprint → Type 0
 Wears m l f = Everywhere m f (λ s r. ((a : Reply) × (r.outcome ≡ replied a)) × IsWorn s r.touches l) given_up
+
+-- what came of an attempt that went so, with this reply
+abbrev pub tried_of : Went → Reply → Tried
+tried_of went.Done r = tried.Done r
+tried_of went.Later r = tried.Later
+tried_of went.TooLarge r = tried.TooLarge
+tried_of went.Busy r = tried.Busy
+tried_of (went.Worn loc) r = tried.Worn loc
 
 -- what came of an attempt, with the footprint before and after: where a look was given up it stays
 abbrev pub Came : Meaning → Tried → Footprint → Footprint → Type 0

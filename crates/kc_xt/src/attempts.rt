@@ -1,17 +1,19 @@
 //! Attempts: a transaction on an empty log, and what may be committed of it.
 
-ghost use Rattle.std.specs.Prelude.{◌≡◌, ◌≢◌, ◌≤◌, List};
+ghost use Rattle.std.specs.Prelude.{◌≡◌, ◌≢◌, ◌≤◌, List, Ok, Err};
 ghost use Rattle.kc_model.specs.declared.footprint.Footprint.{Footprint as Print};
 ghost use Rattle.kc_model.specs.declared.plain_store.Cell.{Cell};
 ghost use Rattle.kc_model.specs.Footprint.{IsBelow, IsWellMade};
 ghost use Rattle.kc_model.specs.Store.{Store, store_of, Finds};
+ghost use Rattle.kc_model.specs.declared.reply.Reply.{Reply};
 ghost use Rattle.kc_xt.specs.declared.attempts.Tried.TheVariants as tried;
 ghost use Rattle.kc_xt.specs.declared.attempts.Tried.{Tried as Answered};
-ghost use Rattle.kc_xt.specs.Commit.{Came, PutsWhereDone, Looked, Settles};
+ghost use Rattle.kc_xt.specs.Commit.{Came, PutsWhereDone, Looked, Settles, tried_of};
 ghost use Rattle.kc_xt.specs.Meaning.{Meaning};
 ghost use Rattle.kc_xt.specs.Peeks.{PlainLooks};
 
 use crate::peek::Peek;
+use crate::room::{Room, Trial, Went};
 use crate::stop::Stop;
 use crate::transact::Transact;
 use crate::xt::Xt;
@@ -32,51 +34,82 @@ pub enum Tried {
     Worn(Loc),
 }
 
-/// Runs a transaction on an empty log, and fills the footprint with what may be committed of it: what it read, and at
-/// Done what it wrote. At Busy the footprint stays as it was. The peek is handed back.
+/// Runs a transaction on an empty log over the room, and fills the footprint with what may be committed of it: what it read, and at
+/// Done what it wrote. At Busy the footprint stays as it was. What came of it lies in the trial. The peek is handed back.
+#[inline(always)]
 pub fn attempt<P: Peek, T: Transact>(
     peek: P,
+    room: &mut Room,
     transaction: &T,
+    trial: &mut Trial,
     footprint: &mut Footprint,
-) -> (P, Tried)
+) -> P
     requires fit { T.is_fit transaction.now }
     requires within { T.end transaction.now ≤ P.locations peek }
-    ensures came { Came (T.meaning transaction.now) result.1 footprint.old footprint.new }
-    ensures puts { PutsWhereDone result.1 footprint.new }
-    ensures within { result.1 ≢ tried.Busy → IsBelow (T.end transaction.now) footprint.new }
-    ensures looked { Looked P.peek_gives (T.meaning transaction.now) result.1 peek footprint.new result.0 }
-    ensures size { P.locations result.0 ≡ P.locations peek }
+    ensures came { Came (T.meaning transaction.now) (tried_of trial.new.went trial.new.reply) footprint.old footprint.new }
+    ensures puts { PutsWhereDone (tried_of trial.new.went trial.new.reply) footprint.new }
+    ensures within { tried_of trial.new.went trial.new.reply ≢ tried.Busy → IsBelow (T.end transaction.now) footprint.new }
+    ensures looked { Looked P.peek_gives (T.meaning transaction.now) (tried_of trial.new.went trial.new.reply) peek footprint.new result }
+    ensures size { P.locations result ≡ P.locations peek }
 {
-    let mut xt = Xt::new(peek);
+    let mut xt = Xt::new(peek, room);
     let answer = transaction.run(&mut xt);
-    let tried = settle(&xt, answer, footprint);
-    (xt.into_peek(), tried)
+    let Trial { went, reply } = trial;
+    *went = settle(&xt, answer, reply, footprint);
+    xt.into_peek()
 }
 
 // What may be committed of a run that was answered so.
-fn settle<P: Peek>(xt: &Xt<P>, answer: Result<Reply, Stop>, footprint: &mut Footprint) -> Tried
-    ensures { Settles result answer xt.now.lines footprint.old footprint.new }
+#[inline(always)]
+fn settle<P: Peek>(
+    xt: &Xt<P>,
+    answer: Result<Reply, Stop>,
+    reply: &mut Reply,
+    footprint: &mut Footprint,
+) -> Went
+    ensures { Settles (tried_of result reply.new) answer xt.now.lines footprint.old footprint.new }
 {
     match answer {
-        Ok(reply) => match xt.worn() {
-            None => {
-                xt.fill(footprint);
-                Tried::Done(reply)
-            }
-            Some(loc) => {
-                xt.fill_reads(footprint);
-                Tried::Worn(loc)
-            }
-        },
-        Err(Stop::Retry) => {
-            xt.fill_reads(footprint);
-            Tried::Later
+        Ok(made) => {
+            *reply = made;
+            settle_done(xt, footprint)
         }
-        Err(Stop::TooLarge) => {
-            xt.fill_reads(footprint);
-            Tried::TooLarge
+        Err(stop) => settle_stopped(xt, stop, footprint),
+    }
+}
+
+// Of a run that replied.
+#[inline(always)]
+fn settle_done<P: Peek>(xt: &Xt<P>, footprint: &mut Footprint) -> Went
+    ensures { (a : Reply) → Settles (tried_of result a) (Ok a) xt.now.lines footprint.old footprint.new }
+{
+    match xt.worn() {
+        None => {
+            xt.fill(footprint);
+            Went::Done
         }
-        Err(Stop::Busy) => Tried::Busy,
+        Some(loc) => {
+            xt.fill_reads(footprint);
+            Went::Worn(loc)
+        }
+    }
+}
+
+// Of a run that stopped.
+#[inline(never)]
+fn settle_stopped<P: Peek>(xt: &Xt<P>, stop: Stop, footprint: &mut Footprint) -> Went
+    ensures { (a : Reply) → Settles (tried_of result a) (Err stop) xt.now.lines footprint.old footprint.new }
+{
+    match stop {
+        Stop::Retry => {
+            xt.fill_reads(footprint);
+            Went::Later
+        }
+        Stop::TooLarge => {
+            xt.fill_reads(footprint);
+            Went::TooLarge
+        }
+        Stop::Busy => Went::Busy,
     }
 }
 

@@ -3,11 +3,12 @@
 ghost use Rattle.std.specs.Prelude.{◌≡◌, ◌≢◌, ◌≤◌, length};
 ghost use Rattle.kc_model.specs.Footprint.{IsBelow};
 ghost use Rattle.kc_model.specs.Store.{store_of, after, Finds};
-ghost use Rattle.kc_xt.specs.Commit.{Came, PutsWhereDone};
+ghost use Rattle.kc_xt.specs.Commit.{Came, PutsWhereDone, tried_of};
 ghost use Rattle.kc_xt.specs.declared.attempts.Tried.TheVariants as tried;
 
 use crate::attempts::{Tried, attempt, plain_attempts};
 use crate::plain_peek::PlainPeek;
+use crate::room::{Room, Trial};
 use crate::transact::Transact;
 use kc_model::{Footprint, PlainStore};
 
@@ -28,10 +29,34 @@ pub fn commit<T: Transact>(
     ensures store { store_of store.new ≡ after footprint.new (store_of store.old) }
     ensures cells { length store.new ≡ length store.old }
 {
-    let (_, tried) = attempt(PlainPeek::new(store), transaction, footprint);
+    let (mut room, mut trial) = (Room::new(), Trial::new());
+    commit_over(store, &mut room, transaction, &mut trial, footprint);
+    trial.tried()
+}
+
+/// The same over room that the caller keeps: what came of it lies in the trial.
+#[inline(always)]
+pub fn commit_over<T: Transact>(
+    store: &mut PlainStore,
+    room: &mut Room,
+    transaction: &T,
+    trial: &mut Trial,
+    footprint: &mut Footprint,
+)
+    requires fit { T.is_fit transaction.now }
+    requires within { T.end transaction.now ≤ length store.old }
+    ensures came { Came (T.meaning transaction.now) (tried_of trial.new.went trial.new.reply) footprint.old footprint.new }
+    ensures puts { PutsWhereDone (tried_of trial.new.went trial.new.reply) footprint.new }
+    ensures bound { IsBelow (T.end transaction.now) footprint.new }
+    ensures calm { tried_of trial.new.went trial.new.reply ≢ tried.Busy }
+    ensures finds { Finds footprint.new (store_of store.old) }
+    ensures store { store_of store.new ≡ after footprint.new (store_of store.old) }
+    ensures cells { length store.new ≡ length store.old }
+{
+    attempt(PlainPeek::new(store), room, transaction, trial, footprint);
     plain_attempts();
     match store.apply(footprint) {
-        Ok(()) => tried,
+        Ok(()) => {}
         Err(_) => unreachable!("each read is what stands"),
     }
 }

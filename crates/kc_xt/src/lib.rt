@@ -8,6 +8,7 @@ mod line;
 mod peek;
 mod place;
 mod plain_peek;
+mod room;
 mod stop;
 mod structure;
 #[cfg(test)]
@@ -16,10 +17,11 @@ mod transact;
 mod xt;
 
 pub use attempts::{Tried, attempt, is_found_somewhere, plain_attempts};
-pub use committing::commit;
+pub use committing::{commit, commit_over};
 pub use ended::Ended;
 pub use peek::{Peek, PeekBusy};
 pub use plain_peek::PlainPeek;
+pub use room::{Room, Trial, Went};
 pub use stop::Stop;
 pub use structure::{MOST_BUCKETS, MOST_ITEMS, counter_keeps_the_laws, keeps_to_its_cells};
 pub use transact::Transact;

@@ -1,6 +1,6 @@
 //! The lines of a log.
 
-ghost use Rattle.std.specs.Prelude.{◌≡◌, ◌≤◌, ◌<◌, length, slice_set, slice_index_or};
+ghost use Rattle.std.specs.Prelude.{◌≡◌, ◌≤◌, ◌<◌, insert, length, slice_set, slice_index_or};
 ghost use Rattle.kc_xt.specs.Calls.{zero_line, with_value};
 ghost use Rattle.kc_xt.specs.Lines.{after_at, rolled_back, seens, puts, worn_of};
 
@@ -12,6 +12,19 @@ use kc_model::{LAST_VERSION, Loc, MOST, Put, Seen};
 pub struct Line {
     pub seen: Seen,
     pub after: Option<u32>,
+}
+
+// Puts one more line at `at`. Most transactions touch locations in rising order, so that it is the last.
+pub(crate) fn add_line(lines: &mut ArrayVec<Line, MOST>, at: usize, line: Line)
+    requires place { at ≤ length lines.old.items }
+    requires room { length lines.old.items < MOST }
+    ensures { lines.new.items ≡ insert lines.old.items at line }
+{
+    if at == lines.len() {
+        lines.push(line);
+    } else {
+        lines.insert(at, line);
+    }
 }
 
 // Gives the line at `at` a new value.

@@ -30,7 +30,8 @@ fn store_of(alloc: Global, values: &[u32]) -> Result<PlainStore, Fail>
 #[test]
 fn the_sixty_fifth_line_is_too_large(rt: HostRuntime) -> Result<(), Fail> {
     let store = store_of(rt.alloc(), &[7; MOST + 1])?;
-    let mut xt = Xt::new(PlainPeek::new(&store));
+    let mut room = Room::new();
+    let mut xt = Xt::new(PlainPeek::new(&store), &mut room);
     for l in 0..MOST as u32 {
         assert_eq!(rt; xt.get(Loc(l)), Ok(7));
     }
@@ -43,7 +44,8 @@ fn the_sixty_fifth_line_is_too_large(rt: HostRuntime) -> Result<(), Fail> {
 #[test]
 fn a_rollback_keeps_lines_and_takes_back_values(rt: HostRuntime) -> Result<(), Fail> {
     let store = store_of(rt.alloc(), &[5, 6])?;
-    let mut xt = Xt::new(PlainPeek::new(&store));
+    let mut room = Room::new();
+    let mut xt = Xt::new(PlainPeek::new(&store), &mut room);
     assert_eq!(rt; xt.set(Loc(0), 7), Ok(()));
     let before = xt.snapshot();
     assert_eq!(rt; xt.set(Loc(0), 8), Ok(()));
@@ -60,7 +62,8 @@ fn a_rollback_keeps_lines_and_takes_back_values(rt: HostRuntime) -> Result<(), F
 #[test]
 fn a_swap_gives_each_location_the_other_value(rt: HostRuntime) -> Result<(), Fail> {
     let store = store_of(rt.alloc(), &[5, 6])?;
-    let mut xt = Xt::new(PlainPeek::new(&store));
+    let mut room = Room::new();
+    let mut xt = Xt::new(PlainPeek::new(&store), &mut room);
     assert_eq!(rt; xt.swap(Loc(0), Loc(1)), Ok(()));
     assert_eq!(rt; xt.get(Loc(0)), Ok(6));
     assert_eq!(rt; xt.get(Loc(1)), Ok(5));
@@ -70,7 +73,8 @@ fn a_swap_gives_each_location_the_other_value(rt: HostRuntime) -> Result<(), Fai
 #[test]
 fn a_compare_and_set_that_answers_false_sets_nothing(rt: HostRuntime) -> Result<(), Fail> {
     let store = store_of(rt.alloc(), &[5])?;
-    let mut xt = Xt::new(PlainPeek::new(&store));
+    let mut room = Room::new();
+    let mut xt = Xt::new(PlainPeek::new(&store), &mut room);
     assert_eq!(rt; xt.compare_and_set(Loc(0), 6, 7), Ok(false));
     let (_, footprint) = xt.into_parts();
     assert!(rt; footprint.puts.is_empty());
@@ -80,7 +84,8 @@ fn a_compare_and_set_that_answers_false_sets_nothing(rt: HostRuntime) -> Result<
 #[test]
 fn a_sum_wraps_and_an_exchange_answers_the_value_before(rt: HostRuntime) -> Result<(), Fail> {
     let store = store_of(rt.alloc(), &[u32::MAX])?;
-    let mut xt = Xt::new(PlainPeek::new(&store));
+    let mut room = Room::new();
+    let mut xt = Xt::new(PlainPeek::new(&store), &mut room);
     assert_eq!(rt; xt.fetch_add(Loc(0), 3), Ok(u32::MAX));
     assert_eq!(rt; xt.exchange(Loc(0), 9), Ok(2));
     assert_eq!(rt; xt.compare_and_set(Loc(0), 9, 1), Ok(true));
@@ -102,7 +107,8 @@ fn clear_range<P: Peek>(first: u32, end: u32, xt: &mut Xt<P>) -> Result<Reply, S
 #[test]
 fn a_loop_clears_the_locations_that_it_names_alone(rt: HostRuntime) -> Result<(), Fail> {
     let store = store_of(rt.alloc(), &[5, 6, 7, 8])?;
-    let mut xt = Xt::new(PlainPeek::new(&store));
+    let mut room = Room::new();
+    let mut xt = Xt::new(PlainPeek::new(&store), &mut room);
     assert_eq!(rt; clear_range(1, 3, &mut xt), Ok(Reply::Unit));
     assert_eq!(rt; xt.get(Loc(0)), Ok(5));
     assert_eq!(rt; xt.get(Loc(1)), Ok(0));
@@ -177,9 +183,15 @@ impl Peek for Shown {
 #[test]
 fn an_attempt_on_a_plain_store_is_done_or_is_for_later(rt: HostRuntime) -> Result<(), Fail> {
     let store = store_of(rt.alloc(), &[0, 3])?;
-    let mut footprint = Footprint::new();
-    let (_, tried) = attempt(PlainPeek::new(&store), &Take { at: 1 }, &mut footprint);
-    assert_eq!(rt; tried, Tried::Done(Reply::Value(3)));
+    let (mut room, mut trial, mut footprint) = (Room::new(), Trial::new(), Footprint::new());
+    attempt(
+        PlainPeek::new(&store),
+        &mut room,
+        &Take { at: 1 },
+        &mut trial,
+        &mut footprint,
+    );
+    assert_eq!(rt; trial.tried(), Tried::Done(Reply::Value(3)));
     let (loc, version) = (Loc(1), 0);
     let (read, put) = (
         Seen {
@@ -196,8 +208,14 @@ fn an_attempt_on_a_plain_store_is_done_or_is_for_later(rt: HostRuntime) -> Resul
     assert_eq!(rt; footprint.reads.as_slice().first(), Some(&read));
     assert_eq!(rt; footprint.puts.as_slice().first(), Some(&put));
     assert_eq!(rt; footprint.reads.len() + footprint.puts.len(), 2);
-    let (_, tried) = attempt(PlainPeek::new(&store), &Take { at: 0 }, &mut footprint);
-    assert_eq!(rt; tried, Tried::Later);
+    attempt(
+        PlainPeek::new(&store),
+        &mut room,
+        &Take { at: 0 },
+        &mut trial,
+        &mut footprint,
+    );
+    assert_eq!(rt; trial.tried(), Tried::Later);
     assert_eq!(rt; footprint.reads.len(), 1);
     assert!(rt; footprint.puts.is_empty());
     Ok(())
@@ -207,22 +225,28 @@ fn an_attempt_on_a_plain_store_is_done_or_is_for_later(rt: HostRuntime) -> Resul
 fn a_write_at_the_last_version_is_worn_and_a_busy_look_leaves_the_footprint(
     rt: HostRuntime,
 ) -> Result<(), Fail> {
-    let mut footprint = Footprint::new();
+    let (mut room, mut trial, mut footprint) = (Room::new(), Trial::new(), Footprint::new());
     let last = Shown {
         version: Some(LAST_VERSION),
     };
-    let (_, tried) = attempt(last, &Take { at: 2 }, &mut footprint);
-    assert_eq!(rt; tried, Tried::Worn(Loc(2)));
+    attempt(last, &mut room, &Take { at: 2 }, &mut trial, &mut footprint);
+    assert_eq!(rt; trial.tried(), Tried::Worn(Loc(2)));
     assert_eq!(rt; footprint.reads.len(), 1);
     assert!(rt; footprint.puts.is_empty());
-    let (_, tried) = attempt(Shown { version: None }, &Take { at: 1 }, &mut footprint);
-    assert_eq!(rt; tried, Tried::Busy);
+    attempt(
+        Shown { version: None },
+        &mut room,
+        &Take { at: 1 },
+        &mut trial,
+        &mut footprint,
+    );
+    assert_eq!(rt; trial.tried(), Tried::Busy);
     assert_eq!(rt; footprint.reads.len(), 1);
     let near = Shown {
         version: Some(LAST_VERSION - 1),
     };
-    let (_, tried) = attempt(near, &Take { at: 2 }, &mut footprint);
-    assert_eq!(rt; tried, Tried::Done(Reply::Value(5)));
+    attempt(near, &mut room, &Take { at: 2 }, &mut trial, &mut footprint);
+    assert_eq!(rt; trial.tried(), Tried::Done(Reply::Value(5)));
     assert_eq!(rt; footprint.puts.len(), 1);
     Ok(())
 }

@@ -10,24 +10,25 @@ ghost use Rattle.kc_xt.specs.Log.{empty_log};
 ghost use Rattle.kc_xt.specs.Steps.{Does};
 ghost use Rattle.kc_xt.specs.Program.{read, writes, exchanges, swaps, compares_and_sets, fetches_and_adds, wrapped};
 
-use crate::line::{Line, copy_of, fill_puts, fill_reads, put_after, take_back, worn_of};
+use crate::line::{Line, add_line, copy_of, fill_puts, fill_reads, put_after, take_back, worn_of};
 use crate::peek::Peek;
 use crate::place::find;
+use crate::room::Room;
 use crate::stop::Stop;
 use arrayvec::ArrayVec;
 use kc_model::{Footprint, Loc, MOST};
 use std::marker::Model;
 
-/// The log of a transaction: what it saw at each location that it touched, and the new values. Contracts see its peek,
+/// The log of a transaction, over room that its caller keeps: what it saw at each location that it touched, and the new values. Contracts see its peek,
 /// how many lines it may have, and the lines, in rising order of location.
 #[derive(Drop)]
-pub struct Xt<P> {
+pub struct Xt<'a, P> {
     peek: P,
     limit: u32,
-    lines: ArrayVec<Line, MOST>,
+    lines: &'a mut ArrayVec<Line, MOST>,
 }
 
-impl<P> Model for Xt<P> {
+impl<'a, P> Model for Xt<'a, P> {
     ghost use Rattle.std.specs.Prelude.{◌≤◌, length};
     ghost use Rattle.kc_model.specs.declared.footprint.TheConstants.{MOST};
     ghost use Rattle.kc_model.specs.Rising.{IsRising};
@@ -38,9 +39,16 @@ impl<P> Model for Xt<P> {
 
     ghost coded = { log_code P.code };
 
-    ghost view = { λ a. record { peek = a.peek; limit = a.limit; lines = a.lines.items } };
+    ghost view = { λ a. record { peek = a.peek; limit = a.limit; lines = a.lines.now.items } };
 
-    ghost invariant = { λ a. (a.limit ≤ MOST) × (length a.lines.items ≤ a.limit) × IsRising (locations a.lines.items) × VersionsFit a.lines.items };
+    ghost invariant = { λ a. (a.limit ≤ MOST) × (length a.lines.now.items ≤ a.limit) × IsRising (locations a.lines.now.items) × VersionsFit a.lines.now.items };
+}
+
+// Where a location's line stands, and what it reads as.
+#[derive(Clone, Copy)]
+struct Found {
+    at: usize,
+    value: u32,
 }
 
 /// The lines that a log had. Contracts see a list of lines.
@@ -58,15 +66,17 @@ impl Model for Snapshot {
     ghost view = { λ s. s.lines.items };
 }
 
-impl<P: Peek> Xt<P> {
+impl<'a, P: Peek> Xt<'a, P> {
     /// The empty log, with room for `MOST` lines.
-    pub fn new(peek: P) -> Xt<P>
+    pub fn new(peek: P, room: &'a mut Room) -> Xt<'a, P>
         ensures { result ≡ empty_log peek }
     {
+        let lines = &mut room.lines;
+        lines.clear();
         Xt {
             peek,
             limit: MOST as u32,
-            lines: ArrayVec::new(),
+            lines,
         }
     }
 
@@ -86,11 +96,33 @@ impl<P: Peek> Xt<P> {
         }
         match self.peek.peek(loc) {
             Ok(seen) => {
-                self.lines.insert(at, Line { seen, after: None });
+                add_line(self.lines, at, Line { seen, after: None });
                 Ok(at)
             }
             Err(_) => Err(Stop::Busy),
         }
+    }
+
+    // The place and the value of the location's line, which is made where there is none.
+    fn look_up(&mut self, loc: Loc) -> Result<Found, Stop>
+        requires { loc.0 < P.locations self.old.peek }
+        ensures step { Touches P.peek_gives loc.0 self.old (stop_of result) self.new }
+        ensures place { IfOk result (λ f. IsPlace self.new.lines loc.0 f.at) }
+        ensures value { IfOk result (λ f. ReadsAs self.new.lines loc.0 f.value) }
+        ensures size { P.locations self.new.peek ≡ P.locations self.old.peek }
+    {
+        let at = self.touch(loc)?;
+        let line = self.lines.as_slice()[at];
+        let value = line.after.unwrap_or(line.seen.value);
+        Ok(Found { at, value })
+    }
+
+    // Gives the location, whose line stands here, a new value.
+    fn put_at(&mut self, _loc: Loc, at: usize, value: u32)
+        requires { IsPlace self.old.lines _loc.0 at }
+        ensures { self.new ≡ having_set self.old _loc.0 value }
+    {
+        put_after(self.lines.as_mut_slice(), at, value);
     }
 
     // Gives a location that has a line a new value.
@@ -99,7 +131,7 @@ impl<P: Peek> Xt<P> {
         ensures { self.new ≡ having_set self.old loc.0 value }
     {
         if let Ok(at) = find(self.lines.as_slice(), loc.0) {
-            put_after(self.lines.as_mut_slice(), at, value);
+            self.put_at(loc, at, value);
         }
     }
 
@@ -118,9 +150,8 @@ impl<P: Peek> Xt<P> {
         ensures goes { Does P.peek_gives (read loc.0) self.old result self.new }
         ensures size { P.locations self.new.peek ≡ P.locations self.old.peek }
     {
-        let at = self.touch(loc)?;
-        let line = self.lines.as_slice()[at];
-        Ok(line.after.unwrap_or(line.seen.value))
+        let found = self.look_up(loc)?;
+        Ok(found.value)
     }
 
     /// Gives a location a new value.
@@ -134,8 +165,8 @@ impl<P: Peek> Xt<P> {
         ensures goes { Does P.peek_gives (writes loc.0 value) self.old result self.new }
         ensures size { P.locations self.new.peek ≡ P.locations self.old.peek }
     {
-        self.get(loc)?;
-        self.put(loc, value);
+        let found = self.look_up(loc)?;
+        self.put_at(loc, found.at, value);
         Ok(())
     }
 
@@ -150,9 +181,9 @@ impl<P: Peek> Xt<P> {
         ensures goes { Does P.peek_gives (exchanges loc.0 value) self.old result self.new }
         ensures size { P.locations self.new.peek ≡ P.locations self.old.peek }
     {
-        let before = self.get(loc)?;
-        self.put(loc, value);
-        Ok(before)
+        let found = self.look_up(loc)?;
+        self.put_at(loc, found.at, value);
+        Ok(found.value)
     }
 
     /// Gives each of two locations the value of the other.
@@ -186,11 +217,11 @@ impl<P: Peek> Xt<P> {
         ensures goes { Does P.peek_gives (compares_and_sets loc.0 before after) self.old result self.new }
         ensures size { P.locations self.new.peek ≡ P.locations self.old.peek }
     {
-        let value = self.get(loc)?;
-        if value != before {
+        let found = self.look_up(loc)?;
+        if found.value != before {
             return Ok(false);
         }
-        self.put(loc, after);
+        self.put_at(loc, found.at, after);
         Ok(true)
     }
 
@@ -205,9 +236,9 @@ impl<P: Peek> Xt<P> {
         ensures goes { Does P.peek_gives (fetches_and_adds loc.0 n) self.old result self.new }
         ensures size { P.locations self.new.peek ≡ P.locations self.old.peek }
     {
-        let value = self.get(loc)?;
-        self.put(loc, value.wrapping_add(n));
-        Ok(value)
+        let found = self.look_up(loc)?;
+        self.put_at(loc, found.at, found.value.wrapping_add(n));
+        Ok(found.value)
     }
 
     /// The lines as they are now.
@@ -256,7 +287,7 @@ impl<P: Peek> Xt<P> {
 
     /// Its peek.
     pub fn into_peek(self) -> P
-        ensures { result ≡ self.peek }
+        ensures { result ≡ self.entry.peek }
     {
         let Xt {
             peek,
@@ -268,10 +299,10 @@ impl<P: Peek> Xt<P> {
 
     /// Its peek, and the footprint of what all lines saw and of the new values.
     pub fn into_parts(self) -> (P, Footprint)
-        ensures peek { result.0 ≡ self.peek }
-        ensures reads { result.1.reads.items ≡ seens self.lines }
-        ensures puts { result.1.puts.items ≡ puts self.lines }
-        ensures made { CanPut self.lines → IsWellMade result.1 }
+        ensures peek { result.0 ≡ self.entry.peek }
+        ensures reads { result.1.reads.items ≡ seens self.entry.lines }
+        ensures puts { result.1.puts.items ≡ puts self.entry.lines }
+        ensures made { CanPut self.entry.lines → IsWellMade result.1 }
     {
         let mut footprint = Footprint::new();
         self.fill(&mut footprint);

@@ -2,7 +2,10 @@ use Rattle.std.proofs.Common.{refl, rules}
 use Rattle.kc_store.proofs.LoneLooking.{all_alone, same_seat}
 use Rattle.kc_store.proofs.sole_peek.run_alone.Goals as goal
 
+pub returns-clause-within : goal.returns-clause-within
+returns-clause-within g c = rw c.tried.ensures c.attempt.ensures.within
+
 pub returns-clause-looked : goal.returns-clause-looked
 returns-clause-looked g c =
-    let e = same_seat _ _ _ _ _ c.attempt_on.ensures.looked in
-    all_alone _ _ _ _ _ _ _ c.attempt_on.ensures.looked refl (search rules)
+    let e = same_seat _ _ _ _ _ c.attempt.ensures.looked in
+    rw c.tried.ensures (all_alone _ _ _ _ _ _ _ c.attempt.ensures.looked refl (search rules))

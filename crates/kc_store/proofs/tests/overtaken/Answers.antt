@@ -1,18 +1,19 @@
 use Rattle.std.proofs.Common.{◌≡◌, ◌≤◌, ◌∙◌, arith, sym, ap}
 use Rattle.kc_loc.specs.Meaning.{loc_end, loc_meaning}
-use Rattle.kc_store.proofs.Settling.{ready}
+use Rattle.kc_store.proofs.Settling.{not_busy, ready}
+use Rattle.kc_xt.specs.Commit.{tried_of}
 use Rattle.kc_store.specs.declared.tests.TheConstants.{ADD}
 use Rattle.kc_store.proofs.tests.overtaken.Goals as goal
 
 pub commit-told-requires : goal.commit-told-requires
 commit-told-requires c =
-    let x = c.look_and_run-came.ensures in
+    let x = c.look_and_run.ensures in
     let of = ap (λ v. v.of) c.a.view_is ∙ c.requires.first.0 ∙ sym c.store.view_is in
     let same : c.store.inside.table.origin.locations ≡ c.args.store.now.origin.locations = ap (λ z. z.origin.locations) c.store.view_is in
     let up : loc_end ADD ≤ c.store.inside.table.origin.locations = omega (arith, same) in
     let y =
-    ready (loc_meaning ADD) c.look_and_run-came.result c.new-footprint.result c.look_and_run-came.new.footprint c.store.inside.table c.a.inside.seat c.look_and_run-came.new.seat c.store.inside.most_steps c.look_and_run-came.new.left
-    (loc_end ADD) of c.store.invariant c.in_default.not-Busy x.came x.within up x.looked in
+    ready (loc_meaning ADD) (tried_of c.look_and_run.new.trial.went c.look_and_run.new.trial.reply) c.new-footprint.result c.look_and_run.new.footprint c.store.inside.table c.a.inside.seat c.look_and_run.new.seat c.store.inside.most_steps c.look_and_run.new.left
+    (loc_end ADD) of c.store.invariant (not_busy c.look_and_run.new.trial.went c.look_and_run.new.trial.reply c.in_default.not-Busy) x.came x.within up x.looked in
     record {
       table = y.table;
       idle = y.idle;

@@ -1,33 +1,33 @@
-use Rattle.std.proofs.Common.{◌≡◌, ◌≤◌, length, sym, ◌∙◌, arith, refl, lit<}
+use Rattle.std.proofs.Common.{◌≡◌, ◌≤◌, length, sym, ◌∙◌, arith, refl}
 use Rattle.kc_xt.proofs.Places.{inserted, is_place_new, rising-with_line, versions-with_line, length-with_line, place-within}
 use Rattle.kc_xt.specs.Calls.{there, looked, no_answer}
 use Rattle.kc_xt.specs.Calls.{zero_line}
 use Rattle.kc_xt.specs.Lines.{with_line, seen_line}
 use Rattle.kc_xt.proofs.xt.Xt.touch.Goals as goal
-use Rattle.kc_xt.proofs.xt.Xt.touch.Goals.{After-insert}
+use Rattle.kc_xt.proofs.xt.Xt.touch.Goals.{After-add_line}
 
 pub returns-in-Ok-clause-step : goal.returns-in-Ok-clause-step
 returns-in-Ok-clause-step g c =
     let p = rw c.as_slice.ensures.value at c.in-Ok.ensures in
     rw (← c.self.view_is) (there _ refl (p.here zero_line) refl)
 
-pub insert-requires : goal.insert-requires
-insert-requires g c =
+pub add_line-requires : goal.add_line-requires
+add_line-requires g c =
     let m = rw c.as_slice.ensures.value at c.in-Err.ensures in
-    let p : c.in-Err.at ≤ length c.self.inside.lines.items = rw m.place (place-within _ _) in
-    (lit< tt, (p, omega (arith, c.self.invariant.0)))
+    let p : c.in-Err.at ≤ length c.self.inside.lines.now.items = rw m.place (place-within _ _) in
+    record { place = p; room = omega (arith, c.self.invariant.0) }
 
 -- the lines are those with the line that was looked at
-lines_are : (g : _) (c : After-insert g) → c.insert.new.self.items ≡ with_line c.self.inside.lines.items (seen_line c.in-Ok-peek.seen)
+lines_are : (g : _) (c : After-add_line g) → c.add_line.new.lines.items ≡ with_line c.self.inside.lines.now.items (seen_line c.in-Ok-peek.seen)
 lines_are g c =
     let m = rw c.as_slice.ensures.value at c.in-Err.ensures in
-    c.insert.ensures.items ∙ inserted _ _ _ _ m c.in-Ok-peek.ensures.look.asked
+    c.add_line.ensures ∙ inserted _ _ _ _ m c.in-Ok-peek.ensures.look.asked
 
 pub invariant_of-self : goal.invariant_of-self
 invariant_of-self g c =
     let m = rw c.as_slice.ensures.value at c.in-Err.ensures in
     let n = rw (sym c.in-Ok-peek.ensures.look.asked) at m.missing in
-    rw (lines_are g c) (c.self.invariant.0, omega (arith, length-with_line c.self.inside.lines.items (seen_line c.in-Ok-peek.seen)), rising-with_line _ _ c.self.invariant.2 n, versions-with_line _ _ c.self.invariant.3 c.in-Ok-peek.ensures.look.version)
+    rw (lines_are g c) (c.self.invariant.0, omega (arith, length-with_line c.self.inside.lines.now.items (seen_line c.in-Ok-peek.seen)), rising-with_line _ _ c.self.invariant.2 n, versions-with_line _ _ c.self.invariant.3 c.in-Ok-peek.ensures.look.version)
 
 pub returns-in-Ok-peek-clause-step : goal.returns-in-Ok-peek-clause-step
 returns-in-Ok-peek-clause-step g c =

@@ -3,10 +3,10 @@
 ghost use Rattle.std.specs.Prelude.{◌≡◌, ◌≤◌, true};
 ghost use Rattle.kc_machine.specs.Seats.{is_idle};
 
-use crate::{Answered, Caller, Sole, Store, Try, Wear};
 use kc_loc::{LocOp, Rel};
 use kc_machine_words::LAST_GENERATION;
 use kc_model::{Footprint, LAST_VERSION, Loc, Reply};
+use kc_store::{Answered, Caller, Sole, Store, Try, Wear};
 use kc_xt::Transact;
 use std::test::Fail;
 

@@ -1,0 +1,7 @@
+//! Tests of a store that threads share with no lock, by public calls alone.
+#![tactic(auto)]
+
+#[cfg(test)]
+mod sole;
+#[cfg(test)]
+mod trying;

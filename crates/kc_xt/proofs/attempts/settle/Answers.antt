@@ -1,4 +1,0 @@
-use Rattle.kc_xt.proofs.attempts.settle.Goals as goal
-
-pub returns-in-None : goal.returns-in-None
-returns-in-None g c = (c.in-Ok.is, record { reads = c.fill.ensures.reads; puts = c.fill.ensures.puts; made = c.fill.ensures.made (c.worn.ensures.none c.in-None.is) })
