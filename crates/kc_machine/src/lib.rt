@@ -5,8 +5,6 @@ mod hang;
 mod machine;
 mod point;
 mod seat;
-#[cfg(test)]
-mod tests;
 mod words;
 
 pub use hang::{HangStep, LeaveStep};

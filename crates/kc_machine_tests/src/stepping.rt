@@ -1,5 +1,5 @@
-use crate::*;
 use arrayvec::ArrayVec;
+use kc_machine::*;
 use kc_machine_steps::{Pick, first_of, from_install, next_line, second_of};
 use kc_machine_words::{Access, First, Found, Handle, Mode, Second, Touch};
 use kc_model::{Footprint, Loc, OpenError, Put, Seen, Word};

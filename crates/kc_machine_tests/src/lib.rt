@@ -1,0 +1,5 @@
+//! Tests of the machine of atomic steps, by public calls alone.
+#![tactic(auto)]
+
+#[cfg(test)]
+mod stepping;
