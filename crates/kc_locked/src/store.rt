@@ -13,6 +13,7 @@ ghost use Rattle.kc_locked.specs.Locked.{Matches, Taken, made_by};
 use crate::held::{Held, MOST_COMMITS, Waits};
 use crate::rule::{Commits, Deals, Empty, Ends, Gathers, Gives, Knows, Origin, Rule, Takes, View};
 use atomic_table::{Seat, Shared, Table};
+use crossbeam_utils::CachePadded;
 use kc_model::{Answer, Footprint, MOST_LOCATIONS, OpenError};
 use kc_xt::{Ended, Room, Transact};
 use std::alloc::{AllocError, Global};
@@ -51,7 +52,11 @@ impl Model for LockedStore {
 /// A thread's right to use the store. Contracts see of which store it is, its number, how many commits it may still
 /// make, and those that it made.
 #[derive(Drop)]
+#[repr(C)]
 pub struct LockPass {
+    // Passes lie side by side in a vector, and each is written at every commit: two threads' on one line of a cache
+    // hold each other up.
+    apart: CachePadded<()>,
     caller: u32,
     left: u32,
     made: u64,
@@ -340,6 +345,7 @@ fn deal(
     for i in 0..shares.len() {
         let token = memory.split_seat::<Deals>(&mut first);
         passes.push_reserved(LockPass {
+            apart: CachePadded::new(()),
             caller: i as u32,
             left: shares[i],
             made: 0,
@@ -360,6 +366,7 @@ fn gather(memory: &Memory, passes: Vec<LockPass>) -> Token
     let mut keeper = memory.load_new_seat::<Empty>(0).1;
     for pass in passes {
         let LockPass {
+            apart: _,
             caller: _,
             left: _,
             made: _,

@@ -163,6 +163,7 @@ fn gather<S: HoldsSeat>(words: &Words, seats: Vec<S>) -> Token
     for holder in seats {
         let seat = holder.into_seat();
         let KcSeat {
+            apart: _,
             machine: _,
             token,
             began: _,

@@ -8,6 +8,7 @@ ghost use Rattle.kc_table_moves.specs.Views.{opened_seats};
 use crate::seat::KcSeat;
 use crate::table::KcTable;
 use atomic_table::Table;
+use crossbeam_utils::CachePadded;
 use kc_machine::Seat;
 use kc_table_moves::{Deals, Origin, Token};
 use std::alloc::{AllocError, Global};
@@ -35,6 +36,7 @@ pub(crate) fn deal_seats(
     for number in 0..callers {
         let token = table.table.shared.split_seat::<Deals>(&mut first);
         seats.push(KcSeat {
+            apart: CachePadded::new(()),
             machine: Seat::new(number, 3 * callers + 1, 3 * number),
             token,
             began: false,

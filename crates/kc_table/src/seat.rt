@@ -5,6 +5,7 @@ ghost use Rattle.kc_machine.specs.Schedules.{IsWellMadeTask};
 ghost use Rattle.kc_machine.specs.Seats.{begun, halted, is_idle, own_of, steps_of, told_of};
 ghost use Rattle.kc_table_moves.specs.Views.{KnowsReads, Starts};
 
+use crossbeam_utils::CachePadded;
 use kc_machine::Seat;
 use kc_machine_steps::{Task, Told};
 use kc_table_moves::Token;
@@ -14,7 +15,11 @@ use std::marker::Model;
 /// seat's last step, whether it has begun a task since then, and the seat as it is now. The list of entries that it knows is
 /// the history of that schedule.
 #[derive(Drop)]
+#[repr(C)]
 pub struct KcSeat {
+    // Seats lie side by side in a vector, and each is written at every step: two threads' on one line of a cache took
+    // twice the time of a commit.
+    pub(crate) apart: CachePadded<()>,
     pub(crate) machine: Seat,
     pub(crate) token: Token,
     // No word shows yet what has begun since the last step.
