@@ -10,6 +10,7 @@ import sys
 
 WHO = {
     "kcas": "lock-free store",
+    "bare": "its atomic operations alone, in C++",
     "locked": "store behind one lock",
     "stm": "GHC's STM",
     "mutex": "C++ mutex",
