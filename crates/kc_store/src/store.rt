@@ -1,7 +1,9 @@
 //! The store, and its callers.
 
 ghost use Rattle.std.specs.Prelude.{◌≡◌, ◌≤◌, ◌<◌, ◌↔◌, ◌⊎◌, length, replicate, All, IfOk, Err};
+ghost use Rattle.kc_model.specs.declared.plain_store.TheConstants.{MOST_LOCATIONS};
 ghost use Rattle.kc_machine.specs.Seats.{steps_of};
+ghost use Rattle.kc_machine.specs.declared.machine.TheConstants.{MOST_CALLERS};
 ghost use Rattle.kc_table_moves.specs.Views.{AreAll, IsPast, OpensAt, opened_seats};
 ghost use Rattle.kc_store.specs.Steps.{busy_bound};
 
@@ -82,8 +84,8 @@ impl Store {
         callers: u32,
     ) -> Result<(Store, Vec<Caller>), OpenError>
         ensures ok { IfOk result (λ t. OpensAt values.now (replicate (length values.now) 0) callers 0 t.0 × (t.1.items ≡ opened_seats t.0 0 callers)) }
-        ensures locations { (result ≡ Err OpenError.TooManyLocs) ↔ (65536 < length values.now) }
-        ensures callers { (result ≡ Err OpenError.TooManyCallers) ↔ ((length values.now ≤ 65536) × ((callers ≡ 0) ⊎ (64 < callers))) }
+        ensures locations { (result ≡ Err OpenError.TooManyLocs) ↔ (MOST_LOCATIONS < length values.now) }
+        ensures callers { (result ≡ Err OpenError.TooManyCallers) ↔ ((length values.now ≤ MOST_LOCATIONS) × ((callers ≡ 0) ⊎ (MOST_CALLERS < callers))) }
     {
         let (table, seats) = KcTable::open(alloc, values, callers)?;
         Ok(shared(alloc, table, seats, callers)?)
@@ -106,8 +108,8 @@ impl Store {
         requires versions { (length versions.now ≡ length values.now) × All (λ v. v ≤ LAST_VERSION) versions.now }
         requires generation { generation ≤ LAST_GENERATION }
         ensures ok { IfOk result (λ t. OpensAt values.now versions.now callers generation t.0 × (t.1.items ≡ opened_seats t.0 0 callers)) }
-        ensures locations { (result ≡ Err OpenError.TooManyLocs) ↔ (65536 < length values.now) }
-        ensures callers { (result ≡ Err OpenError.TooManyCallers) ↔ ((length values.now ≤ 65536) × ((callers ≡ 0) ⊎ (64 < callers))) }
+        ensures locations { (result ≡ Err OpenError.TooManyLocs) ↔ (MOST_LOCATIONS < length values.now) }
+        ensures callers { (result ≡ Err OpenError.TooManyCallers) ↔ ((length values.now ≤ MOST_LOCATIONS) × ((callers ≡ 0) ⊎ (MOST_CALLERS < callers))) }
     {
         let (table, seats) = KcTable::open_at(alloc, values, versions, callers, generation)?;
         Ok(shared(alloc, table, seats, callers)?)
@@ -122,7 +124,7 @@ fn shared(
     callers: u32,
 ) -> Result<(Store, Vec<Caller>), AllocError>
     requires callers { table.origin.callers ≡ callers }
-    requires few { callers ≤ 64 }
+    requires few { callers ≤ MOST_CALLERS }
     ensures store { IfOk result (λ r. r.0 ≡ table) }
     ensures callers { IfOk result (λ r. r.1.items ≡ seats.items) }
 {
