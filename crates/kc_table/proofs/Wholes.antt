@@ -21,6 +21,7 @@ use Rattle.kc_machine.specs.Schedules.{IsWellMadeTask}
 use Rattle.kc_machine.specs.Seats.{access_of, answer_of, begun, is_idle}
 use Rattle.kc_machine.specs.declared.seat.Seat.{Seat}
 use Rattle.kc_machine_steps.specs.Lines.{line_of, lines_of}
+use Rattle.kc_table_layout.specs.Changes.{change_of, changed}
 use Rattle.kc_table_layout.specs.declared.change.Change.TheVariants as change
 use Rattle.kc_table.proofs.Begins.{ready_begun}
 use Rattle.kc_table_layout.specs.Cells.{CellFits, base_of, bits, cell_of, place}
@@ -77,6 +78,10 @@ stands_on start r z me e t stopped stands = go (found_of e.at e.number) stopped 
 
 pub look_aims : (q : Origin) (s : Seat) (l : Loc) (n : ℕ) → is_idle s.work ≡ true → n ≡ place 0 (word l.0) → Aims q (begun s (task.Look l)) n change.Load
 look_aims q s l n e f = rw e (record { place = f; makes = refl; ranged = tt })
+
+-- a load leaves every number
+pub load_leaves : (s : Seat) (takes : ℕ → Bool) → change_of (access_of s) ≡ change.Load → (n : ℕ) → takes n ≡ true → changed (change_of (access_of s)) n ≡ n
+load_leaves s takes e n t = ap (λ c. changed c n) e
 
 -- the seat where the schedule has it
 pub look_stands : (s u : Seat) (me later : Me Unit View) (l : Loc) (n : ℕ) (w : Word) → is_idle s.work ≡ true → Moved (begun s (task.Look l)) true me n later → ((x : Word) → IsPackable x → packed x ≡ n → w ≡ x) → u ≡ answer_of (begun s (task.Look l)) (found.Word w)

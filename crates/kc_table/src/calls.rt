@@ -1,6 +1,7 @@
 //! A whole task in one call, by the same steps: the seat is written once.
 
-ghost use Rattle.std.specs.Prelude.{◌≡◌, ◌≤◌, ◌<◌, true, false, length, IfOk, IfErr, IfSome, IfNone, Some};
+ghost use Rattle.std.specs.Prelude.{◌≡◌, ◌≤◌, ◌<◌, ℕ, true, false, length, IfOk, IfErr, IfSome, IfNone, Some};
+ghost use Rattle.kc_model.specs.Word.{unpacked};
 ghost use Rattle.kc_model.specs.declared.word.Word.TheVariants.{Plain};
 ghost use Rattle.kc_machine_words.specs.declared.access.Found.TheVariants as found;
 ghost use Rattle.kc_machine_steps.specs.declared.task.Task.TheVariants.{Commit, Look};
@@ -12,7 +13,7 @@ ghost use Rattle.kc_machine.specs.Seats.{answer_of, begun, is_idle};
 ghost use Rattle.kc_table_layout.specs.declared.change.Change.TheVariants as change;
 ghost use Rattle.kc_table_moves.specs.Rule.{Moved, Ready};
 ghost use Rattle.kc_table_moves.specs.Views.{KnowsReads};
-ghost use Rattle.kc_table_moves.specs.Straight.{Aims, Here, On, Ran, StandsAt, Stopped, found_of, point_of, seat_in};
+ghost use Rattle.kc_table_moves.specs.Straight.{Aims, Here, On, Ran, StandsAt, Stopped, found_of, is_plain, point_of, seat_in};
 
 use crate::seat::KcSeat;
 use crate::table::KcTable;
@@ -21,12 +22,15 @@ use kc_machine_steps::{Line, Task, Told, one_more};
 use kc_machine_words::{Found, Mode};
 use kc_model::{Footprint, Loc, Seen, Word};
 use kc_table_layout::{base_at, location_at, shown};
-use kc_table_moves::{Chain, Ended, Now, Run, Stop, Token, Words, load, run_commit};
+use kc_table_moves::{
+    Asks, Chain, Ended, MOST_LOADS, Run, Stop, Token, Words, is_plain, load, peek, run_commit,
+};
 use std::marker::Brand;
 
 impl KcTable {
-    /// Looks at a location: what a plain word says, by one load, and the seat is told it. None exactly where a reference
-    /// stands there; then the look goes on by `step` until the seat is told.
+    /// Looks at a location: what a plain word says, and the seat is told it. A load that finds a reference is no step of the
+    /// seat and is made again, some 200 times at most; None exactly where the load that is its step finds a reference. Then
+    /// the look goes on by `step` until the seat is told.
     pub fn look(&self, seat: &mut KcSeat, loc: Loc) -> Option<Seen>
         requires table { seat.old.of ≡ self.now }
         requires idle { is_idle seat.old.seat.work ≡ true }
@@ -92,9 +96,10 @@ impl KcTable {
     }
 }
 
-// The load of a look. What names the seat is not read.
+// The load of a look: the first that finds a plain word, or, after a wait for a reference to go, the last one, whatever it
+// finds. What names the seat is not read.
 #[inline(always)]
-fn load_look<B: Now>(
+fn load_look<B: Asks>(
     words: &Words,
     token: &mut Token,
     _seat: &Seat,
@@ -105,10 +110,36 @@ fn load_look<B: Now>(
     requires here { Here words.now.key words.now.table_id base token.old.table_id token.old.me }
     requires seat { (is_idle B.now.work ≡ false) × Ready token.old.me B.began B.now }
     requires aim { Aims words.now.key B.now word change.Load }
+    requires plain { (n : ℕ) → B.takes n ≡ is_plain (unpacked n) }
     ensures table { token.new.table_id ≡ token.old.table_id }
     ensures moved { Moved B.now B.began token.old.me result token.new.me }
 {
-    load::<B>(words, token, base, word)
+    let number = peek::<B>(words, token, base, word);
+    if is_plain(number) {
+        return number;
+    }
+    load_late::<B>(words, token, base, word)
+}
+
+// The load of a look that found a reference, which was no step. As long as one stands there no further load is a step, up to
+// so many; the next one is, whatever it finds.
+#[cold]
+#[inline(never)]
+fn load_late<B: Asks>(words: &Words, token: &mut Token, base: usize, word: usize) -> u64
+    requires here { Here words.now.key words.now.table_id base token.old.table_id token.old.me }
+    requires seat { (is_idle B.now.work ≡ false) × Ready token.old.me B.began B.now }
+    requires aim { Aims words.now.key B.now word change.Load }
+    requires plain { (n : ℕ) → B.takes n ≡ is_plain (unpacked n) }
+    ensures table { token.new.table_id ≡ token.old.table_id }
+    ensures moved { Moved B.now B.began token.old.me result token.new.me }
+{
+    for _ in 0..MOST_LOADS {
+        let number = peek::<B>(words, token, base, word);
+        if is_plain(number) {
+            return number;
+        }
+    }
+    load::<Brand>(words, token, base, word)
 }
 
 #[inline(always)]

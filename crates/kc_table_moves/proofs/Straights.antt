@@ -1,5 +1,6 @@
 -- A step of a seat that is not written.
-use Rattle.std.proofs.Common.{◌≡◌, ◌≢◌, ℕ, zero, suc, ◌<◌, ◌++◌, Bool, false, refl, sym, ap, ◌∙◌, arith, subst}
+use Rattle.std.proofs.Common.{◌≡◌, ◌≢◌, ◌==◌, ℕ, ◌<◌, ◌++◌, Bool, true, false, refl, sym, ap, ◌∙◌, arith, subst}
+use Rattle.std.proofs.lemmas.Bool.Decides.{nat_tests}
 use Rattle.std.proofs.lemmas.List.{set-get_or}
 use Rattle.std.specs.Prelude.{slice_index}
 use Rattle.atomic_table.proofs.Lists.{set_again}
@@ -11,13 +12,13 @@ use Rattle.kc_machine.specs.Seats.{access_of, answer_of, is_idle}
 use Rattle.kc_machine.specs.declared.seat.Seat.{Seat}
 use Rattle.kc_table_layout.proofs.Stored.{Agrees}
 use Rattle.kc_table_layout.specs.Cells.{base_of, size_of}
-use Rattle.kc_table_layout.specs.Changes.{changed}
+use Rattle.kc_table_layout.specs.Changes.{change_of, changed}
 use Rattle.kc_table_layout.specs.declared.change.Change.{Change}
 use Rattle.kc_table_layout.specs.declared.change.Change.TheVariants as change
 use Rattle.kc_table_moves.proofs.Allowed.{arm, within_table, ready_after}
 use Rattle.kc_table_moves.specs.Origins.{Origin, opening_of}
 use Rattle.kc_table_moves.specs.Rule.{number_of, past_of, Kept, Ready, Steps, Moved}
-use Rattle.kc_table_moves.specs.Straight.{further, On, Aims, Peeked, Went, Makes}
+use Rattle.kc_table_moves.specs.Straight.{further, On, Aims, Peeked, Went, Makes, leaves}
 use Rattle.kc_table_moves.specs.Views.{SeatView, Stepped, seen_as}
 use Rattle.kc_table_moves.specs.declared.atoms.Run.{Run}
 use Rattle.kc_table_moves.specs.declared.view.View.{View}
@@ -34,26 +35,37 @@ pub aim_within : (q : Origin) (me : Me Unit View) (began : Bool) (s : Seat) (wor
 aim_within q me began s word n ch r from busy aims size =
     within_table q me began s (access_of s) (base_of q.locations) n (record { word = word; change = ch }) r from busy refl refl (λ i. record { word = aims.place i; change = sym aims.makes i }) size
 
--- a load of a word that the seat exchanges for 0, by what it finds
-peeks_at : (q : Origin) (st : table.State Unit View) (id word n : ℕ) (me : Me Unit View) (began : Bool) (s : Seat) → Kept q (stepped st word n id me.1 me.0 keeps)
-    → (w : View) × (a : Act Unit) × Valid st.homes me.1 a × Kept q (stepped st word 0 id me.1 w a) × Moved s began me n (w, carried_after me.1 a)
-    → (w : View) × (a : Act Unit) × Valid st.homes me.1 a × Kept q (stepped st word n id me.1 w a) × Peeked s began me n (w, carried_after me.1 a)
-peeks_at q st id word zero me began s stays steps = steps
-peeks_at q st id word (suc n) me began s stays steps = (me.0, keeps, tt, stays, refl)
+-- the same aim, by what the seat's step makes of its word
+pub aims_own : (q : Origin) (s : Seat) (word : ℕ) (ch : Change) → Aims q s word ch → Aims q s word (change_of (access_of s))
+aims_own q s word ch aims = record { place = aims.place; makes = refl; ranged = aims.ranged }
 
-pub by_peek : (agrees : Agrees) (q : Origin) (slots id : ℕ) (me : Me Unit View) (began : Bool) (s : Seat) (word : ℕ) → Ready me began s → me.0.origin ≡ q → is_idle s.work ≡ false → Aims q s word (change.Swap 0)
-    → Allows (Kept q) slots id me word (λ n. n) (Peeked s began me)
-by_peek agrees q slots id me began s word r from busy aims st kept count at small =
-    let same : stepped st word (slice_index st.words word) id me.1 me.0 keeps ≡ st = λ k. record { words = set-get_or st.words word 0 k; homes = st.homes; views = set_again st.views id me.0 at k } in
-    peeks_at q st id word (slice_index st.words word) me began s (subst (Kept q) (sym same) kept) (by_aim agrees q slots id me began s word (change.Swap 0) r from busy aims st kept count at small)
+-- a load that is the step, or none
+peeks_at : (q : Origin) (st : table.State Unit View) (id word n : ℕ) (me : Me Unit View) (began : Bool) (s : Seat) (takes : Bool) → Kept q (stepped st word n id me.1 me.0 keeps)
+    → (takes ≡ true → (w : View) × (a : Act Unit) × Valid st.homes me.1 a × Kept q (stepped st word n id me.1 w a) × Moved s began me n (w, carried_after me.1 a))
+    → (w : View) × (a : Act Unit) × Valid st.homes me.1 a × Kept q (stepped st word n id me.1 w a) × Peeked takes s began me n (w, carried_after me.1 a)
+peeks_at q st id word n me began s true stays steps = steps refl
+peeks_at q st id word n me began s false stays steps = (me.0, keeps, tt, stays, refl)
 
-pub peeked_none : (s : Seat) (began : Bool) (me after : Me Unit View) (n : ℕ) → n ≡ 0 → Peeked s began me n after → Moved s began me n after
-peeked_none s began me after zero e p = p
-peeked_none s began me after (suc n) e p = absurd (omega arith)
+pub by_peek : (agrees : Agrees) (q : Origin) (slots id : ℕ) (me : Me Unit View) (began : Bool) (s : Seat) (word : ℕ) (takes : ℕ → Bool) → Ready me began s → me.0.origin ≡ q → is_idle s.work ≡ false → Aims q s word (change_of (access_of s))
+    → ((n : ℕ) → takes n ≡ true → changed (change_of (access_of s)) n ≡ n) → Allows (Kept q) slots id me word (λ n. n) (λ n after. Peeked (takes n) s began me n after)
+by_peek agrees q slots id me began s word takes r from busy aims leaves st kept count at small =
+    let n = slice_index st.words word in
+    let same : stepped st word n id me.1 me.0 keeps ≡ st = λ k. record { words = set-get_or st.words word 0 k; homes = st.homes; views = set_again st.views id me.0 at k } in
+    peeks_at q st id word n me began s (takes n) (subst (Kept q) (sym same) kept)
+    (λ e. subst (λ m. (w : View) × (a : Act Unit) × Valid st.homes me.1 a × Kept q (stepped st word m id me.1 w a) × Moved s began me n (w, carried_after me.1 a)) (leaves n e)
+    (by_aim agrees q slots id me began s word (change_of (access_of s)) r from busy aims st kept count at small))
 
-pub peeked_some : (s : Seat) (began : Bool) (me after : Me Unit View) (n : ℕ) → n ≢ 0 → Peeked s began me n after → after ≡ me
-peeked_some s began me after zero ne p = absurd (ne refl)
-peeked_some s began me after (suc n) ne p = p
+pub peeked_step : (takes : Bool) (s : Seat) (began : Bool) (me after : Me Unit View) (n : ℕ) → takes ≡ true → Peeked takes s began me n after → Moved s began me n after
+peeked_step takes s began me after n e p = subst (λ b. Peeked b s began me n after) e p
+
+pub peeked_none : (takes : Bool) (s : Seat) (began : Bool) (me after : Me Unit View) (n : ℕ) → takes ≡ false → Peeked takes s began me n after → after ≡ me
+peeked_none takes s began me after n e p = subst (λ b. Peeked b s began me n after) e p
+
+-- an exchange for 0 leaves 0, and nothing else
+pub clear_leaves : (s : Seat) (n : ℕ) → change_of (access_of s) ≡ change.Swap 0 → (n ≡ 0 → leaves s n ≡ true) × (n ≢ 0 → leaves s n ≡ false)
+clear_leaves s n e =
+    let is : leaves s n ≡ (0 == n) = ap (λ c. changed c n == n) e in
+    ((λ z. is ∙ (grind (arith, nat_tests))), (λ ne. is ∙ (grind (arith, nat_tests))))
 
 -- ---- the seat behind it
 

@@ -1,5 +1,5 @@
 -- A task that runs on while its seat lies as it was.
-use Rattle.std.specs.Prelude.{◌≡◌, ℕ, zero, suc, ◌≤◌, List, Bool, true, false, Option, None, Some}
+use Rattle.std.specs.Prelude.{◌≡◌, ◌==◌, ℕ, ◌≤◌, List, Bool, true, false, Option, None, Some}
 use Rattle.atomic_table.specs.Seated.{TableId}
 use Rattle.atomic_table.specs.Table.{Me}
 use Rattle.kc_machine_steps.specs.declared.line.Line.{Line}
@@ -17,9 +17,11 @@ use Rattle.kc_machine_commits.specs.declared.commit.OwnStep.TheVariants as own
 use Rattle.kc_machine_commits.specs.declared.commit.Stage.{Stage}
 use Rattle.kc_machine_commits.specs.declared.commit.Stage.TheVariants.{Scan, Take, Own}
 use Rattle.kc_machine_ranges.specs.Bits.{ValuesFit}
+use Rattle.kc_model.specs.declared.word.Word.{Word}
+use Rattle.kc_model.specs.declared.word.Word.TheVariants.{Plain, Ref}
 use Rattle.kc_machine_steps.specs.Lines.{one_more}
 use Rattle.kc_table_layout.specs.Cells.{CellFits, base_of, bits, cell_of, place, size_of}
-use Rattle.kc_table_layout.specs.Changes.{change_of}
+use Rattle.kc_table_layout.specs.Changes.{change_of, changed}
 use Rattle.kc_table_layout.specs.declared.change.Change.{Change}
 use Rattle.kc_table_moves.specs.Origins.{Origin}
 use Rattle.kc_table_moves.specs.Rule.{Moved, Ready}
@@ -85,10 +87,18 @@ pub record Went (start : SeatView) (r : Run) (token : TableId) (later : Me Unit 
   pub found : bits world (cell_of (access_of s)) ≡ n
   pub on : On start r token later false (answer_of s (found_at world (access_of s)))
 
--- a load by a seat that stands as s and exchanges its word for 0: where it finds 0 it is that step, and else it is none
-abbrev pub Peeked : Seat → Bool → Me Unit View → ℕ → Me Unit View → Type 0
-Peeked s began me zero after = Moved s began me 0 after
-Peeked s began me (suc n) after = after ≡ me
+-- whether the next step of s leaves this number as it stands
+abbrev pub leaves : Seat → ℕ → Bool
+leaves s n = changed (change_of (access_of s)) n == n
+
+-- a load by a seat that stands as s, of a word on which its next step is: that step, or none
+abbrev pub Peeked : Bool → Seat → Bool → Me Unit View → ℕ → Me Unit View → Type 0
+Peeked true s began me n after = Moved s began me n after
+Peeked false s began me n after = after ≡ me
+
+abbrev pub is_plain : Word → Bool
+is_plain (Plain v x) = true
+is_plain (Ref g d k) = false
 
 -- what the seat makes of n, wherever it finds it
 abbrev pub Makes : Seat → ℕ → Seat → Type 0

@@ -1,10 +1,12 @@
 //! Atomic steps of a seat that is not written: each is the machine's next one of the seat at a point.
 
-ghost use Rattle.std.specs.Prelude.{◌≡◌, false};
-ghost use Rattle.kc_machine.specs.Seats.{is_idle};
+ghost use Rattle.std.specs.Prelude.{◌≡◌, ℕ, false, true};
+ghost use Rattle.kc_model.specs.Word.{IsPackable, packed, unpacked};
+ghost use Rattle.kc_machine.specs.Seats.{access_of, is_idle};
+ghost use Rattle.kc_table_layout.specs.Changes.{change_of, changed};
 ghost use Rattle.kc_table_layout.specs.declared.change.Change.TheVariants as change;
 ghost use Rattle.kc_table_moves.specs.Rule.{Moved, Ready};
-ghost use Rattle.kc_table_moves.specs.Straight.{Aims, Here, On, Peeked, Went, found_of, point_of, seat_in, stage_of};
+ghost use Rattle.kc_table_moves.specs.Straight.{Aims, Here, On, Peeked, Went, found_of, is_plain, point_of, seat_in, stage_of};
 
 use crate::rule::{Moves, Now};
 use crate::touch::{Token, Words};
@@ -13,6 +15,7 @@ use atomic_table::Play;
 use kc_machine::{OwnStep, Point, Seat, Stage};
 use kc_machine_steps::{Line, PassStep};
 use kc_machine_words::{Handle, Mode, Phase};
+use kc_model::Word;
 use kc_table_layout::touches_agree;
 use std::marker::{Brand, PhantomData};
 
@@ -184,26 +187,66 @@ pub fn swaps<C: Chain>(run: &Run, token: &mut Token, at: Point, word: usize, new
     swap_at::<Brand>(run, token, at, word, new)
 }
 
-// A load that is the seat's exchange for 0 where it finds 0, and no step where it doesn't.
-struct Peeks<B: Now>(PhantomData<B>);
+/// The seat whose step a load may be, whether it has begun a task since its last step, and at which numbers the load is
+/// that step.
+pub trait Asks {
+    ghost use Rattle.std.specs.Prelude.{Bool, ℕ};
+    ghost use Rattle.kc_machine.specs.declared.seat.Seat.{Seat};
 
-impl<B: Now> Play<(), View> for Peeks<B> {
+    ghost now: { Seat };
+
+    ghost began: { Bool };
+
+    ghost takes: { ℕ → Bool };
+}
+
+impl Asks for Brand {
+    ghost use Rattle.std.specs.Prelude.{false};
+    ghost use Rattle.kc_machine.specs.Seats.{fresh};
+
+    ghost now = { fresh 0 0 0 };
+
+    ghost began = { false };
+
+    ghost takes = { λ n. false };
+}
+
+// A load that is the seat's step, or none.
+struct Peeks<B: Asks>(PhantomData<B>);
+
+impl<B: Asks> Play<(), View> for Peeks<B> {
     ghost use Rattle.kc_table_moves.specs.Straight.{Peeked};
 
-    ghost then = { λ step me found after. Peeked B.now B.began me found after };
+    ghost then = { λ step me found after. Peeked (B.takes found) B.now B.began me found after };
+}
+
+/// A load by the seat that B names. It is the seat's step where it finds a number that B takes, which the step leaves as it
+/// stands, and else it is none.
+#[inline(always)]
+pub fn peek<B: Asks>(words: &Words, token: &mut Token, base: usize, word: usize) -> u64
+    requires here { Here words.now.key words.now.table_id base token.old.table_id token.old.me }
+    requires seat { (is_idle B.now.work ≡ false) × Ready token.old.me B.began B.now }
+    requires aim { Aims words.now.key B.now word (change_of (access_of B.now)) }
+    requires stays { (n : ℕ) → B.takes n ≡ true → changed (change_of (access_of B.now)) n ≡ n }
+    ensures table { token.new.table_id ≡ token.old.table_id }
+    ensures peeked { Peeked (B.takes result) B.now B.began token.old.me result token.new.me }
+{
+    touches_agree();
+    let _base = base;
+    words.load::<Peeks<B>>(token, word)
 }
 
 // Only the proof reads the point.
 #[inline(always)]
-fn peek_at<B: Now>(run: &Run, token: &mut Token, _at: Point, word: usize) -> u64
+fn peek_at<B: Asks>(run: &Run, token: &mut Token, _at: Point, word: usize) -> u64
     requires here { Here run.now.words.now.key run.now.words.now.table_id run.now.base token.old.table_id token.old.me }
     requires seat { (is_idle B.now.work ≡ false) × Ready token.old.me B.began B.now }
-    requires aim { Aims run.now.words.now.key B.now word (change.Swap 0) }
+    requires aim { Aims run.now.words.now.key B.now word (change_of (access_of B.now)) }
+    requires stays { (n : ℕ) → B.takes n ≡ true → changed (change_of (access_of B.now)) n ≡ n }
     ensures table { token.new.table_id ≡ token.old.table_id }
-    ensures peeked { Peeked B.now B.began token.old.me result token.new.me }
+    ensures peeked { Peeked (B.takes result) B.now B.began token.old.me result token.new.me }
 {
-    touches_agree();
-    run.words.load::<Peeks<B>>(token, word)
+    peek::<B>(run.words, token, run.base, word)
 }
 
 // The seat at a point exchanges what stands there for 0. Where 0 stands already, a load is that exchange, and locks nothing.
@@ -218,6 +261,16 @@ pub fn clears<C: Chain>(run: &Run, token: &mut Token, at: Point, word: usize) ->
         return number;
     }
     swaps::<C>(run, token, at, word, 0)
+}
+
+// A load at a point that is no step.
+#[inline(always)]
+fn glances<C: Chain>(run: &Run, token: &mut Token, at: Point, word: usize) -> u64
+    requires on { On C.start run.now token.old.table_id token.old.me false (seat_in run.now at) }
+    requires aim { Aims run.now.words.now.key (seat_in run.now at) word (change_of (access_of (seat_in run.now at))) }
+    ensures { On C.start run.now token.new.table_id token.new.me false (seat_in run.now at) }
+{
+    peek_at::<Brand>(run, token, at, word)
 }
 
 // Only the proof reads the point.
@@ -256,6 +309,57 @@ pub fn exchanges<C: Chain>(
     ensures { Went C.start run.now token.new.table_id token.new.me (seat_in run.now at) result }
 {
     exchange_at::<Brand>(run, token, at, word, old, new)
+}
+
+/// Loads of a word at which a reference stands, before a seat meets it. A commit that is not interrupted takes its reference
+/// back within some 100 ns, which is less than so many loads take, and less than to help it does.
+pub const MOST_LOADS: u32 = 200;
+
+/// Whether these bits are of a plain word of a location.
+#[inline(always)]
+pub fn is_plain(number: u64) -> bool
+    ensures value { result ≡ is_plain (unpacked number) }
+    ensures back { (w : Word) → IsPackable w → packed w ≡ number → result ≡ is_plain w }
+{
+    match Word::unpack(number) {
+        Word::Plain { .. } => true,
+        Word::Ref { .. } => false,
+    }
+}
+
+// Loads until no reference stands there, or so many times. None of them is a step.
+#[cold]
+#[inline(never)]
+fn wait<C: Chain>(run: &Run, token: &mut Token, at: Point, word: usize)
+    requires on { On C.start run.now token.old.table_id token.old.me false (seat_in run.now at) }
+    requires aim { Aims run.now.words.now.key (seat_in run.now at) word (change_of (access_of (seat_in run.now at))) }
+    ensures { On C.start run.now token.new.table_id token.new.me false (seat_in run.now at) }
+{
+    for _ in 0..MOST_LOADS {
+        if is_plain(glances::<C>(run, token, at, word)) {
+            return;
+        }
+    }
+}
+
+// The seat at a point makes an exchange where `old` stands, once no reference stands there, or after a wait for it.
+#[inline(always)]
+pub fn exchanges_late<C: Chain>(
+    run: &Run,
+    token: &mut Token,
+    at: Point,
+    word: usize,
+    old: u64,
+    new: u64,
+) -> u64
+    requires on { On C.start run.now token.old.table_id token.old.me false (seat_in run.now at) }
+    requires aim { Aims run.now.words.now.key (seat_in run.now at) word (change.CompareExchange old new) }
+    ensures { Went C.start run.now token.new.table_id token.new.me (seat_in run.now at) result }
+{
+    if !is_plain(glances::<C>(run, token, at, word)) {
+        wait::<C>(run, token, at, word);
+    }
+    exchanges::<C>(run, token, at, word, old, new)
 }
 
 // Only the proof reads the point.

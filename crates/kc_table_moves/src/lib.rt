@@ -8,7 +8,7 @@ mod straight;
 mod touch;
 mod view;
 
-pub use atoms::{Chain, Held, Run, Stop, StopAt, load};
+pub use atoms::{Asks, Chain, Held, MOST_LOADS, Run, Stop, StopAt, is_plain, load, peek};
 pub use rule::{Deals, Empty, Gathers, Hears, Merges, Moves, Notes, Now, Rule, Shows};
 pub use straight::{Ended, Woken, run_commit};
 pub use touch::{Token, Words, touch_seat};

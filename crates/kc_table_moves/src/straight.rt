@@ -13,7 +13,9 @@ ghost use Rattle.kc_machine_commits.specs.Commits.{after_own_pass, fill_next, in
 ghost use Rattle.kc_machine.specs.Points.{first_point, seat_told};
 ghost use Rattle.kc_table_moves.specs.Straight.{On, Stopped, at_own, at_take, seat_in};
 
-use crate::atoms::{Chain, Held, Run, Stop, StopAt, clears, exchanges, loads, subtracts, swaps};
+use crate::atoms::{
+    Chain, Held, Run, Stop, StopAt, clears, exchanges, exchanges_late, loads, subtracts, swaps,
+};
 use crate::touch::Token;
 use kc_machine::{OwnStep, Point, Stage};
 use kc_machine_steps::{Line, PassStep, first_of, one_more, second_of};
@@ -278,7 +280,7 @@ fn install<C: Chain>(
     }
     .pack();
     let at = point_at(made, held, OwnStep::Pass(PassStep::Install { line: index }));
-    let number = exchanges::<C>(run, token, at, location_at(line.seen.loc), old, new);
+    let number = exchanges_late::<C>(run, token, at, location_at(line.seen.loc), old, new);
     if number != old {
         return Some(stop_at(StopAt::Install, made, held, index, number));
     }

@@ -18,7 +18,7 @@ pub returns-clause-none : goal.returns-clause-none
 returns-clause-none g c =
     let r = c.args.run.now in
     let small = (install_fits c.args.token.now.me c.args.run.now.seat.now c.args.run.now.mode c.args.run.now.lines.now c.args.made c.args.held c.args.index c.args.line c.requires.line c.ranged_line.ensures.before c.ranged_line.ensures.after c.requires.on.ready).0 in
-    went_on g.C.Chain.start r c.exchanges-number.new.token.table_id c.exchanges-number.new.token.me (seat_in r (at_own c.args.made c.args.held (step.Pass (Install c.args.index))))
-    (seat_in r (at_own (one_more c.args.made) c.args.held (step.Pass (from_install r.mode r.lines.now (after_line c.args.index))))) c.exchanges-number.result
-    (subst (λ p. Went g.C.Chain.start r c.exchanges-number.new.token.table_id c.exchanges-number.new.token.me (seat_in r p) c.exchanges-number.result) c.point_at-at.ensures c.exchanges-number.ensures)
-    (install_makes r.seat.now r.mode r.lines.now c.args.made c.args.index c.exchanges-number.result c.args.held c.args.line c.bits_tell_words_apart.ensures.word c.requires.line small (c.if-number-old.false ∙ c.pack-old.ensures))
+    went_on g.C.Chain.start r c.exchanges_late-number.new.token.table_id c.exchanges_late-number.new.token.me (seat_in r (at_own c.args.made c.args.held (step.Pass (Install c.args.index))))
+    (seat_in r (at_own (one_more c.args.made) c.args.held (step.Pass (from_install r.mode r.lines.now (after_line c.args.index))))) c.exchanges_late-number.result
+    (subst (λ p. Went g.C.Chain.start r c.exchanges_late-number.new.token.table_id c.exchanges_late-number.new.token.me (seat_in r p) c.exchanges_late-number.result) c.point_at-at.ensures c.exchanges_late-number.ensures)
+    (install_makes r.seat.now r.mode r.lines.now c.args.made c.args.index c.exchanges_late-number.result c.args.held c.args.line c.bits_tell_words_apart.ensures.word c.requires.line small (c.if-number-old.false ∙ c.pack-old.ensures))

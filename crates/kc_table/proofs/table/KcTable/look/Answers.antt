@@ -1,4 +1,4 @@
-use Rattle.std.proofs.Common.{◌≡◌, ◌∙◌, ap, sym, true}
+use Rattle.std.proofs.Common.{◌≡◌, ◌∙◌, ap, refl, sym, true}
 use Rattle.kc_machine.specs.Seats.{is_idle}
 use Rattle.kc_machine_steps.specs.declared.task.Task.TheVariants.{Look}
 use Rattle.kc_model.specs.declared.word.Word.TheVariants.{Plain}
@@ -20,6 +20,9 @@ load_look-number-requires-clause-seat c =
     let idle = ap (λ (v : SeatView). is_idle v.seat.work) c.seat.view_is ∙ c.requires.idle in
     let starts : Starts c.args.seat.now (Look c.args.loc) = (c.requires.idle, look_busy c.args.seat.now.seat c.args.loc c.requires.idle) in
     (look_busy s c.args.loc idle, ready_begun c.seat.inside.token.me c.seat.inside.began s c.seat.inside.token.table_id c.args.seat.now (Look c.args.loc) c.seat.invariant c.seat.view_is starts c.requires.made tt)
+
+pub load_look-number-requires-clause-plain : goal.load_look-number-requires-clause-plain
+load_look-number-requires-clause-plain c = λ n. refl
 
 pub returns-in-Plain-clause-ran : goal.returns-in-Plain-clause-ran
 returns-in-Plain-clause-ran c =

@@ -1,0 +1,12 @@
+use Rattle.std.proofs.Common.{◌≡◌}
+use Rattle.kc_table.proofs.calls.load_late.Given as goal
+
+abbrev pub ghosts-load : goal.ghosts-load
+ghosts-load g a = record { now = g.B.Asks.now; began = g.B.Asks.began }
+
+-- no load so far was a step
+abbrev pub invariant-loop : goal.invariant-loop
+invariant-loop g l = record {
+  table : l.token.table_id ≡ l.fn.token.table_id;
+  me : l.token.me ≡ l.fn.token.me;
+}
