@@ -36,10 +36,10 @@ pub(crate) fn deal_seats(
     for number in 0..callers {
         let token = table.table.shared.split_seat::<Deals>(&mut first);
         seats.push(KcSeat {
-            apart: CachePadded::new(()),
             machine: Seat::new(number, 3 * callers + 1, 3 * number),
             token,
             began: false,
+            apart: CachePadded::new(()),
         })?;
     }
     Ok(seats)
