@@ -1,19 +1,19 @@
 //! A whole task in one call, by the same steps: the seat is written once.
 
-ghost use Rattle.std.specs.Prelude.{◌≡◌, ◌≤◌, ◌<◌, ℕ, true, false, length, IfOk, IfErr, IfSome, IfNone, Some};
+ghost use Rattle.std.specs.Prelude.{◌≡◌, ◌⊎◌, ◌≤◌, ◌<◌, ℕ, true, false, length, IfOk, IfErr, IfSome, IfNone, Some};
 ghost use Rattle.kc_model.specs.Word.{unpacked};
 ghost use Rattle.kc_model.specs.declared.word.Word.TheVariants.{Plain};
 ghost use Rattle.kc_machine_words.specs.declared.access.Found.TheVariants as found;
 ghost use Rattle.kc_machine_steps.specs.declared.task.Task.TheVariants.{Commit, Look};
 ghost use Rattle.kc_machine_steps.specs.Lines.{lines_of};
 ghost use Rattle.kc_machine_steps.specs.declared.task.Told.TheVariants as told;
-ghost use Rattle.kc_machine.specs.Points.{first_point, seat_told};
+ghost use Rattle.kc_machine.specs.Points.{first_point};
 ghost use Rattle.kc_machine.specs.Schedules.{IsWellMadeTask};
 ghost use Rattle.kc_machine.specs.Seats.{answer_of, begun, is_idle};
 ghost use Rattle.kc_table_layout.specs.declared.change.Change.TheVariants as change;
 ghost use Rattle.kc_table_moves.specs.Rule.{Moved, Ready};
 ghost use Rattle.kc_table_moves.specs.Views.{KnowsReads};
-ghost use Rattle.kc_table_moves.specs.Straight.{Aims, Here, On, Ran, StandsAt, Stopped, found_of, is_plain, point_of, seat_in};
+ghost use Rattle.kc_table_moves.specs.Straight.{Aims, Here, IsAside, On, Ran, StandsAt, Stopped, found_of, is_plain, point_of, seat_ended, seat_in};
 
 use crate::seat::KcSeat;
 use crate::table::KcTable;
@@ -70,15 +70,17 @@ impl KcTable {
         }
     }
 
-    /// Begins a commit of these lines and runs it straight on: to its end, or to the first word that is not as it expects,
-    /// from where it goes on by `step` until the seat is told. The lines are those of the footprint, which is not read.
+    /// Begins a commit of these lines and runs it straight on, to its success or failure. It stops short only where it has to
+    /// scan for another descriptor, to aid another's commit or to signal somebody; from there it goes on by `step` until the
+    /// seat is told. The lines are those of the footprint, which is not read.
     pub fn commit(&self, seat: &mut KcSeat, footprint: &Footprint, mode: Mode, lines: &[Line])
         requires table { seat.old.of ≡ self.now }
         requires idle { is_idle seat.old.seat.work ≡ true }
         requires lines { lines_of footprint.now ≡ lines.now }
         requires made { IsWellMadeTask seat.old.of.origin.locations (Commit footprint.now mode) }
         requires known { KnowsReads seat.old (Commit footprint.now mode) }
-        ensures { Ran seat.old (Commit footprint.now mode) seat.new }
+        ensures ran { Ran seat.old (Commit footprint.now mode) seat.new }
+        ensures onward { (is_idle seat.new.seat.work ≡ true) ⊎ IsAside seat.new.seat }
     {
         let run = Run {
             words: &self.table.shared,
@@ -168,7 +170,7 @@ fn run_lines<C: Chain>(run: &Run, token: &mut Token, _footprint: &Footprint) -> 
     requires base { run.now.base ≤ 1048576 }
     requires few { length run.now.lines.now ≤ 64 }
     requires on { On C.start run.now token.old.table_id token.old.me true (seat_in run.now (first_point run.now.seat.now)) }
-    ensures ok { IfOk result (λ e. On C.start run.now token.new.table_id token.new.me false (seat_told run.now.seat.now e.made e.calls (told.Succeeded e.calls))) }
+    ensures ok { IfOk result (λ e. On C.start run.now token.new.table_id token.new.me false (seat_ended run.now.seat.now e)) }
     ensures err { IfErr result (λ e. Stopped C.start run.now token.new.table_id token.new.me e) }
 {
     run_commit::<C>(run, token)
@@ -176,10 +178,9 @@ fn run_lines<C: Chain>(run: &Run, token: &mut Token, _footprint: &Footprint) -> 
 
 #[inline(always)]
 fn end_commit(seat: &mut Seat, ended: Ended)
-    ensures { seat.new ≡ seat_told seat.old ended.made ended.calls (told.Succeeded ended.calls) }
+    ensures { seat.new ≡ seat_ended seat.old ended }
 {
-    let Ended { made, calls } = ended;
-    seat.end_with(made, calls, Told::Succeeded { number: calls });
+    seat.end_with(ended.made, ended.calls, ended.told());
 }
 
 // Writes the seat where its commit has come to.

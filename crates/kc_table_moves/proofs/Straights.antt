@@ -1,5 +1,5 @@
 -- A step of a seat that is not written.
-use Rattle.std.proofs.Common.{◌≡◌, ◌≢◌, ◌==◌, ℕ, ◌<◌, ◌++◌, Bool, true, false, refl, sym, ap, ◌∙◌, arith, subst}
+use Rattle.std.proofs.Common.{◌≡◌, ◌≢◌, ◌==◌, if◌then◌else◌, ℕ, ◌<◌, ◌++◌, Bool, true, false, refl, sym, ap, ◌∙◌, arith, subst}
 use Rattle.std.proofs.lemmas.Bool.Decides.{nat_tests}
 use Rattle.std.proofs.lemmas.List.{set-get_or}
 use Rattle.std.specs.Prelude.{slice_index}
@@ -66,6 +66,14 @@ pub clear_leaves : (s : Seat) (n : ℕ) → change_of (access_of s) ≡ change.S
 clear_leaves s n e =
     let is : leaves s n ≡ (0 == n) = ap (λ c. changed c n == n) e in
     ((λ z. is ∙ (grind (arith, nat_tests))), (λ ne. is ∙ (grind (arith, nat_tests))))
+
+-- an exchange leaves what it doesn't replace
+pub exchange_leaves : (s : Seat) (n old new : ℕ) → change_of (access_of s) ≡ change.CompareExchange old new → (n ≢ old → leaves s n ≡ true) × (new ≢ old → n ≡ old → leaves s n ≡ false)
+exchange_leaves s n old new e =
+    let is : leaves s n ≡ ((if n == old then new else n) == n) = ap (λ c. changed c n == n) e in (
+      (λ ne. let t : (n == old) ≡ false = grind (arith, nat_tests) in let u : (n == n) ≡ true = grind (arith, nat_tests) in is ∙ ap (λ b. (if b then new else n) == n) t ∙ u),
+      (λ ne z. let t : (n == old) ≡ true = grind (arith, nat_tests) in let u : (new == n) ≡ false = grind (arith, nat_tests) in is ∙ ap (λ b. (if b then new else n) == n) t ∙ u),
+    )
 
 -- ---- the seat behind it
 

@@ -1,15 +1,22 @@
 -- A task that runs on while its seat lies as it was.
-use Rattle.std.specs.Prelude.{◌≡◌, ◌==◌, ℕ, ◌≤◌, List, Bool, true, false, Option, None, Some}
+use Rattle.std.specs.Prelude.{◌≡◌, ◌==◌, ◌&&◌, ◌⊎◌, nat_lt, ℕ, ◌≤◌, List, Bool, true, false, Option, None, Some, slice_get}
 use Rattle.atomic_table.specs.Seated.{TableId}
 use Rattle.atomic_table.specs.Table.{Me}
 use Rattle.kc_machine_steps.specs.declared.line.Line.{Line}
 use Rattle.kc_machine_steps.specs.declared.task.Task.{Task}
+use Rattle.kc_machine_steps.specs.declared.pass.PassStep.{PassStep}
 use Rattle.kc_machine_steps.specs.declared.pass.PassStep.TheVariants as pass
+use Rattle.kc_machine_steps.specs.Looks.{reference_of}
+use Rattle.kc_machine_steps.specs.Passes.{fits, refers_to}
+use Rattle.kc_machine_words.specs.declared.words.Control.{Control}
+use Rattle.kc_machine_words.specs.declared.words.TheConstants.{LAST_GENERATION}
 use Rattle.kc_machine_words.specs.declared.words.Mode.{Mode}
-use Rattle.kc_machine_words.specs.declared.words.Phase.TheVariants.{Succeeded}
 use Rattle.kc_machine.specs.Machine.{World, found_at, pool_size}
-use Rattle.kc_machine.specs.Points.{point, seat_at}
+use Rattle.kc_machine.specs.Points.{point, seat_at, seat_told}
+use Rattle.kc_machine_commits.specs.Commits.{told_of}
 use Rattle.kc_machine.specs.Seats.{access_of, answer_of, begun, is_idle}
+use Rattle.kc_machine.specs.Works.{Work}
+use Rattle.kc_machine.specs.Works as work
 use Rattle.kc_machine.specs.declared.point.Point.{Point}
 use Rattle.kc_machine.specs.declared.seat.Seat.{Seat}
 use Rattle.kc_machine_commits.specs.declared.commit.OwnStep.{OwnStep}
@@ -17,6 +24,7 @@ use Rattle.kc_machine_commits.specs.declared.commit.OwnStep.TheVariants as own
 use Rattle.kc_machine_commits.specs.declared.commit.Stage.{Stage}
 use Rattle.kc_machine_commits.specs.declared.commit.Stage.TheVariants.{Scan, Take, Own}
 use Rattle.kc_machine_ranges.specs.Bits.{ValuesFit}
+use Rattle.kc_model.specs.Word.{IsPackable, packed}
 use Rattle.kc_model.specs.declared.word.Word.{Word}
 use Rattle.kc_model.specs.declared.word.Word.TheVariants.{Plain, Ref}
 use Rattle.kc_machine_steps.specs.Lines.{one_more}
@@ -31,6 +39,8 @@ use Rattle.kc_table_moves.specs.declared.atoms.Run.{Run}
 use Rattle.kc_table_moves.specs.declared.atoms.Stop.{Stop}
 use Rattle.kc_table_moves.specs.declared.atoms.StopAt.{StopAt}
 use Rattle.kc_table_moves.specs.declared.atoms.StopAt.TheVariants as stop
+use Rattle.kc_table_moves.specs.declared.straight.Ended.{Ended}
+use Rattle.kc_table_moves.specs.declared.straight.Surprise.{Surprise}
 use Rattle.kc_table_moves.specs.declared.view.View.{View}
 
 -- ---- what clauses see
@@ -59,6 +69,14 @@ at_take s g = point (one_more s.made) s.calls (Take s.first g)
 
 abbrev pub at_own : ℕ → Held → OwnStep → Point
 at_own made h step = point made h.calls (Own h.own step)
+
+-- the seat s where its commit has ended so
+abbrev pub seat_ended : Seat → Ended → Seat
+seat_ended s e = seat_told s e.made e.calls (told_of e.phase e.calls)
+
+-- a descriptor that can be taken
+abbrev pub is_free : Control → Bool
+is_free c = (c.holds == 0) && nat_lt c.generation LAST_GENERATION
 
 -- the token is of the table, whose descriptors lie from `base` on
 pub record Here (q : Origin) (z : TableId) (base : ℕ) (token : TableId) (me : Me Unit View) : Type 0 where
@@ -114,7 +132,6 @@ stage_of stop.Scan h line n = Scan h.own.descriptor 0
 stage_of stop.Take h line n = Take h.own.descriptor h.own.generation
 stage_of stop.Install h line n = Own h.own (own.Pass (pass.Install line))
 stage_of stop.Check h line n = Own h.own (own.Pass (pass.Check line))
-stage_of stop.Decide h line n = Own h.own (own.Pass (pass.Decide Succeeded))
 stage_of stop.Signal h line n = Own h.own (own.Signal n)
 
 abbrev pub point_of : Stop → Point
@@ -125,13 +142,55 @@ found_of stop.Scan n = Some n
 found_of stop.Take n = Some n
 found_of stop.Install n = Some n
 found_of stop.Check n = Some n
-found_of stop.Decide n = Some n
 found_of stop.Signal n = None
-
-abbrev pub Stopped : SeatView → Run → TableId → Me Unit View → Stop → Type 0
-Stopped start r token me e = StoppedAt start r token me (point_of e) (found_of e.at e.number)
 
 -- the seat s is written at a point, or behind the step there, which found this number
 abbrev pub StandsAt : Seat → Mode → List Line → Point → Option ℕ → Seat → Type 0
 StandsAt s m xs p None t = t ≡ seat_at s m xs p
 StandsAt s m xs p (Some n) t = Makes (seat_at s m xs p) n t
+
+-- no stage from which a commit runs straight on: it scans on, aids another's commit, or signals
+abbrev pub is_aside_step : OwnStep → Bool
+is_aside_step (own.Aid k r a) = true
+is_aside_step (own.Pass (pass.CheckHold k r)) = true
+is_aside_step (own.Signal owed) = true
+is_aside_step _ = false
+
+abbrev pub is_aside : Stage → Bool
+is_aside (Scan d worn) = true
+is_aside (Take d g) = false
+is_aside (Own h step) = is_aside_step step
+
+abbrev pub work_aside : Work → Bool
+work_aside (work.Commit c) = is_aside c.stage
+work_aside _ = false
+
+abbrev pub IsAside : Seat → Type 0
+IsAside s = work_aside s.work ≡ true
+
+-- the commit has ended, or could not run straight on
+abbrev pub IsOnward : Seat → Type 0
+IsOnward s = (is_idle s.work ≡ true) ⊎ IsAside s
+
+-- the run has stopped there; wherever the seat is written so, it could not run straight on
+pub record Stopped (start : SeatView) (r : Run) (token : TableId) (me : Me Unit View) (e : Stop) : Type 0 where
+  pub at : StoppedAt start r token me (point_of e) (found_of e.at e.number)
+  pub onward : (t : Seat) → StandsAt r.seat.now r.mode r.lines.now (point_of e) (found_of e.at e.number) t → IsOnward t
+
+-- ---- a line's word that is not as expected
+
+-- a line has seen this word
+abbrev pub shows : Line → Word → Bool
+shows x (Plain v y) = fits v y x
+shows x (Ref g d k) = false
+
+-- this step of the pass, of a line, found another word than the line has seen
+pub record Surprised (start : SeatView) (r : Run) (token : TableId) (me : Me Unit View) (h : Held) (step : ℕ → PassStep) (e : Surprise) : Type 0 where
+  pub went : Went start r token me (seat_in r (at_own e.made h (own.Pass (step e.line)))) e.number
+  pub line : Line
+  pub there : slice_get r.lines.now e.line ≡ Some line
+  pub unlike : (w : Word) → IsPackable w → packed w ≡ e.number → shows line w ≡ false
+
+-- and not the own reference to the line
+abbrev pub IsForeign : Held → Surprise → Type 0
+IsForeign h e = (g d k : ℕ) → IsPackable (Ref g d k) → packed (Ref g d k) ≡ e.number → refers_to h.own e.line (reference_of g d k) ≡ false

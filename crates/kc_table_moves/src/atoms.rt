@@ -1,6 +1,6 @@
 //! Atomic steps of a seat that is not written: each is the machine's next one of the seat at a point.
 
-ghost use Rattle.std.specs.Prelude.{◌≡◌, ℕ, false, true};
+ghost use Rattle.std.specs.Prelude.{◌≡◌, ◌≢◌, ℕ, false, true};
 ghost use Rattle.kc_model.specs.Word.{IsPackable, packed, unpacked};
 ghost use Rattle.kc_machine.specs.Seats.{access_of, is_idle};
 ghost use Rattle.kc_table_layout.specs.Changes.{change_of, changed};
@@ -14,7 +14,7 @@ use crate::view::View;
 use atomic_table::Play;
 use kc_machine::{OwnStep, Point, Seat, Stage};
 use kc_machine_steps::{Line, PassStep};
-use kc_machine_words::{Handle, Mode, Phase};
+use kc_machine_words::{Handle, Mode};
 use kc_model::Word;
 use kc_table_layout::touches_agree;
 use std::marker::{Brand, PhantomData};
@@ -44,7 +44,6 @@ pub enum StopAt {
     Take,
     Install,
     Check,
-    Decide,
     Signal,
 }
 
@@ -94,9 +93,6 @@ impl Stop {
             }
             StopAt::Install => OwnStep::Pass(PassStep::Install { line }),
             StopAt::Check => OwnStep::Pass(PassStep::Check { line }),
-            StopAt::Decide => OwnStep::Pass(PassStep::Decide {
-                phase: Phase::Succeeded,
-            }),
             StopAt::Signal => OwnStep::Signal { owed: self.number },
         };
         Stage::Own { own, step }
@@ -309,6 +305,29 @@ pub fn exchanges<C: Chain>(
     ensures { Went C.start run.now token.new.table_id token.new.me (seat_in run.now at) result }
 {
     exchange_at::<Brand>(run, token, at, word, old, new)
+}
+
+// The seat at a point makes an exchange where `old` stands. Where another number stands, a load is that exchange, and takes
+// the word from nobody.
+#[inline(always)]
+pub fn replaces<C: Chain>(
+    run: &Run,
+    token: &mut Token,
+    at: Point,
+    word: usize,
+    old: u64,
+    new: u64,
+) -> u64
+    requires apart { new ≢ old }
+    requires on { On C.start run.now token.old.table_id token.old.me false (seat_in run.now at) }
+    requires aim { Aims run.now.words.now.key (seat_in run.now at) word (change.CompareExchange old new) }
+    ensures { Went C.start run.now token.new.table_id token.new.me (seat_in run.now at) result }
+{
+    let number = peek_at::<Brand>(run, token, at, word);
+    if number != old {
+        return number;
+    }
+    exchanges::<C>(run, token, at, word, old, new)
 }
 
 /// Loads of a word at which a reference stands, before a seat meets it. A commit that is not interrupted takes its reference

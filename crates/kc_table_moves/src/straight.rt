@@ -1,35 +1,59 @@
-//! A commit that runs on from its first scan to its drop by the numbers that its steps find. Its seat is written once,
-//! where it ends, or where a word is not as expected.
+//! A commit that runs on from its first scan to its drop by the numbers that its steps find, whether it succeeds or fails.
+//! Its seat is written once, where it ends, or where it would scan again, aid another's commit or signal.
 
 ghost use Rattle.std.specs.Prelude.{◌≡◌, ◌≤◌, ◌<◌, ◌+◌, false, true, length, IfOk, IfErr, IfSome, IfNone, Some, slice_get};
-ghost use Rattle.kc_machine_words.specs.declared.words.Phase.TheVariants.{Succeeded};
+ghost use Rattle.kc_model.specs.Word.{IsPackable, packed, unpacked};
+ghost use Rattle.kc_machine_words.specs.declared.words.Phase.TheVariants.{Failed, Succeeded};
 ghost use Rattle.kc_machine_steps.specs.declared.line.Pick.TheVariants.{Put};
 ghost use Rattle.kc_machine_steps.specs.declared.pass.PassStep.TheVariants as pass;
-ghost use Rattle.kc_machine_steps.specs.declared.task.Told.TheVariants as told;
-ghost use Rattle.kc_machine_steps.specs.Lines.{after_line, first_of, is_installed, next_line, one_more, resolved, second_of, value_after};
+ghost use Rattle.kc_machine_steps.specs.Lines.{after_line, first_of, is_installed, next_line, one_more, resolved, second_of, succeeds, value_after};
 ghost use Rattle.kc_machine_steps.specs.Passes.{from_check, from_install, from_release};
 ghost use Rattle.kc_machine_commits.specs.declared.commit.OwnStep.TheVariants as step;
-ghost use Rattle.kc_machine_commits.specs.Commits.{after_own_pass, fill_next, intent_of, owed_next, wake_or_signal};
-ghost use Rattle.kc_machine.specs.Points.{first_point, seat_told};
-ghost use Rattle.kc_table_moves.specs.Straight.{On, Stopped, at_own, at_take, seat_in};
+ghost use Rattle.kc_machine_commits.specs.Commits.{after_own_pass, fill_next, finished, intent_of, owed_next, told_of, wake_or_signal};
+ghost use Rattle.kc_machine.specs.Points.{first_point};
+ghost use Rattle.kc_table_moves.specs.Straight.{IsForeign, On, Stopped, Surprised, at_own, at_take, is_free, seat_ended, seat_in, shows};
 
 use crate::atoms::{
-    Chain, Held, Run, Stop, StopAt, clears, exchanges, exchanges_late, loads, subtracts, swaps,
+    Chain, Held, Run, Stop, StopAt, clears, exchanges, exchanges_late, is_plain, loads, replaces,
+    subtracts, swaps,
 };
 use crate::touch::Token;
 use kc_machine::{OwnStep, Point, Stage};
-use kc_machine_steps::{Line, PassStep, first_of, one_more, second_of};
+use kc_machine_steps::{Line, PassStep, Told, decided_as, first_of, one_more, second_of};
 use kc_machine_words::{Control, Handle, LAST_GENERATION, Mode, Owner, Phase, Status};
 use kc_model::{LAST_VERSION, Word};
 use kc_table_layout::{
     awaiters_at, control_at, first_at, location_at, owner_at, second_at, status_at,
 };
 
-/// Where a commit ended: the steps and the calls that its seat has made.
+/// Where a commit ended: the steps and the calls that its seat has made, and how its status was decided.
 #[derive(Clone, Copy)]
 pub struct Ended {
     pub made: u64,
     pub calls: u64,
+    pub phase: Phase,
+}
+
+impl Ended {
+    /// What its seat is told.
+    pub fn told(&self) -> Told
+        ensures { result ≡ told_of self.now.phase self.now.calls }
+    {
+        match self.phase {
+            Phase::Succeeded => Told::Succeeded { number: self.calls },
+            Phase::Failed { line } => Told::Failed { entry: line },
+            Phase::Crossed { line } => Told::Crossed { entry: line },
+            Phase::Halted | Phase::Active => Told::Halted,
+        }
+    }
+}
+
+/// A line's word that is not as a commit expects: its install or check was the step behind so many, and found this number.
+#[derive(Clone, Copy)]
+pub struct Surprise {
+    pub made: u64,
+    pub line: u32,
+    pub number: u64,
 }
 
 // Of a descriptor that is owned.
@@ -74,6 +98,14 @@ fn aimed_at(run: &Run, generation: u64) -> Held
     }
 }
 
+// Whether a descriptor can be taken that has this control.
+#[inline(always)]
+fn is_free(control: Control) -> bool
+    ensures { result ≡ is_free control }
+{
+    control.holds == 0 && control.generation < LAST_GENERATION
+}
+
 // The scan of the seat's first descriptor: its generation.
 #[inline(always)]
 fn scan<C: Chain>(run: &Run, token: &mut Token) -> Result<u64, Stop>
@@ -93,7 +125,7 @@ fn scan<C: Chain>(run: &Run, token: &mut Token) -> Result<u64, Stop>
     };
     let number = loads::<C>(run, token, true, at, control_at(run.base, first));
     let control = Control::unpack(number);
-    if control.holds != 0 || control.generation >= LAST_GENERATION {
+    if !is_free(control) {
         let held = aimed_at(run, 0);
         return Err(stop_at(StopAt::Scan, at.made, held, 0, number));
     }
@@ -251,7 +283,7 @@ fn is_installed(mode: Mode, line: &Line) -> bool
     }
 }
 
-// The exchange of a line's plain word for the reference to the line.
+// The exchange of a line's plain word for the reference to the line. A helper may have made it already.
 #[inline(always)]
 fn install<C: Chain>(
     run: &Run,
@@ -260,11 +292,12 @@ fn install<C: Chain>(
     held: Held,
     index: u32,
     line: Line,
-) -> Option<Stop>
+) -> Option<Surprise>
     requires line { slice_get run.now.lines.now index ≡ Some line }
     requires on { On C.start run.now token.old.table_id token.old.me false (seat_in run.now (at_own made held (step.Pass (pass.Install index)))) }
     ensures none { IfNone result (On C.start run.now token.new.table_id token.new.me false (seat_in run.now (at_own (one_more made) held (step.Pass (from_install run.now.mode run.now.lines.now (after_line index)))))) }
-    ensures some { IfSome result (λ e. Stopped C.start run.now token.new.table_id token.new.me e) }
+    ensures some { IfSome result (λ e. Surprised C.start run.now token.new.table_id token.new.me held pass.Install e) }
+    ensures foreign { IfSome result (λ e. IsForeign held e) }
 {
     ranged_line(line);
     kc_machine_words::bits_tell_words_apart();
@@ -281,10 +314,17 @@ fn install<C: Chain>(
     .pack();
     let at = point_at(made, held, OwnStep::Pass(PassStep::Install { line: index }));
     let number = exchanges_late::<C>(run, token, at, location_at(line.seen.loc), old, new);
-    if number != old {
-        return Some(stop_at(StopAt::Install, made, held, index, number));
+    if number == old {
+        return None;
     }
-    None
+    if number == new {
+        return None;
+    }
+    Some(Surprise {
+        made,
+        line: index,
+        number,
+    })
 }
 
 // The install of a line, where it is installed; how many steps were made then.
@@ -296,35 +336,51 @@ fn install_line<C: Chain>(
     held: Held,
     index: u32,
     line: Line,
-) -> Result<u64, Stop>
+) -> Result<u64, Surprise>
     requires few { length run.now.lines.now ≤ 64 }
     requires line { slice_get run.now.lines.now index ≡ Some line }
     requires on { On C.start run.now token.old.table_id token.old.me false (seat_in run.now (at_own made held (step.Pass (from_install run.now.mode run.now.lines.now index)))) }
     ensures ok { IfOk result (λ made. On C.start run.now token.new.table_id token.new.me false (seat_in run.now (at_own made held (step.Pass (from_install run.now.mode run.now.lines.now (index + 1)))))) }
-    ensures err { IfErr result (λ e. Stopped C.start run.now token.new.table_id token.new.me e) }
+    ensures err { IfErr result (λ e. Surprised C.start run.now token.new.table_id token.new.me held pass.Install e) }
+    ensures foreign { IfErr result (λ e. IsForeign held e) }
 {
     if !is_installed(run.mode, &line) {
         return Ok(made);
     }
     match install::<C>(run, token, made, held, index, line) {
         None => Ok(one_more(made)),
-        Some(stop) => Err(stop),
+        Some(surprise) => Err(surprise),
     }
 }
 
 // The installs of all lines that are installed; how many steps were made then.
 #[inline(always)]
-fn installs<C: Chain>(run: &Run, token: &mut Token, made: u64, held: Held) -> Result<u64, Stop>
+fn installs<C: Chain>(run: &Run, token: &mut Token, made: u64, held: Held) -> Result<u64, Surprise>
     requires few { length run.now.lines.now ≤ 64 }
     requires on { On C.start run.now token.old.table_id token.old.me false (seat_in run.now (at_own made held (step.Pass (from_install run.now.mode run.now.lines.now 0)))) }
     ensures ok { IfOk result (λ made. On C.start run.now token.new.table_id token.new.me false (seat_in run.now (at_own made held (step.Pass (from_check run.now.mode run.now.lines.now 0))))) }
-    ensures err { IfErr result (λ e. Stopped C.start run.now token.new.table_id token.new.me e) }
+    ensures err { IfErr result (λ e. Surprised C.start run.now token.new.table_id token.new.me held pass.Install e) }
+    ensures foreign { IfErr result (λ e. IsForeign held e) }
 {
     let mut made = made;
     for index in 0..run.lines.len() {
         made = install_line::<C>(run, token, made, held, index as u32, run.lines[index])?;
     }
     Ok(made)
+}
+
+// Whether these bits are what a line has seen.
+#[inline(always)]
+fn shows(line: &Line, number: u64) -> bool
+    ensures value { result ≡ shows line.now (unpacked number) }
+    ensures back { (w : Word) → IsPackable w → packed w ≡ number → result ≡ shows line.now w }
+{
+    match Word::unpack(number) {
+        Word::Plain { version, value } => {
+            version == line.seen.version && value == line.seen.value
+        }
+        Word::Ref { .. } => false,
+    }
 }
 
 // The load of a comparison's word.
@@ -336,20 +392,22 @@ fn check<C: Chain>(
     held: Held,
     index: u32,
     line: Line,
-) -> Option<Stop>
+) -> Option<Surprise>
     requires line { slice_get run.now.lines.now index ≡ Some line }
     requires on { On C.start run.now token.old.table_id token.old.me false (seat_in run.now (at_own made held (step.Pass (pass.Check index)))) }
     ensures none { IfNone result (On C.start run.now token.new.table_id token.new.me false (seat_in run.now (at_own (one_more made) held (step.Pass (from_check run.now.mode run.now.lines.now (after_line index)))))) }
-    ensures some { IfSome result (λ e. Stopped C.start run.now token.new.table_id token.new.me e) }
+    ensures some { IfSome result (λ e. Surprised C.start run.now token.new.table_id token.new.me held pass.Check e) }
 {
     let at = point_at(made, held, OwnStep::Pass(PassStep::Check { line: index }));
     let number = loads::<C>(run, token, false, at, location_at(line.seen.loc));
-    if let Word::Plain { version, value } = Word::unpack(number) {
-        if version == line.seen.version && value == line.seen.value {
-            return None;
-        }
+    if shows(&line, number) {
+        return None;
     }
-    Some(stop_at(StopAt::Check, made, held, index, number))
+    Some(Surprise {
+        made,
+        line: index,
+        number,
+    })
 }
 
 // The check of a line, where it is not installed; how many steps were made then.
@@ -361,29 +419,29 @@ fn check_line<C: Chain>(
     held: Held,
     index: u32,
     line: Line,
-) -> Result<u64, Stop>
+) -> Result<u64, Surprise>
     requires few { length run.now.lines.now ≤ 64 }
     requires line { slice_get run.now.lines.now index ≡ Some line }
     requires on { On C.start run.now token.old.table_id token.old.me false (seat_in run.now (at_own made held (step.Pass (from_check run.now.mode run.now.lines.now index)))) }
     ensures ok { IfOk result (λ made. On C.start run.now token.new.table_id token.new.me false (seat_in run.now (at_own made held (step.Pass (from_check run.now.mode run.now.lines.now (index + 1)))))) }
-    ensures err { IfErr result (λ e. Stopped C.start run.now token.new.table_id token.new.me e) }
+    ensures err { IfErr result (λ e. Surprised C.start run.now token.new.table_id token.new.me held pass.Check e) }
 {
     if is_installed(run.mode, &line) {
         return Ok(made);
     }
     match check::<C>(run, token, made, held, index, line) {
         None => Ok(one_more(made)),
-        Some(stop) => Err(stop),
+        Some(surprise) => Err(surprise),
     }
 }
 
 // The checks of all lines that are not installed; how many steps were made then.
 #[inline(always)]
-fn checks<C: Chain>(run: &Run, token: &mut Token, made: u64, held: Held) -> Result<u64, Stop>
+fn checks<C: Chain>(run: &Run, token: &mut Token, made: u64, held: Held) -> Result<u64, Surprise>
     requires few { length run.now.lines.now ≤ 64 }
     requires on { On C.start run.now token.old.table_id token.old.me false (seat_in run.now (at_own made held (step.Pass (from_check run.now.mode run.now.lines.now 0)))) }
     ensures ok { IfOk result (λ made. On C.start run.now token.new.table_id token.new.me false (seat_in run.now (at_own made held (step.Pass (pass.Decide Succeeded))))) }
-    ensures err { IfErr result (λ e. Stopped C.start run.now token.new.table_id token.new.me e) }
+    ensures err { IfErr result (λ e. Surprised C.start run.now token.new.table_id token.new.me held pass.Check e) }
 {
     let mut made = made;
     for index in 0..run.lines.len() {
@@ -392,13 +450,19 @@ fn checks<C: Chain>(run: &Run, token: &mut Token, made: u64, held: Held) -> Resu
     Ok(made)
 }
 
-// The decision.
+// The decision: None where the status was Active and is decided so, else how another had decided it.
 #[inline(always)]
-fn decide<C: Chain>(run: &Run, token: &mut Token, made: u64, held: Held) -> Option<Stop>
+fn decide<C: Chain>(
+    run: &Run,
+    token: &mut Token,
+    made: u64,
+    held: Held,
+    phase: Phase,
+) -> Option<Phase>
     requires base { run.now.base ≤ 1048576 }
-    requires on { On C.start run.now token.old.table_id token.old.me false (seat_in run.now (at_own made held (step.Pass (pass.Decide Succeeded)))) }
-    ensures none { IfNone result (On C.start run.now token.new.table_id token.new.me false (seat_in run.now (at_own (one_more made) held (after_own_pass (intent_of run.now.mode run.now.lines.now) (from_release run.now.mode run.now.lines.now 0 Succeeded))))) }
-    ensures some { IfSome result (λ e. Stopped C.start run.now token.new.table_id token.new.me e) }
+    requires on { On C.start run.now token.old.table_id token.old.me false (seat_in run.now (at_own made held (step.Pass (pass.Decide phase)))) }
+    ensures none { IfNone result (On C.start run.now token.new.table_id token.new.me false (seat_in run.now (at_own (one_more made) held (after_own_pass (intent_of run.now.mode run.now.lines.now) (from_release run.now.mode run.now.lines.now 0 phase))))) }
+    ensures some { IfSome result (λ p. On C.start run.now token.new.table_id token.new.me false (seat_in run.now (at_own (one_more made) held (after_own_pass (intent_of run.now.mode run.now.lines.now) (from_release run.now.mode run.now.lines.now 0 p))))) }
 {
     kc_machine_words::bits_tell_words_apart();
     let generation = held.own.generation;
@@ -407,31 +471,35 @@ fn decide<C: Chain>(run: &Run, token: &mut Token, made: u64, held: Held) -> Opti
         phase: Phase::Active,
     }
     .pack();
-    let new = Status {
-        generation,
-        phase: Phase::Succeeded,
-    }
-    .pack();
-    let at = point_at(
-        made,
-        held,
-        OwnStep::Pass(PassStep::Decide {
-            phase: Phase::Succeeded,
-        }),
-    );
+    let new = Status { generation, phase }.pack();
+    let at = point_at(made, held, OwnStep::Pass(PassStep::Decide { phase }));
     let word = status_at(run.base, held.own.descriptor);
     let number = exchanges::<C>(run, token, at, word, old, new);
-    if number != old {
-        return Some(stop_at(StopAt::Decide, made, held, 0, number));
+    if number == old {
+        return None;
     }
-    None
+    Some(decided_as(phase, Status::unpack(number).phase))
+}
+
+// Whether a commit that was decided so puts its values.
+#[inline(always)]
+fn succeeds(phase: Phase) -> bool
+    ensures { result ≡ succeeds phase }
+{
+    match phase {
+        Phase::Succeeded => true,
+        _ => false,
+    }
 }
 
 // What a line leaves at its location.
 #[inline(always)]
-fn left(line: &Line) -> (u32, u32)
-    ensures { result ≡ resolved (first_of line.now) (second_of line.now).after Succeeded }
+fn left(line: &Line, phase: Phase) -> (u32, u32)
+    ensures { result ≡ resolved (first_of line.now) (second_of line.now).after phase }
 {
+    if !succeeds(phase) {
+        return (line.seen.version, line.seen.value);
+    }
     match line.put {
         Some(after) => if line.seen.version < LAST_VERSION {
             (line.seen.version + 1, after)
@@ -442,34 +510,46 @@ fn left(line: &Line) -> (u32, u32)
     }
 }
 
-// The exchange of the reference to a line for what the line leaves.
+// The exchange of the reference to a line for what the line leaves. Where the commit puts nothing, lines behind the one that
+// failed it are not installed: there a load is the exchange that finds another word.
 #[inline(always)]
-fn release<C: Chain>(run: &Run, token: &mut Token, made: u64, held: Held, index: u32, line: Line)
+fn release<C: Chain>(
+    run: &Run,
+    token: &mut Token,
+    made: u64,
+    held: Held,
+    index: u32,
+    line: Line,
+    phase: Phase,
+)
     requires line { slice_get run.now.lines.now index ≡ Some line }
-    requires on { On C.start run.now token.old.table_id token.old.me false (seat_in run.now (at_own made held (step.Pass (pass.Release index Succeeded)))) }
-    ensures { On C.start run.now token.new.table_id token.new.me false (seat_in run.now (at_own (one_more made) held (after_own_pass (intent_of run.now.mode run.now.lines.now) (from_release run.now.mode run.now.lines.now (after_line index) Succeeded)))) }
+    requires on { On C.start run.now token.old.table_id token.old.me false (seat_in run.now (at_own made held (step.Pass (pass.Release index phase)))) }
+    ensures { On C.start run.now token.new.table_id token.new.me false (seat_in run.now (at_own (one_more made) held (after_own_pass (intent_of run.now.mode run.now.lines.now) (from_release run.now.mode run.now.lines.now (after_line index) phase)))) }
 {
     ranged_line(line);
+    kc_machine_words::bits_tell_words_apart();
     let old = Word::Ref {
         generation: held.own.generation,
         descriptor: held.own.descriptor,
         entry: index,
     }
     .pack();
-    let (version, value) = left(&line);
+    let (version, value) = left(&line, phase);
     let new = Word::Plain { version, value }.pack();
     let at = point_at(
         made,
         held,
-        OwnStep::Pass(PassStep::Release {
-            line: index,
-            phase: Phase::Succeeded,
-        }),
+        OwnStep::Pass(PassStep::Release { line: index, phase }),
     );
-    exchanges::<C>(run, token, at, location_at(line.seen.loc), old, new);
+    let word = location_at(line.seen.loc);
+    if succeeds(phase) {
+        exchanges::<C>(run, token, at, word, old, new);
+        return;
+    }
+    replaces::<C>(run, token, at, word, old, new);
 }
 
-// The release of a line, where it was installed; how many steps were made then.
+// The release of a line, where it is installed; how many steps were made then.
 #[inline(always)]
 fn release_line<C: Chain>(
     run: &Run,
@@ -478,29 +558,38 @@ fn release_line<C: Chain>(
     held: Held,
     index: u32,
     line: Line,
+    phase: Phase,
 ) -> u64
     requires few { length run.now.lines.now ≤ 64 }
     requires line { slice_get run.now.lines.now index ≡ Some line }
-    requires on { On C.start run.now token.old.table_id token.old.me false (seat_in run.now (at_own made held (after_own_pass (intent_of run.now.mode run.now.lines.now) (from_release run.now.mode run.now.lines.now index Succeeded)))) }
-    ensures { On C.start run.now token.new.table_id token.new.me false (seat_in run.now (at_own result held (after_own_pass (intent_of run.now.mode run.now.lines.now) (from_release run.now.mode run.now.lines.now (index + 1) Succeeded)))) }
+    requires on { On C.start run.now token.old.table_id token.old.me false (seat_in run.now (at_own made held (after_own_pass (intent_of run.now.mode run.now.lines.now) (from_release run.now.mode run.now.lines.now index phase)))) }
+    ensures { On C.start run.now token.new.table_id token.new.me false (seat_in run.now (at_own result held (after_own_pass (intent_of run.now.mode run.now.lines.now) (from_release run.now.mode run.now.lines.now (index + 1) phase)))) }
 {
     if !is_installed(run.mode, &line) {
         return made;
     }
-    release::<C>(run, token, made, held, index, line);
+    release::<C>(run, token, made, held, index, line, phase);
     one_more(made)
 }
 
-// The releases of all lines that were installed; how many steps were made then.
+// The releases of all lines that are installed; how many steps were made then.
 #[inline(always)]
-fn releases<C: Chain>(run: &Run, token: &mut Token, made: u64, held: Held) -> u64
+fn releases<C: Chain>(run: &Run, token: &mut Token, made: u64, held: Held, phase: Phase) -> u64
     requires few { length run.now.lines.now ≤ 64 }
-    requires on { On C.start run.now token.old.table_id token.old.me false (seat_in run.now (at_own made held (after_own_pass (intent_of run.now.mode run.now.lines.now) (from_release run.now.mode run.now.lines.now 0 Succeeded)))) }
-    ensures { On C.start run.now token.new.table_id token.new.me false (seat_in run.now (at_own result held (wake_or_signal 0 (next_line Put run.now.mode run.now.lines.now 0)))) }
+    requires on { On C.start run.now token.old.table_id token.old.me false (seat_in run.now (at_own made held (after_own_pass (intent_of run.now.mode run.now.lines.now) (from_release run.now.mode run.now.lines.now 0 phase)))) }
+    ensures { On C.start run.now token.new.table_id token.new.me false (seat_in run.now (at_own result held (finished (intent_of run.now.mode run.now.lines.now) phase))) }
 {
     let mut made = made;
     for index in 0..run.lines.len() {
-        made = release_line::<C>(run, token, made, held, index as u32, run.lines[index]);
+        made = release_line::<C>(
+            run,
+            token,
+            made,
+            held,
+            index as u32,
+            run.lines[index],
+            phase,
+        );
     }
     made
 }
@@ -574,75 +663,190 @@ fn wakes<C: Chain>(run: &Run, token: &mut Token, made: u64, held: Held) -> Woken
 
 // The drop of the descriptor, with which the commit ends.
 #[inline(always)]
-fn drop_own<C: Chain>(run: &Run, token: &mut Token, made: u64, held: Held)
+fn drop_own<C: Chain>(run: &Run, token: &mut Token, made: u64, held: Held, phase: Phase) -> Ended
     requires base { run.now.base ≤ 1048576 }
-    requires on { On C.start run.now token.old.table_id token.old.me false (seat_in run.now (at_own made held (step.Drop Succeeded))) }
-    ensures { On C.start run.now token.new.table_id token.new.me false (seat_told run.now.seat.now (one_more made) held.calls (told.Succeeded held.calls)) }
+    requires on { On C.start run.now token.old.table_id token.old.me false (seat_in run.now (at_own made held (step.Drop phase))) }
+    ensures { On C.start run.now token.new.table_id token.new.me false (seat_ended run.now.seat.now result) }
 {
-    let at = point_at(
-        made,
-        held,
-        OwnStep::Drop {
-            phase: Phase::Succeeded,
-        },
-    );
+    let at = point_at(made, held, OwnStep::Drop { phase });
     let word = control_at(run.base, held.own.descriptor);
     subtracts::<C>(run, token, at, word);
+    Ended {
+        made: one_more(made),
+        calls: held.calls,
+        phase,
+    }
 }
 
-// The drop, where nobody is owed a signal; how many steps were made then.
+// The drop, where nobody is owed a signal.
 #[inline(always)]
-fn end<C: Chain>(run: &Run, token: &mut Token, woken: Woken, held: Held) -> Result<u64, Stop>
+fn end<C: Chain>(run: &Run, token: &mut Token, woken: Woken, held: Held) -> Result<Ended, Stop>
     requires base { run.now.base ≤ 1048576 }
     requires on { On C.start run.now token.old.table_id token.old.me false (seat_in run.now (at_own woken.made held (owed_next woken.owed))) }
-    ensures ok { IfOk result (λ made. On C.start run.now token.new.table_id token.new.me false (seat_told run.now.seat.now made held.calls (told.Succeeded held.calls))) }
+    ensures ok { IfOk result (λ e. On C.start run.now token.new.table_id token.new.me false (seat_ended run.now.seat.now e)) }
     ensures err { IfErr result (λ e. Stopped C.start run.now token.new.table_id token.new.me e) }
 {
     let Woken { made, owed } = woken;
     if owed != 0 {
         return Err(stop_at(StopAt::Signal, made, held, 0, owed));
     }
-    drop_own::<C>(run, token, made, held);
-    Ok(one_more(made))
+    Ok(drop_own::<C>(run, token, made, held, Phase::Succeeded))
 }
 
-// From the take on: how many steps were made at the end.
+// From a decision for success on.
 #[inline(always)]
-fn own<C: Chain>(run: &Run, token: &mut Token, held: Held) -> Result<u64, Stop>
+fn succeed<C: Chain>(run: &Run, token: &mut Token, made: u64, held: Held) -> Result<Ended, Stop>
+    requires base { run.now.base ≤ 1048576 }
+    requires few { length run.now.lines.now ≤ 64 }
+    requires on { On C.start run.now token.old.table_id token.old.me false (seat_in run.now (at_own made held (after_own_pass (intent_of run.now.mode run.now.lines.now) (from_release run.now.mode run.now.lines.now 0 Succeeded)))) }
+    ensures ok { IfOk result (λ e. On C.start run.now token.new.table_id token.new.me false (seat_ended run.now.seat.now e)) }
+    ensures err { IfErr result (λ e. Stopped C.start run.now token.new.table_id token.new.me e) }
+{
+    let made = releases::<C>(run, token, made, held, Phase::Succeeded);
+    let woken = wakes::<C>(run, token, made, held);
+    end::<C>(run, token, woken, held)
+}
+
+// From any decision on. What puts nothing wakes nobody.
+#[cold]
+#[inline(never)]
+fn settle<C: Chain>(
+    run: &Run,
+    token: &mut Token,
+    made: u64,
+    held: Held,
+    phase: Phase,
+) -> Result<Ended, Stop>
+    requires base { run.now.base ≤ 1048576 }
+    requires few { length run.now.lines.now ≤ 64 }
+    requires on { On C.start run.now token.old.table_id token.old.me false (seat_in run.now (at_own made held (after_own_pass (intent_of run.now.mode run.now.lines.now) (from_release run.now.mode run.now.lines.now 0 phase)))) }
+    ensures ok { IfOk result (λ e. On C.start run.now token.new.table_id token.new.me false (seat_ended run.now.seat.now e)) }
+    ensures err { IfErr result (λ e. Stopped C.start run.now token.new.table_id token.new.me e) }
+{
+    if succeeds(phase) {
+        return succeed::<C>(run, token, made, held);
+    }
+    let made = releases::<C>(run, token, made, held, phase);
+    Ok(drop_own::<C>(run, token, made, held, phase))
+}
+
+// A commit that fails by a line. A helper may have decided it otherwise.
+#[inline(always)]
+fn fail<C: Chain>(
+    run: &Run,
+    token: &mut Token,
+    made: u64,
+    held: Held,
+    line: u32,
+) -> Result<Ended, Stop>
+    requires base { run.now.base ≤ 1048576 }
+    requires few { length run.now.lines.now ≤ 64 }
+    requires on { On C.start run.now token.old.table_id token.old.me false (seat_in run.now (at_own made held (step.Pass (pass.Decide (Failed line))))) }
+    ensures ok { IfOk result (λ e. On C.start run.now token.new.table_id token.new.me false (seat_ended run.now.seat.now e)) }
+    ensures err { IfErr result (λ e. Stopped C.start run.now token.new.table_id token.new.me e) }
+{
+    match decide::<C>(run, token, made, held, Phase::Failed { line }) {
+        None => settle::<C>(run, token, one_more(made), held, Phase::Failed { line }),
+        Some(phase) => settle::<C>(run, token, one_more(made), held, phase),
+    }
+}
+
+// Behind an install that found another word: the commit fails by another plain word, and stops where it met another's
+// reference.
+#[cold]
+#[inline(never)]
+fn not_installed<C: Chain>(
+    run: &Run,
+    token: &mut Token,
+    held: Held,
+    surprise: Surprise,
+) -> Result<Ended, Stop>
+    requires base { run.now.base ≤ 1048576 }
+    requires few { length run.now.lines.now ≤ 64 }
+    requires found { Surprised C.start run.now token.old.table_id token.old.me held pass.Install surprise }
+    requires foreign { IsForeign held surprise }
+    ensures ok { IfOk result (λ e. On C.start run.now token.new.table_id token.new.me false (seat_ended run.now.seat.now e)) }
+    ensures err { IfErr result (λ e. Stopped C.start run.now token.new.table_id token.new.me e) }
+{
+    let Surprise { made, line, number } = surprise;
+    if is_plain(number) {
+        return fail::<C>(run, token, one_more(made), held, line);
+    }
+    Err(stop_at(StopAt::Install, made, held, line, number))
+}
+
+// The same behind a check.
+#[cold]
+#[inline(never)]
+fn not_checked<C: Chain>(
+    run: &Run,
+    token: &mut Token,
+    held: Held,
+    surprise: Surprise,
+) -> Result<Ended, Stop>
+    requires base { run.now.base ≤ 1048576 }
+    requires few { length run.now.lines.now ≤ 64 }
+    requires found { Surprised C.start run.now token.old.table_id token.old.me held pass.Check surprise }
+    ensures ok { IfOk result (λ e. On C.start run.now token.new.table_id token.new.me false (seat_ended run.now.seat.now e)) }
+    ensures err { IfErr result (λ e. Stopped C.start run.now token.new.table_id token.new.me e) }
+{
+    let Surprise { made, line, number } = surprise;
+    if is_plain(number) {
+        return fail::<C>(run, token, one_more(made), held, line);
+    }
+    Err(stop_at(StopAt::Check, made, held, line, number))
+}
+
+// The pass over the lines, and what follows.
+#[inline(always)]
+fn pass<C: Chain>(run: &Run, token: &mut Token, made: u64, held: Held) -> Result<Ended, Stop>
+    requires base { run.now.base ≤ 1048576 }
+    requires few { length run.now.lines.now ≤ 64 }
+    requires on { On C.start run.now token.old.table_id token.old.me false (seat_in run.now (at_own made held (step.Pass (from_install run.now.mode run.now.lines.now 0)))) }
+    ensures ok { IfOk result (λ e. On C.start run.now token.new.table_id token.new.me false (seat_ended run.now.seat.now e)) }
+    ensures err { IfErr result (λ e. Stopped C.start run.now token.new.table_id token.new.me e) }
+{
+    let made = match installs::<C>(run, token, made, held) {
+        Ok(made) => made,
+        Err(surprise) => return not_installed::<C>(run, token, held, surprise),
+    };
+    let made = match checks::<C>(run, token, made, held) {
+        Ok(made) => made,
+        Err(surprise) => return not_checked::<C>(run, token, held, surprise),
+    };
+    match decide::<C>(run, token, made, held, Phase::Succeeded) {
+        None => succeed::<C>(run, token, one_more(made), held),
+        Some(phase) => settle::<C>(run, token, one_more(made), held, phase),
+    }
+}
+
+// From the take on.
+#[inline(always)]
+fn own<C: Chain>(run: &Run, token: &mut Token, held: Held) -> Result<Ended, Stop>
     requires base { run.now.base ≤ 1048576 }
     requires few { length run.now.lines.now ≤ 64 }
     requires on { On C.start run.now token.old.table_id token.old.me false (seat_in run.now (at_own (one_more (one_more run.now.seat.now.made)) held step.FillOwner)) }
-    ensures ok { IfOk result (λ made. On C.start run.now token.new.table_id token.new.me false (seat_told run.now.seat.now made held.calls (told.Succeeded held.calls))) }
+    ensures ok { IfOk result (λ e. On C.start run.now token.new.table_id token.new.me false (seat_ended run.now.seat.now e)) }
     ensures err { IfErr result (λ e. Stopped C.start run.now token.new.table_id token.new.me e) }
 {
     let made = one_more(one_more(run.seat.steps()));
     fill_owner::<C>(run, token, made, held);
     let made = fills::<C>(run, token, one_more(made), held);
     start::<C>(run, token, made, held);
-    let made = installs::<C>(run, token, one_more(made), held)?;
-    let made = checks::<C>(run, token, made, held)?;
-    if let Some(stop) = decide::<C>(run, token, made, held) {
-        return Err(stop);
-    }
-    let made = releases::<C>(run, token, one_more(made), held);
-    let woken = wakes::<C>(run, token, made, held);
-    end::<C>(run, token, woken, held)
+    pass::<C>(run, token, one_more(made), held)
 }
 
-/// Runs a commit on from its first scan: how many steps and calls the seat has made where it ends, told Succeeded.
+/// Runs a commit on from its first scan: where it ends and what it is told there, or where it stops. It stops only where it
+/// would scan for another descriptor, aid another's commit or signal somebody.
 #[inline(always)]
 pub fn run_commit<C: Chain>(run: &Run, token: &mut Token) -> Result<Ended, Stop>
     requires base { run.now.base ≤ 1048576 }
     requires few { length run.now.lines.now ≤ 64 }
     requires on { On C.start run.now token.old.table_id token.old.me true (seat_in run.now (first_point run.now.seat.now)) }
-    ensures ok { IfOk result (λ e. On C.start run.now token.new.table_id token.new.me false (seat_told run.now.seat.now e.made e.calls (told.Succeeded e.calls))) }
+    ensures ok { IfOk result (λ e. On C.start run.now token.new.table_id token.new.me false (seat_ended run.now.seat.now e)) }
     ensures err { IfErr result (λ e. Stopped C.start run.now token.new.table_id token.new.me e) }
 {
     let generation = scan::<C>(run, token)?;
     let held = take::<C>(run, token, generation)?;
-    let made = own::<C>(run, token, held)?;
-    Ok(Ended {
-        made,
-        calls: held.calls,
-    })
+    own::<C>(run, token, held)
 }

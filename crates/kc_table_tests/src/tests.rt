@@ -462,8 +462,9 @@ fn a_commit_in_one_call_makes_its_steps(rt: HostRuntime) -> Result<(), Fail> {
         assert!(rt; run(&table, &mut a, mode, &[mine], &[Some(7)]));
         assert_eq!(rt; a.steps(), 12);
         assert_eq!(rt; a.told(), Some(Told::Succeeded { number: 1 }));
+        // One that fails makes its steps too, and has no wake.
         assert!(rt; run(&table, &mut b, mode, &[theirs], &[Some(9)]));
-        steps(&table, &mut b, &[], 100);
+        assert_eq!(rt; b.steps(), 11);
         assert_eq!(rt; b.told(), Some(Told::Failed { entry: 0 }));
         let seven = Seen {
             loc: Loc(0),

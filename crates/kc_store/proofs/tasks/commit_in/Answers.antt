@@ -10,24 +10,24 @@ pub commit-requires-clause-made : goal.commit-requires-clause-made
 commit-requires-clause-made c = (c.requires.made.0, c.requires.made.1, few_reads c.args.footprint.now c.args.lines.now c.requires.lines c.requires.few)
 
 pub end_task-requires-clause-table : goal.end_task-requires-clause-table
-end_task-requires-clause-table c = (ran_same c.args.seat.now c.commit.new.seat (task.Commit c.args.footprint.now c.args.mode) c.commit.ensures).0 ∙ c.requires.table
+end_task-requires-clause-table c = (ran_same c.args.seat.now c.commit.new.seat (task.Commit c.args.footprint.now c.args.mode) c.commit.ensures.ran).0 ∙ c.requires.table
 
 pub end_task-requires-clause-calm : goal.end_task-requires-clause-calm
 end_task-requires-clause-calm c =
     let few = few_reads c.args.footprint.now c.args.lines.now c.requires.lines c.requires.few in
-    (free (task.Commit c.args.footprint.now c.args.mode) c.args.seat.now c.commit.new.seat refl c.requires.idle (c.requires.made.0, c.requires.made.1, few) c.commit.ensures).1
+    (free (task.Commit c.args.footprint.now c.args.mode) c.args.seat.now c.commit.new.seat refl c.requires.idle (c.requires.made.0, c.requires.made.1, few) c.commit.ensures.ran).1
 
 pub end_task-requires-clause-halts : goal.end_task-requires-clause-halts
 end_task-requires-clause-halts c =
     let few = few_reads c.args.footprint.now c.args.lines.now c.requires.lines c.requires.few in
     let busy : is_idle c.commit.new.seat.seat.work ≡ false = busy_is (is_idle c.commit.new.seat.seat.work) c.busy.result c.busy.ensures c.if-busy.true in
-    may_be_halted (task.Commit c.args.footprint.now c.args.mode) c.args.seat.now c.commit.new.seat refl c.requires.idle (c.requires.made.0, c.requires.made.1, few) c.commit.ensures busy
+    may_be_halted (task.Commit c.args.footprint.now c.args.mode) c.args.seat.now c.commit.new.seat refl c.requires.idle (c.requires.made.0, c.requires.made.1, few) c.commit.ensures.ran busy
 
 pub answer_of-requires : goal.answer_of-requires
 answer_of-requires c =
     let t = task.Commit c.args.footprint.now c.args.mode in
     let few = few_reads c.args.footprint.now c.args.lines.now c.requires.lines c.requires.few in
-    let r = runs t c.args.seat.now c.commit.new.seat refl c.requires.idle (c.requires.made.0, c.requires.made.1, few) c.commit.ensures in
+    let r = runs t c.args.seat.now c.commit.new.seat refl c.requires.idle (c.requires.made.0, c.requires.made.1, few) c.commit.ensures.ran in
     committing_told c.args.seat.now c.end_task.new.seat c.args.footprint.now c.args.mode (c.end_task.ensures.runs c.args.seat.now t r).stands c.end_task.ensures.idle
 
 pub returns-then-busy-clause-ends : goal.returns-then-busy-clause-ends
@@ -35,14 +35,14 @@ returns-then-busy-clause-ends c =
     let t = task.Commit c.args.footprint.now c.args.mode in
     let few = few_reads c.args.footprint.now c.args.lines.now c.requires.lines c.requires.few in
     let e = c.end_task.ensures in
-    ends_late t c.args.seat.now c.commit.new.seat refl c.requires.idle (c.requires.made.0, c.requires.made.1, few) c.commit.ensures
+    ends_late t c.args.seat.now c.commit.new.seat refl c.requires.idle (c.requires.made.0, c.requires.made.1, few) c.commit.ensures.ran
     c.end_task.new.seat c.answer_of.result c.args.left.now c.end_task.new.left (e.runs c.args.seat.now t) e.idle e.spent e.made c.answer_of.ensures
 
 pub returns-then-busy-clause-committing : goal.returns-then-busy-clause-committing
 returns-then-busy-clause-committing c =
     let t = task.Commit c.args.footprint.now c.args.mode in
     let few = few_reads c.args.footprint.now c.args.lines.now c.requires.lines c.requires.few in
-    let r = runs t c.args.seat.now c.commit.new.seat refl c.requires.idle (c.requires.made.0, c.requires.made.1, few) c.commit.ensures in
+    let r = runs t c.args.seat.now c.commit.new.seat refl c.requires.idle (c.requires.made.0, c.requires.made.1, few) c.commit.ensures.ran in
     subst (λ x. is_told_committing x ≡ true) c.answer_of.ensures
     (committing_told c.args.seat.now c.end_task.new.seat c.args.footprint.now c.args.mode (c.end_task.ensures.runs c.args.seat.now t r).stands c.end_task.ensures.idle)
 
@@ -50,20 +50,20 @@ pub answer_of-requires-2 : goal.answer_of-requires-2
 answer_of-requires-2 c =
     let t = task.Commit c.args.footprint.now c.args.mode in
     let few = few_reads c.args.footprint.now c.args.lines.now c.requires.lines c.requires.few in
-    let r = runs t c.args.seat.now c.commit.new.seat refl c.requires.idle (c.requires.made.0, c.requires.made.1, few) c.commit.ensures in
+    let r = runs t c.args.seat.now c.commit.new.seat refl c.requires.idle (c.requires.made.0, c.requires.made.1, few) c.commit.ensures.ran in
     committing_told c.args.seat.now c.commit.new.seat c.args.footprint.now c.args.mode r.stands (idle_is (is_idle c.commit.new.seat.seat.work) c.busy.result c.busy.ensures c.if-busy.false)
 
 pub returns-clause-ends : goal.returns-clause-ends
 returns-clause-ends c =
     let t = task.Commit c.args.footprint.now c.args.mode in
     let few = few_reads c.args.footprint.now c.args.lines.now c.requires.lines c.requires.few in
-    ends_straight t c.args.seat.now c.commit.new.seat refl c.requires.idle (c.requires.made.0, c.requires.made.1, few) c.commit.ensures
+    ends_straight t c.args.seat.now c.commit.new.seat refl c.requires.idle (c.requires.made.0, c.requires.made.1, few) c.commit.ensures.ran
     c.answer_of-2.result c.args.left.now (idle_is (is_idle c.commit.new.seat.seat.work) c.busy.result c.busy.ensures c.if-busy.false) c.answer_of-2.ensures
 
 pub returns-clause-committing : goal.returns-clause-committing
 returns-clause-committing c =
     let t = task.Commit c.args.footprint.now c.args.mode in
     let few = few_reads c.args.footprint.now c.args.lines.now c.requires.lines c.requires.few in
-    let r = runs t c.args.seat.now c.commit.new.seat refl c.requires.idle (c.requires.made.0, c.requires.made.1, few) c.commit.ensures in
+    let r = runs t c.args.seat.now c.commit.new.seat refl c.requires.idle (c.requires.made.0, c.requires.made.1, few) c.commit.ensures.ran in
     subst (λ x. is_told_committing x ≡ true) c.answer_of-2.ensures
     (committing_told c.args.seat.now c.commit.new.seat c.args.footprint.now c.args.mode r.stands (idle_is (is_idle c.commit.new.seat.seat.work) c.busy.result c.busy.ensures c.if-busy.false))

@@ -1,5 +1,36 @@
-use Rattle.kc_table_moves.proofs.Links.{decide_fits}
+use Rattle.std.proofs.Common.{◌∙◌, ap, false, subst, sym}
+use Rattle.kc_machine_commits.specs.Commits.{after_own_pass, intent_of}
+use Rattle.kc_machine_steps.specs.Lines.{one_more}
+use Rattle.kc_machine_steps.specs.Passes.{decided_as, from_release, status}
+use Rattle.kc_machine_words.specs.declared.words.Phase.TheVariants.{Active}
+use Rattle.kc_table_moves.proofs.Links.{decide_fits, decide_on}
+use Rattle.kc_table_moves.specs.Straight.{On, Went, at_own, seat_in}
 use Rattle.kc_table_moves.proofs.straight.decide.Goals as goal
 
 pub pack-old-requires : goal.pack-old-requires
-pack-old-requires g c = (decide_fits c.args.token.now.me c.args.run.now.seat.now c.args.run.now.mode c.args.run.now.lines.now c.args.made c.args.held c.requires.on.ready).0
+pack-old-requires g c = (decide_fits c.args.token.now.me c.args.run.now.seat.now c.args.run.now.mode c.args.run.now.lines.now c.args.made c.args.held c.args.phase c.requires.on.ready).0
+
+pub pack-new-requires : goal.pack-new-requires
+pack-new-requires g c = (decide_fits c.args.token.now.me c.args.run.now.seat.now c.args.run.now.mode c.args.run.now.lines.now c.args.made c.args.held c.args.phase c.requires.on.ready).1
+
+pub returns-then-number-old-clause-none : goal.returns-then-number-old-clause-none
+returns-then-number-old-clause-none g c =
+    let r = c.args.run.now in
+    let h = c.args.held in
+    let w = (subst (λ p. Went g.C.Chain.start r c.exchanges-number.new.token.table_id c.exchanges-number.new.token.me (seat_in r p) c.exchanges-number.result) c.point_at-at.ensures c.exchanges-number.ensures) in
+    let active = status h.own.generation Active in
+    let fits = (decide_fits c.args.token.now.me c.args.run.now.seat.now c.args.run.now.mode c.args.run.now.lines.now c.args.made c.args.held c.args.phase c.requires.on.ready).0 in
+    decide_on g.C.Chain.start r c.exchanges-number.new.token.table_id c.exchanges-number.new.token.me h c.args.made c.exchanges-number.result c.args.phase w active
+    (c.bits_tell_words_apart.ensures.status (w.world.status h.own.descriptor) active w.fits fits (w.found ∙ c.if-number-old.true ∙ c.pack-old.ensures))
+
+pub returns-clause-some : goal.returns-clause-some
+returns-clause-some g c =
+    let r = c.args.run.now in
+    let h = c.args.held in
+    let w = (subst (λ p. Went g.C.Chain.start r c.exchanges-number.new.token.table_id c.exchanges-number.new.token.me (seat_in r p) c.exchanges-number.result) c.point_at-at.ensures c.exchanges-number.ensures) in
+    let token = c.exchanges-number.new.token.table_id in
+    let me = c.exchanges-number.new.token.me in
+    let z = w.world.status h.own.descriptor in
+    let is = sym (c.unpack.ensures.back z w.fits w.found) in
+    subst (λ p. On g.C.Chain.start r token me false (seat_in r (at_own (one_more c.args.made) h (after_own_pass (intent_of r.mode r.lines.now) (from_release r.mode r.lines.now 0 p))))) (sym c.decided_as.ensures)
+    (decide_on g.C.Chain.start r token me h c.args.made c.exchanges-number.result c.args.phase w c.unpack.result is)

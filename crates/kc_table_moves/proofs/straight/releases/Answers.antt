@@ -1,9 +1,6 @@
 use Rattle.std.proofs.Common.{◌≤◌, arith, length, refl}
-use Rattle.kc_machine_steps.specs.Lines.{next_line}
 use Rattle.kc_machine_steps.specs.Passes.{from_release}
-use Rattle.kc_machine_steps.specs.declared.line.Pick.TheVariants.{Put}
-use Rattle.kc_machine_words.specs.declared.words.Phase.TheVariants.{Succeeded}
-use Rattle.kc_machine_commits.specs.Commits.{after_own_pass, intent_of, wake_or_signal}
+use Rattle.kc_machine_commits.specs.Commits.{after_own_pass, finished, intent_of}
 use Rattle.kc_table_moves.proofs.Links.{on_step, releases_end}
 use Rattle.kc_table_moves.proofs.straight.releases.Goals as goal
 
@@ -12,4 +9,4 @@ returns g c =
     let r = c.args.run.now in
     let k = c.loop-index.index in
     let past : length r.lines.now ≤ k = (let a = c.loop-index-test.false in omega arith) in
-    on_step g.C.Chain.start r c.loop-index.token.table_id c.loop-index.token.me c.loop-index.made c.loop-index.made c.args.held (after_own_pass (intent_of r.mode r.lines.now) (from_release r.mode r.lines.now k Succeeded)) (wake_or_signal 0 (next_line Put r.mode r.lines.now 0)) refl (releases_end r.mode r.lines.now k past) c.loop-index.invariant
+    on_step g.C.Chain.start r c.loop-index.token.table_id c.loop-index.token.me c.loop-index.made c.loop-index.made c.args.held (after_own_pass (intent_of r.mode r.lines.now) (from_release r.mode r.lines.now k c.args.phase)) (finished (intent_of r.mode r.lines.now) c.args.phase) refl (releases_end r.mode r.lines.now k past c.args.phase) c.loop-index.invariant

@@ -11,4 +11,4 @@ pub commit-requires-clause-known : goal.commit-requires-clause-known
 commit-requires-clause-known c = commit_known c.args.seat.now c.args.reads.now c.footprint-footprint.result c.footprint-footprint.ensures.among c.requires.reads c.args.mode
 
 pub returns : goal.returns
-returns c = record { same = ran_same c.args.seat.now c.commit.new.seat (task.Commit c.footprint-footprint.result c.args.mode) c.commit.ensures }
+returns c = record { same = ran_same c.args.seat.now c.commit.new.seat (task.Commit c.footprint-footprint.result c.args.mode) c.commit.ensures.ran }

@@ -1,0 +1,30 @@
+use Rattle.std.proofs.Common.{false, refl}
+use borrow.Author.Tests.{eqb-true}
+use Rattle.kc_table_layout.specs.declared.change.Change.TheVariants as change
+use Rattle.kc_table_moves.proofs.Straights.{aims_own, exchange_leaves, peeked_none, peeked_step, stays_on, went}
+use Rattle.kc_table_moves.specs.Straight.{leaves, seat_in}
+use Rattle.kc_table_moves.proofs.atoms.replaces.Goals as goal
+
+pub peek_at-number-requires-clause-aim : goal.peek_at-number-requires-clause-aim
+peek_at-number-requires-clause-aim g c = aims_own c.args.run.now.words.now.key (seat_in c.args.run.now c.args.at) c.args.word (change.CompareExchange c.args.old c.args.new) c.requires.aim
+
+pub peek_at-number-requires-clause-stays : goal.peek_at-number-requires-clause-stays
+peek_at-number-requires-clause-stays g c = λ n e. eqb-true _ n e
+
+pub returns-then-number-old : goal.returns-then-number-old
+returns-then-number-old g c =
+    let s = seat_in c.args.run.now c.args.at in
+    let n = c.peek_at-number.result in
+    let me = c.args.token.now.me in
+    let later = c.peek_at-number.new.token.me in
+    went g.C.Chain.start c.args.run.now c.args.token.now.table_id c.peek_at-number.new.token.table_id me later false s n c.requires.on refl c.peek_at-number.ensures.table
+    (peeked_step (leaves s n) s false me later n ((exchange_leaves s n c.args.old c.args.new c.requires.aim.makes).0 c.if-number-old.true) c.peek_at-number.ensures.peeked)
+
+pub exchanges-requires-clause-on : goal.exchanges-requires-clause-on
+exchanges-requires-clause-on g c =
+    let s = seat_in c.args.run.now c.args.at in
+    let n = c.peek_at-number.result in
+    let me = c.args.token.now.me in
+    let later = c.peek_at-number.new.token.me in
+    stays_on g.C.Chain.start c.args.run.now c.args.token.now.table_id c.peek_at-number.new.token.table_id me later false s c.requires.on c.peek_at-number.ensures.table
+    (peeked_none (leaves s n) s false me later n ((exchange_leaves s n c.args.old c.args.new c.requires.aim.makes).1 c.requires.apart c.if-number-old.false) c.peek_at-number.ensures.peeked)
