@@ -346,22 +346,24 @@ pub fn is_plain(number: u64) -> bool
     }
 }
 
-// Loads until no reference stands there, or so many times. None of them is a step.
+// Loads until no reference but the own one stands there, or so many times. None of them is a step.
 #[cold]
 #[inline(never)]
-fn wait<C: Chain>(run: &Run, token: &mut Token, at: Point, word: usize)
+fn wait<C: Chain>(run: &Run, token: &mut Token, at: Point, word: usize, own: u64)
     requires on { On C.start run.now token.old.table_id token.old.me false (seat_in run.now at) }
     requires aim { Aims run.now.words.now.key (seat_in run.now at) word (change_of (access_of (seat_in run.now at))) }
     ensures { On C.start run.now token.new.table_id token.new.me false (seat_in run.now at) }
 {
     for _ in 0..MOST_LOADS {
-        if is_plain(glances::<C>(run, token, at, word)) {
+        let number = glances::<C>(run, token, at, word);
+        if number == own || is_plain(number) {
             return;
         }
     }
 }
 
-// The seat at a point makes an exchange where `old` stands, once no reference stands there, or after a wait for it.
+// The seat at a point makes an exchange of `old` for its own reference, once no other reference stands there, or after a wait
+// for that.
 #[inline(always)]
 pub fn exchanges_late<C: Chain>(
     run: &Run,
@@ -375,8 +377,9 @@ pub fn exchanges_late<C: Chain>(
     requires aim { Aims run.now.words.now.key (seat_in run.now at) word (change.CompareExchange old new) }
     ensures { Went C.start run.now token.new.table_id token.new.me (seat_in run.now at) result }
 {
-    if !is_plain(glances::<C>(run, token, at, word)) {
-        wait::<C>(run, token, at, word);
+    let number = glances::<C>(run, token, at, word);
+    if number != new && !is_plain(number) {
+        wait::<C>(run, token, at, word, new);
     }
     exchanges::<C>(run, token, at, word, old, new)
 }
