@@ -11,6 +11,7 @@ use Rattle.kc_machine_steps.specs.Passes.{fits, refers_to}
 use Rattle.kc_machine_words.specs.declared.words.Control.{Control}
 use Rattle.kc_machine_words.specs.declared.words.TheConstants.{LAST_GENERATION}
 use Rattle.kc_machine_words.specs.declared.words.Mode.{Mode}
+use Rattle.kc_machine_words.specs.declared.words.Phase.TheVariants.{Succeeded}
 use Rattle.kc_machine.specs.Machine.{World, found_at, pool_size}
 use Rattle.kc_machine.specs.Points.{point, seat_at, seat_told}
 use Rattle.kc_machine_commits.specs.Commits.{told_of}
@@ -132,6 +133,7 @@ stage_of stop.Scan h line n = Scan h.own.descriptor 0
 stage_of stop.Take h line n = Take h.own.descriptor h.own.generation
 stage_of stop.Install h line n = Own h.own (own.Pass (pass.Install line))
 stage_of stop.Check h line n = Own h.own (own.Pass (pass.Check line))
+stage_of stop.Decide h line n = Own h.own (own.Pass (pass.Decide Succeeded))
 stage_of stop.Signal h line n = Own h.own (own.Signal n)
 
 abbrev pub point_of : Stop → Point
@@ -142,6 +144,7 @@ found_of stop.Scan n = Some n
 found_of stop.Take n = Some n
 found_of stop.Install n = Some n
 found_of stop.Check n = Some n
+found_of stop.Decide n = Some n
 found_of stop.Signal n = None
 
 -- the seat s is written at a point, or behind the step there, which found this number
@@ -194,3 +197,28 @@ pub record Surprised (start : SeatView) (r : Run) (token : TableId) (me : Me Uni
 -- and not the own reference to the line
 abbrev pub IsForeign : Held → Surprise → Type 0
 IsForeign h e = (g d k : ℕ) → IsPackable (Ref g d k) → packed (Ref g d k) ≡ e.number → refers_to h.own e.line (reference_of g d k) ≡ false
+
+-- a pause as a surprise
+abbrev pub surprise_of : Stop → Surprise
+surprise_of e = record { made = e.made; line = e.line; number = e.number }
+
+-- the run has stopped; or a word of its pass was not as expected, from where it may go straight on another way
+abbrev pub PausedAt : StopAt → SeatView → Run → TableId → Me Unit View → Stop → Type 0
+PausedAt stop.Scan start r token me e = Stopped start r token me e
+PausedAt stop.Take start r token me e = Stopped start r token me e
+PausedAt stop.Install start r token me e = Surprised start r token me e.held pass.Install (surprise_of e) × IsForeign e.held (surprise_of e)
+PausedAt stop.Check start r token me e = Surprised start r token me e.held pass.Check (surprise_of e)
+PausedAt stop.Decide start r token me e = Went start r token me (seat_in r (at_own e.made e.held (own.Pass (pass.Decide Succeeded)))) e.number
+PausedAt stop.Signal start r token me e = Stopped start r token me e
+
+abbrev pub Paused : SeatView → Run → TableId → Me Unit View → Stop → Type 0
+Paused start r token me e = PausedAt e.at start r token me e
+
+-- the run is of these parts
+pub record IsOf (r : Run) (q : Origin) (z : TableId) (base : ℕ) (s : Seat) (m : Mode) (xs : List Line) : Type 0 where
+  pub key : r.words.now.key ≡ q
+  pub table : r.words.now.table_id ≡ z
+  pub from : r.base ≡ base
+  pub seat : r.seat.now ≡ s
+  pub mode : r.mode ≡ m
+  pub lines : r.lines.now ≡ xs

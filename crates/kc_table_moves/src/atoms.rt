@@ -14,7 +14,7 @@ use crate::view::View;
 use atomic_table::Play;
 use kc_machine::{OwnStep, Point, Seat, Stage};
 use kc_machine_steps::{Line, PassStep};
-use kc_machine_words::{Handle, Mode};
+use kc_machine_words::{Handle, Mode, Phase};
 use kc_model::Word;
 use kc_table_layout::touches_agree;
 use std::marker::{Brand, PhantomData};
@@ -37,17 +37,18 @@ pub struct Held {
     pub own: Handle,
 }
 
-/// At which step a straight commit stops, without what it knows.
+/// At which step a straight commit pauses, without what it knows.
 #[derive(Clone, Copy)]
 pub enum StopAt {
     Scan,
     Take,
     Install,
     Check,
+    Decide,
     Signal,
 }
 
-/// Where a straight commit stops: behind the step there, which found this number, or before its first signal. A `Point`
+/// Where a straight commit pauses: behind the step there, which found this number, or before its first signal. A `Point`
 /// would be copied from link to link where nothing stops, since it is an enum of enums.
 #[derive(Clone, Copy)]
 pub struct Stop {
@@ -93,6 +94,9 @@ impl Stop {
             }
             StopAt::Install => OwnStep::Pass(PassStep::Install { line }),
             StopAt::Check => OwnStep::Pass(PassStep::Check { line }),
+            StopAt::Decide => OwnStep::Pass(PassStep::Decide {
+                phase: Phase::Succeeded,
+            }),
             StopAt::Signal => OwnStep::Signal { owed: self.number },
         };
         Stage::Own { own, step }
@@ -346,16 +350,28 @@ pub fn is_plain(number: u64) -> bool
     }
 }
 
-// Loads until no reference but the own one stands there, or so many times. None of them is a step.
+// Loads until no reference but the own one stands there, or so many times. None of them is a step. Only the proof reads the
+// run and the point: with the run at hand here, its parts would be written to memory before each commit.
 #[cold]
 #[inline(never)]
-fn wait<C: Chain>(run: &Run, token: &mut Token, at: Point, word: usize, own: u64)
-    requires on { On C.start run.now token.old.table_id token.old.me false (seat_in run.now at) }
-    requires aim { Aims run.now.words.now.key (seat_in run.now at) word (change_of (access_of (seat_in run.now at))) }
-    ensures { On C.start run.now token.new.table_id token.new.me false (seat_in run.now at) }
+fn wait<B: Asks>(
+    words: &Words,
+    token: &mut Token,
+    base: usize,
+    word: usize,
+    own: u64,
+    _run: &Run,
+    _at: Point,
+)
+    requires here { Here words.now.key words.now.table_id base token.old.table_id token.old.me }
+    requires seat { (is_idle B.now.work ≡ false) × Ready token.old.me B.began B.now }
+    requires aim { Aims words.now.key B.now word (change_of (access_of B.now)) }
+    requires none { (n : ℕ) → B.takes n ≡ false }
+    ensures table { token.new.table_id ≡ token.old.table_id }
+    ensures stays { token.new.me ≡ token.old.me }
 {
     for _ in 0..MOST_LOADS {
-        let number = glances::<C>(run, token, at, word);
+        let number = peek::<B>(words, token, base, word);
         if number == own || is_plain(number) {
             return;
         }
@@ -379,7 +395,7 @@ pub fn exchanges_late<C: Chain>(
 {
     let number = glances::<C>(run, token, at, word);
     if number != new && !is_plain(number) {
-        wait::<C>(run, token, at, word, new);
+        wait::<Brand>(run.words, token, run.base, word, new, run, at);
     }
     exchanges::<C>(run, token, at, word, old, new)
 }

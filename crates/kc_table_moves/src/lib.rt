@@ -10,6 +10,6 @@ mod view;
 
 pub use atoms::{Asks, Chain, Held, MOST_LOADS, Run, Stop, StopAt, is_plain, load, peek};
 pub use rule::{Deals, Empty, Gathers, Hears, Merges, Moves, Notes, Now, Rule, Shows};
-pub use straight::{Ended, Surprise, Woken, run_commit};
+pub use straight::{Ended, Surprise, Woken, run_apart, run_commit};
 pub use touch::{Token, Words, touch_seat};
 pub use view::{Origin, Part, View};

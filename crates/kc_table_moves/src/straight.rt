@@ -11,7 +11,8 @@ ghost use Rattle.kc_machine_steps.specs.Passes.{from_check, from_install, from_r
 ghost use Rattle.kc_machine_commits.specs.declared.commit.OwnStep.TheVariants as step;
 ghost use Rattle.kc_machine_commits.specs.Commits.{after_own_pass, fill_next, finished, intent_of, owed_next, told_of, wake_or_signal};
 ghost use Rattle.kc_machine.specs.Points.{first_point};
-ghost use Rattle.kc_table_moves.specs.Straight.{IsForeign, On, Stopped, Surprised, at_own, at_take, is_free, seat_ended, seat_in, shows};
+ghost use Rattle.kc_table_moves.specs.declared.atoms.StopAt.TheVariants as pauses;
+ghost use Rattle.kc_table_moves.specs.Straight.{IsForeign, On, Paused, Stopped, Surprised, Went, at_own, at_take, is_free, seat_ended, seat_in, shows, surprise_of};
 
 use crate::atoms::{
     Chain, Held, Run, Stop, StopAt, clears, exchanges, exchanges_late, is_plain, loads, replaces,
@@ -112,7 +113,7 @@ fn scan<C: Chain>(run: &Run, token: &mut Token) -> Result<u64, Stop>
     requires base { run.now.base ≤ 1048576 }
     requires on { On C.start run.now token.old.table_id token.old.me true (seat_in run.now (first_point run.now.seat.now)) }
     ensures ok { IfOk result (λ g. (g < LAST_GENERATION) × On C.start run.now token.new.table_id token.new.me false (seat_in run.now (at_take run.now.seat.now g))) }
-    ensures err { IfErr result (λ e. Stopped C.start run.now token.new.table_id token.new.me e) }
+    ensures err { IfErr result (λ e. Paused C.start run.now token.new.table_id token.new.me e) }
 {
     let first = run.seat.first();
     let at = Point {
@@ -139,7 +140,7 @@ fn take<C: Chain>(run: &Run, token: &mut Token, generation: u64) -> Result<Held,
     requires generation { generation < LAST_GENERATION }
     requires on { On C.start run.now token.old.table_id token.old.me false (seat_in run.now (at_take run.now.seat.now generation)) }
     ensures ok { IfOk result (λ h. On C.start run.now token.new.table_id token.new.me false (seat_in run.now (at_own (one_more (one_more run.now.seat.now.made)) h step.FillOwner))) }
-    ensures err { IfErr result (λ e. Stopped C.start run.now token.new.table_id token.new.me e) }
+    ensures err { IfErr result (λ e. Paused C.start run.now token.new.table_id token.new.me e) }
 {
     kc_machine_words::bits_tell_words_apart();
     let first = run.seat.first();
@@ -450,7 +451,7 @@ fn checks<C: Chain>(run: &Run, token: &mut Token, made: u64, held: Held) -> Resu
     Ok(made)
 }
 
-// The decision: None where the status was Active and is decided so, else how another had decided it.
+// The decision: None where the status was Active and is decided so, else what was found.
 #[inline(always)]
 fn decide<C: Chain>(
     run: &Run,
@@ -458,11 +459,11 @@ fn decide<C: Chain>(
     made: u64,
     held: Held,
     phase: Phase,
-) -> Option<Phase>
+) -> Option<u64>
     requires base { run.now.base ≤ 1048576 }
     requires on { On C.start run.now token.old.table_id token.old.me false (seat_in run.now (at_own made held (step.Pass (pass.Decide phase)))) }
     ensures none { IfNone result (On C.start run.now token.new.table_id token.new.me false (seat_in run.now (at_own (one_more made) held (after_own_pass (intent_of run.now.mode run.now.lines.now) (from_release run.now.mode run.now.lines.now 0 phase))))) }
-    ensures some { IfSome result (λ p. On C.start run.now token.new.table_id token.new.me false (seat_in run.now (at_own (one_more made) held (after_own_pass (intent_of run.now.mode run.now.lines.now) (from_release run.now.mode run.now.lines.now 0 p))))) }
+    ensures some { IfSome result (λ n. Went C.start run.now token.new.table_id token.new.me (seat_in run.now (at_own made held (step.Pass (pass.Decide phase)))) n) }
 {
     kc_machine_words::bits_tell_words_apart();
     let generation = held.own.generation;
@@ -478,7 +479,7 @@ fn decide<C: Chain>(
     if number == old {
         return None;
     }
-    Some(decided_as(phase, Status::unpack(number).phase))
+    Some(number)
 }
 
 // Whether a commit that was decided so puts its values.
@@ -684,7 +685,7 @@ fn end<C: Chain>(run: &Run, token: &mut Token, woken: Woken, held: Held) -> Resu
     requires base { run.now.base ≤ 1048576 }
     requires on { On C.start run.now token.old.table_id token.old.me false (seat_in run.now (at_own woken.made held (owed_next woken.owed))) }
     ensures ok { IfOk result (λ e. On C.start run.now token.new.table_id token.new.me false (seat_ended run.now.seat.now e)) }
-    ensures err { IfErr result (λ e. Stopped C.start run.now token.new.table_id token.new.me e) }
+    ensures err { IfErr result (λ e. (e.at ≡ pauses.Signal) × Stopped C.start run.now token.new.table_id token.new.me e) }
 {
     let Woken { made, owed } = woken;
     if owed != 0 {
@@ -700,7 +701,7 @@ fn succeed<C: Chain>(run: &Run, token: &mut Token, made: u64, held: Held) -> Res
     requires few { length run.now.lines.now ≤ 64 }
     requires on { On C.start run.now token.old.table_id token.old.me false (seat_in run.now (at_own made held (after_own_pass (intent_of run.now.mode run.now.lines.now) (from_release run.now.mode run.now.lines.now 0 Succeeded)))) }
     ensures ok { IfOk result (λ e. On C.start run.now token.new.table_id token.new.me false (seat_ended run.now.seat.now e)) }
-    ensures err { IfErr result (λ e. Stopped C.start run.now token.new.table_id token.new.me e) }
+    ensures err { IfErr result (λ e. (e.at ≡ pauses.Signal) × Stopped C.start run.now token.new.table_id token.new.me e) }
 {
     let made = releases::<C>(run, token, made, held, Phase::Succeeded);
     let woken = wakes::<C>(run, token, made, held);
@@ -708,8 +709,6 @@ fn succeed<C: Chain>(run: &Run, token: &mut Token, made: u64, held: Held) -> Res
 }
 
 // From any decision on. What puts nothing wakes nobody.
-#[cold]
-#[inline(never)]
 fn settle<C: Chain>(
     run: &Run,
     token: &mut Token,
@@ -730,8 +729,26 @@ fn settle<C: Chain>(
     Ok(drop_own::<C>(run, token, made, held, phase))
 }
 
+// Behind a decision that found this status: as another decided.
+fn decided<C: Chain>(
+    run: &Run,
+    token: &mut Token,
+    made: u64,
+    held: Held,
+    phase: Phase,
+    number: u64,
+) -> Result<Ended, Stop>
+    requires base { run.now.base ≤ 1048576 }
+    requires few { length run.now.lines.now ≤ 64 }
+    requires went { Went C.start run.now token.old.table_id token.old.me (seat_in run.now (at_own made held (step.Pass (pass.Decide phase)))) number }
+    ensures ok { IfOk result (λ e. On C.start run.now token.new.table_id token.new.me false (seat_ended run.now.seat.now e)) }
+    ensures err { IfErr result (λ e. Stopped C.start run.now token.new.table_id token.new.me e) }
+{
+    let found = Status::unpack(number);
+    settle::<C>(run, token, one_more(made), held, decided_as(phase, found.phase))
+}
+
 // A commit that fails by a line. A helper may have decided it otherwise.
-#[inline(always)]
 fn fail<C: Chain>(
     run: &Run,
     token: &mut Token,
@@ -745,16 +762,15 @@ fn fail<C: Chain>(
     ensures ok { IfOk result (λ e. On C.start run.now token.new.table_id token.new.me false (seat_ended run.now.seat.now e)) }
     ensures err { IfErr result (λ e. Stopped C.start run.now token.new.table_id token.new.me e) }
 {
-    match decide::<C>(run, token, made, held, Phase::Failed { line }) {
-        None => settle::<C>(run, token, one_more(made), held, Phase::Failed { line }),
-        Some(phase) => settle::<C>(run, token, one_more(made), held, phase),
+    let phase = Phase::Failed { line };
+    match decide::<C>(run, token, made, held, phase) {
+        None => settle::<C>(run, token, one_more(made), held, phase),
+        Some(number) => decided::<C>(run, token, made, held, phase, number),
     }
 }
 
 // Behind an install that found another word: the commit fails by another plain word, and stops where it met another's
 // reference.
-#[cold]
-#[inline(never)]
 fn not_installed<C: Chain>(
     run: &Run,
     token: &mut Token,
@@ -776,8 +792,6 @@ fn not_installed<C: Chain>(
 }
 
 // The same behind a check.
-#[cold]
-#[inline(never)]
 fn not_checked<C: Chain>(
     run: &Run,
     token: &mut Token,
@@ -797,6 +811,45 @@ fn not_checked<C: Chain>(
     Err(stop_at(StopAt::Check, made, held, line, number))
 }
 
+// A pause as a surprise.
+fn surprise_of(stop: &Stop) -> Surprise
+    ensures { result ≡ surprise_of stop.now }
+{
+    Surprise {
+        made: stop.made,
+        line: stop.line,
+        number: stop.number,
+    }
+}
+
+/// Runs a commit on that has paused: where it ends and what it is told there, or where it stops.
+///
+/// This is apart from `run_commit` for speed: what it answers lies in memory, and would be cleared there before each commit.
+pub fn run_apart<C: Chain>(run: &Run, token: &mut Token, stop: Stop) -> Result<Ended, Stop>
+    requires base { run.now.base ≤ 1048576 }
+    requires few { length run.now.lines.now ≤ 64 }
+    requires paused { Paused C.start run.now token.old.table_id token.old.me stop }
+    ensures ok { IfOk result (λ e. On C.start run.now token.new.table_id token.new.me false (seat_ended run.now.seat.now e)) }
+    ensures err { IfErr result (λ e. Stopped C.start run.now token.new.table_id token.new.me e) }
+{
+    let Stop {
+        at, made, held, number, ..
+    } = stop;
+    match at {
+        StopAt::Install => not_installed::<C>(run, token, held, surprise_of(&stop)),
+        StopAt::Check => not_checked::<C>(run, token, held, surprise_of(&stop)),
+        StopAt::Decide => decided::<C>(run, token, made, held, Phase::Succeeded, number),
+        StopAt::Scan | StopAt::Take | StopAt::Signal => Err(stop),
+    }
+}
+
+#[inline(always)]
+fn pause(at: StopAt, held: Held, surprise: Surprise) -> Stop
+    ensures { result ≡ record { at = at; line = surprise.line; made = surprise.made; held = held; number = surprise.number } }
+{
+    stop_at(at, surprise.made, held, surprise.line, surprise.number)
+}
+
 // The pass over the lines, and what follows.
 #[inline(always)]
 fn pass<C: Chain>(run: &Run, token: &mut Token, made: u64, held: Held) -> Result<Ended, Stop>
@@ -804,19 +857,19 @@ fn pass<C: Chain>(run: &Run, token: &mut Token, made: u64, held: Held) -> Result
     requires few { length run.now.lines.now ≤ 64 }
     requires on { On C.start run.now token.old.table_id token.old.me false (seat_in run.now (at_own made held (step.Pass (from_install run.now.mode run.now.lines.now 0)))) }
     ensures ok { IfOk result (λ e. On C.start run.now token.new.table_id token.new.me false (seat_ended run.now.seat.now e)) }
-    ensures err { IfErr result (λ e. Stopped C.start run.now token.new.table_id token.new.me e) }
+    ensures err { IfErr result (λ e. Paused C.start run.now token.new.table_id token.new.me e) }
 {
     let made = match installs::<C>(run, token, made, held) {
         Ok(made) => made,
-        Err(surprise) => return not_installed::<C>(run, token, held, surprise),
+        Err(surprise) => return Err(pause(StopAt::Install, held, surprise)),
     };
     let made = match checks::<C>(run, token, made, held) {
         Ok(made) => made,
-        Err(surprise) => return not_checked::<C>(run, token, held, surprise),
+        Err(surprise) => return Err(pause(StopAt::Check, held, surprise)),
     };
     match decide::<C>(run, token, made, held, Phase::Succeeded) {
         None => succeed::<C>(run, token, one_more(made), held),
-        Some(phase) => settle::<C>(run, token, one_more(made), held, phase),
+        Some(number) => Err(stop_at(StopAt::Decide, made, held, 0, number)),
     }
 }
 
@@ -827,7 +880,7 @@ fn own<C: Chain>(run: &Run, token: &mut Token, held: Held) -> Result<Ended, Stop
     requires few { length run.now.lines.now ≤ 64 }
     requires on { On C.start run.now token.old.table_id token.old.me false (seat_in run.now (at_own (one_more (one_more run.now.seat.now.made)) held step.FillOwner)) }
     ensures ok { IfOk result (λ e. On C.start run.now token.new.table_id token.new.me false (seat_ended run.now.seat.now e)) }
-    ensures err { IfErr result (λ e. Stopped C.start run.now token.new.table_id token.new.me e) }
+    ensures err { IfErr result (λ e. Paused C.start run.now token.new.table_id token.new.me e) }
 {
     let made = one_more(one_more(run.seat.steps()));
     fill_owner::<C>(run, token, made, held);
@@ -836,15 +889,14 @@ fn own<C: Chain>(run: &Run, token: &mut Token, held: Held) -> Result<Ended, Stop
     pass::<C>(run, token, one_more(made), held)
 }
 
-/// Runs a commit on from its first scan: where it ends and what it is told there, or where it stops. It stops only where it
-/// would scan for another descriptor, aid another's commit or signal somebody.
+/// Runs a commit on from its first scan: where it succeeds, or where it pauses, from where `run_apart` goes on.
 #[inline(always)]
 pub fn run_commit<C: Chain>(run: &Run, token: &mut Token) -> Result<Ended, Stop>
     requires base { run.now.base ≤ 1048576 }
     requires few { length run.now.lines.now ≤ 64 }
     requires on { On C.start run.now token.old.table_id token.old.me true (seat_in run.now (first_point run.now.seat.now)) }
     ensures ok { IfOk result (λ e. On C.start run.now token.new.table_id token.new.me false (seat_ended run.now.seat.now e)) }
-    ensures err { IfErr result (λ e. Stopped C.start run.now token.new.table_id token.new.me e) }
+    ensures err { IfErr result (λ e. Paused C.start run.now token.new.table_id token.new.me e) }
 {
     let generation = scan::<C>(run, token)?;
     let held = take::<C>(run, token, generation)?;

@@ -26,11 +26,4 @@ returns-then-number-old-clause-none g c =
 pub returns-clause-some : goal.returns-clause-some
 returns-clause-some g c =
     let r = c.args.run.now in
-    let h = c.args.held in
-    let w = (subst (λ p. Went g.C.Chain.start r c.exchanges-number.new.token.table_id c.exchanges-number.new.token.me (seat_in r p) c.exchanges-number.result) c.point_at-at.ensures c.exchanges-number.ensures) in
-    let token = c.exchanges-number.new.token.table_id in
-    let me = c.exchanges-number.new.token.me in
-    let z = w.world.status h.own.descriptor in
-    let is = sym (c.unpack.ensures.back z w.fits w.found) in
-    subst (λ p. On g.C.Chain.start r token me false (seat_in r (at_own (one_more c.args.made) h (after_own_pass (intent_of r.mode r.lines.now) (from_release r.mode r.lines.now 0 p))))) (sym c.decided_as.ensures)
-    (decide_on g.C.Chain.start r token me h c.args.made c.exchanges-number.result c.args.phase w c.unpack.result is)
+    subst (λ p. Went g.C.Chain.start r c.exchanges-number.new.token.table_id c.exchanges-number.new.token.me (seat_in r p) c.exchanges-number.result) c.point_at-at.ensures c.exchanges-number.ensures

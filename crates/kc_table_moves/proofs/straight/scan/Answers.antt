@@ -5,7 +5,7 @@ use Rattle.kc_machine_commits.specs.declared.commit.Stage.TheVariants.{Scan}
 use Rattle.kc_machine_words.specs.declared.access.Found.TheVariants as found
 use Rattle.kc_table_moves.proofs.Links.{free_is, scan_makes, scan_rests, stops_behind}
 use Rattle.kc_table_moves.proofs.Straights.{went_on}
-use Rattle.kc_table_moves.specs.Straight.{IsOnward, Stopped, Went, seat_in, at_take}
+use Rattle.kc_table_moves.specs.Straight.{IsOnward, Paused, Went, at_take, seat_in}
 use Rattle.kc_table_moves.specs.declared.atoms.Held.{Held}
 use Rattle.kc_table_moves.specs.declared.atoms.Stop.{Stop}
 use Rattle.kc_table_moves.specs.declared.atoms.StopAt.TheVariants as stop
@@ -38,5 +38,5 @@ returns-then-not-is_free-clause-err g c =
     let e : Stop = record { at = stop.Scan; line = 0; made = s.made; held = held; number = n } in
     let is : c.stop_at.result ≡ e = c.stop_at.ensures ∙ (λ i. record { at = stop.Scan; line = 0; made = c.steps.ensures i; held = c.aimed_at-held.ensures i; number = n }) in
     let rests = scan_rests s r.mode r.lines.now control (sym c.is_free.ensures ∙ c.if-not-is_free.true) in
-    subst (Stopped start r token me) (sym is)
+    subst (Paused start r token me) (sym is)
     (stops_behind start r token me e n refl w (subst (λ x. IsOnward (answer_of (seat_in r (first_point s)) (found.Control x))) (c.unpack-control.ensures.back (w.world.control s.first) w.fits w.found) rests))

@@ -5,7 +5,7 @@ use Rattle.kc_machine_commits.specs.declared.commit.Stage.TheVariants.{Take}
 use Rattle.kc_machine_steps.specs.Lines.{one_more}
 use Rattle.kc_machine_words.specs.declared.access.Found.TheVariants as found
 use Rattle.kc_table_moves.proofs.Links.{stops_behind, take_rests}
-use Rattle.kc_table_moves.specs.Straight.{Stopped, Went, at_take, seat_in}
+use Rattle.kc_table_moves.specs.Straight.{Paused, Went, at_take, seat_in}
 use Rattle.kc_table_moves.specs.declared.atoms.Held.{Held}
 use Rattle.kc_table_moves.specs.declared.atoms.Stop.{Stop}
 use Rattle.kc_table_moves.specs.declared.atoms.StopAt.TheVariants as stop
@@ -28,4 +28,4 @@ returns-then-number-old-clause-err g c =
     let is : c.stop_at.result ≡ e = c.stop_at.ensures ∙ (λ i. record { at = stop.Take; line = 0; made = made i; held = c.aimed_at-held.ensures i; number = n }) in
     let stood = w.world.control s.first in
     let other = λ (p : stood.generation ≡ generation) (q : stood.holds ≡ 0). c.if-number-old.true (sym w.found ∙ (λ i. p i * 2 ^ 24 + q i) ∙ sym c.pack-old.ensures) in
-    subst (Stopped start r token me) (sym is) (stops_behind start r token me e n refl w (take_rests s r.mode r.lines.now generation stood other))
+    subst (Paused start r token me) (sym is) (stops_behind start r token me e n refl w (take_rests s r.mode r.lines.now generation stood other))
