@@ -1,6 +1,7 @@
 //! A whole task in one call, by the same steps: the seat is written once.
 
 ghost use Rattle.std.specs.Prelude.{◌≡◌, ◌⊎◌, ◌≤◌, ◌<◌, ℕ, true, false, length, IfOk, IfErr, IfSome, IfNone, Some};
+ghost use Rattle.kc_table_layout.specs.declared.place.TheConstants.{LAST_BASE};
 ghost use Rattle.kc_model.specs.Word.{unpacked};
 ghost use Rattle.kc_model.specs.declared.word.Word.TheVariants.{Plain};
 ghost use Rattle.kc_machine_words.specs.declared.access.Found.TheVariants as found;
@@ -167,7 +168,7 @@ fn look_on(seat: &mut Seat, loc: Loc, word: Word)
 // The footprint is not read: it names the task.
 #[inline(always)]
 fn run_lines<C: Chain>(run: &Run, token: &mut Token, _footprint: &Footprint) -> Result<Ended, Stop>
-    requires base { run.now.base ≤ 1048576 }
+    requires base { run.now.base ≤ LAST_BASE }
     requires few { length run.now.lines.now ≤ 64 }
     requires on { On C.start run.now token.old.table_id token.old.me true (seat_in run.now (first_point run.now.seat.now)) }
     ensures ok { IfOk result (λ e. On C.start run.now token.new.table_id token.new.me false (seat_ended run.now.seat.now e)) }
