@@ -1,6 +1,7 @@
 //! A whole task in one call, by the same steps: the seat is written once.
 
 ghost use Rattle.std.specs.Prelude.{◌≡◌, ◌⊎◌, ◌≤◌, ◌<◌, ℕ, true, false, length, IfOk, IfErr, IfSome, IfNone, Some};
+ghost use Rattle.kc_table_layout.specs.declared.place.TheConstants.{LAST_BASE};
 ghost use Rattle.kc_model.specs.Word.{unpacked};
 ghost use Rattle.kc_model.specs.declared.word.Word.TheVariants.{Plain};
 ghost use Rattle.kc_machine_words.specs.declared.access.Found.TheVariants as found;
@@ -13,7 +14,7 @@ ghost use Rattle.kc_machine.specs.Seats.{answer_of, begun, is_idle};
 ghost use Rattle.kc_table_layout.specs.declared.change.Change.TheVariants as change;
 ghost use Rattle.kc_table_moves.specs.Rule.{Moved, Ready};
 ghost use Rattle.kc_table_moves.specs.Views.{KnowsReads};
-ghost use Rattle.kc_table_moves.specs.Straight.{Aims, Here, IsAside, On, Ran, StandsAt, Stopped, found_of, is_plain, point_of, seat_ended, seat_in};
+ghost use Rattle.kc_table_moves.specs.Straight.{Aims, Here, IsAside, IsOf, IsOnward, On, Paused, Ran, StandsAt, found_of, is_plain, point_of, seat_ended, seat_in};
 
 use crate::seat::KcSeat;
 use crate::table::KcTable;
@@ -23,7 +24,8 @@ use kc_machine_words::{Found, Mode};
 use kc_model::{Footprint, Loc, Seen, Word};
 use kc_table_layout::{base_at, location_at, shown};
 use kc_table_moves::{
-    Asks, Chain, Ended, MOST_LOADS, Run, Stop, Token, Words, is_plain, load, peek, run_commit,
+    Asks, Chain, Ended, MOST_LOADS, Run, Stop, Token, Words, is_plain, load, peek, run_apart,
+    run_commit,
 };
 use std::marker::Brand;
 
@@ -93,7 +95,11 @@ impl KcTable {
         seat.began = false;
         match ran {
             Ok(ended) => end_commit(&mut seat.machine, ended),
-            Err(stop) => stand(&mut seat.machine, mode, lines, stop),
+            Err(stop) => {
+                let base = base_at(self.locations);
+                let KcSeat { token, machine, .. } = seat;
+                go_on::<Brand>(&self.table.shared, base, token, machine, mode, lines, stop);
+            }
         }
     }
 }
@@ -167,11 +173,11 @@ fn look_on(seat: &mut Seat, loc: Loc, word: Word)
 // The footprint is not read: it names the task.
 #[inline(always)]
 fn run_lines<C: Chain>(run: &Run, token: &mut Token, _footprint: &Footprint) -> Result<Ended, Stop>
-    requires base { run.now.base ≤ 1048576 }
+    requires base { run.now.base ≤ LAST_BASE }
     requires few { length run.now.lines.now ≤ 64 }
     requires on { On C.start run.now token.old.table_id token.old.me true (seat_in run.now (first_point run.now.seat.now)) }
     ensures ok { IfOk result (λ e. On C.start run.now token.new.table_id token.new.me false (seat_ended run.now.seat.now e)) }
-    ensures err { IfErr result (λ e. Stopped C.start run.now token.new.table_id token.new.me e) }
+    ensures err { IfErr result (λ e. Paused C.start run.now token.new.table_id token.new.me e) }
 {
     run_commit::<C>(run, token)
 }
@@ -184,8 +190,6 @@ fn end_commit(seat: &mut Seat, ended: Ended)
 }
 
 // Writes the seat where its commit has come to.
-#[cold]
-#[inline(never)]
 fn stand(seat: &mut Seat, mode: Mode, lines: &[Line], stop: Stop)
     requires { length lines.now ≤ 64 }
     ensures { StandsAt seat.old mode lines.now (point_of stop) (found_of stop.at stop.number) seat.new }
@@ -194,5 +198,37 @@ fn stand(seat: &mut Seat, mode: Mode, lines: &[Line], stop: Stop)
     if let Some(number) = stop.found() {
         let access = seat.access();
         seat.answer(&shown(&access, number));
+    }
+}
+
+// Goes on where a commit has paused, and writes the seat where it has ended or stops. What is said holds of any run of these
+// parts, since the run of the commit itself isn't here.
+#[cold]
+#[inline(never)]
+fn go_on<C: Chain>(
+    words: &Words,
+    base: usize,
+    token: &mut Token,
+    seat: &mut Seat,
+    mode: Mode,
+    lines: &[Line],
+    stop: Stop,
+)
+    requires base { base ≤ LAST_BASE }
+    requires few { length lines.now ≤ 64 }
+    requires paused { (r : Run) → IsOf r words.now.key words.now.table_id base seat.old mode lines.now → Paused C.start r token.old.table_id token.old.me stop }
+    ensures on { (r : Run) → IsOf r words.now.key words.now.table_id base seat.old mode lines.now → On C.start r token.new.table_id token.new.me false seat.new }
+    ensures onward { IsOnward seat.new }
+{
+    let run = Run {
+        words,
+        seat,
+        mode,
+        lines,
+        base,
+    };
+    match run_apart::<C>(&run, token, stop) {
+        Ok(ended) => end_commit(seat, ended),
+        Err(stop) => stand(seat, mode, lines, stop),
     }
 }

@@ -1,6 +1,7 @@
 //! What is left of a table when all seats came back.
 
 ghost use Rattle.std.specs.Prelude.{◌≡◌, ◌<◌, ◌≤◌, ℕ, true, All, IfErr, IfOk, get_or, length, map, slice_get};
+ghost use Rattle.kc_model.specs.declared.plain_store.TheConstants.{MOST_LOCATIONS};
 ghost use Rattle.std.specs.Mem.Slots.{IsFull, slots_items, slots_len};
 ghost use Rattle.kc_table_layout.specs.Cells.{base_of};
 ghost use Rattle.kc_model.specs.declared.footprint.Seen.{Seen};
@@ -127,7 +128,7 @@ pub struct CloseRefused {
 // What the words of each location say.
 fn read_words(words: &atomic_table::Closed<(), Global>, seen: &mut [Seen])
     requires words { IsFull words.now.words × (base_of (length seen.old) ≤ slots_len words.now.words) }
-    requires few { length seen.old ≤ 65536 }
+    requires few { length seen.old ≤ MOST_LOCATIONS }
     ensures size { length seen.new ≡ length seen.old }
     ensures seen { (l : ℕ) (d : Seen) → l < length seen.old → get_or seen.new l d ≡ seen_in (slots_items words.now.words) l }
 {

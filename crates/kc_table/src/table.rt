@@ -1,6 +1,8 @@
 //! The table.
 
 ghost use Rattle.std.specs.Prelude.{◌≡◌, ◌≤◌, ◌<◌, ◌↔◌, ◌⊎◌, true, false, length, replicate, All, IfOk, Err};
+ghost use Rattle.kc_machine.specs.declared.machine.TheConstants.{MOST_CALLERS};
+ghost use Rattle.kc_model.specs.declared.plain_store.TheConstants.{MOST_LOCATIONS};
 ghost use Rattle.kc_machine.specs.Seats.{is_idle};
 ghost use Rattle.kc_table_moves.specs.Views.{Joined, OpensAt, Signalled, Stepped, opened_seats};
 
@@ -25,6 +27,7 @@ pub struct KcTable {
 impl Model for KcTable {
     ghost use Rattle.std.specs.Prelude.{◌≡◌, ◌≤◌};
     ghost use Rattle.kc_table_layout.specs.Cells.{size_of};
+    ghost use Rattle.kc_model.specs.declared.plain_store.TheConstants.{MOST_LOCATIONS};
     ghost use Rattle.kc_machine.specs.Machine.{pool_size};
     ghost use Rattle.kc_table_moves.specs.Views.{TableView};
 
@@ -32,7 +35,7 @@ impl Model for KcTable {
 
     ghost view = { λ t. record { table = t.table.shared.table_id; origin = t.table.shared.key } };
 
-    ghost invariant = { λ t. (t.locations ≡ t.table.shared.key.locations) × (t.table.shared.key.locations ≤ 65536) × (t.table.shared.table_id.words ≡ size_of t.table.shared.key.locations (pool_size t.table.shared.key.callers)) × (t.table.shared.table_id.slots ≡ 0) };
+    ghost invariant = { λ t. (t.locations ≡ t.table.shared.key.locations) × (t.table.shared.key.locations ≤ MOST_LOCATIONS) × (t.table.shared.table_id.words ≡ size_of t.table.shared.key.locations (pool_size t.table.shared.key.callers)) × (t.table.shared.table_id.slots ≡ 0) };
 }
 
 impl KcTable {
@@ -49,8 +52,8 @@ impl KcTable {
         callers: u32,
     ) -> Result<(KcTable, Vec<KcSeat>), OpenError>
         ensures ok { IfOk result (λ t. OpensAt values.now (replicate (length values.now) 0) callers 0 t.0 × (t.1.items ≡ opened_seats t.0 0 callers)) }
-        ensures locations { (result ≡ Err OpenError.TooManyLocs) ↔ (65536 < length values.now) }
-        ensures callers { (result ≡ Err OpenError.TooManyCallers) ↔ ((length values.now ≤ 65536) × ((callers ≡ 0) ⊎ (64 < callers))) }
+        ensures locations { (result ≡ Err OpenError.TooManyLocs) ↔ (MOST_LOCATIONS < length values.now) }
+        ensures callers { (result ≡ Err OpenError.TooManyCallers) ↔ ((length values.now ≤ MOST_LOCATIONS) × ((callers ≡ 0) ⊎ (MOST_CALLERS < callers))) }
     {
         if values.len() > MOST_LOCATIONS {
             return Err(OpenError::TooManyLocs);
@@ -79,8 +82,8 @@ impl KcTable {
         requires versions { (length versions.now ≡ length values.now) × All (λ v. v ≤ LAST_VERSION) versions.now }
         requires generation { generation ≤ LAST_GENERATION }
         ensures ok { IfOk result (λ t. OpensAt values.now versions.now callers generation t.0 × (t.1.items ≡ opened_seats t.0 0 callers)) }
-        ensures locations { (result ≡ Err OpenError.TooManyLocs) ↔ (65536 < length values.now) }
-        ensures callers { (result ≡ Err OpenError.TooManyCallers) ↔ ((length values.now ≤ 65536) × ((callers ≡ 0) ⊎ (64 < callers))) }
+        ensures locations { (result ≡ Err OpenError.TooManyLocs) ↔ (MOST_LOCATIONS < length values.now) }
+        ensures callers { (result ≡ Err OpenError.TooManyCallers) ↔ ((length values.now ≤ MOST_LOCATIONS) × ((callers ≡ 0) ⊎ (MOST_CALLERS < callers))) }
     {
         if values.len() > MOST_LOCATIONS {
             return Err(OpenError::TooManyLocs);

@@ -1,6 +1,7 @@
 //! What an access makes of the 64 bits of its word, and what a number says that stood there.
 
 ghost use Rattle.std.specs.Prelude.{◌≡◌, ◌≤◌};
+ghost use Rattle.kc_table_layout.specs.declared.place.TheConstants.{LAST_BASE};
 ghost use Rattle.kc_machine_words.specs.Packing.{OwnerFits, FirstFits, SecondFits, StatusFits};
 ghost use Rattle.kc_model.specs.Word.{IsPackable};
 ghost use Rattle.kc_machine.specs.Machine.{World, found_at};
@@ -138,7 +139,7 @@ fn bits_change(bits: Bits) -> Change
 /// The word that an access touches, in a table whose descriptors begin at `base`, and what it makes of it.
 #[inline(always)]
 pub fn aim_at(access: &Access, base: usize) -> Aim
-    requires base { base ≤ 1048576 }
+    requires base { base ≤ LAST_BASE }
     requires fits { AccessFits access.now }
     ensures { result ≡ aim_of base access.now }
 {

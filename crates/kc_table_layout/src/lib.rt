@@ -12,6 +12,6 @@ pub use laws::{
 };
 pub use open::open_words;
 pub use place::{
-    awaiters_at, base_at, control_at, first_at, location_at, owner_at, second_at, signal_at,
-    size_at, status_at,
+    LAST_BASE, awaiters_at, base_at, control_at, first_at, location_at, owner_at, second_at,
+    signal_at, size_at, status_at,
 };

@@ -1,6 +1,8 @@
 //! The words of a table as it opens.
 
 ghost use Rattle.std.specs.Prelude.{◌≡◌, ◌≤◌, IfOk, length, All};
+ghost use Rattle.kc_machine.specs.declared.machine.TheConstants.{MOST_CALLERS};
+ghost use Rattle.kc_model.specs.declared.plain_store.TheConstants.{MOST_LOCATIONS};
 ghost use Rattle.kc_machine.specs.Machine.{opened, pool_size};
 ghost use Rattle.kc_table_layout.specs.Cells.{Stores};
 ghost use Rattle.kc_table_layout.specs.Opened.{opening_at};
@@ -22,7 +24,7 @@ pub fn open_words(
     callers: u32,
     generation: u64,
 ) -> Result<Vec<u64>, AllocError>
-    requires shape { (length versions.now ≡ length values.now) × (length values.now ≤ 65536) × (callers ≤ 64) }
+    requires shape { (length versions.now ≡ length values.now) × (length values.now ≤ MOST_LOCATIONS) × (callers ≤ MOST_CALLERS) }
     requires versions { All (λ v. v ≤ LAST_VERSION) versions.now }
     requires generation { generation ≤ LAST_GENERATION }
     ensures { IfOk result (λ ws. Stores (length values.now) (pool_size callers) (opened (opening_at values.now versions.now callers generation)).world ws.items) }

@@ -2,6 +2,8 @@
 //! descriptors lie at multiples of eight.
 
 ghost use Rattle.std.specs.Prelude.{◌≡◌, ◌≤◌};
+ghost use Rattle.kc_table_layout.specs.declared.place.TheConstants.{LAST_BASE};
+ghost use Rattle.kc_model.specs.declared.plain_store.TheConstants.{MOST_LOCATIONS};
 ghost use Rattle.kc_table_layout.specs.Cells.{base_of, size_of, place};
 ghost use Rattle.kc_table_layout.specs.Cells.Cell.{word, awaiters, control, status, owner, first, second, signal};
 
@@ -16,10 +18,13 @@ const LOCATIONS: usize = 512;
 // Words of a descriptor: control, status, owner, then two to a line.
 const DESCRIPTOR: usize = 136;
 
+/// Where the descriptors may begin at most. Those of every table begin before it, and sums of places stay in their type.
+pub const LAST_BASE: usize = 1_048_576;
+
 /// Where the descriptors begin, in a table of so many locations.
 #[inline(always)]
 pub fn base_at(locations: usize) -> usize
-    requires { locations ≤ 65536 }
+    requires { locations ≤ MOST_LOCATIONS }
     ensures { result ≡ base_of locations }
 {
     LOCATIONS + LINE * locations
@@ -28,7 +33,7 @@ pub fn base_at(locations: usize) -> usize
 /// How many words a table of so many locations and descriptors has.
 #[inline(always)]
 pub fn size_at(locations: usize, descriptors: usize) -> usize
-    requires { (locations ≤ 65536) × (descriptors ≤ 65536) }
+    requires { (locations ≤ MOST_LOCATIONS) × (descriptors ≤ 65536) }
     ensures { result ≡ size_of locations descriptors }
 {
     base_at(locations) + DESCRIPTOR * descriptors
@@ -61,7 +66,7 @@ pub fn awaiters_at(loc: Loc) -> usize
 /// The control of a descriptor.
 #[inline(always)]
 pub fn control_at(base: usize, descriptor: u32) -> usize
-    requires { base ≤ 1048576 }
+    requires { base ≤ LAST_BASE }
     ensures { result ≡ place base (control descriptor) }
 {
     base + DESCRIPTOR * descriptor as usize
@@ -70,7 +75,7 @@ pub fn control_at(base: usize, descriptor: u32) -> usize
 /// The status of a descriptor.
 #[inline(always)]
 pub fn status_at(base: usize, descriptor: u32) -> usize
-    requires { base ≤ 1048576 }
+    requires { base ≤ LAST_BASE }
     ensures { result ≡ place base (status descriptor) }
 {
     control_at(base, descriptor) + 1
@@ -79,7 +84,7 @@ pub fn status_at(base: usize, descriptor: u32) -> usize
 /// The owner of a descriptor.
 #[inline(always)]
 pub fn owner_at(base: usize, descriptor: u32) -> usize
-    requires { base ≤ 1048576 }
+    requires { base ≤ LAST_BASE }
     ensures { result ≡ place base (owner descriptor) }
 {
     control_at(base, descriptor) + 2
@@ -88,7 +93,7 @@ pub fn owner_at(base: usize, descriptor: u32) -> usize
 /// The first word of a line of a descriptor.
 #[inline(always)]
 pub fn first_at(base: usize, descriptor: u32, line: u32) -> usize
-    requires { base ≤ 1048576 }
+    requires { base ≤ LAST_BASE }
     ensures { result ≡ place base (first descriptor line) }
 {
     control_at(base, descriptor) + 3 + 2 * line as usize
@@ -97,7 +102,7 @@ pub fn first_at(base: usize, descriptor: u32, line: u32) -> usize
 /// The second word of a line of a descriptor.
 #[inline(always)]
 pub fn second_at(base: usize, descriptor: u32, line: u32) -> usize
-    requires { base ≤ 1048576 }
+    requires { base ≤ LAST_BASE }
     ensures { result ≡ place base (second descriptor line) }
 {
     control_at(base, descriptor) + 4 + 2 * line as usize

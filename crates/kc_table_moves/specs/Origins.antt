@@ -1,5 +1,7 @@
 -- The opening of a table, as its words.
 use Rattle.std.specs.Prelude.{◌≤◌, ℕ, List, slice_index}
+use Rattle.kc_model.specs.declared.plain_store.TheConstants.{MOST_LOCATIONS}
+use Rattle.kc_machine.specs.declared.machine.TheConstants.{MOST_CALLERS}
 use Rattle.kc_machine.specs.Machine.{Opening, opened, pool_size}
 use Rattle.kc_machine_words.specs.declared.words.TheConstants.{LAST_GENERATION}
 use Rattle.kc_model.specs.Word.{unpacked}
@@ -37,7 +39,7 @@ opening_of q = record {
 
 -- its words are those of that opening
 pub record Opens (q : Origin) : Type 0 where
-  pub locations : q.locations ≤ 65536
-  pub callers : q.callers ≤ 64
+  pub locations : q.locations ≤ MOST_LOCATIONS
+  pub callers : q.callers ≤ MOST_CALLERS
   pub generation : q.generation ≤ LAST_GENERATION
   pub words : Stores q.locations (pool_size q.callers) (opened (opening_of q)).world q.words

@@ -1,5 +1,6 @@
 -- A task that runs on while its seat lies as it was.
 use Rattle.std.specs.Prelude.{◌≡◌, ◌==◌, ◌&&◌, ◌⊎◌, nat_lt, ℕ, ◌≤◌, List, Bool, true, false, Option, None, Some, slice_get}
+use Rattle.kc_model.specs.declared.plain_store.TheConstants.{MOST_LOCATIONS}
 use Rattle.atomic_table.specs.Seated.{TableId}
 use Rattle.atomic_table.specs.Table.{Me}
 use Rattle.kc_machine_steps.specs.declared.line.Line.{Line}
@@ -84,7 +85,7 @@ pub record Here (q : Origin) (z : TableId) (base : ℕ) (token : TableId) (me : 
   pub table : token ≡ z
   pub origin : me.0.origin ≡ q
   pub from : base ≡ base_of q.locations
-  pub few : q.locations ≤ 65536
+  pub few : q.locations ≤ MOST_LOCATIONS
   pub size : z.words ≡ size_of q.locations (pool_size q.callers)
 
 -- from `start` the seat has come by steps to where it stands as s; `began`: none of them has shown its task yet

@@ -2,6 +2,7 @@
 //! Its seat is written once, where it ends, or where it would scan again, aid another's commit or signal.
 
 ghost use Rattle.std.specs.Prelude.{◌≡◌, ◌≤◌, ◌<◌, ◌+◌, false, true, length, IfOk, IfErr, IfSome, IfNone, Some, slice_get};
+ghost use Rattle.kc_table_layout.specs.declared.place.TheConstants.{LAST_BASE};
 ghost use Rattle.kc_model.specs.Word.{IsPackable, packed, unpacked};
 ghost use Rattle.kc_machine_words.specs.declared.words.Phase.TheVariants.{Failed, Succeeded};
 ghost use Rattle.kc_machine_steps.specs.declared.line.Pick.TheVariants.{Put};
@@ -110,7 +111,7 @@ fn is_free(control: Control) -> bool
 // The scan of the seat's first descriptor: its generation.
 #[inline(always)]
 fn scan<C: Chain>(run: &Run, token: &mut Token) -> Result<u64, Stop>
-    requires base { run.now.base ≤ 1048576 }
+    requires base { run.now.base ≤ LAST_BASE }
     requires on { On C.start run.now token.old.table_id token.old.me true (seat_in run.now (first_point run.now.seat.now)) }
     ensures ok { IfOk result (λ g. (g < LAST_GENERATION) × On C.start run.now token.new.table_id token.new.me false (seat_in run.now (at_take run.now.seat.now g))) }
     ensures err { IfErr result (λ e. Paused C.start run.now token.new.table_id token.new.me e) }
@@ -136,7 +137,7 @@ fn scan<C: Chain>(run: &Run, token: &mut Token) -> Result<u64, Stop>
 // The take of the seat's first descriptor.
 #[inline(always)]
 fn take<C: Chain>(run: &Run, token: &mut Token, generation: u64) -> Result<Held, Stop>
-    requires base { run.now.base ≤ 1048576 }
+    requires base { run.now.base ≤ LAST_BASE }
     requires generation { generation < LAST_GENERATION }
     requires on { On C.start run.now token.old.table_id token.old.me false (seat_in run.now (at_take run.now.seat.now generation)) }
     ensures ok { IfOk result (λ h. On C.start run.now token.new.table_id token.new.me false (seat_in run.now (at_own (one_more (one_more run.now.seat.now.made)) h step.FillOwner))) }
@@ -179,7 +180,7 @@ fn take<C: Chain>(run: &Run, token: &mut Token, generation: u64) -> Result<Held,
 // The owner word.
 #[inline(always)]
 fn fill_owner<C: Chain>(run: &Run, token: &mut Token, made: u64, held: Held)
-    requires base { run.now.base ≤ 1048576 }
+    requires base { run.now.base ≤ LAST_BASE }
     requires few { length run.now.lines.now ≤ 64 }
     requires on { On C.start run.now token.old.table_id token.old.me false (seat_in run.now (at_own made held step.FillOwner)) }
     ensures { On C.start run.now token.new.table_id token.new.me false (seat_in run.now (at_own (one_more made) held (fill_next run.now.lines.now 0))) }
@@ -205,7 +206,7 @@ fn ranged_line(line: Line)
 // The first word of a line.
 #[inline(always)]
 fn fill_first<C: Chain>(run: &Run, token: &mut Token, made: u64, held: Held, index: u32, line: Line)
-    requires base { run.now.base ≤ 1048576 }
+    requires base { run.now.base ≤ LAST_BASE }
     requires line { slice_get run.now.lines.now index ≡ Some line }
     requires on { On C.start run.now token.old.table_id token.old.me false (seat_in run.now (at_own made held (step.FillFirst index))) }
     ensures { On C.start run.now token.new.table_id token.new.me false (seat_in run.now (at_own (one_more made) held (step.FillSecond index))) }
@@ -227,7 +228,7 @@ fn fill_second<C: Chain>(
     index: u32,
     line: Line,
 )
-    requires base { run.now.base ≤ 1048576 }
+    requires base { run.now.base ≤ LAST_BASE }
     requires line { slice_get run.now.lines.now index ≡ Some line }
     requires on { On C.start run.now token.old.table_id token.old.me false (seat_in run.now (at_own made held (step.FillSecond index))) }
     ensures { On C.start run.now token.new.table_id token.new.me false (seat_in run.now (at_own (one_more made) held (fill_next run.now.lines.now (after_line index)))) }
@@ -242,7 +243,7 @@ fn fill_second<C: Chain>(
 // The words of all lines; how many steps were made then.
 #[inline(always)]
 fn fills<C: Chain>(run: &Run, token: &mut Token, made: u64, held: Held) -> u64
-    requires base { run.now.base ≤ 1048576 }
+    requires base { run.now.base ≤ LAST_BASE }
     requires few { length run.now.lines.now ≤ 64 }
     requires on { On C.start run.now token.old.table_id token.old.me false (seat_in run.now (at_own made held (fill_next run.now.lines.now 0))) }
     ensures { On C.start run.now token.new.table_id token.new.me false (seat_in run.now (at_own result held step.Start)) }
@@ -260,7 +261,7 @@ fn fills<C: Chain>(run: &Run, token: &mut Token, made: u64, held: Held) -> u64
 // The status.
 #[inline(always)]
 fn start<C: Chain>(run: &Run, token: &mut Token, made: u64, held: Held)
-    requires base { run.now.base ≤ 1048576 }
+    requires base { run.now.base ≤ LAST_BASE }
     requires on { On C.start run.now token.old.table_id token.old.me false (seat_in run.now (at_own made held step.Start)) }
     ensures { On C.start run.now token.new.table_id token.new.me false (seat_in run.now (at_own (one_more made) held (step.Pass (from_install run.now.mode run.now.lines.now 0)))) }
 {
@@ -460,7 +461,7 @@ fn decide<C: Chain>(
     held: Held,
     phase: Phase,
 ) -> Option<u64>
-    requires base { run.now.base ≤ 1048576 }
+    requires base { run.now.base ≤ LAST_BASE }
     requires on { On C.start run.now token.old.table_id token.old.me false (seat_in run.now (at_own made held (step.Pass (pass.Decide phase)))) }
     ensures none { IfNone result (On C.start run.now token.new.table_id token.new.me false (seat_in run.now (at_own (one_more made) held (after_own_pass (intent_of run.now.mode run.now.lines.now) (from_release run.now.mode run.now.lines.now 0 phase))))) }
     ensures some { IfSome result (λ n. Went C.start run.now token.new.table_id token.new.me (seat_in run.now (at_own made held (step.Pass (pass.Decide phase)))) n) }
@@ -665,7 +666,7 @@ fn wakes<C: Chain>(run: &Run, token: &mut Token, made: u64, held: Held) -> Woken
 // The drop of the descriptor, with which the commit ends.
 #[inline(always)]
 fn drop_own<C: Chain>(run: &Run, token: &mut Token, made: u64, held: Held, phase: Phase) -> Ended
-    requires base { run.now.base ≤ 1048576 }
+    requires base { run.now.base ≤ LAST_BASE }
     requires on { On C.start run.now token.old.table_id token.old.me false (seat_in run.now (at_own made held (step.Drop phase))) }
     ensures { On C.start run.now token.new.table_id token.new.me false (seat_ended run.now.seat.now result) }
 {
@@ -682,7 +683,7 @@ fn drop_own<C: Chain>(run: &Run, token: &mut Token, made: u64, held: Held, phase
 // The drop, where nobody is owed a signal.
 #[inline(always)]
 fn end<C: Chain>(run: &Run, token: &mut Token, woken: Woken, held: Held) -> Result<Ended, Stop>
-    requires base { run.now.base ≤ 1048576 }
+    requires base { run.now.base ≤ LAST_BASE }
     requires on { On C.start run.now token.old.table_id token.old.me false (seat_in run.now (at_own woken.made held (owed_next woken.owed))) }
     ensures ok { IfOk result (λ e. On C.start run.now token.new.table_id token.new.me false (seat_ended run.now.seat.now e)) }
     ensures err { IfErr result (λ e. (e.at ≡ pauses.Signal) × Stopped C.start run.now token.new.table_id token.new.me e) }
@@ -697,7 +698,7 @@ fn end<C: Chain>(run: &Run, token: &mut Token, woken: Woken, held: Held) -> Resu
 // From a decision for success on.
 #[inline(always)]
 fn succeed<C: Chain>(run: &Run, token: &mut Token, made: u64, held: Held) -> Result<Ended, Stop>
-    requires base { run.now.base ≤ 1048576 }
+    requires base { run.now.base ≤ LAST_BASE }
     requires few { length run.now.lines.now ≤ 64 }
     requires on { On C.start run.now token.old.table_id token.old.me false (seat_in run.now (at_own made held (after_own_pass (intent_of run.now.mode run.now.lines.now) (from_release run.now.mode run.now.lines.now 0 Succeeded)))) }
     ensures ok { IfOk result (λ e. On C.start run.now token.new.table_id token.new.me false (seat_ended run.now.seat.now e)) }
@@ -716,7 +717,7 @@ fn settle<C: Chain>(
     held: Held,
     phase: Phase,
 ) -> Result<Ended, Stop>
-    requires base { run.now.base ≤ 1048576 }
+    requires base { run.now.base ≤ LAST_BASE }
     requires few { length run.now.lines.now ≤ 64 }
     requires on { On C.start run.now token.old.table_id token.old.me false (seat_in run.now (at_own made held (after_own_pass (intent_of run.now.mode run.now.lines.now) (from_release run.now.mode run.now.lines.now 0 phase)))) }
     ensures ok { IfOk result (λ e. On C.start run.now token.new.table_id token.new.me false (seat_ended run.now.seat.now e)) }
@@ -738,7 +739,7 @@ fn decided<C: Chain>(
     phase: Phase,
     number: u64,
 ) -> Result<Ended, Stop>
-    requires base { run.now.base ≤ 1048576 }
+    requires base { run.now.base ≤ LAST_BASE }
     requires few { length run.now.lines.now ≤ 64 }
     requires went { Went C.start run.now token.old.table_id token.old.me (seat_in run.now (at_own made held (step.Pass (pass.Decide phase)))) number }
     ensures ok { IfOk result (λ e. On C.start run.now token.new.table_id token.new.me false (seat_ended run.now.seat.now e)) }
@@ -756,7 +757,7 @@ fn fail<C: Chain>(
     held: Held,
     line: u32,
 ) -> Result<Ended, Stop>
-    requires base { run.now.base ≤ 1048576 }
+    requires base { run.now.base ≤ LAST_BASE }
     requires few { length run.now.lines.now ≤ 64 }
     requires on { On C.start run.now token.old.table_id token.old.me false (seat_in run.now (at_own made held (step.Pass (pass.Decide (Failed line))))) }
     ensures ok { IfOk result (λ e. On C.start run.now token.new.table_id token.new.me false (seat_ended run.now.seat.now e)) }
@@ -777,7 +778,7 @@ fn not_installed<C: Chain>(
     held: Held,
     surprise: Surprise,
 ) -> Result<Ended, Stop>
-    requires base { run.now.base ≤ 1048576 }
+    requires base { run.now.base ≤ LAST_BASE }
     requires few { length run.now.lines.now ≤ 64 }
     requires found { Surprised C.start run.now token.old.table_id token.old.me held pass.Install surprise }
     requires foreign { IsForeign held surprise }
@@ -798,7 +799,7 @@ fn not_checked<C: Chain>(
     held: Held,
     surprise: Surprise,
 ) -> Result<Ended, Stop>
-    requires base { run.now.base ≤ 1048576 }
+    requires base { run.now.base ≤ LAST_BASE }
     requires few { length run.now.lines.now ≤ 64 }
     requires found { Surprised C.start run.now token.old.table_id token.old.me held pass.Check surprise }
     ensures ok { IfOk result (λ e. On C.start run.now token.new.table_id token.new.me false (seat_ended run.now.seat.now e)) }
@@ -826,7 +827,7 @@ fn surprise_of(stop: &Stop) -> Surprise
 ///
 /// This is apart from `run_commit` for speed: what it answers lies in memory, and would be cleared there before each commit.
 pub fn run_apart<C: Chain>(run: &Run, token: &mut Token, stop: Stop) -> Result<Ended, Stop>
-    requires base { run.now.base ≤ 1048576 }
+    requires base { run.now.base ≤ LAST_BASE }
     requires few { length run.now.lines.now ≤ 64 }
     requires paused { Paused C.start run.now token.old.table_id token.old.me stop }
     ensures ok { IfOk result (λ e. On C.start run.now token.new.table_id token.new.me false (seat_ended run.now.seat.now e)) }
@@ -853,7 +854,7 @@ fn pause(at: StopAt, held: Held, surprise: Surprise) -> Stop
 // The pass over the lines, and what follows.
 #[inline(always)]
 fn pass<C: Chain>(run: &Run, token: &mut Token, made: u64, held: Held) -> Result<Ended, Stop>
-    requires base { run.now.base ≤ 1048576 }
+    requires base { run.now.base ≤ LAST_BASE }
     requires few { length run.now.lines.now ≤ 64 }
     requires on { On C.start run.now token.old.table_id token.old.me false (seat_in run.now (at_own made held (step.Pass (from_install run.now.mode run.now.lines.now 0)))) }
     ensures ok { IfOk result (λ e. On C.start run.now token.new.table_id token.new.me false (seat_ended run.now.seat.now e)) }
@@ -876,7 +877,7 @@ fn pass<C: Chain>(run: &Run, token: &mut Token, made: u64, held: Held) -> Result
 // From the take on.
 #[inline(always)]
 fn own<C: Chain>(run: &Run, token: &mut Token, held: Held) -> Result<Ended, Stop>
-    requires base { run.now.base ≤ 1048576 }
+    requires base { run.now.base ≤ LAST_BASE }
     requires few { length run.now.lines.now ≤ 64 }
     requires on { On C.start run.now token.old.table_id token.old.me false (seat_in run.now (at_own (one_more (one_more run.now.seat.now.made)) held step.FillOwner)) }
     ensures ok { IfOk result (λ e. On C.start run.now token.new.table_id token.new.me false (seat_ended run.now.seat.now e)) }
@@ -892,7 +893,7 @@ fn own<C: Chain>(run: &Run, token: &mut Token, held: Held) -> Result<Ended, Stop
 /// Runs a commit on from its first scan: where it succeeds, or where it pauses, from where `run_apart` goes on.
 #[inline(always)]
 pub fn run_commit<C: Chain>(run: &Run, token: &mut Token) -> Result<Ended, Stop>
-    requires base { run.now.base ≤ 1048576 }
+    requires base { run.now.base ≤ LAST_BASE }
     requires few { length run.now.lines.now ≤ 64 }
     requires on { On C.start run.now token.old.table_id token.old.me true (seat_in run.now (first_point run.now.seat.now)) }
     ensures ok { IfOk result (λ e. On C.start run.now token.new.table_id token.new.me false (seat_ended run.now.seat.now e)) }
