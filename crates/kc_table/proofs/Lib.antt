@@ -6,4 +6,3 @@ pub mod Waits
 pub mod Read
 pub mod Closing
 mod Wholes
-mod Alike

@@ -1,6 +1,6 @@
 -- A whole task in one call.
 use Rattle.std.proofs.lemmas.List.{length-map}
-use Rattle.std.proofs.Common.{◌≡◌, ℕ, ◌<◌, ◌≤◌, arith, Bool, true, false, if◌then◌else◌, List, length, map, Option, None, Some, refl, sym, ap, ◌∙◌, subst, inl}
+use Rattle.std.proofs.Common.{◌≡◌, ℕ, ◌≤◌, arith, Bool, true, false, List, length, Option, None, Some, refl, sym, ap, ◌∙◌, subst}
 use Rattle.atomic_table.specs.Seated.{TableId}
 use Rattle.atomic_table.specs.Table.{Me}
 use Rattle.kc_machine_words.specs.declared.words.Mode.{Mode}
@@ -8,14 +8,14 @@ use Rattle.kc_model.specs.Word.{IsPackable, packed}
 use Rattle.kc_model.specs.declared.footprint.Footprint.{Footprint}
 use Rattle.kc_model.specs.declared.footprint.Loc.{Loc}
 use Rattle.kc_model.specs.declared.word.Word.{Word}
-use Rattle.kc_model.specs.declared.word.Word.TheVariants.{Plain, Ref}
+use Rattle.kc_model.specs.declared.word.Word.TheVariants.{Ref}
 use Rattle.kc_machine_words.specs.declared.access.Access.TheVariants as access
 use Rattle.kc_machine_words.specs.declared.access.Found.TheVariants as found
 use Rattle.kc_machine_words.specs.declared.access.Touch.TheVariants as touch
 use Rattle.kc_machine_steps.specs.declared.line.Line.{Line}
 use Rattle.kc_machine_steps.specs.declared.task.Task.{Task}
 use Rattle.kc_machine_steps.specs.declared.task.Task.TheVariants as task
-use Rattle.kc_machine.specs.Machine.{World, run, found_at}
+use Rattle.kc_machine.specs.Machine.{run}
 use Rattle.kc_machine.specs.Points.{first_point, seat_at}
 use Rattle.kc_machine.specs.Schedules.{IsWellMadeTask}
 use Rattle.kc_machine.specs.Seats.{access_of, answer_of, begun, is_idle}
@@ -24,17 +24,16 @@ use Rattle.kc_machine_steps.specs.Lines.{line_of, lines_of}
 use Rattle.kc_table_layout.specs.Changes.{change_of, changed}
 use Rattle.kc_table_layout.specs.declared.change.Change.TheVariants as change
 use Rattle.kc_table.proofs.Begins.{ready_begun}
-use Rattle.kc_table_layout.specs.Cells.{CellFits, base_of, bits, cell_of, place}
+use Rattle.kc_table_layout.specs.Cells.{place}
 use Rattle.kc_table_layout.specs.Cells.Cell.{word}
-use Rattle.kc_table_moves.proofs.Allowed.{answered, ready_after}
+use Rattle.kc_table_moves.proofs.Allowed.{answered}
 use Rattle.kc_table_moves.proofs.Straights.{stepped_view, went_on}
 use Rattle.kc_table_moves.specs.Origins.{Origin, opening_of}
 use Rattle.kc_table_moves.specs.Rule.{number_of, past_of, Ready, Moved}
-use Rattle.kc_table_moves.specs.Straight.{StepsTo, here, further, Aims, Here, IsOnward, On, Ran, StandsAt, Stopped, StoppedAt, begun_at, found_of, point_of, seat_ended, seat_in}
-use Rattle.kc_table_moves.specs.Views.{SeatView, KnowsReads, Starts, Stepped, seen_as}
+use Rattle.kc_table_moves.specs.Straight.{StepsTo, here, further, Aims, Here, On, Ran, StandsAt, Stopped, StoppedAt, found_of, point_of, seat_in}
+use Rattle.kc_table_moves.specs.Views.{SeatView, KnowsReads, Starts, seen_as}
 use Rattle.kc_table_moves.specs.declared.atoms.Run.{Run}
 use Rattle.kc_table_moves.specs.declared.atoms.Stop.{Stop}
-use Rattle.kc_table_moves.specs.declared.straight.Ended.{Ended}
 use Rattle.kc_table_moves.specs.declared.view.View.{View}
 
 -- ---- the beginning
@@ -65,21 +64,12 @@ on_begins r z me began s u v t h ready shown st made knows e = record {
 
 -- ---- the end
 
-pub ran_on : (r : Run) (z y : TableId) (me later : Me Unit View) (began : Bool) (s u : Seat) (v : SeatView) (t : Task) → seen_as z me began s ≡ v → On (starts_as z me s t) r y later false u → Ran v t (seen_as y later false u)
-ran_on r z y me later began s u v t shown on = subst (λ x. Ran x t (seen_as y later false u)) shown (record { steps = on.steps; shown = refl })
-
 pub stands_on : (start : SeatView) (r : Run) (z : TableId) (me : Me Unit View) (e : Stop) (t : Seat) → Stopped start r z me e → StandsAt r.seat.now r.mode r.lines.now (point_of e) (found_of e.at e.number) t → On start r z me false t
 stands_on start r z me e t stopped stands = go (found_of e.at e.number) stopped.at stands
   where
     go : (o : Option ℕ) → StoppedAt start r z me (point_of e) o → StandsAt r.seat.now r.mode r.lines.now (point_of e) o t → On start r z me false t
     go None on is = subst (On start r z me false) (sym is) on
     go (Some n) w makes = went_on start r z me (seat_in r (point_of e)) t n w makes
-
-pub ends_onward : (s t : Seat) (e : Ended) → t ≡ seat_ended s e → IsOnward t
-ends_onward s t e is = subst IsOnward (sym is) (inl refl)
-
-pub stops_onward : (start : SeatView) (r : Run) (z : TableId) (me : Me Unit View) (e : Stop) (t : Seat) → Stopped start r z me e → StandsAt r.seat.now r.mode r.lines.now (point_of e) (found_of e.at e.number) t → IsOnward t
-stops_onward start r z me e t stopped stands = stopped.onward t stands
 
 -- ---- a look
 

@@ -13,8 +13,8 @@ ghost use Rattle.kc_machine.specs.Schedules.{IsWellMadeTask};
 ghost use Rattle.kc_machine.specs.Seats.{answer_of, begun, is_idle};
 ghost use Rattle.kc_table_layout.specs.declared.change.Change.TheVariants as change;
 ghost use Rattle.kc_table_moves.specs.Rule.{Moved, Ready};
-ghost use Rattle.kc_table_moves.specs.Views.{KnowsReads};
-ghost use Rattle.kc_table_moves.specs.Straight.{Aims, Here, IsAside, IsOf, IsOnward, On, Paused, Ran, StandsAt, found_of, is_plain, point_of, seat_ended, seat_in};
+ghost use Rattle.kc_table_moves.specs.Views.{KnowsReads, seen_as};
+ghost use Rattle.kc_table_moves.specs.Straight.{Aims, Here, IsAside, IsOf, IsOnward, On, Paused, Ran, StandsAt, StepsTo, found_of, is_plain, point_of, seat_ended, seat_in};
 
 use crate::seat::KcSeat;
 use crate::table::KcTable;
@@ -84,23 +84,17 @@ impl KcTable {
         ensures ran { Ran seat.old (Commit footprint.now mode) seat.new }
         ensures onward { (is_idle seat.new.seat.work ≡ true) ⊎ IsAside seat.new.seat }
     {
-        let run = Run {
-            words: &self.table.shared,
-            seat: &seat.machine,
+        let KcSeat { machine, token, .. } = seat;
+        commit_by::<Brand>(
+            &self.table.shared,
+            base_at(self.locations),
+            token,
+            machine,
+            footprint,
             mode,
             lines,
-            base: base_at(self.locations),
-        };
-        let ran = run_lines::<Brand>(&run, &mut seat.token, footprint);
+        );
         seat.began = false;
-        match ran {
-            Ok(ended) => end_commit(&mut seat.machine, ended),
-            Err(stop) => {
-                let base = base_at(self.locations);
-                let KcSeat { token, machine, .. } = seat;
-                go_on::<Brand>(&self.table.shared, base, token, machine, mode, lines, stop);
-            }
-        }
     }
 }
 
@@ -170,16 +164,35 @@ fn look_on(seat: &mut Seat, loc: Loc, word: Word)
     seat.answer(&Found::Word(word));
 }
 
-// The footprint is not read: it names the task.
+// A commit from its first scan to where the seat is written. The footprint is not read: it names the task.
 #[inline(always)]
-fn run_lines<C: Chain>(run: &Run, token: &mut Token, _footprint: &Footprint) -> Result<Ended, Stop>
-    requires base { run.now.base ≤ LAST_BASE }
-    requires few { length run.now.lines.now ≤ 64 }
-    requires on { On C.start run.now token.old.table_id token.old.me true (seat_in run.now (first_point run.now.seat.now)) }
-    ensures ok { IfOk result (λ e. On C.start run.now token.new.table_id token.new.me false (seat_ended run.now.seat.now e)) }
-    ensures err { IfErr result (λ e. Paused C.start run.now token.new.table_id token.new.me e) }
+fn commit_by<C: Chain>(
+    words: &Words,
+    base: usize,
+    token: &mut Token,
+    seat: &mut Seat,
+    _footprint: &Footprint,
+    mode: Mode,
+    lines: &[Line],
+)
+    requires base { base ≤ LAST_BASE }
+    requires few { length lines.now ≤ 64 }
+    requires on { (r : Run) → IsOf r words.now.key words.now.table_id base seat.old mode lines.now → On C.start r token.old.table_id token.old.me true (seat_in r (first_point seat.old)) }
+    ensures ready { Ready token.new.me false seat.new }
+    ensures steps { StepsTo C.start (seen_as token.new.table_id token.new.me false seat.new) }
+    ensures onward { IsOnward seat.new }
 {
-    run_commit::<C>(run, token)
+    let run = Run {
+        words,
+        seat,
+        mode,
+        lines,
+        base,
+    };
+    match run_commit::<C>(&run, token) {
+        Ok(ended) => end_commit(seat, ended),
+        Err(stop) => go_on::<C>(words, base, token, seat, mode, lines, stop),
+    }
 }
 
 #[inline(always)]
@@ -201,8 +214,8 @@ fn stand(seat: &mut Seat, mode: Mode, lines: &[Line], stop: Stop)
     }
 }
 
-// Goes on where a commit has paused, and writes the seat where it has ended or stops. What is said holds of any run of these
-// parts, since the run of the commit itself isn't here.
+// Goes on where a commit has paused, and writes the seat where it has ended or stops. It takes the parts of the run, which
+// would lie in memory before each commit if it were at hand here.
 #[cold]
 #[inline(never)]
 fn go_on<C: Chain>(
@@ -217,7 +230,8 @@ fn go_on<C: Chain>(
     requires base { base ≤ LAST_BASE }
     requires few { length lines.now ≤ 64 }
     requires paused { (r : Run) → IsOf r words.now.key words.now.table_id base seat.old mode lines.now → Paused C.start r token.old.table_id token.old.me stop }
-    ensures on { (r : Run) → IsOf r words.now.key words.now.table_id base seat.old mode lines.now → On C.start r token.new.table_id token.new.me false seat.new }
+    ensures ready { Ready token.new.me false seat.new }
+    ensures steps { StepsTo C.start (seen_as token.new.table_id token.new.me false seat.new) }
     ensures onward { IsOnward seat.new }
 {
     let run = Run {

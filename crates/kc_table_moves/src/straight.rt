@@ -746,7 +746,13 @@ fn decided<C: Chain>(
     ensures err { IfErr result (λ e. Stopped C.start run.now token.new.table_id token.new.me e) }
 {
     let found = Status::unpack(number);
-    settle::<C>(run, token, one_more(made), held, decided_as(phase, found.phase))
+    settle::<C>(
+        run,
+        token,
+        one_more(made),
+        held,
+        decided_as(phase, found.phase),
+    )
 }
 
 // A commit that fails by a line. A helper may have decided it otherwise.
@@ -834,7 +840,11 @@ pub fn run_apart<C: Chain>(run: &Run, token: &mut Token, stop: Stop) -> Result<E
     ensures err { IfErr result (λ e. Stopped C.start run.now token.new.table_id token.new.me e) }
 {
     let Stop {
-        at, made, held, number, ..
+        at,
+        made,
+        held,
+        number,
+        ..
     } = stop;
     match at {
         StopAt::Install => not_installed::<C>(run, token, held, surprise_of(&stop)),

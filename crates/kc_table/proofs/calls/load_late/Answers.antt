@@ -1,4 +1,4 @@
-use Rattle.std.proofs.Common.{◌≡◌, ◌∙◌, refl, subst, sym}
+use Rattle.std.proofs.Common.{◌∙◌, refl, subst, sym}
 use Rattle.kc_table_layout.specs.declared.change.Change.TheVariants as change
 use Rattle.kc_table.proofs.Wholes.{load_leaves}
 use Rattle.kc_table_moves.proofs.Straights.{aims_own, peeked_none, peeked_step}

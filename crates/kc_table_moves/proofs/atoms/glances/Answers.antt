@@ -1,4 +1,4 @@
-use Rattle.std.proofs.Common.{false, refl}
+use Rattle.std.proofs.Common.{false}
 use Rattle.kc_table_moves.proofs.Straights.{stays_on}
 use Rattle.kc_table_moves.specs.Straight.{seat_in}
 use Rattle.kc_table_moves.proofs.atoms.glances.Goals as goal

@@ -1,4 +1,4 @@
-use Rattle.std.proofs.Common.{◌≡◌, ◌∙◌, refl, subst, sym, true}
+use Rattle.std.proofs.Common.{◌∙◌, refl, subst, sym}
 use Rattle.kc_table_moves.proofs.Straights.{peeked_none}
 use Rattle.kc_table_moves.specs.Rule.{Ready}
 use Rattle.kc_table_moves.specs.Straight.{Here}

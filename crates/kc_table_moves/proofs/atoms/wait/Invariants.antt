@@ -1,4 +1,4 @@
-use Rattle.std.proofs.Common.{◌≡◌, false}
+use Rattle.std.proofs.Common.{◌≡◌}
 use Rattle.kc_table_moves.proofs.atoms.wait.Given as goal
 
 -- no load was a step

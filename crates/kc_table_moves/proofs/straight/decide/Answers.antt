@@ -1,10 +1,8 @@
-use Rattle.std.proofs.Common.{◌∙◌, ap, false, subst, sym}
-use Rattle.kc_machine_commits.specs.Commits.{after_own_pass, intent_of}
-use Rattle.kc_machine_steps.specs.Lines.{one_more}
-use Rattle.kc_machine_steps.specs.Passes.{decided_as, from_release, status}
+use Rattle.std.proofs.Common.{◌∙◌, subst}
+use Rattle.kc_machine_steps.specs.Passes.{status}
 use Rattle.kc_machine_words.specs.declared.words.Phase.TheVariants.{Active}
 use Rattle.kc_table_moves.proofs.Links.{decide_fits, decide_on}
-use Rattle.kc_table_moves.specs.Straight.{On, Went, at_own, seat_in}
+use Rattle.kc_table_moves.specs.Straight.{Went, seat_in}
 use Rattle.kc_table_moves.proofs.straight.decide.Goals as goal
 
 pub pack-old-requires : goal.pack-old-requires

@@ -1,4 +1,4 @@
-use Rattle.std.proofs.Common.{◌≡◌, ◌∙◌, inr, refl, subst, sym}
+use Rattle.std.proofs.Common.{◌≡◌, inr, refl, subst, sym}
 use Rattle.kc_machine_commits.specs.Commits.{owed_next}
 use Rattle.kc_machine_commits.specs.declared.commit.OwnStep.TheVariants as step
 use Rattle.kc_table_moves.proofs.Links.{on_step, owed_some}
@@ -14,8 +14,10 @@ returns-then-owed-ne0-clause-err g c =
     let me = c.args.token.now.me in
     let owed = c.args.woken.owed in
     let made = c.args.woken.made in
-    subst (λ e. (e.at ≡ stop.Signal) × Stopped start r token me e) (sym c.stop_at.ensures)
-    (refl, record {
-      at = on_step start r token me made made c.args.held (owed_next owed) (step.Signal owed) refl (owed_some owed c.if-owed-ne0.true) c.requires.on;
-      onward = λ t e. subst IsOnward (sym e) (inr refl);
-    })
+    subst (λ e. (e.at ≡ stop.Signal) × Stopped start r token me e) (sym c.stop_at.ensures) (
+      refl,
+      record {
+        at = on_step start r token me made made c.args.held (owed_next owed) (step.Signal owed) refl (owed_some owed c.if-owed-ne0.true) c.requires.on;
+        onward = λ t e. subst IsOnward (sym e) (inr refl);
+      },
+    )

@@ -1,5 +1,5 @@
-use Rattle.std.proofs.Common.{◌≢◌, ◌∙◌, ap, sym, subst}
-use Rattle.kc_model.specs.Word.{IsPackable, packed}
+use Rattle.std.proofs.Common.{◌∙◌, sym, subst}
+use Rattle.kc_model.specs.Word.{IsPackable}
 use Rattle.kc_model.specs.declared.word.Word.TheVariants.{Plain}
 use Rattle.kc_table_moves.proofs.Links.{apart_words, release_fits}
 use Rattle.kc_table_moves.proofs.straight.release.Goals as goal

@@ -1,9 +1,7 @@
 use Rattle.std.proofs.Common.{◌≡◌, ◌∙◌, ◌*◌, ◌+◌, ◌^◌, refl, subst, sym}
 use Rattle.kc_machine.specs.Points.{point}
-use Rattle.kc_machine.specs.Seats.{answer_of}
 use Rattle.kc_machine_commits.specs.declared.commit.Stage.TheVariants.{Take}
 use Rattle.kc_machine_steps.specs.Lines.{one_more}
-use Rattle.kc_machine_words.specs.declared.access.Found.TheVariants as found
 use Rattle.kc_table_moves.proofs.Links.{stops_behind, take_rests}
 use Rattle.kc_table_moves.specs.Straight.{Paused, Went, at_take, seat_in}
 use Rattle.kc_table_moves.specs.declared.atoms.Held.{Held}
