@@ -6,8 +6,7 @@ use Rattle.kc_machine_steps.specs.declared.task.Event.{Event}
 use Rattle.kc_machine_steps.specs.declared.task.Event.TheVariants.{Begin, Step, Halt}
 use Rattle.kc_machine_traces.specs.Parts.{NoneOf}
 use Rattle.kc_store.specs.Steps.{HasLeft, IsSpent, steps_in, steps_made}
-use Rattle.kc_table_moves.specs.Straight.{StepsTo, here, further, Ran, begun_at}
-use Rattle.kc_table_moves.specs.Views.{SeatView, Stepped}
+use Rattle.kc_table_moves.specs.Views.{SeatView, Stepped, StepsTo, here, further, Ran, begun_at}
 use Rattle.kc_table_views.specs.Pending.{AllWait}
 
 steps-append : (k : ℕ) (xs ys : List Event) → steps_in k (xs ++ ys) ≡ steps_in k xs + steps_in k ys

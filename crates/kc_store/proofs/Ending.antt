@@ -24,8 +24,7 @@ use Rattle.kc_store.proofs.Gaining.{does_meant}
 use Rattle.kc_store.proofs.Standing.{halts, is_tried, ran_stands}
 use Rattle.kc_store.specs.Steps.{steps_made}
 use Rattle.kc_store.specs.Works.{Ends, LooksAt, MayRun, Runs, Stands, commits, is_told_committing, is_told_looking, looks}
-use Rattle.kc_table_moves.specs.Straight.{Ran}
-use Rattle.kc_table_moves.specs.Views.{SeatView, Starts, Stepped, opening_at_seat}
+use Rattle.kc_table_moves.specs.Views.{SeatView, Starts, Stepped, opening_at_seat, Ran}
 use Rattle.kc_table_seats.proofs.Halting.{halt_sends}
 use Rattle.kc_table_seats.proofs.Keeping.{looks_saw}
 use Rattle.kc_table_seats.proofs.Running.{does_ran}

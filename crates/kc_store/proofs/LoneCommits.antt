@@ -17,8 +17,7 @@ use Rattle.kc_model.specs.declared.footprint.TheConstants.{MOST}
 use Rattle.kc_store.proofs.LoneLooking.{steps_counted}
 use Rattle.kc_store.specs.Lone.{CommitsAlone, is_worn}
 use Rattle.kc_store.specs.Steps.{steps_made}
-use Rattle.kc_table_moves.specs.Straight.{Ran, begun_at, further}
-use Rattle.kc_table_moves.specs.Views.{SeatView, Stepped, knows, opening_at_seat}
+use Rattle.kc_table_moves.specs.Views.{SeatView, Stepped, knows, opening_at_seat, Ran, begun_at, further}
 use Rattle.kc_table_sole.proofs.Ending.{ends_soon, ends_within, made_or_worn}
 use Rattle.kc_table_sole.specs.Sole.{HasNoLife, IsMadeOrWorn, IsSole, Rests, count, standing}
 

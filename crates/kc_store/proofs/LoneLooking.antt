@@ -18,8 +18,7 @@ use Rattle.kc_store.specs.Lone.{AllAlone, LooksAlone, Passes}
 use Rattle.kc_store.specs.LoneLooks.{SoleGives}
 use Rattle.kc_store.specs.Steps.{steps_made}
 use Rattle.kc_store.specs.declared.sole_peek.SolePeek.{SolePeek}
-use Rattle.kc_table_moves.specs.Straight.{Ran, StepsTo, further, here}
-use Rattle.kc_table_moves.specs.Views.{SeatView, seen_at}
+use Rattle.kc_table_moves.specs.Views.{SeatView, seen_at, Ran, StepsTo, further, here}
 use Rattle.kc_table_sole.proofs.Telling.{tells}
 use Rattle.kc_table_sole.specs.Sole.{IsSole, TellsWhatStands, count, standing}
 use Rattle.kc_xt.proofs.Rooms.{length-with_looks}

@@ -32,8 +32,7 @@ use Rattle.kc_machine_words.specs.declared.words.TheConstants.{LAST_GENERATION}
 use Rattle.kc_model.specs.declared.footprint.Footprint.{Footprint}
 use Rattle.kc_model.specs.declared.footprint.Loc.{Loc}
 use Rattle.kc_store.specs.Works.{Stands, is_told_committing, stands_in}
-use Rattle.kc_table_moves.specs.Straight.{StepsTo, here, further, Ran, begun_at}
-use Rattle.kc_table_moves.specs.Views.{SeatView, Stepped}
+use Rattle.kc_table_moves.specs.Views.{SeatView, Stepped, StepsTo, here, further, Ran, begun_at}
 use Rattle.kc_table_seats.specs.Halts.{may_halt}
 
 -- from s to s' the task goes on, or has ended

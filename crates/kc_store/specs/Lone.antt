@@ -11,8 +11,7 @@ use Rattle.kc_model.specs.declared.footprint.Footprint.{Footprint}
 use Rattle.kc_model.specs.declared.footprint.Seen.{Seen}
 use Rattle.kc_model.specs.declared.footprint.TheConstants.{MOST}
 use Rattle.kc_store.specs.Steps.{steps_made}
-use Rattle.kc_table_moves.specs.Straight.{Ran}
-use Rattle.kc_table_moves.specs.Views.{SeatView}
+use Rattle.kc_table_moves.specs.Views.{SeatView, Ran}
 use Rattle.kc_table_seats.specs.Tasks.{Keeps}
 use Rattle.kc_table_sole.specs.Sole.{HasNoLife, Rests, standing}
 use Rattle.kc_xt.specs.Lines.{look}

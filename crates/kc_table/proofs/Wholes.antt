@@ -27,11 +27,13 @@ use Rattle.kc_table.proofs.Begins.{ready_begun}
 use Rattle.kc_table_layout.specs.Cells.{place}
 use Rattle.kc_table_layout.specs.Cells.Cell.{word}
 use Rattle.kc_table_moves.proofs.Allowed.{answered}
-use Rattle.kc_table_moves.proofs.Straights.{stepped_view, went_on}
+use Rattle.kc_table_moves.proofs.Steps.{stepped_view}
+use Rattle.kc_table_straight.proofs.Links.{went_on}
 use Rattle.kc_table_moves.specs.Origins.{Origin, opening_of}
 use Rattle.kc_table_moves.specs.Rule.{number_of, past_of, Ready, Moved}
-use Rattle.kc_table_moves.specs.Straight.{StepsTo, here, further, Aims, Here, On, Ran, StandsAt, Stopped, StoppedAt, found_of, point_of, seat_in}
-use Rattle.kc_table_moves.specs.Views.{SeatView, KnowsReads, Starts, seen_as}
+use Rattle.kc_table_moves.specs.Atoms.{Aims, Here, On, found_of, point_of, seat_in}
+use Rattle.kc_table_straight.specs.Straight.{StandsAt, Stopped, StoppedAt}
+use Rattle.kc_table_moves.specs.Views.{SeatView, KnowsReads, Starts, seen_as, StepsTo, here, further, Ran}
 use Rattle.kc_table_moves.specs.declared.atoms.Run.{Run}
 use Rattle.kc_table_moves.specs.declared.atoms.Stop.{Stop}
 use Rattle.kc_table_moves.specs.declared.view.View.{View}

@@ -13,8 +13,9 @@ ghost use Rattle.kc_machine.specs.Schedules.{IsWellMadeTask};
 ghost use Rattle.kc_machine.specs.Seats.{answer_of, begun, is_idle};
 ghost use Rattle.kc_table_layout.specs.declared.change.Change.TheVariants as change;
 ghost use Rattle.kc_table_moves.specs.Rule.{Moved, Ready};
-ghost use Rattle.kc_table_moves.specs.Views.{KnowsReads, seen_as};
-ghost use Rattle.kc_table_moves.specs.Straight.{Aims, Here, IsAside, IsOf, IsOnward, On, Paused, Ran, StandsAt, StepsTo, found_of, is_plain, point_of, seat_ended, seat_in};
+ghost use Rattle.kc_table_moves.specs.Views.{KnowsReads, Ran, StepsTo, seen_as};
+ghost use Rattle.kc_table_moves.specs.Atoms.{Aims, Here, On, found_of, is_plain, point_of, seat_in};
+ghost use Rattle.kc_table_straight.specs.Straight.{IsAside, IsOf, IsOnward, Paused, StandsAt, seat_ended};
 
 use crate::seat::KcSeat;
 use crate::table::KcTable;
@@ -23,10 +24,8 @@ use kc_machine_steps::{Line, Task, Told, one_more};
 use kc_machine_words::{Found, Mode};
 use kc_model::{Footprint, Loc, Seen, Word};
 use kc_table_layout::{base_at, location_at, shown};
-use kc_table_moves::{
-    Asks, Chain, Ended, MOST_LOADS, Run, Stop, Token, Words, is_plain, load, peek, run_apart,
-    run_commit,
-};
+use kc_table_moves::{Asks, Chain, MOST_LOADS, Run, Stop, Token, Words, is_plain, load, peek};
+use kc_table_straight::{Ended, run_apart, run_commit};
 use std::marker::Brand;
 
 impl KcTable {

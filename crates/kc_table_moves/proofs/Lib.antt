@@ -1,5 +1,3 @@
 pub mod Views
 pub mod Allowed
-pub mod Straights
-pub mod Links
-pub mod Alike
+pub mod Steps

@@ -1,4 +1,4 @@
 pub mod Origins
 pub mod Rule
 pub mod Views
-pub mod Straight
+pub mod Atoms

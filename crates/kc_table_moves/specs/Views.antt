@@ -63,6 +63,19 @@ pub record Stepped (v w : SeatView) : Type 0 where
   pub steps : Steps (opening_at_seat v) v.number v.past v.began v.seat found w.past
   pub seat : w.seat ≡ (run (opening_at_seat v) w.past).seats v.number
 
+-- any number of steps, one after another, each of a seat that runs a task
+pub data StepsTo (v : SeatView) : SeatView → Type 0 where
+  here : StepsTo v v
+  further : (u w : SeatView) → StepsTo v u → is_idle u.seat.work ≡ false → Stepped u w → StepsTo v w
+
+abbrev pub begun_at : SeatView → Task → SeatView
+begun_at v t = record v { seat = begun v.seat t; began = true }
+
+-- the seat has begun this task, and since then it has made a step or more, and nothing else
+pub record Ran (v : SeatView) (t : Task) (w : SeatView) : Type 0 where
+  pub steps : StepsTo (begun_at v t) w
+  pub shown : w.began ≡ false
+
 -- the seat knows more of what others did, and else is as it was
 pub record Learns (v w : SeatView) : Type 0 where
   pub of : w.of ≡ v.of

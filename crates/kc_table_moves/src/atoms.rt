@@ -6,7 +6,7 @@ ghost use Rattle.kc_machine.specs.Seats.{access_of, is_idle};
 ghost use Rattle.kc_table_layout.specs.Changes.{change_of, changed};
 ghost use Rattle.kc_table_layout.specs.declared.change.Change.TheVariants as change;
 ghost use Rattle.kc_table_moves.specs.Rule.{Moved, Ready};
-ghost use Rattle.kc_table_moves.specs.Straight.{Aims, Here, On, Peeked, Went, found_of, is_plain, point_of, seat_in, stage_of};
+ghost use Rattle.kc_table_moves.specs.Atoms.{Aims, Here, On, Peeked, Went, found_of, is_plain, point_of, seat_in, stage_of};
 
 use crate::rule::{Moves, Now};
 use crate::touch::{Token, Words};
@@ -215,7 +215,7 @@ impl Asks for Brand {
 struct Peeks<B: Asks>(PhantomData<B>);
 
 impl<B: Asks> Play<(), View> for Peeks<B> {
-    ghost use Rattle.kc_table_moves.specs.Straight.{Peeked};
+    ghost use Rattle.kc_table_moves.specs.Atoms.{Peeked};
 
     ghost then = { λ step me found after. Peeked (B.takes found) B.now B.began me found after };
 }

@@ -2,8 +2,7 @@
 use Rattle.std.proofs.Common.{◌≡◌, false, refl, ◌∙◌}
 use Rattle.kc_machine.specs.Schedules.{IsWellMadeTask}
 use Rattle.kc_machine_steps.specs.declared.task.Task.{Task}
-use Rattle.kc_table_moves.specs.Straight.{StepsTo, here, further, Ran, begun_at}
-use Rattle.kc_table_moves.specs.Views.{SeatView, Starts, Stepped}
+use Rattle.kc_table_moves.specs.Views.{SeatView, Starts, Stepped, StepsTo, here, further, Ran, begun_at}
 use Rattle.kc_table_seats.proofs.Following.{does_first, does_further}
 use Rattle.kc_table_seats.specs.Tasks.{Does}
 

@@ -17,8 +17,7 @@ use Rattle.kc_machine_steps.specs.declared.task.Told.TheVariants as told
 use Rattle.kc_machine_traces.proofs.Answers.{answers_when_done}
 use Rattle.kc_machine_traces.proofs.Joins.{honest_parts, made_parts}
 use Rattle.kc_machine_traces.proofs.Others.{others_leave}
-use Rattle.kc_table_moves.specs.Straight.{Ran, StepsTo, begun_at, further, here}
-use Rattle.kc_table_moves.specs.Views.{SeatView, Starts, Stepped, opening_at_seat}
+use Rattle.kc_table_moves.specs.Views.{SeatView, Starts, Stepped, opening_at_seat, Ran, StepsTo, begun_at, further, here}
 use Rattle.kc_table_seats.proofs.Halting.{Ends, Stands, seat_ends}
 use Rattle.kc_table_seats.specs.Halts.{is_halted, steps_left, was_halted}
 use Rattle.kc_table_views.proofs.Pendings.{waits_seat}

@@ -23,9 +23,8 @@ ghost use Rattle.kc_machine_claims.specs.Traces.{first_store};
 ghost use Rattle.kc_machine_traces.specs.Entries.{by};
 ghost use Rattle.kc_machine_traces.specs.Outcomes.{GainsAsTold};
 ghost use Rattle.kc_table_views.specs.Tasks.{FailureTaught, SuccessTaught};
-ghost use Rattle.kc_table_moves.specs.Straight.{Ran, StepsTo};
 ghost use Rattle.kc_table_seats.specs.Tasks.{Does, Keeps, Saw};
-ghost use Rattle.kc_table_moves.specs.Views.{Learns, SeatView, Starts, Stepped, knows, opening_at_seat};
+ghost use Rattle.kc_table_moves.specs.Views.{Learns, Ran, SeatView, Starts, Stepped, StepsTo, knows, opening_at_seat};
 ghost use Rattle.kc_table_seats.specs.Halts.{is_halted, may_halt, steps_left, task_may_halt, was_halted};
 ghost use Rattle.kc_table_seats.specs.Told.{Hears, IsUndecided, IsWornOut, listening, shadow};
 

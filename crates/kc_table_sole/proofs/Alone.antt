@@ -12,8 +12,7 @@ use Rattle.kc_machine_traces.proofs.Joins.{run-append}
 use Rattle.kc_machine_traces.proofs.Others.{event_out, others_leave, run_shape, words_kept}
 use Rattle.kc_machine_traces.specs.Parts.{NoneOf}
 use Rattle.kc_table_moves.specs.Origins.{opening_of}
-use Rattle.kc_table_moves.specs.Straight.{Ran, StepsTo, begun_at, further, here}
-use Rattle.kc_table_moves.specs.Views.{SeatView, Stepped, TableView, opening_at_seat}
+use Rattle.kc_table_moves.specs.Views.{SeatView, Stepped, TableView, opening_at_seat, Ran, StepsTo, begun_at, further, here}
 use Rattle.kc_table_seats.proofs.Stopping.{before, meant_before, stood}
 use Rattle.kc_table_sole.proofs.Steps.{next_alone, none_yet}
 use Rattle.kc_table_sole.specs.Sole.{IsSole, count, words_at}

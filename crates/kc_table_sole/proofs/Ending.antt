@@ -27,8 +27,7 @@ use Rattle.kc_model.specs.declared.footprint.Footprint.{Footprint}
 use Rattle.kc_model.specs.declared.footprint.TheConstants.{MOST}
 use Rattle.kc_model.specs.declared.plain_store.Cell.{Cell}
 use Rattle.kc_table_moves.specs.Origins.{opening_of}
-use Rattle.kc_table_moves.specs.Straight.{Ran, StepsTo, begun_at, further, here}
-use Rattle.kc_table_moves.specs.Views.{SeatView, TableView, Starts, knows, opening_at_seat}
+use Rattle.kc_table_moves.specs.Views.{SeatView, TableView, Starts, knows, opening_at_seat, Ran, StepsTo, begun_at, further, here}
 use Rattle.kc_table_seats.proofs.Causing.{crossed_so, worn_found}
 use Rattle.kc_table_seats.proofs.Keeping.{failure_known, own_known, put_past}
 use Rattle.kc_table_seats.proofs.Running.{does_ran}

@@ -22,8 +22,7 @@ use Rattle.kc_model.specs.declared.plain_store.Cell.{Cell}
 use Rattle.kc_model.specs.declared.word.Word.{Word}
 use Rattle.kc_model.specs.declared.word.Word.TheVariants.{Plain}
 use Rattle.kc_table_moves.specs.Origins.{opening_of}
-use Rattle.kc_table_moves.specs.Straight.{Ran, StepsTo, begun_at, further, here}
-use Rattle.kc_table_moves.specs.Views.{SeatView, Starts, Stepped, TableView, knows, opening_at_seat, seen_at}
+use Rattle.kc_table_moves.specs.Views.{SeatView, Starts, Stepped, TableView, knows, opening_at_seat, seen_at, Ran, StepsTo, begun_at, further, here}
 use Rattle.kc_table_seats.proofs.Keeping.{own_known}
 use Rattle.kc_table_seats.proofs.Running.{does_ran}
 use Rattle.kc_table_seats.specs.Tasks.{Does}

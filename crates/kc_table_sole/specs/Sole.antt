@@ -7,8 +7,7 @@ use Rattle.kc_machine_claims.specs.Traces.{first_store}
 use Rattle.kc_machine_steps.specs.declared.task.Told.TheVariants as told
 use Rattle.kc_model.specs.Store.{Store}
 use Rattle.kc_model.specs.declared.footprint.Loc.{Loc}
-use Rattle.kc_table_moves.specs.Straight.{StepsTo, further, here}
-use Rattle.kc_table_moves.specs.Views.{SeatView, knows, opening_at_seat, seen_at}
+use Rattle.kc_table_moves.specs.Views.{SeatView, knows, opening_at_seat, seen_at, StepsTo, further, here}
 use Rattle.kc_table_seats.specs.Told.{IsWornOut}
 
 -- the table was opened for one caller

@@ -12,8 +12,7 @@ ghost use Rattle.kc_model.specs.Store.{Finds};
 ghost use Rattle.kc_model.specs.declared.footprint.Footprint.{Footprint};
 ghost use Rattle.kc_model.specs.declared.footprint.Loc.{Loc};
 ghost use Rattle.kc_model.specs.declared.footprint.TheConstants.{MOST};
-ghost use Rattle.kc_table_moves.specs.Straight.{Ran, begun_at};
-ghost use Rattle.kc_table_moves.specs.Views.{SeatView, knows};
+ghost use Rattle.kc_table_moves.specs.Views.{Ran, SeatView, begun_at, knows};
 ghost use Rattle.kc_table_seats.specs.Tasks.{Does};
 ghost use Rattle.kc_table_sole.specs.Sole.{IsMadeOrWorn, IsSole, TellsWhatStands, count, standing};
 

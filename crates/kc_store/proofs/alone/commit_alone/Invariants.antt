@@ -4,7 +4,7 @@ use Rattle.kc_machine_steps.specs.declared.task.Task.TheVariants as task
 use Rattle.kc_machine_words.specs.declared.words.Mode.TheVariants as mode
 use Rattle.kc_model.specs.declared.footprint.TheConstants.{MOST}
 use Rattle.kc_store.specs.Steps.{steps_made}
-use Rattle.kc_table_moves.specs.Straight.{Ran}
+use Rattle.kc_table_moves.specs.Views.{Ran}
 use Rattle.kc_store.proofs.alone.commit_alone.Given as goal
 
 abbrev pub invariant-steps : goal.invariant-steps

@@ -1,5 +1,5 @@
 use Rattle.std.proofs.Common.{refl}
-use Rattle.kc_table_moves.proofs.Alike.{paused_alike}
+use Rattle.kc_table_straight.proofs.Alike.{paused_alike}
 use Rattle.kc_table.proofs.calls.commit_by.Goals as goal
 
 pub run_commit-requires-clause-on : goal.run_commit-requires-clause-on

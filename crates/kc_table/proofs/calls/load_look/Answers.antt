@@ -1,9 +1,9 @@
 use Rattle.std.proofs.Common.{◌∙◌, subst, sym}
 use Rattle.kc_table_layout.specs.declared.change.Change.TheVariants as change
 use Rattle.kc_table.proofs.Wholes.{load_leaves}
-use Rattle.kc_table_moves.proofs.Straights.{aims_own, peeked_none, peeked_step}
+use Rattle.kc_table_moves.proofs.Steps.{aims_own, peeked_none, peeked_step}
 use Rattle.kc_table_moves.specs.Rule.{Moved, Ready}
-use Rattle.kc_table_moves.specs.Straight.{Here}
+use Rattle.kc_table_moves.specs.Atoms.{Here}
 use Rattle.kc_table.proofs.calls.load_look.Goals as goal
 
 pub peek-number-requires-clause-aim : goal.peek-number-requires-clause-aim

@@ -3,7 +3,8 @@ use Rattle.kc_machine.specs.Machine.{World, found_at}
 use Rattle.kc_machine.specs.Points.{seat_at}
 use Rattle.kc_machine.specs.Seats.{access_of, answer_of}
 use Rattle.kc_table_layout.specs.Cells.{CellFits, bits, cell_of}
-use Rattle.kc_table_moves.specs.Straight.{Makes, StandsAt, found_of}
+use Rattle.kc_table_straight.specs.Straight.{Makes, StandsAt}
+use Rattle.kc_table_moves.specs.Atoms.{found_of}
 use Rattle.kc_table.proofs.calls.stand.Goals as goal
 
 pub returns-in-Some : goal.returns-in-Some

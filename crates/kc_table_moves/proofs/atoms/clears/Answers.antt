@@ -1,8 +1,8 @@
 use Rattle.std.proofs.Common.{false, refl}
 use borrow.Author.Tests.{eqb-true}
 use Rattle.kc_table_layout.specs.declared.change.Change.TheVariants as change
-use Rattle.kc_table_moves.proofs.Straights.{aims_own, clear_leaves, peeked_none, peeked_step, stays_on, went}
-use Rattle.kc_table_moves.specs.Straight.{leaves, seat_in}
+use Rattle.kc_table_moves.proofs.Steps.{aims_own, clear_leaves, peeked_none, peeked_step, stays_on, went}
+use Rattle.kc_table_moves.specs.Atoms.{leaves, seat_in}
 use Rattle.kc_table_moves.proofs.atoms.clears.Goals as goal
 
 pub peek_at-number-requires-clause-aim : goal.peek_at-number-requires-clause-aim

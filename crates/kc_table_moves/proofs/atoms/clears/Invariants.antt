@@ -1,5 +1,5 @@
 use Rattle.std.proofs.Common.{false}
-use Rattle.kc_table_moves.specs.Straight.{leaves, seat_in}
+use Rattle.kc_table_moves.specs.Atoms.{leaves, seat_in}
 use Rattle.kc_table_moves.proofs.atoms.clears.Given as goal
 
 abbrev pub ghosts-peek_at : goal.ghosts-peek_at

@@ -1,6 +1,6 @@
 use Rattle.kc_table_layout.specs.declared.change.Change.TheVariants as change
-use Rattle.kc_table_moves.proofs.Straights.{aims_own}
-use Rattle.kc_table_moves.specs.Straight.{seat_in}
+use Rattle.kc_table_moves.proofs.Steps.{aims_own}
+use Rattle.kc_table_moves.specs.Atoms.{seat_in}
 use Rattle.kc_table_moves.proofs.atoms.exchanges_late.Goals as goal
 
 pub glances-number-requires-clause-aim : goal.glances-number-requires-clause-aim

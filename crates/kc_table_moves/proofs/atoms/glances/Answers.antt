@@ -1,6 +1,6 @@
 use Rattle.std.proofs.Common.{false}
-use Rattle.kc_table_moves.proofs.Straights.{stays_on}
-use Rattle.kc_table_moves.specs.Straight.{seat_in}
+use Rattle.kc_table_moves.proofs.Steps.{stays_on}
+use Rattle.kc_table_moves.specs.Atoms.{seat_in}
 use Rattle.kc_table_moves.proofs.atoms.glances.Goals as goal
 
 pub peek_at-requires-clause-stays : goal.peek_at-requires-clause-stays

@@ -1,5 +1,5 @@
 use Rattle.std.proofs.Common.{false}
-use Rattle.kc_table_moves.specs.Straight.{seat_in}
+use Rattle.kc_table_moves.specs.Atoms.{seat_in}
 use Rattle.kc_table_moves.proofs.atoms.glances.Given as goal
 
 abbrev pub ghosts-peek_at : goal.ghosts-peek_at

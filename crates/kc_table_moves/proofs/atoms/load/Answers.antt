@@ -1,5 +1,5 @@
 use Rattle.kc_table_layout.specs.declared.change.Change.TheVariants as change
-use Rattle.kc_table_moves.proofs.Straights.{by_aim, aim_within}
+use Rattle.kc_table_moves.proofs.Steps.{by_aim, aim_within}
 use Rattle.kc_table_moves.proofs.atoms.load.Goals as goal
 
 pub load-requires : goal.load-requires

@@ -1,4 +1,4 @@
-use Rattle.kc_table_moves.specs.Straight.{seat_in}
+use Rattle.kc_table_moves.specs.Atoms.{seat_in}
 use Rattle.kc_table_moves.proofs.atoms.loads.Given as goal
 
 abbrev pub ghosts-load_at : goal.ghosts-load_at

@@ -1,6 +1,6 @@
 use Rattle.kc_machine.specs.Seats.{access_of}
 use Rattle.kc_table_layout.specs.Changes.{change_of}
-use Rattle.kc_table_moves.proofs.Straights.{by_peek, aim_within}
+use Rattle.kc_table_moves.proofs.Steps.{by_peek, aim_within}
 use Rattle.kc_table_moves.proofs.atoms.peek.Goals as goal
 
 pub load-requires : goal.load-requires

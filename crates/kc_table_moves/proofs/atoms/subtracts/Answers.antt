@@ -1,6 +1,6 @@
 use Rattle.std.proofs.Common.{false, refl}
-use Rattle.kc_table_moves.proofs.Straights.{went}
-use Rattle.kc_table_moves.specs.Straight.{seat_in}
+use Rattle.kc_table_moves.proofs.Steps.{went}
+use Rattle.kc_table_moves.specs.Atoms.{seat_in}
 use Rattle.kc_table_moves.proofs.atoms.subtracts.Goals as goal
 
 pub returns : goal.returns

@@ -1,5 +1,5 @@
 use Rattle.std.proofs.Common.{false}
-use Rattle.kc_table_moves.specs.Straight.{seat_in}
+use Rattle.kc_table_moves.specs.Atoms.{seat_in}
 use Rattle.kc_table_moves.proofs.atoms.swaps.Given as goal
 
 abbrev pub ghosts-swap_at : goal.ghosts-swap_at

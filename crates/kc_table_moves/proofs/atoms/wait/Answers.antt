@@ -1,7 +1,7 @@
 use Rattle.std.proofs.Common.{◌∙◌, refl, subst, sym}
-use Rattle.kc_table_moves.proofs.Straights.{peeked_none}
+use Rattle.kc_table_moves.proofs.Steps.{peeked_none}
 use Rattle.kc_table_moves.specs.Rule.{Ready}
-use Rattle.kc_table_moves.specs.Straight.{Here}
+use Rattle.kc_table_moves.specs.Atoms.{Here}
 use Rattle.kc_table_moves.proofs.atoms.wait.Goals as goal
 
 pub loop-init : goal.loop-init

@@ -4,7 +4,7 @@ use Rattle.kc_machine.specs.Seats.{is_idle}
 use Rattle.kc_machine_steps.specs.declared.task.Task.TheVariants as task
 use Rattle.kc_table.proofs.Wholes.{commit_begins, commit_starts, on_begins}
 use Rattle.kc_table_layout.specs.Cells.{base_of}
-use Rattle.kc_table_moves.specs.Straight.{Here}
+use Rattle.kc_table_moves.specs.Atoms.{Here}
 use Rattle.kc_table_moves.specs.Views.{SeatView}
 use Rattle.kc_table.proofs.table.KcTable.commit.Goals as goal
 

@@ -1,7 +1,7 @@
 use Rattle.std.proofs.Common.{sym, ap, ◌∙◌}
 use Rattle.kc_table_layout.specs.Cells.{base_of}
 use Rattle.kc_table_moves.proofs.Allowed.{ready_after, answered}
-use Rattle.kc_table_moves.proofs.Straights.{stepped_view}
+use Rattle.kc_table_moves.proofs.Steps.{stepped_view}
 use Rattle.kc_table.proofs.table.KcTable.step.Goals as goal
 
 pub touch_seat-found-requires-clause-table : goal.touch_seat-found-requires-clause-table

@@ -1,0 +1,116 @@
+-- A step of a seat that is not written.
+use Rattle.std.proofs.Common.{◌≡◌, ◌≢◌, ◌==◌, if◌then◌else◌, ℕ, ◌<◌, ◌++◌, Bool, true, false, refl, sym, ap, ◌∙◌, arith, subst}
+use Rattle.std.proofs.lemmas.Bool.Decides.{nat_tests}
+use Rattle.std.proofs.lemmas.List.{set-get_or}
+use Rattle.std.specs.Prelude.{slice_index}
+use Rattle.atomic_table.proofs.Lists.{set_again}
+use Rattle.atomic_table.specs.Seated.{TableId}
+use Rattle.atomic_table.specs.Table as table
+use Rattle.atomic_table.specs.Table.{Me, Act, Allows, Valid, keeps, stepped, carried_after}
+use Rattle.kc_machine.specs.Machine.{World, run, found_at, pool_size}
+use Rattle.kc_machine.specs.Seats.{access_of, answer_of, is_idle}
+use Rattle.kc_machine.specs.declared.seat.Seat.{Seat}
+use Rattle.kc_table_layout.proofs.Stored.{Agrees}
+use Rattle.kc_table_layout.specs.Cells.{base_of, size_of}
+use Rattle.kc_table_layout.specs.Changes.{change_of, changed}
+use Rattle.kc_table_layout.specs.declared.change.Change.{Change}
+use Rattle.kc_table_layout.specs.declared.change.Change.TheVariants as change
+use Rattle.kc_table_moves.proofs.Allowed.{arm, within_table, ready_after}
+use Rattle.kc_table_moves.specs.Origins.{Origin, opening_of}
+use Rattle.kc_table_moves.specs.Rule.{number_of, past_of, Kept, Ready, Steps, Moved}
+use Rattle.kc_table_moves.specs.Atoms.{On, Aims, Peeked, Went, leaves}
+use Rattle.kc_table_moves.specs.Views.{SeatView, Stepped, seen_as, further}
+use Rattle.kc_table_moves.specs.declared.atoms.Run.{Run}
+use Rattle.kc_table_moves.specs.declared.view.View.{View}
+
+-- ---- an atomic step whose word and numbers are at hand
+
+pub by_aim : (agrees : Agrees) (q : Origin) (slots id : ℕ) (me : Me Unit View) (began : Bool) (s : Seat) (word : ℕ) (ch : Change) → Ready me began s → me.0.origin ≡ q → is_idle s.work ≡ false → Aims q s word ch
+    → Allows (Kept q) slots id me word (changed ch) (Moved s began me)
+by_aim agrees q slots id me began s word ch r from busy aims =
+    arm agrees q slots id me began s (access_of s) (base_of q.locations) (record { word = word; change = ch }) ch r from busy refl aims.ranged refl
+    (λ i. record { word = aims.place i; change = sym aims.makes i }) refl
+
+pub aim_within : (q : Origin) (me : Me Unit View) (began : Bool) (s : Seat) (word n : ℕ) (ch : Change) → Ready me began s → me.0.origin ≡ q → is_idle s.work ≡ false → Aims q s word ch → n ≡ size_of q.locations (pool_size q.callers) → word < n
+aim_within q me began s word n ch r from busy aims size =
+    within_table q me began s (access_of s) (base_of q.locations) n (record { word = word; change = ch }) r from busy refl refl (λ i. record { word = aims.place i; change = sym aims.makes i }) size
+
+-- the same aim, by what the seat's step makes of its word
+pub aims_own : (q : Origin) (s : Seat) (word : ℕ) (ch : Change) → Aims q s word ch → Aims q s word (change_of (access_of s))
+aims_own q s word ch aims = record { place = aims.place; makes = refl; ranged = aims.ranged }
+
+-- a load that is the step, or none
+peeks_at : (q : Origin) (st : table.State Unit View) (id word n : ℕ) (me : Me Unit View) (began : Bool) (s : Seat) (takes : Bool) → Kept q (stepped st word n id me.1 me.0 keeps)
+    → (takes ≡ true → (w : View) × (a : Act Unit) × Valid st.homes me.1 a × Kept q (stepped st word n id me.1 w a) × Moved s began me n (w, carried_after me.1 a))
+    → (w : View) × (a : Act Unit) × Valid st.homes me.1 a × Kept q (stepped st word n id me.1 w a) × Peeked takes s began me n (w, carried_after me.1 a)
+peeks_at q st id word n me began s true stays steps = steps refl
+peeks_at q st id word n me began s false stays steps = (me.0, keeps, tt, stays, refl)
+
+pub by_peek : (agrees : Agrees) (q : Origin) (slots id : ℕ) (me : Me Unit View) (began : Bool) (s : Seat) (word : ℕ) (takes : ℕ → Bool) → Ready me began s → me.0.origin ≡ q → is_idle s.work ≡ false → Aims q s word (change_of (access_of s))
+    → ((n : ℕ) → takes n ≡ true → changed (change_of (access_of s)) n ≡ n) → Allows (Kept q) slots id me word (λ n. n) (λ n after. Peeked (takes n) s began me n after)
+by_peek agrees q slots id me began s word takes r from busy aims leaves st kept count at small =
+    let n = slice_index st.words word in
+    let same : stepped st word n id me.1 me.0 keeps ≡ st = λ k. record { words = set-get_or st.words word 0 k; homes = st.homes; views = set_again st.views id me.0 at k } in
+    peeks_at q st id word n me began s (takes n) (subst (Kept q) (sym same) kept)
+    (λ e. subst (λ m. (w : View) × (a : Act Unit) × Valid st.homes me.1 a × Kept q (stepped st word m id me.1 w a) × Moved s began me n (w, carried_after me.1 a)) (leaves n e)
+    (by_aim agrees q slots id me began s word (change_of (access_of s)) r from busy aims st kept count at small))
+
+pub peeked_step : (takes : Bool) (s : Seat) (began : Bool) (me after : Me Unit View) (n : ℕ) → takes ≡ true → Peeked takes s began me n after → Moved s began me n after
+peeked_step takes s began me after n e p = subst (λ b. Peeked b s began me n after) e p
+
+pub peeked_none : (takes : Bool) (s : Seat) (began : Bool) (me after : Me Unit View) (n : ℕ) → takes ≡ false → Peeked takes s began me n after → after ≡ me
+peeked_none takes s began me after n e p = subst (λ b. Peeked b s began me n after) e p
+
+-- an exchange for 0 leaves 0, and nothing else
+pub clear_leaves : (s : Seat) (n : ℕ) → change_of (access_of s) ≡ change.Swap 0 → (n ≡ 0 → leaves s n ≡ true) × (n ≢ 0 → leaves s n ≡ false)
+clear_leaves s n e =
+    let is : leaves s n ≡ (0 == n) = ap (λ c. changed c n == n) e in
+    ((λ z. is ∙ (grind (arith, nat_tests))), (λ ne. is ∙ (grind (arith, nat_tests))))
+
+-- an exchange leaves what it doesn't replace
+pub exchange_leaves : (s : Seat) (n old new : ℕ) → change_of (access_of s) ≡ change.CompareExchange old new → (n ≢ old → leaves s n ≡ true) × (new ≢ old → n ≡ old → leaves s n ≡ false)
+exchange_leaves s n old new e =
+    let is : leaves s n ≡ ((if n == old then new else n) == n) = ap (λ c. changed c n == n) e in (
+      (λ ne. let t : (n == old) ≡ false = grind (arith, nat_tests) in let u : (n == n) ≡ true = grind (arith, nat_tests) in is ∙ ap (λ b. (if b then new else n) == n) t ∙ u),
+      (λ ne z. let t : (n == old) ≡ true = grind (arith, nat_tests) in let u : (new == n) ≡ false = grind (arith, nat_tests) in is ∙ ap (λ b. (if b then new else n) == n) t ∙ u),
+    )
+
+-- ---- the seat behind it
+
+-- what clauses see of a step
+pub stepped_view : (v : SeatView) (began : Bool) (s t : Seat) (me after : Me Unit View) (z y : TableId) (n : ℕ) → seen_as z me began s ≡ v → y ≡ z → Moved s began me n after
+    → t ≡ (run (opening_of me.0.origin) (past_of after.0.parts)).seats (number_of me.0.parts) → Stepped v (seen_as y after false t)
+stepped_view v began s t me after z y n e same m is = subst (λ u. Stepped u (seen_as y after false t)) e
+    record {
+      of = λ i. record { table = same i; origin = ap (λ (x : Me Unit View). x.0.origin) m.1 i };
+      number = ap (λ (x : Me Unit View). number_of x.0.parts) m.1;
+      began = refl;
+      found = n;
+      steps = subst (λ p. Steps (opening_of me.0.origin) (number_of me.0.parts) (past_of me.0.parts) began s n p) (sym (ap (λ (x : Me Unit View). past_of x.0.parts) m.1)) m.2;
+      seat = is;
+    }
+
+pub went : (start : SeatView) (r : Run) (z y : TableId) (me later : Me Unit View) (began : Bool) (s : Seat) (n : ℕ) → On start r z me began s → is_idle s.work ≡ false → y ≡ z → Moved s began me n later → Went start r y later s n
+went start r z y me later began s n on busy same m = record {
+  world = world';
+  fits = m.2.fits;
+  found = m.2.found;
+  on = record {
+    here = record { table = same ∙ on.here.table; origin = ap (λ (x : Me Unit View). x.0.origin) m.1 ∙ on.here.origin; from = on.here.from; few = on.here.few; size = on.here.size };
+    ready = ready_after s t began me later n on.ready m stands;
+    steps = further (seen_as z me began s) (seen_as y later false t) on.steps busy (stepped_view (seen_as z me began s) began s t me later z y n refl same m stands);
+  };
+}
+  where
+    world' : World
+    world' = (run (opening_of me.0.origin) ((past_of me.0.parts ++ m.2.others) ++ m.2.pending)).world
+
+    t : Seat
+    t = answer_of s (found_at world' (access_of s))
+
+    stands : t ≡ (run (opening_of me.0.origin) (past_of later.0.parts)).seats (number_of me.0.parts)
+    stands = sym m.2.stands ∙ ap (λ (x : Me Unit View). (run (opening_of me.0.origin) (past_of x.0.parts)).seats (number_of me.0.parts)) (sym m.1)
+
+-- a load that is no step leaves a seat as it is
+pub stays_on : (start : SeatView) (r : Run) (z y : TableId) (me later : Me Unit View) (began : Bool) (s : Seat) → On start r z me began s → y ≡ z → later ≡ me → On start r y later began s
+stays_on start r z y me later began s on same_table same = subst (λ t. On start r t later began s) (sym same_table) (subst (λ m. On start r z m began s) (sym same) on)
