@@ -1,6 +1,6 @@
 // The mixes by the atomic operations alone that a commit of the lock-free store makes, in their order, on words that lie as its own do:
 // no log, no footprint, no history, and no help. Who meets a reference waits until it is gone. What a commit costs with nothing around
-// it; crates/kc_table_moves/src/straight.rt makes the same.
+// it; crates/kc_table_straight/src/straight.rt makes the same.
 #include "rounds.hpp"
 #include <atomic>
 
