@@ -9,6 +9,7 @@ use crate::operation::LocOp;
 use kc_model::{Loc, Reply};
 use kc_xt::{Peek, Stop, Xt};
 
+#[inline(always)]
 pub(crate) fn get<P: Peek>(loc: Loc, xt: &mut Xt<P>) -> Result<Reply, Stop>
     requires { loc.0 < P.locations xt.old.peek }
     ensures goes { Does P.peek_gives (loc_program (LocOp.Get loc)) xt.old result xt.new }
@@ -18,6 +19,7 @@ pub(crate) fn get<P: Peek>(loc: Loc, xt: &mut Xt<P>) -> Result<Reply, Stop>
     Ok(Reply::Value(value))
 }
 
+#[inline(always)]
 pub(crate) fn set<P: Peek>(loc: Loc, value: u32, xt: &mut Xt<P>) -> Result<Reply, Stop>
     requires { loc.0 < P.locations xt.old.peek }
     ensures goes { Does P.peek_gives (loc_program (LocOp.Set loc value)) xt.old result xt.new }
@@ -27,6 +29,7 @@ pub(crate) fn set<P: Peek>(loc: Loc, value: u32, xt: &mut Xt<P>) -> Result<Reply
     Ok(Reply::Unit)
 }
 
+#[inline(always)]
 pub(crate) fn exchange<P: Peek>(loc: Loc, value: u32, xt: &mut Xt<P>) -> Result<Reply, Stop>
     requires { loc.0 < P.locations xt.old.peek }
     ensures goes { Does P.peek_gives (loc_program (LocOp.Exchange loc value)) xt.old result xt.new }
@@ -46,6 +49,7 @@ pub(crate) fn swap<P: Peek>(a: Loc, b: Loc, xt: &mut Xt<P>) -> Result<Reply, Sto
     Ok(Reply::Unit)
 }
 
+#[inline(always)]
 pub(crate) fn compare_and_set<P: Peek>(
     loc: Loc,
     before: u32,
@@ -60,6 +64,7 @@ pub(crate) fn compare_and_set<P: Peek>(
     Ok(Reply::Bool(was))
 }
 
+#[inline(always)]
 pub(crate) fn fetch_add<P: Peek>(loc: Loc, number: u32, xt: &mut Xt<P>) -> Result<Reply, Stop>
     requires { loc.0 < P.locations xt.old.peek }
     ensures goes { Does P.peek_gives (loc_program (LocOp.FetchAdd loc number)) xt.old result xt.new }
@@ -69,6 +74,7 @@ pub(crate) fn fetch_add<P: Peek>(loc: Loc, number: u32, xt: &mut Xt<P>) -> Resul
     Ok(Reply::Value(before))
 }
 
+#[inline(always)]
 pub(crate) fn increment<P: Peek>(loc: Loc, xt: &mut Xt<P>) -> Result<Reply, Stop>
     requires { loc.0 < P.locations xt.old.peek }
     ensures goes { Does P.peek_gives (loc_program (LocOp.Incr loc)) xt.old result xt.new }
@@ -79,6 +85,7 @@ pub(crate) fn increment<P: Peek>(loc: Loc, xt: &mut Xt<P>) -> Result<Reply, Stop
     Ok(Reply::Unit)
 }
 
+#[inline(always)]
 pub(crate) fn decrement<P: Peek>(loc: Loc, xt: &mut Xt<P>) -> Result<Reply, Stop>
     requires { loc.0 < P.locations xt.old.peek }
     ensures goes { Does P.peek_gives (loc_program (LocOp.Decr loc)) xt.old result xt.new }
@@ -89,6 +96,7 @@ pub(crate) fn decrement<P: Peek>(loc: Loc, xt: &mut Xt<P>) -> Result<Reply, Stop
     Ok(Reply::Unit)
 }
 
+#[inline(always)]
 pub(crate) fn update<P: Peek>(loc: Loc, fun: Fun, xt: &mut Xt<P>) -> Result<Reply, Stop>
     requires { loc.0 < P.locations xt.old.peek }
     ensures goes { Does P.peek_gives (loc_program (LocOp.Update loc fun)) xt.old result xt.new }
@@ -99,6 +107,7 @@ pub(crate) fn update<P: Peek>(loc: Loc, fun: Fun, xt: &mut Xt<P>) -> Result<Repl
     Ok(Reply::Value(before))
 }
 
+#[inline(always)]
 pub(crate) fn modify<P: Peek>(loc: Loc, fun: Fun, xt: &mut Xt<P>) -> Result<Reply, Stop>
     requires { loc.0 < P.locations xt.old.peek }
     ensures goes { Does P.peek_gives (loc_program (LocOp.Modify loc fun)) xt.old result xt.new }

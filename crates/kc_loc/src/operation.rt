@@ -66,6 +66,7 @@ impl Transact for LocOp {
         self.last().saturating_add(1)
     }
 
+    #[inline(always)]
     fn run<P: Peek>(&self, xt: &mut Xt<P>) -> Result<Reply, Stop> {
         match *self {
             LocOp::Get(loc) => acts::get(loc, xt),

@@ -36,6 +36,7 @@ impl<'a> Peek for StorePeek<'a> {
         self.table.size()
     }
 
+    #[inline(always)]
     fn peek(&mut self, loc: Loc) -> Result<Seen, PeekBusy> {
         look_at(self.table, self.seat, loc, &mut self.left)
     }
@@ -46,6 +47,7 @@ impl<'a> Peek for StorePeek<'a> {
 /// # Errors
 ///
 /// The look was halted, with no step left.
+#[inline(always)]
 fn look_at(table: &KcTable, seat: &mut KcSeat, loc: Loc, left: &mut u32) -> Result<Seen, PeekBusy>
     requires table { seat.old.of ≡ table.now }
     requires idle { is_idle seat.old.seat.work ≡ true }

@@ -15,6 +15,7 @@ pub struct Line {
 }
 
 // Puts one more line at `at`. Most transactions touch locations in rising order, so that it is the last.
+#[inline(always)]
 pub(crate) fn add_line(lines: &mut ArrayVec<Line, MOST>, at: usize, line: Line)
     requires place { at ≤ length lines.old.items }
     requires room { length lines.old.items < MOST }
@@ -28,6 +29,7 @@ pub(crate) fn add_line(lines: &mut ArrayVec<Line, MOST>, at: usize, line: Line)
 }
 
 // Gives the line at `at` a new value.
+#[inline(always)]
 pub(crate) fn put_after(lines: &mut [Line], at: usize, value: u32)
     requires { at < length lines.old }
     ensures { lines.new ≡ slice_set lines.old at (with_value (slice_index_or lines.old at zero_line) value) }
@@ -76,6 +78,7 @@ pub(crate) fn copy_of(from: &[Line]) -> ArrayVec<Line, MOST>
 }
 
 // The first location with a new value that was seen at the last version.
+#[inline(always)]
 pub(crate) fn worn_of(lines: &[Line]) -> Option<Loc>
     ensures { result ≡ worn_of lines.now }
 {
@@ -88,6 +91,7 @@ pub(crate) fn worn_of(lines: &[Line]) -> Option<Loc>
 }
 
 // Reads what all lines saw.
+#[inline(always)]
 pub(crate) fn fill_reads(reads: &mut ArrayVec<Seen, MOST>, lines: &[Line])
     requires { length lines.now ≤ MOST }
     ensures { reads.new.items ≡ seens lines.now }
@@ -99,6 +103,7 @@ pub(crate) fn fill_reads(reads: &mut ArrayVec<Seen, MOST>, lines: &[Line])
 }
 
 // Puts the new values of the lines that have one.
+#[inline(always)]
 pub(crate) fn fill_puts(made: &mut ArrayVec<Put, MOST>, lines: &[Line])
     requires { length lines.now ≤ MOST }
     ensures { made.new.items ≡ puts lines.now }

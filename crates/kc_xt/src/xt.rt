@@ -66,6 +66,7 @@ impl Model for Snapshot {
     ghost view = { λ s. s.lines.items };
 }
 
+// What is done at every location is in line: an answer that lies in memory is written in parts, and who reads it as a whole waits.
 impl<'a, P: Peek> Xt<'a, P> {
     /// The empty log, with room for `MOST` lines.
     pub fn new(peek: P, room: &'a mut Room) -> Xt<'a, P>
@@ -81,6 +82,7 @@ impl<'a, P: Peek> Xt<'a, P> {
     }
 
     // The place of the location's line, which is made where there is none.
+    #[inline(always)]
     fn touch(&mut self, loc: Loc) -> Result<usize, Stop>
         requires { loc.0 < P.locations self.old.peek }
         ensures step { Touches P.peek_gives loc.0 self.old (stop_of result) self.new }
@@ -104,6 +106,7 @@ impl<'a, P: Peek> Xt<'a, P> {
     }
 
     // The place and the value of the location's line, which is made where there is none.
+    #[inline(always)]
     fn look_up(&mut self, loc: Loc) -> Result<Found, Stop>
         requires { loc.0 < P.locations self.old.peek }
         ensures step { Touches P.peek_gives loc.0 self.old (stop_of result) self.new }
@@ -118,6 +121,7 @@ impl<'a, P: Peek> Xt<'a, P> {
     }
 
     // Gives the location, whose line stands here, a new value.
+    #[inline(always)]
     fn put_at(&mut self, _loc: Loc, at: usize, value: u32)
         requires { IsPlace self.old.lines _loc.0 at }
         ensures { self.new ≡ having_set self.old _loc.0 value }
@@ -143,6 +147,7 @@ impl<'a, P: Peek> Xt<'a, P> {
     /// - Busy: exactly where a look was made and given up
     ///
     /// The lines are then as before.
+    #[inline(always)]
     pub fn get(&mut self, loc: Loc) -> Result<u32, Stop>
         requires { loc.0 < P.locations self.old.peek }
         ensures step { Touches P.peek_gives loc.0 self.old (stop_of result) self.new }
@@ -159,6 +164,7 @@ impl<'a, P: Peek> Xt<'a, P> {
     /// # Errors
     ///
     /// As `get`.
+    #[inline(always)]
     pub fn set(&mut self, loc: Loc, value: u32) -> Result<(), Stop>
         requires { loc.0 < P.locations self.old.peek }
         ensures step { Updates P.peek_gives loc.0 (λ _. tt) (λ _. Some value) self.old result self.new }
@@ -175,6 +181,7 @@ impl<'a, P: Peek> Xt<'a, P> {
     /// # Errors
     ///
     /// As `get`.
+    #[inline(always)]
     pub fn exchange(&mut self, loc: Loc, value: u32) -> Result<u32, Stop>
         requires { loc.0 < P.locations self.old.peek }
         ensures step { Updates P.peek_gives loc.0 (λ v. v) (λ _. Some value) self.old result self.new }
@@ -211,6 +218,7 @@ impl<'a, P: Peek> Xt<'a, P> {
     /// # Errors
     ///
     /// As `get`.
+    #[inline(always)]
     pub fn compare_and_set(&mut self, loc: Loc, before: u32, after: u32) -> Result<bool, Stop>
         requires { loc.0 < P.locations self.old.peek }
         ensures step { Updates P.peek_gives loc.0 (λ v. v == before) (λ v. if v == before then Some after else None) self.old result self.new }
@@ -230,6 +238,7 @@ impl<'a, P: Peek> Xt<'a, P> {
     /// # Errors
     ///
     /// As `get`.
+    #[inline(always)]
     pub fn fetch_add(&mut self, loc: Loc, n: u32) -> Result<u32, Stop>
         requires { loc.0 < P.locations self.old.peek }
         ensures step { Updates P.peek_gives loc.0 (λ v. v) (λ v. Some (wrapped (v + n))) self.old result self.new }
