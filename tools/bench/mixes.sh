@@ -1,8 +1,8 @@
 #!/usr/bin/env bash
-# Times mixes of commits on the lock-free store and on the store behind one lock, beside the bare atomic operations of the first, GHC's
-# STM, a C++ mutex and GCC's transactional memory, by 1, 2 and 4 threads. Builds all anew, in a clone of its own, and runs them in turn;
-# a peer that this machine can't build is left out with a line on standard error. Each program fails where its last values aren't what
-# its commits add up to.
+# Times mixes of commits on the lock-free store and on the store behind one lock, beside the bare atomic operations of the first, as
+# they are and with release stores, GHC's STM, a C++ mutex and GCC's transactional memory, by 1, 2 and 4 threads. Builds all anew, in a
+# clone of its own, and runs them in turn; a peer that this machine can't build is left out with a line on standard error. Each program
+# fails where its last values aren't what its commits add up to.
 # Prints a table in Markdown: least and median of all rounds.
 # Usage: tools/bench/mixes.sh [RUNS]
 set -eu
@@ -40,6 +40,7 @@ build_peer() {
 
 build_stores
 build_peer bare g++ -std=c++17 -O2 -march=x86-64-v2 -pthread "$mixes/bare.cpp"
+build_peer release g++ -std=c++17 -O2 -march=x86-64-v2 -pthread -DRELEASE "$mixes/bare.cpp"
 build_peer stm ghc -O2 -threaded -rtsopts -with-rtsopts=-A64m -outputdir "$room/stm.o" "$mixes/Stm.hs"
 build_peer mutex g++ -std=c++17 -O2 -march=x86-64-v2 -pthread "$mixes/mutex.cpp"
 build_peer gcc g++ -std=c++17 -O2 -march=x86-64-v2 -pthread -fgnu-tm "$mixes/transactional.cpp"

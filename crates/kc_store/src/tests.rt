@@ -1,6 +1,6 @@
 //! Tries that another overtakes, and looks that are given up.
 
-ghost use Rattle.std.specs.Prelude.{◌≡◌, ◌<◌, ◌≤◌, true, length, IfSome};
+ghost use Rattle.std.specs.Prelude.{◌≡◌, ◌<◌, true, length, IfSome};
 ghost use Rattle.kc_machine.specs.Seats.{is_idle};
 
 use crate::looks::look_and_run;
@@ -13,7 +13,7 @@ use kc_machine_steps::{Task, fill_lines};
 use kc_machine_words::Mode;
 use kc_model::{Footprint, Loc, MOST};
 use kc_table::{KcSeat, KcTable};
-use kc_xt::{Transact, Trial, Went};
+use kc_xt::{Trial, Went};
 use std::test::Fail;
 
 const ADD: LocOp = LocOp::FetchAdd(Loc(0), 1);
@@ -30,22 +30,6 @@ fn open_two(rt: &HostRuntime, values: &[u32]) -> Option<(Store, Caller, Caller)>
     let second = callers.pop()?;
     let first = callers.pop()?;
     Some((store, first, second))
-}
-
-// One try.
-fn tried<T: Transact>(
-    store: &Store,
-    caller: &mut Caller,
-    transaction: &T,
-    footprint: &mut Footprint,
-) -> Verdict
-    requires caller { (caller.old.of ≡ store.now) × (is_idle caller.old.seat.work ≡ true) }
-    requires fit { T.is_fit transaction.now }
-    requires within { T.end transaction.now ≤ store.now.origin.locations }
-    ensures of { caller.new.of ≡ caller.old.of }
-    ensures idle { is_idle caller.new.seat.work ≡ true }
-{
-    store.try_commit_into(caller, transaction, footprint)
 }
 
 // A try of the first, between whose looks and commit the second commits.
@@ -161,6 +145,7 @@ fn a_look_is_given_up_with_no_step_left(rt: HostRuntime) -> Result<(), Fail> {
     assert_eq!(rt; look_once(&store, &mut a, &mut footprint), Went::Busy);
     let loc = Loc(0);
     let lost = Verdict::Lost { loc, version: 1 };
-    assert_eq!(rt; tried(&store, &mut a, &ADD, &mut footprint), lost);
+    let tried = store.try_commit_into(&mut a, &ADD, &mut footprint);
+    assert_eq!(rt; tried, lost);
     Ok(())
 }

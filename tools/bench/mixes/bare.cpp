@@ -1,8 +1,17 @@
 // The mixes by the atomic operations alone that a commit of the lock-free store makes, in their order, on words that lie as its own do:
 // no log, no footprint, no history, and no help. Who meets a reference waits until it is gone. What a commit costs with nothing around
 // it; crates/kc_table_straight/src/straight.rt makes the same.
+// With -DRELEASE the stores that fill a descriptor are release stores, which need no lock; Rattle has none.
 #include "rounds.hpp"
 #include <atomic>
+
+#ifdef RELEASE
+constexpr auto filling = std::memory_order_release;
+constexpr auto who = "release";
+#else
+constexpr auto filling = std::memory_order_seq_cst;
+constexpr auto who = "bare";
+#endif
 
 class Store {
 public:
@@ -72,12 +81,12 @@ private:
         Word *d = words + line_words * cells + descriptor_words * own;
         uint64_t control = d[0], generation = (control >> 24) + 1;
         d[0].compare_exchange_strong(control, generation << 24 | 1);
-        d[2].exchange(own << 48 | count);
+        d[2].store(own << 48 | count, filling);
         for (unsigned k = 0; k < count; k++) {
-            d[3 + 2 * k].exchange((k < first_put ? 0 : reference) | lines[k].seen);
-            d[4 + 2 * k].exchange(uint64_t(lines[k].place) << 32 | uint32_t(lines[k].after));
+            d[3 + 2 * k].store((k < first_put ? 0 : reference) | lines[k].seen, filling);
+            d[4 + 2 * k].store(uint64_t(lines[k].place) << 32 | uint32_t(lines[k].after), filling);
         }
-        d[1].exchange(generation << 24 | active);
+        d[1].store(generation << 24 | active, filling);
         uint64_t mine = reference | generation << 23 | own << 8;
         unsigned made = first_put;
         for (uint64_t stood; made < count; made++) {
@@ -101,4 +110,4 @@ private:
     }
 };
 
-int main() { run_all<Store>("bare"); }
+int main() { run_all<Store>(who); }

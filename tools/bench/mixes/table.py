@@ -11,6 +11,7 @@ import sys
 WHO = {
     "kcas": "lock-free store",
     "bare": "its atomic operations alone, in C++",
+    "release": "the same with release stores",
     "locked": "store behind one lock",
     "stm": "GHC's STM",
     "mutex": "C++ mutex",
