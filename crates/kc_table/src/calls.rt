@@ -2,6 +2,7 @@
 
 ghost use Rattle.std.specs.Prelude.{◌≡◌, ◌⊎◌, ◌≤◌, ◌<◌, ℕ, true, false, length, IfOk, IfErr, IfSome, IfNone, Some};
 ghost use Rattle.kc_table_layout.specs.declared.place.TheConstants.{LAST_BASE};
+ghost use Rattle.kc_model.specs.declared.footprint.TheConstants.{MOST};
 ghost use Rattle.kc_model.specs.Word.{unpacked};
 ghost use Rattle.kc_model.specs.declared.word.Word.TheVariants.{Plain};
 ghost use Rattle.kc_machine_words.specs.declared.access.Found.TheVariants as found;
@@ -175,7 +176,7 @@ fn commit_by<C: Chain>(
     lines: &[Line],
 )
     requires base { base ≤ LAST_BASE }
-    requires few { length lines.now ≤ 64 }
+    requires few { length lines.now ≤ MOST }
     requires on { (r : Run) → IsOf r words.now.key words.now.table_id base seat.old mode lines.now → On C.start r token.old.table_id token.old.me true (seat_in r (first_point seat.old)) }
     ensures ready { Ready token.new.me false seat.new }
     ensures steps { StepsTo C.start (seen_as token.new.table_id token.new.me false seat.new) }
@@ -203,7 +204,7 @@ fn end_commit(seat: &mut Seat, ended: Ended)
 
 // Writes the seat where its commit has come to.
 fn stand(seat: &mut Seat, mode: Mode, lines: &[Line], stop: Stop)
-    requires { length lines.now ≤ 64 }
+    requires { length lines.now ≤ MOST }
     ensures { StandsAt seat.old mode lines.now (point_of stop) (found_of stop.at stop.number) seat.new }
 {
     seat.stand_at(mode, lines, stop.point());
@@ -227,7 +228,7 @@ fn go_on<C: Chain>(
     stop: Stop,
 )
     requires base { base ≤ LAST_BASE }
-    requires few { length lines.now ≤ 64 }
+    requires few { length lines.now ≤ MOST }
     requires paused { (r : Run) → IsOf r words.now.key words.now.table_id base seat.old mode lines.now → Paused C.start r token.old.table_id token.old.me stop }
     ensures ready { Ready token.new.me false seat.new }
     ensures steps { StepsTo C.start (seen_as token.new.table_id token.new.me false seat.new) }

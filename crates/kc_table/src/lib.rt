@@ -9,4 +9,4 @@ mod table;
 
 pub use end::{CloseRefused, Closed, HoldsSeat, Past};
 pub use seat::{KcNote, KcSeat};
-pub use table::KcTable;
+pub use table::{KcTable, MOST_CALLERS};

@@ -1,7 +1,6 @@
 //! The table.
 
 ghost use Rattle.std.specs.Prelude.{◌≡◌, ◌≤◌, ◌<◌, ◌↔◌, ◌⊎◌, true, false, length, replicate, All, IfOk, Err};
-ghost use Rattle.kc_machine.specs.declared.machine.TheConstants.{MOST_CALLERS};
 ghost use Rattle.kc_model.specs.declared.plain_store.TheConstants.{MOST_LOCATIONS};
 ghost use Rattle.kc_machine.specs.Seats.{is_idle};
 ghost use Rattle.kc_table_moves.specs.Views.{Joined, OpensAt, Signalled, Stepped, opened_seats};
@@ -16,6 +15,9 @@ use kc_table_moves::{Hears, Merges, Notes, Origin, Rule, View, touch_seat};
 use std::alloc::Global;
 use std::marker::{Brand, Model};
 use std::sync::Wait;
+
+/// How many seats a table may have, as many as its machine may have callers.
+pub const MOST_CALLERS: u32 = 64;
 
 /// The words that threads share. Contracts see which table it is, and its opening.
 #[derive(Drop)]
@@ -44,7 +46,7 @@ impl KcTable {
     /// # Errors
     ///
     /// - TooManyLocs: exactly above 65,536 values
-    /// - TooManyCallers: else, exactly for no caller or more than 64
+    /// - TooManyCallers: else, exactly for no caller or more than `MOST_CALLERS`
     /// - NoMemory
     pub fn open(
         alloc: Global,
@@ -58,7 +60,7 @@ impl KcTable {
         if values.len() > MOST_LOCATIONS {
             return Err(OpenError::TooManyLocs);
         }
-        if callers == 0 || callers > 64 {
+        if callers == 0 || callers > MOST_CALLERS {
             return Err(OpenError::TooManyCallers);
         }
         let versions = vec![in alloc; 0u32; values.len()]?;
@@ -70,7 +72,7 @@ impl KcTable {
     /// # Errors
     ///
     /// - TooManyLocs: exactly above 65,536 values
-    /// - TooManyCallers: else, exactly for no caller or more than 64
+    /// - TooManyCallers: else, exactly for no caller or more than `MOST_CALLERS`
     /// - NoMemory
     pub fn open_at(
         alloc: Global,
@@ -88,7 +90,7 @@ impl KcTable {
         if values.len() > MOST_LOCATIONS {
             return Err(OpenError::TooManyLocs);
         }
-        if callers == 0 || callers > 64 {
+        if callers == 0 || callers > MOST_CALLERS {
             return Err(OpenError::TooManyCallers);
         }
         let words = open_words(alloc, values, versions, callers, generation)?;
@@ -128,7 +130,7 @@ impl KcTable {
         seat.machine.answer(&shown(&access, found));
         seat.began = false;
         if let Access::Signal(caller, true) = access {
-            if caller < 64 {
+            if caller < MOST_CALLERS {
                 self.table.shared.wake_one(signal_at(caller));
             }
         }
@@ -174,7 +176,7 @@ impl KcTable {
             if self.signalled(seat) {
                 break;
             }
-            if caller < 64 {
+            if caller < MOST_CALLERS {
                 self.table.shared.park(rt, signal_at(caller), 0);
             }
         }

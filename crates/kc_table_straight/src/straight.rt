@@ -3,6 +3,7 @@
 
 ghost use Rattle.std.specs.Prelude.{◌≡◌, ◌⊎◌, ◌≤◌, ◌<◌, ◌+◌, false, true, length, IfOk, IfErr, IfSome, IfNone, Some, slice_get};
 ghost use Rattle.kc_table_layout.specs.declared.place.TheConstants.{LAST_BASE};
+ghost use Rattle.kc_model.specs.declared.footprint.TheConstants.{MOST};
 ghost use Rattle.kc_model.specs.Word.{IsPackable, packed, unpacked};
 ghost use Rattle.kc_machine_words.specs.declared.words.Phase.TheVariants.{Failed, Succeeded};
 ghost use Rattle.kc_machine_steps.specs.declared.line.Pick.TheVariants.{Put};
@@ -181,7 +182,7 @@ fn take<C: Chain>(run: &Run, token: &mut Token, generation: u64) -> Result<Held,
 #[inline(always)]
 fn fill_owner<C: Chain>(run: &Run, token: &mut Token, made: u64, held: Held)
     requires base { run.now.base ≤ LAST_BASE }
-    requires few { length run.now.lines.now ≤ 64 }
+    requires few { length run.now.lines.now ≤ MOST }
     requires on { On C.start run.now token.old.table_id token.old.me false (seat_in run.now (at_own made held step.FillOwner)) }
     ensures { On C.start run.now token.new.table_id token.new.me false (seat_in run.now (at_own (one_more made) held (fill_next run.now.lines.now 0))) }
 {
@@ -244,7 +245,7 @@ fn fill_second<C: Chain>(
 #[inline(always)]
 fn fills<C: Chain>(run: &Run, token: &mut Token, made: u64, held: Held) -> u64
     requires base { run.now.base ≤ LAST_BASE }
-    requires few { length run.now.lines.now ≤ 64 }
+    requires few { length run.now.lines.now ≤ MOST }
     requires on { On C.start run.now token.old.table_id token.old.me false (seat_in run.now (at_own made held (fill_next run.now.lines.now 0))) }
     ensures { On C.start run.now token.new.table_id token.new.me false (seat_in run.now (at_own result held step.Start)) }
 {
@@ -339,7 +340,7 @@ fn install_line<C: Chain>(
     index: u32,
     line: Line,
 ) -> Result<u64, Surprise>
-    requires few { length run.now.lines.now ≤ 64 }
+    requires few { length run.now.lines.now ≤ MOST }
     requires line { slice_get run.now.lines.now index ≡ Some line }
     requires on { On C.start run.now token.old.table_id token.old.me false (seat_in run.now (at_own made held (step.Pass (from_install run.now.mode run.now.lines.now index)))) }
     ensures ok { IfOk result (λ made. On C.start run.now token.new.table_id token.new.me false (seat_in run.now (at_own made held (step.Pass (from_install run.now.mode run.now.lines.now (index + 1)))))) }
@@ -358,7 +359,7 @@ fn install_line<C: Chain>(
 // The installs of all lines that are installed; how many steps were made then.
 #[inline(always)]
 fn installs<C: Chain>(run: &Run, token: &mut Token, made: u64, held: Held) -> Result<u64, Surprise>
-    requires few { length run.now.lines.now ≤ 64 }
+    requires few { length run.now.lines.now ≤ MOST }
     requires on { On C.start run.now token.old.table_id token.old.me false (seat_in run.now (at_own made held (step.Pass (from_install run.now.mode run.now.lines.now 0)))) }
     ensures ok { IfOk result (λ made. On C.start run.now token.new.table_id token.new.me false (seat_in run.now (at_own made held (step.Pass (from_check run.now.mode run.now.lines.now 0))))) }
     ensures err { IfErr result (λ e. Surprised C.start run.now token.new.table_id token.new.me held pass.Install e) }
@@ -422,7 +423,7 @@ fn check_line<C: Chain>(
     index: u32,
     line: Line,
 ) -> Result<u64, Surprise>
-    requires few { length run.now.lines.now ≤ 64 }
+    requires few { length run.now.lines.now ≤ MOST }
     requires line { slice_get run.now.lines.now index ≡ Some line }
     requires on { On C.start run.now token.old.table_id token.old.me false (seat_in run.now (at_own made held (step.Pass (from_check run.now.mode run.now.lines.now index)))) }
     ensures ok { IfOk result (λ made. On C.start run.now token.new.table_id token.new.me false (seat_in run.now (at_own made held (step.Pass (from_check run.now.mode run.now.lines.now (index + 1)))))) }
@@ -440,7 +441,7 @@ fn check_line<C: Chain>(
 // The checks of all lines that are not installed; how many steps were made then.
 #[inline(always)]
 fn checks<C: Chain>(run: &Run, token: &mut Token, made: u64, held: Held) -> Result<u64, Surprise>
-    requires few { length run.now.lines.now ≤ 64 }
+    requires few { length run.now.lines.now ≤ MOST }
     requires on { On C.start run.now token.old.table_id token.old.me false (seat_in run.now (at_own made held (step.Pass (from_check run.now.mode run.now.lines.now 0)))) }
     ensures ok { IfOk result (λ made. On C.start run.now token.new.table_id token.new.me false (seat_in run.now (at_own made held (step.Pass (pass.Decide Succeeded))))) }
     ensures err { IfErr result (λ e. Surprised C.start run.now token.new.table_id token.new.me held pass.Check e) }
@@ -562,7 +563,7 @@ fn release_line<C: Chain>(
     line: Line,
     phase: Phase,
 ) -> u64
-    requires few { length run.now.lines.now ≤ 64 }
+    requires few { length run.now.lines.now ≤ MOST }
     requires line { slice_get run.now.lines.now index ≡ Some line }
     requires on { On C.start run.now token.old.table_id token.old.me false (seat_in run.now (at_own made held (after_own_pass (intent_of run.now.mode run.now.lines.now) (from_release run.now.mode run.now.lines.now index phase)))) }
     ensures { On C.start run.now token.new.table_id token.new.me false (seat_in run.now (at_own result held (after_own_pass (intent_of run.now.mode run.now.lines.now) (from_release run.now.mode run.now.lines.now (index + 1) phase)))) }
@@ -577,7 +578,7 @@ fn release_line<C: Chain>(
 // The releases of all lines that are installed; how many steps were made then.
 #[inline(always)]
 fn releases<C: Chain>(run: &Run, token: &mut Token, made: u64, held: Held, phase: Phase) -> u64
-    requires few { length run.now.lines.now ≤ 64 }
+    requires few { length run.now.lines.now ≤ MOST }
     requires on { On C.start run.now token.old.table_id token.old.me false (seat_in run.now (at_own made held (after_own_pass (intent_of run.now.mode run.now.lines.now) (from_release run.now.mode run.now.lines.now 0 phase)))) }
     ensures { On C.start run.now token.new.table_id token.new.me false (seat_in run.now (at_own result held (finished (intent_of run.now.mode run.now.lines.now) phase))) }
 {
@@ -633,7 +634,7 @@ fn wake_line<C: Chain>(
     index: u32,
     line: Line,
 ) -> Woken
-    requires few { length run.now.lines.now ≤ 64 }
+    requires few { length run.now.lines.now ≤ MOST }
     requires line { slice_get run.now.lines.now index ≡ Some line }
     requires on { On C.start run.now token.old.table_id token.old.me false (seat_in run.now (at_own woken.made held (wake_or_signal woken.owed (next_line Put run.now.mode run.now.lines.now index)))) }
     ensures { On C.start run.now token.new.table_id token.new.me false (seat_in run.now (at_own result.made held (wake_or_signal result.owed (next_line Put run.now.mode run.now.lines.now (index + 1))))) }
@@ -652,7 +653,7 @@ fn wake_line<C: Chain>(
 // The awaiters of all puts' locations.
 #[inline(always)]
 fn wakes<C: Chain>(run: &Run, token: &mut Token, made: u64, held: Held) -> Woken
-    requires few { length run.now.lines.now ≤ 64 }
+    requires few { length run.now.lines.now ≤ MOST }
     requires on { On C.start run.now token.old.table_id token.old.me false (seat_in run.now (at_own made held (wake_or_signal 0 (next_line Put run.now.mode run.now.lines.now 0)))) }
     ensures { On C.start run.now token.new.table_id token.new.me false (seat_in run.now (at_own result.made held (owed_next result.owed))) }
 {
@@ -699,7 +700,7 @@ fn end<C: Chain>(run: &Run, token: &mut Token, woken: Woken, held: Held) -> Resu
 #[inline(always)]
 fn succeed<C: Chain>(run: &Run, token: &mut Token, made: u64, held: Held) -> Result<Ended, Stop>
     requires base { run.now.base ≤ LAST_BASE }
-    requires few { length run.now.lines.now ≤ 64 }
+    requires few { length run.now.lines.now ≤ MOST }
     requires on { On C.start run.now token.old.table_id token.old.me false (seat_in run.now (at_own made held (after_own_pass (intent_of run.now.mode run.now.lines.now) (from_release run.now.mode run.now.lines.now 0 Succeeded)))) }
     ensures ok { IfOk result (λ e. On C.start run.now token.new.table_id token.new.me false (seat_ended run.now.seat.now e)) }
     ensures err { IfErr result (λ e. (e.at ≡ pauses.Signal) × Stopped C.start run.now token.new.table_id token.new.me e) }
@@ -718,7 +719,7 @@ fn settle<C: Chain>(
     phase: Phase,
 ) -> Result<Ended, Stop>
     requires base { run.now.base ≤ LAST_BASE }
-    requires few { length run.now.lines.now ≤ 64 }
+    requires few { length run.now.lines.now ≤ MOST }
     requires on { On C.start run.now token.old.table_id token.old.me false (seat_in run.now (at_own made held (after_own_pass (intent_of run.now.mode run.now.lines.now) (from_release run.now.mode run.now.lines.now 0 phase)))) }
     ensures ok { IfOk result (λ e. On C.start run.now token.new.table_id token.new.me false (seat_ended run.now.seat.now e)) }
     ensures err { IfErr result (λ e. Stopped C.start run.now token.new.table_id token.new.me e) }
@@ -740,7 +741,7 @@ fn decided<C: Chain>(
     number: u64,
 ) -> Result<Ended, Stop>
     requires base { run.now.base ≤ LAST_BASE }
-    requires few { length run.now.lines.now ≤ 64 }
+    requires few { length run.now.lines.now ≤ MOST }
     requires went { Went C.start run.now token.old.table_id token.old.me (seat_in run.now (at_own made held (step.Pass (pass.Decide phase)))) number }
     ensures ok { IfOk result (λ e. On C.start run.now token.new.table_id token.new.me false (seat_ended run.now.seat.now e)) }
     ensures err { IfErr result (λ e. Stopped C.start run.now token.new.table_id token.new.me e) }
@@ -764,7 +765,7 @@ fn fail<C: Chain>(
     line: u32,
 ) -> Result<Ended, Stop>
     requires base { run.now.base ≤ LAST_BASE }
-    requires few { length run.now.lines.now ≤ 64 }
+    requires few { length run.now.lines.now ≤ MOST }
     requires on { On C.start run.now token.old.table_id token.old.me false (seat_in run.now (at_own made held (step.Pass (pass.Decide (Failed line))))) }
     ensures ok { IfOk result (λ e. On C.start run.now token.new.table_id token.new.me false (seat_ended run.now.seat.now e)) }
     ensures err { IfErr result (λ e. Stopped C.start run.now token.new.table_id token.new.me e) }
@@ -780,7 +781,7 @@ fn fail<C: Chain>(
 // it met another's reference.
 fn not_as_seen<C: Chain>(run: &Run, token: &mut Token, stop: Stop) -> Result<Ended, Stop>
     requires base { run.now.base ≤ LAST_BASE }
-    requires few { length run.now.lines.now ≤ 64 }
+    requires few { length run.now.lines.now ≤ MOST }
     requires step { (stop.at ≡ pauses.Install) ⊎ (stop.at ≡ pauses.Check) }
     requires paused { Paused C.start run.now token.old.table_id token.old.me stop }
     ensures ok { IfOk result (λ e. On C.start run.now token.new.table_id token.new.me false (seat_ended run.now.seat.now e)) }
@@ -804,7 +805,7 @@ fn not_as_seen<C: Chain>(run: &Run, token: &mut Token, stop: Stop) -> Result<End
 /// This is apart from `run_commit` for speed: what it answers lies in memory, and would be cleared there before each commit.
 pub fn run_apart<C: Chain>(run: &Run, token: &mut Token, stop: Stop) -> Result<Ended, Stop>
     requires base { run.now.base ≤ LAST_BASE }
-    requires few { length run.now.lines.now ≤ 64 }
+    requires few { length run.now.lines.now ≤ MOST }
     requires paused { Paused C.start run.now token.old.table_id token.old.me stop }
     ensures ok { IfOk result (λ e. On C.start run.now token.new.table_id token.new.me false (seat_ended run.now.seat.now e)) }
     ensures err { IfErr result (λ e. Stopped C.start run.now token.new.table_id token.new.me e) }
@@ -834,7 +835,7 @@ fn pause(at: StopAt, held: Held, surprise: Surprise) -> Stop
 #[inline(always)]
 fn pass<C: Chain>(run: &Run, token: &mut Token, made: u64, held: Held) -> Result<Ended, Stop>
     requires base { run.now.base ≤ LAST_BASE }
-    requires few { length run.now.lines.now ≤ 64 }
+    requires few { length run.now.lines.now ≤ MOST }
     requires on { On C.start run.now token.old.table_id token.old.me false (seat_in run.now (at_own made held (step.Pass (from_install run.now.mode run.now.lines.now 0)))) }
     ensures ok { IfOk result (λ e. On C.start run.now token.new.table_id token.new.me false (seat_ended run.now.seat.now e)) }
     ensures err { IfErr result (λ e. Paused C.start run.now token.new.table_id token.new.me e) }
@@ -857,7 +858,7 @@ fn pass<C: Chain>(run: &Run, token: &mut Token, made: u64, held: Held) -> Result
 #[inline(always)]
 fn own<C: Chain>(run: &Run, token: &mut Token, held: Held) -> Result<Ended, Stop>
     requires base { run.now.base ≤ LAST_BASE }
-    requires few { length run.now.lines.now ≤ 64 }
+    requires few { length run.now.lines.now ≤ MOST }
     requires on { On C.start run.now token.old.table_id token.old.me false (seat_in run.now (at_own (one_more (one_more run.now.seat.now.made)) held step.FillOwner)) }
     ensures ok { IfOk result (λ e. On C.start run.now token.new.table_id token.new.me false (seat_ended run.now.seat.now e)) }
     ensures err { IfErr result (λ e. Paused C.start run.now token.new.table_id token.new.me e) }
@@ -873,7 +874,7 @@ fn own<C: Chain>(run: &Run, token: &mut Token, held: Held) -> Result<Ended, Stop
 #[inline(always)]
 pub fn run_commit<C: Chain>(run: &Run, token: &mut Token) -> Result<Ended, Stop>
     requires base { run.now.base ≤ LAST_BASE }
-    requires few { length run.now.lines.now ≤ 64 }
+    requires few { length run.now.lines.now ≤ MOST }
     requires on { On C.start run.now token.old.table_id token.old.me true (seat_in run.now (first_point run.now.seat.now)) }
     ensures ok { IfOk result (λ e. On C.start run.now token.new.table_id token.new.me false (seat_ended run.now.seat.now e)) }
     ensures err { IfErr result (λ e. Paused C.start run.now token.new.table_id token.new.me e) }

@@ -8,8 +8,8 @@ use Rattle.kc_table.proofs.table.KcTable.park.Goals as goal
 pub loop-init : goal.loop-init
 loop-init g c = (tt, tt, still)
 
-pub loop-preserved-then-caller-lt64 : goal.loop-preserved-then-caller-lt64
-loop-preserved-then-caller-lt64 g c = (tt, tt, waited_more c.args.seat.now c.loop.seat c.signalled.new.seat c.signalled.result c.loop.invariant.2 c.signalled.ensures)
+pub loop-preserved-then-caller-lt-MOST_CALLERS : goal.loop-preserved-then-caller-lt-MOST_CALLERS
+loop-preserved-then-caller-lt-MOST_CALLERS g c = (tt, tt, waited_more c.args.seat.now c.loop.seat c.signalled.new.seat c.signalled.result c.loop.invariant.2 c.signalled.ensures)
 
 pub loop-preserved : goal.loop-preserved
 loop-preserved g c = (tt, tt, waited_more c.args.seat.now c.loop.seat c.signalled.new.seat c.signalled.result c.loop.invariant.2 c.signalled.ensures)
