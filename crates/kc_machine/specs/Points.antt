@@ -7,7 +7,7 @@ use Rattle.kc_machine_commits.specs.Nexts.{Next, Goes, Takes, Tells}
 use Rattle.kc_machine_commits.specs.declared.commit.Stage.{Stage}
 use Rattle.kc_machine_commits.specs.declared.commit.Stage.TheVariants.{Scan}
 use Rattle.kc_machine_steps.specs.Lines.{one_more}
-use Rattle.kc_machine_steps.specs.declared.line.Line.{Line}
+use Rattle.kc_model.specs.declared.footprint.Line.{Line}
 use Rattle.kc_machine_steps.specs.declared.task.Told.{Told}
 use Rattle.kc_machine_words.specs.declared.words.Mode.{Mode}
 use Rattle.kc_machine.specs.Works as work

@@ -5,7 +5,7 @@ ghost use Rattle.kc_machine_words.specs.declared.words.Mode.{Mode};
 ghost use Rattle.kc_machine_words.specs.declared.access.Found.{Found};
 ghost use Rattle.kc_model.specs.declared.footprint.Footprint.{Footprint};
 ghost use Rattle.kc_machine_steps.specs.declared.task.Task.TheVariants as task;
-ghost use Rattle.kc_machine_steps.specs.declared.line.Line.{Line};
+ghost use Rattle.kc_model.specs.declared.footprint.Line.{Line};
 ghost use Rattle.kc_machine_steps.specs.Lines.{lines_of};
 ghost use Rattle.kc_machine_commits.specs.Commits.{commit_at, stage_access, stage_next, aids};
 ghost use Rattle.kc_machine.specs.declared.seat.Seat.{Seat};

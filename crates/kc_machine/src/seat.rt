@@ -7,9 +7,9 @@ use crate::hang::{HangStep, LeaveStep};
 use crate::point::Point;
 use arrayvec::ArrayVec;
 use kc_machine_commits::Commit;
-use kc_machine_steps::{Line, Look, LookStep, Onward, Task, Told, copy_reads, one_more};
+use kc_machine_steps::{Look, LookStep, Onward, Task, Told, copy_reads, one_more};
 use kc_machine_words::{Access, Found, Mode};
-use kc_model::{Loc, MOST, Seen};
+use kc_model::{Line, Loc, MOST, Seen};
 use std::marker::Model;
 
 /// Which task runs.

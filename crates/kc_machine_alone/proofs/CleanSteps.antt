@@ -26,7 +26,7 @@ use Rattle.kc_machine_steps.specs.Lines.{after_line, next_line}
 use Rattle.kc_machine_steps.specs.Passes.{status}
 use Rattle.kc_machine_steps.specs.declared.aid.AidStep.{AidStep}
 use Rattle.kc_machine_steps.specs.declared.aid.Aided.{Aided}
-use Rattle.kc_machine_steps.specs.declared.line.Line.{Line}
+use Rattle.kc_model.specs.declared.footprint.Line.{Line}
 use Rattle.kc_machine_steps.specs.declared.line.Pick.TheVariants.{Put}
 use Rattle.kc_machine_steps.specs.declared.pass.AfterCheck.TheVariants as checked
 use Rattle.kc_machine_steps.specs.declared.task.Told.TheVariants as told

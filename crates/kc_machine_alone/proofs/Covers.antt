@@ -13,7 +13,7 @@ use Rattle.kc_machine_passes.specs.Lines.{IsInstalledLine}
 use Rattle.kc_machine_steps.specs.Lines.{is_installed, next_line}
 use Rattle.kc_machine_steps.specs.Passes.{check_or_decide, decide_access, from_check, from_install, from_release, install_or_check, release_or_finish, status}
 use Rattle.kc_machine_steps.specs.declared.aid.AidStep.{AidStep}
-use Rattle.kc_machine_steps.specs.declared.line.Line.{Line}
+use Rattle.kc_model.specs.declared.footprint.Line.{Line}
 use Rattle.kc_machine_steps.specs.declared.line.Pick.TheVariants.{Checked, Installed}
 use Rattle.kc_machine_steps.specs.declared.pass.PassNext.{PassNext}
 use Rattle.kc_machine_steps.specs.declared.pass.PassStep.{PassStep}

@@ -8,7 +8,7 @@ use Rattle.kc_machine_steps.specs.Aids.{after_pass}
 use Rattle.kc_machine_steps.specs.Lines.{after_line, next_line, word_of}
 use Rattle.kc_machine_steps.specs.Looks.{reference_of}
 use Rattle.kc_machine_steps.specs.Passes.{check_access, check_first_found, check_found, check_next, check_or_decide, crossed_or_first, fits, from_check, from_install, from_release, install_access, install_found, install_next, install_or_check, pass_access, pass_next, refers_to, release_or_finish}
-use Rattle.kc_machine_steps.specs.declared.line.Line.{Line}
+use Rattle.kc_model.specs.declared.footprint.Line.{Line}
 use Rattle.kc_machine_steps.specs.declared.line.Pick.TheVariants.{Checked, Installed}
 use Rattle.kc_machine_steps.specs.declared.pass.AfterCheck.{AfterCheck}
 use Rattle.kc_machine_steps.specs.declared.pass.PassNext.{PassNext}

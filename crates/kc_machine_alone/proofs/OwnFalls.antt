@@ -17,7 +17,7 @@ use Rattle.kc_machine_steps.specs.Passes.{pass_access, pass_next}
 use Rattle.kc_machine_steps.specs.declared.aid.AidNext.{AidNext}
 use Rattle.kc_machine_steps.specs.declared.aid.AidStep.{AidStep}
 use Rattle.kc_machine_steps.specs.declared.aid.Aided.{Aided}
-use Rattle.kc_machine_steps.specs.declared.line.Line.{Line}
+use Rattle.kc_model.specs.declared.footprint.Line.{Line}
 use Rattle.kc_machine_steps.specs.declared.line.Pick.TheVariants.{Put}
 use Rattle.kc_machine_steps.specs.declared.pass.PassNext.{PassNext}
 use Rattle.kc_machine_steps.specs.declared.pass.PassStep.{PassStep}

@@ -22,7 +22,7 @@ use Rattle.kc_machine_steps.specs.Lines.{after_line, is_installed, next_line, wo
 use Rattle.kc_machine_steps.specs.Looks.{reference_of}
 use Rattle.kc_machine_steps.specs.Passes.{check_or_decide, fits, from_check, from_install, install_access, install_found, install_next, install_or_check, refers_to}
 use Rattle.kc_machine_steps.specs.declared.aid.Aided.{Aided}
-use Rattle.kc_machine_steps.specs.declared.line.Line.{Line}
+use Rattle.kc_model.specs.declared.footprint.Line.{Line}
 use Rattle.kc_machine_steps.specs.declared.line.Pick.TheVariants.{Checked, Installed}
 use Rattle.kc_machine_steps.specs.declared.pass.PassNext.{PassNext}
 use Rattle.kc_machine_steps.specs.declared.pass.PassStep.{PassStep}

@@ -5,7 +5,7 @@ use Rattle.kc_machine_seats.specs.Fits.{IsCheckedAt, StepFits}
 use Rattle.kc_machine_steps.specs.Lines.{after_line, next_among, next_line, picked, picks, resolved_version}
 use Rattle.kc_machine_steps.specs.Looks.{reference_of}
 use Rattle.kc_machine_steps.specs.Passes.{agrees_or_fails, check_access, check_first_found, check_found, check_or_decide, crossed_or_first, decide_access, decided_as, fits, from_check, from_install, from_release, install_access, install_found, install_or_check, pass_access, pass_next, refers_to, release_at, release_or_finish}
-use Rattle.kc_machine_steps.specs.declared.line.Line.{Line}
+use Rattle.kc_model.specs.declared.footprint.Line.{Line}
 use Rattle.kc_machine_steps.specs.declared.line.Pick.{Pick}
 use Rattle.kc_machine_steps.specs.declared.line.Pick.TheVariants.{Checked, Installed}
 use Rattle.kc_machine_steps.specs.declared.pass.AfterCheck.{AfterCheck}

@@ -16,7 +16,7 @@ use Rattle.kc_machine_steps.specs.Looks.{look_access}
 use Rattle.kc_machine_steps.specs.Passes.{check_access, install_access, pass_access, release_at}
 use Rattle.kc_machine_steps.specs.declared.aid.AidStep.TheVariants as aid
 use Rattle.kc_machine_steps.specs.declared.aid.AidStep.{AidStep}
-use Rattle.kc_machine_steps.specs.declared.line.Line.{Line}
+use Rattle.kc_model.specs.declared.footprint.Line.{Line}
 use Rattle.kc_machine_steps.specs.declared.look.LookStep.TheVariants as look
 use Rattle.kc_machine_steps.specs.declared.look.LookStep.{LookStep}
 use Rattle.kc_machine_steps.specs.declared.pass.PassStep.TheVariants.{Check, CheckDrop, CheckFirst, CheckHold, CheckStatus, Decide, Install, Release}

@@ -34,7 +34,7 @@ use Rattle.kc_machine_steps.specs.Looks.{look_next, looks_on, told_by}
 use Rattle.kc_machine_steps.specs.declared.aid.AidStep.{AidStep}
 use Rattle.kc_machine_steps.specs.declared.aid.Aided.{Aided}
 use Rattle.kc_machine_steps.specs.declared.line.Intent.{Intent}
-use Rattle.kc_machine_steps.specs.declared.line.Line.{Line}
+use Rattle.kc_model.specs.declared.footprint.Line.{Line}
 use Rattle.kc_machine_steps.specs.declared.look.Look.{Look}
 use Rattle.kc_machine_steps.specs.declared.look.LookNext.{LookNext}
 use Rattle.kc_machine_steps.specs.declared.pass.PassStep.{PassStep}

@@ -21,7 +21,7 @@ use Rattle.kc_machine_pool.specs.Owners.{Follows, OwnsLife, is_filling}
 use Rattle.kc_machine_seats.proofs.FitSeats.{fit_always}
 use Rattle.kc_machine_seats.proofs.FormedSteps.{formed_always}
 use Rattle.kc_machine_steps.specs.Lines.{one_more}
-use Rattle.kc_machine_steps.specs.declared.line.Line.{Line}
+use Rattle.kc_model.specs.declared.footprint.Line.{Line}
 use Rattle.kc_machine_steps.specs.declared.task.Event.{Event}
 use Rattle.kc_machine_steps.specs.declared.task.Event.TheVariants.{Begin}
 use Rattle.kc_machine_traces.proofs.Joins.{run-append, every}

@@ -14,7 +14,7 @@ use Rattle.kc_model.specs.declared.footprint.Seen.{Seen}
 use Rattle.kc_machine_words.specs.declared.access.Access.TheVariants as access
 use Rattle.kc_machine_words.specs.declared.access.Touch.TheVariants as touch
 use Rattle.kc_machine_steps.specs.declared.aid.AidStep.{AidStep}
-use Rattle.kc_machine_steps.specs.declared.line.Line.{Line}
+use Rattle.kc_model.specs.declared.footprint.Line.{Line}
 use Rattle.kc_machine_steps.specs.declared.pass.PassStep.{PassStep}
 use Rattle.kc_machine_steps.specs.declared.pass.PassStep.TheVariants.{Install, Check, CheckHold, CheckStatus, CheckFirst, CheckDrop, Decide, Release}
 use Rattle.kc_machine_steps.specs.declared.aid.AidStep.TheVariants as aid

@@ -16,7 +16,7 @@ use Rattle.kc_machine_passes.proofs.Words.{over_made}
 use Rattle.kc_machine_passes.specs.Lines.{IsInstalledLine}
 use Rattle.kc_machine_pool.proofs.Shapes.{goes_over}
 use Rattle.kc_machine_steps.specs.Lines.{is_installed}
-use Rattle.kc_machine_steps.specs.declared.line.Line.{Line}
+use Rattle.kc_model.specs.declared.footprint.Line.{Line}
 use Rattle.kc_machine_steps.specs.declared.pass.PassStep.TheVariants.{CheckStatus}
 use Rattle.kc_machine_steps.specs.declared.task.Event.{Event}
 use Rattle.kc_machine_words.specs.declared.words.Handle.{Handle}

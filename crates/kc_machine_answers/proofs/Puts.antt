@@ -16,7 +16,7 @@ use Rattle.kc_model.specs.declared.word.Word.TheVariants.{Plain}
 use Rattle.kc_machine_words.specs.declared.access.Found.TheVariants as found
 use Rattle.kc_machine_steps.specs.declared.aid.Aided.{Aided}
 use Rattle.kc_machine_steps.specs.declared.line.Intent.{Intent}
-use Rattle.kc_machine_steps.specs.declared.line.Line.{Line}
+use Rattle.kc_model.specs.declared.footprint.Line.{Line}
 use Rattle.kc_machine_steps.specs.declared.line.Pick.TheVariants.{Installed, Checked}
 use Rattle.kc_machine_steps.specs.declared.pass.PassStep.TheVariants.{Install, Decide}
 use Rattle.kc_machine_steps.specs.declared.pass.PassNext.TheVariants as pass

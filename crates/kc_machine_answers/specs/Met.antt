@@ -4,7 +4,7 @@ use Rattle.kc_machine.specs.Machine.{World, State}
 use Rattle.kc_machine_effects.specs.Stands.{Turn, At, Passing, NoPass, Over, stand}
 use Rattle.kc_machine_seats.specs.Fits.{IsCheckedAt}
 use Rattle.kc_machine_steps.specs.Passes.{status}
-use Rattle.kc_machine_steps.specs.declared.line.Line.{Line}
+use Rattle.kc_model.specs.declared.footprint.Line.{Line}
 use Rattle.kc_machine_steps.specs.declared.pass.PassStep.{PassStep}
 use Rattle.kc_machine_steps.specs.declared.pass.PassStep.TheVariants.{Check, CheckHold, CheckStatus, CheckFirst, CheckDrop}
 use Rattle.kc_machine_words.specs.declared.words.Handle.{Handle}

@@ -2,7 +2,7 @@
 use Rattle.std.specs.Prelude.{◌≡◌, ℕ, ◌++◌, List, [], ◌∷◌, Bool, true, if◌then◌else◌, nat_lt, Option, Some, map, take, slice_get, Contains}
 use Rattle.std.specs.List.{filter, filter_map}
 use Rattle.std.specs.Option.{is_some, option_map}
-use Rattle.kc_machine_steps.specs.declared.line.Line.{Line}
+use Rattle.kc_model.specs.declared.footprint.Line.{Line}
 use Rattle.kc_machine_words.specs.declared.words.Mode.{Mode}
 use Rattle.kc_machine_words.specs.declared.words.Mode.TheVariants.{All, Light}
 use Rattle.kc_model.specs.Footprint.{Reads, put_at}

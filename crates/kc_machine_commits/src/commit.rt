@@ -8,11 +8,11 @@ ghost use Rattle.kc_machine_commits.specs.Commits.{owner_of, fill_first, fill_se
 
 use arrayvec::ArrayVec;
 use kc_machine_steps::{
-    AidStep, Aided, Intent, Line, PassStep, aid_access, check_access, decide_access, fill_lines,
+    AidStep, Aided, Intent, PassStep, aid_access, check_access, decide_access, fill_lines,
     first_of, install_access, pass_access, release_at, second_of,
 };
 use kc_machine_words::{Access, Bits, Grip, Handle, Mode, Owner, Phase, Reference, Status, Touch};
-use kc_model::Footprint;
+use kc_model::{Footprint, Line};
 use std::marker::Model;
 
 /// Where a commit stands.

@@ -4,9 +4,9 @@ ghost use Rattle.std.specs.Prelude.{◌≡◌, ◌≤◌, length, true};
 ghost use Rattle.kc_machine_commits.specs.Commits.{commit_at, owned, stepped};
 
 use crate::commit::{At, Commit, OwnStep, Place, Stage};
-use kc_machine_steps::{Line, copy_lines};
+use kc_machine_steps::copy_lines;
 use kc_machine_words::Mode;
-use kc_model::MOST;
+use kc_model::{Line, MOST};
 
 impl Commit {
     /// A commit of these lines that has come to this stage. It was not halted, and nothing is loaded of what it aids.

@@ -1,7 +1,7 @@
 -- How a seat stands, in parts that change apart from each other.
 use Rattle.std.specs.Prelude.{ℕ, List, Bool, false, Option, None, Some, slice_get}
 use Rattle.kc_machine_steps.specs.declared.line.Intent.{Intent}
-use Rattle.kc_machine_steps.specs.declared.line.Line.{Line}
+use Rattle.kc_model.specs.declared.footprint.Line.{Line}
 use Rattle.kc_machine_steps.specs.declared.look.LookStep.{LookStep}
 use Rattle.kc_machine_steps.specs.declared.task.Told.{Told}
 use Rattle.kc_machine_words.specs.declared.words.Handle.{Handle}

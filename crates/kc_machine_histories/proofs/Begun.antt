@@ -15,7 +15,7 @@ use Rattle.kc_machine_histories.specs.Places.{pass_of, place_of, began}
 use Rattle.kc_machine_pool.proofs.LifeLaws.{statuses_follow, held_started}
 use Rattle.kc_machine_pool.specs.Owners.{Follows, OwnsLife, is_filling}
 use Rattle.kc_machine_steps.specs.Lines.{one_more}
-use Rattle.kc_machine_steps.specs.declared.line.Line.{Line}
+use Rattle.kc_model.specs.declared.footprint.Line.{Line}
 use Rattle.kc_machine_steps.specs.declared.pass.PassStep.TheVariants.{Decide}
 use Rattle.kc_machine_steps.specs.declared.task.Event.{Event}
 use Rattle.kc_machine_traces.proofs.Joins.{run-append, trace-append, every}

@@ -12,7 +12,7 @@ use Rattle.kc_machine_effects.proofs.Tests.{status_active}
 use Rattle.kc_machine_effects.specs.Stands.{Passing, NoPass, Over, Turn, At, Meets, Ends, Leaves, Stand, stand}
 use Rattle.kc_machine_histories.proofs.Passes.{Touches, Quits, pass_touches, step_quits}
 use Rattle.kc_machine_steps.specs.Passes.{status, pass_access, install_access, check_access, release_at}
-use Rattle.kc_machine_steps.specs.declared.line.Line.{Line}
+use Rattle.kc_model.specs.declared.footprint.Line.{Line}
 use Rattle.kc_machine_steps.specs.declared.pass.PassStep.{PassStep}
 use Rattle.kc_machine_steps.specs.declared.pass.PassStep.TheVariants.{Install, Check, CheckHold, CheckStatus, CheckFirst, CheckDrop, Decide, Release}
 use Rattle.kc_machine_steps.specs.declared.task.Event.{Event}

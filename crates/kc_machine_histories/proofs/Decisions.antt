@@ -14,7 +14,7 @@ use Rattle.kc_machine_histories.specs.Decisions.{own_of, Decision, MovesByDecisi
 use Rattle.kc_machine_pool.proofs.LifeLaws.{statuses_follow}
 use Rattle.kc_machine_pool.specs.Owners.{Follows, is_filling}
 use Rattle.kc_machine_steps.specs.Passes.{status}
-use Rattle.kc_machine_steps.specs.declared.line.Line.{Line}
+use Rattle.kc_model.specs.declared.footprint.Line.{Line}
 use Rattle.kc_machine_steps.specs.declared.pass.PassStep.TheVariants.{Decide}
 use Rattle.kc_machine_steps.specs.declared.task.Event.{Event}
 use Rattle.kc_machine_traces.proofs.Entries.{Entered, Enters, enters}

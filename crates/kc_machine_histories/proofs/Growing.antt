@@ -20,7 +20,7 @@ use Rattle.kc_machine_histories.specs.Decisions.{Decision, MovesByDecision}
 use Rattle.kc_machine_histories.specs.Insertions.{put_by, IsLastWherePut, NoneInstallsAbove}
 use Rattle.kc_machine_histories.specs.Later.{NoneTouchesAbove, DecidesSoon, NothingLaterTouches, NothingLaterTouchesAlong}
 use Rattle.kc_machine_steps.specs.Lines.{has_put, is_installed}
-use Rattle.kc_machine_steps.specs.declared.line.Line.{Line}
+use Rattle.kc_model.specs.declared.footprint.Line.{Line}
 use Rattle.kc_machine_steps.specs.declared.pass.PassStep.TheVariants.{Decide}
 use Rattle.kc_machine_steps.specs.declared.task.Event.{Event}
 use Rattle.kc_machine_traces.proofs.Joins.{every}

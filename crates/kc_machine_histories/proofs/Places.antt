@@ -16,7 +16,7 @@ use Rattle.kc_machine_histories.proofs.Insertions.{inserted_contains, rises_inse
 use Rattle.kc_machine_histories.proofs.Passes.{Keeps, event_keeps, IsFresh, begun_fresh}
 use Rattle.kc_machine_histories.specs.Insertions.{IsNewPlace, IsBelowPlace}
 use Rattle.kc_machine_histories.specs.Places.{pass_of, place_of, began}
-use Rattle.kc_machine_steps.specs.declared.line.Line.{Line}
+use Rattle.kc_model.specs.declared.footprint.Line.{Line}
 use Rattle.kc_machine_steps.specs.declared.task.Event.{Event}
 use Rattle.kc_machine_steps.specs.declared.task.Event.TheVariants.{Begin, Step, Halt}
 use Rattle.kc_machine_steps.specs.declared.task.Task.{Task}

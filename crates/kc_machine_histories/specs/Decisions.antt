@@ -7,7 +7,7 @@ use Rattle.kc_machine_effects.specs.Stands.{At, Over, Own, stand}
 use Rattle.kc_machine_histories.specs.Places.{pass_of, place_of}
 use Rattle.kc_machine_pool.specs.Owners.{OwnsLife, is_filling}
 use Rattle.kc_machine_steps.specs.Passes.{status}
-use Rattle.kc_machine_steps.specs.declared.line.Line.{Line}
+use Rattle.kc_model.specs.declared.footprint.Line.{Line}
 use Rattle.kc_machine_steps.specs.declared.pass.PassStep.TheVariants.{Decide}
 use Rattle.kc_machine_steps.specs.declared.task.Event.{Event}
 use Rattle.kc_machine_traces.specs.Entries.{own_intent}

@@ -8,7 +8,7 @@ use Rattle.kc_machine_histories.specs.Insertions.{put_by}
 use Rattle.kc_machine_histories.specs.Places.{pass_of, place_of}
 use Rattle.kc_machine_steps.specs.Lines.{is_installed}
 use Rattle.kc_machine_steps.specs.Passes.{status}
-use Rattle.kc_machine_steps.specs.declared.line.Line.{Line}
+use Rattle.kc_model.specs.declared.footprint.Line.{Line}
 use Rattle.kc_machine_steps.specs.declared.task.Event.{Event}
 use Rattle.kc_machine_words.specs.declared.words.Handle.{Handle}
 use Rattle.kc_machine_words.specs.declared.words.Mode.{Mode}

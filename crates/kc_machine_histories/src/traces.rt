@@ -5,7 +5,7 @@ ghost use Rattle.std.specs.Option.{is_some};
 ghost use Rattle.kc_machine_words.specs.declared.words.Handle.{Handle};
 ghost use Rattle.kc_machine_words.specs.declared.words.Mode.{Mode};
 ghost use Rattle.kc_machine_steps.specs.declared.line.Intent.{Intent};
-ghost use Rattle.kc_machine_steps.specs.declared.line.Line.{Line};
+ghost use Rattle.kc_model.specs.declared.footprint.Line.{Line};
 ghost use Rattle.kc_machine_steps.specs.declared.task.Event.{Event};
 ghost use Rattle.kc_machine.specs.Machine.{Opening, seat_of};
 ghost use Rattle.kc_machine_effects.specs.Stands.{Over, Turn};

@@ -20,7 +20,7 @@ use Rattle.kc_machine_histories.specs.Later.{DecidesSoon}
 use Rattle.kc_machine_honest.proofs.Known.{OwnerAsked, owner_asked, begun, begun_grows, line_known_then}
 use Rattle.kc_machine_honest.specs.Honest.{ends_at, stands_at}
 use Rattle.kc_machine_resolving.proofs.Growing.{known}
-use Rattle.kc_machine_steps.specs.declared.line.Line.{Line}
+use Rattle.kc_model.specs.declared.footprint.Line.{Line}
 use Rattle.kc_machine_steps.specs.declared.task.Event.{Event}
 use Rattle.kc_machine_traces.proofs.Known.{versions_rise}
 use Rattle.kc_machine_words.specs.declared.words.Mode.{Mode}

@@ -25,7 +25,7 @@ use Rattle.kc_machine_resolving.proofs.Before.{target, most_lines, stands_instal
 use Rattle.kc_machine_resolving.proofs.Growing.{known}
 use Rattle.kc_machine_resolving.proofs.Resolving.{words_resolve}
 use Rattle.kc_machine_steps.specs.Lines.{is_installed, resolved_version, resolved_value}
-use Rattle.kc_machine_steps.specs.declared.line.Line.{Line}
+use Rattle.kc_model.specs.declared.footprint.Line.{Line}
 use Rattle.kc_machine_steps.specs.declared.pass.PassStep.TheVariants.{Decide}
 use Rattle.kc_machine_steps.specs.declared.task.Event.{Event}
 use Rattle.kc_machine_traces.proofs.Joins.{every, made_parts, honest_parts}

@@ -19,7 +19,7 @@ use Rattle.kc_machine_histories.specs.Insertions.{put_by}
 use Rattle.kc_machine_honest.proofs.Causes.{failures}
 use Rattle.kc_machine_honest.proofs.Legal.{legal}
 use Rattle.kc_machine_honest.specs.Causes.{PastRead}
-use Rattle.kc_machine_steps.specs.declared.line.Line.{Line}
+use Rattle.kc_model.specs.declared.footprint.Line.{Line}
 use Rattle.kc_machine_steps.specs.declared.task.Event.{Event}
 use Rattle.kc_machine_traces.proofs.Joins.{every}
 use Rattle.kc_model.proofs.Stores.{Contains-first, Contains-later}

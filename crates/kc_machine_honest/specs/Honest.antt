@@ -8,7 +8,7 @@ use Rattle.kc_machine_histories.specs.Later.{DecidesSoon}
 use Rattle.kc_machine_resolving.specs.Settled.{checked_by}
 use Rattle.kc_machine_steps.specs.Lines.{is_installed, resolved_version}
 use Rattle.kc_machine_steps.specs.Passes.{status}
-use Rattle.kc_machine_steps.specs.declared.line.Line.{Line}
+use Rattle.kc_model.specs.declared.footprint.Line.{Line}
 use Rattle.kc_machine_steps.specs.declared.pass.PassStep.{PassStep}
 use Rattle.kc_machine_steps.specs.declared.pass.PassStep.TheVariants.{CheckHold, CheckStatus, CheckFirst}
 use Rattle.kc_machine_steps.specs.declared.task.Event.{Event}

@@ -10,7 +10,7 @@ use Rattle.kc_machine_passes.specs.Passed.{gone_by_step}
 use Rattle.kc_machine_pool.proofs.Filled.{past_end}
 use Rattle.kc_machine_steps.specs.Lines.{picks, picked, next_among, next_line, is_installed}
 use Rattle.kc_machine_steps.specs.Passes.{from_install, install_or_check, from_check, check_or_decide, from_release, release_or_finish}
-use Rattle.kc_machine_steps.specs.declared.line.Line.{Line}
+use Rattle.kc_model.specs.declared.footprint.Line.{Line}
 use Rattle.kc_machine_steps.specs.declared.line.Pick.{Pick}
 use Rattle.kc_machine_steps.specs.declared.line.Pick.TheVariants.{Installed, Checked}
 use Rattle.kc_machine_steps.specs.declared.pass.PassStep.{PassStep}

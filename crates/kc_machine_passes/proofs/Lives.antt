@@ -16,7 +16,7 @@ use Rattle.kc_machine_pool.proofs.Statuses.{status_moves}
 use Rattle.kc_machine_pool.specs.Owners.{Follows}
 use Rattle.kc_machine_pool.specs.Started.{line_of_words}
 use Rattle.kc_machine_steps.specs.Lines.{joined, is_installed}
-use Rattle.kc_machine_steps.specs.declared.line.Line.{Line}
+use Rattle.kc_model.specs.declared.footprint.Line.{Line}
 use Rattle.kc_machine_traces.proofs.Copies.{SameWords, Filling, owner_fills, first_fills, second_fills}
 use Rattle.kc_machine_words.specs.declared.words.First.{First}
 use Rattle.kc_machine_words.specs.declared.words.Handle.{Handle}

@@ -2,7 +2,7 @@
 use Rattle.std.proofs.Common.{◌≡◌, ◌≢◌, ℕ, ◌+◌, ◌<◌, ◌≤◌, ◌∙◌, ⊎_elim, inl, inr, refl, sym, ap, subst, arith, Bool, true, false, not, if◌then◌else◌, List, Option, None, Some}
 use Rattle.std.specs.Prelude.{slice_get, nat_lt}
 use borrow.Author.Tests.{ltb-false}
-use Rattle.kc_machine_steps.specs.declared.line.Line.{Line}
+use Rattle.kc_model.specs.declared.footprint.Line.{Line}
 use Rattle.kc_machine_steps.specs.declared.line.Pick.TheVariants.{Installed, Checked}
 use Rattle.kc_machine_steps.specs.declared.pass.AfterCheck.{AfterCheck}
 use Rattle.kc_machine_steps.specs.declared.pass.PassStep.{PassStep}

@@ -14,7 +14,7 @@ use Rattle.kc_machine_pool.specs.Filled.{task}
 use Rattle.kc_machine_pool.specs.Started.{listed, line_of_words, intent_of_words}
 use Rattle.kc_machine_seats.specs.Made.{IsWellMadeIntent}
 use Rattle.kc_machine_steps.specs.declared.line.Intent.{Intent}
-use Rattle.kc_machine_steps.specs.declared.line.Line.{Line}
+use Rattle.kc_model.specs.declared.footprint.Line.{Line}
 use Rattle.kc_machine_steps.specs.declared.task.Event.{Event}
 use Rattle.kc_machine_traces.proofs.Copies.{copies_after}
 use Rattle.kc_machine_words.specs.declared.words.Handle.{Handle}

@@ -5,7 +5,7 @@ use Rattle.kc_machine_effects.specs.Stands.{Turn, At, Meets, Ends, Leaves, Passi
 use Rattle.kc_machine_passes.specs.Lines.{IsInstalledLine}
 use Rattle.kc_machine_steps.specs.Lines.{is_installed, word_of}
 use Rattle.kc_machine_steps.specs.Passes.{status}
-use Rattle.kc_machine_steps.specs.declared.line.Line.{Line}
+use Rattle.kc_model.specs.declared.footprint.Line.{Line}
 use Rattle.kc_machine_steps.specs.declared.pass.PassStep.{PassStep}
 use Rattle.kc_machine_steps.specs.declared.pass.PassStep.TheVariants.{Install, Check, CheckHold, CheckStatus, CheckFirst, CheckDrop, Decide, Release}
 use Rattle.kc_machine_words.specs.declared.words.Handle.{Handle}

@@ -9,7 +9,7 @@ use Rattle.kc_machine_pool.specs.Filled.{task}
 use Rattle.kc_machine_pool.specs.Started.{intent_of_words}
 use Rattle.kc_machine_seats.specs.Made.{IsWellMadeIntent}
 use Rattle.kc_machine_steps.specs.Passes.{status}
-use Rattle.kc_machine_steps.specs.declared.line.Line.{Line}
+use Rattle.kc_model.specs.declared.footprint.Line.{Line}
 use Rattle.kc_machine_words.specs.declared.words.Handle.{Handle}
 use Rattle.kc_machine_words.specs.declared.words.Mode.{Mode}
 use Rattle.kc_machine_words.specs.declared.words.Phase.TheVariants.{Active}

@@ -4,7 +4,7 @@ use Rattle.std.specs.Prelude.{slice_get, nat_lt}
 use Rattle.std.proofs.lemmas.Option.{slice_get_cases, slice_get_within}
 use Rattle.std.proofs.lemmas.Bool.{ltb-false}
 use Rattle.kc_machine_steps.specs.declared.line.Intent.{Intent}
-use Rattle.kc_machine_steps.specs.declared.line.Line.{Line}
+use Rattle.kc_model.specs.declared.footprint.Line.{Line}
 use Rattle.kc_machine_words.specs.declared.words.First.{First}
 use Rattle.kc_machine_words.specs.declared.words.Handle.{Handle}
 use Rattle.kc_machine_words.specs.declared.words.Second.{Second}

@@ -7,7 +7,7 @@ use Rattle.kc_machine_words.specs.declared.words.Phase.TheVariants.{Active, Succ
 use Rattle.kc_machine_words.specs.declared.words.Status.{Status}
 use Rattle.kc_machine_words.specs.declared.access.Found.TheVariants as found
 use Rattle.kc_machine_steps.specs.declared.line.Intent.{Intent}
-use Rattle.kc_machine_steps.specs.declared.line.Line.{Line}
+use Rattle.kc_model.specs.declared.footprint.Line.{Line}
 use Rattle.kc_machine_steps.specs.declared.line.Pick.TheVariants.{Put, Installed, Checked}
 use Rattle.kc_machine_steps.specs.declared.pass.AfterCheck.{AfterCheck}
 use Rattle.kc_machine_steps.specs.declared.pass.PassStep.{PassStep}

@@ -1,7 +1,7 @@
 -- What seats remember from words: what holds of each reference in a word holds of each that a seat remembers. That other
 -- effects keep it is for the caller to show.
 use Rattle.std.proofs.Common.{◌≡◌, ℕ, ◌∙◌, refl, sym, ap, subst, List, Option, None, Some}
-use Rattle.kc_machine_steps.specs.declared.line.Line.{Line}
+use Rattle.kc_model.specs.declared.footprint.Line.{Line}
 use Rattle.kc_machine_steps.specs.declared.line.Pick.TheVariants.{Installed, Checked}
 use Rattle.kc_machine_steps.specs.declared.pass.AfterCheck.{AfterCheck}
 use Rattle.kc_machine_steps.specs.declared.pass.PassStep.{PassStep}

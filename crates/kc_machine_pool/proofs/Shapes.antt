@@ -5,7 +5,7 @@ use Rattle.kc_machine_effects.specs.Effects
 use Rattle.kc_machine_effects.specs.Holds.{Hold, NoHold, Proper, own_hold}
 use Rattle.kc_machine_effects.specs.Stands.{Stand, Own, NoOwn, Owns, Runs, Waits, Passing, NoPass, Over, Aiding, NoAid, Aids, Passes}
 use Rattle.kc_machine_pool.specs.Owners.{is_filling}
-use Rattle.kc_machine_steps.specs.declared.line.Line.{Line}
+use Rattle.kc_model.specs.declared.footprint.Line.{Line}
 use Rattle.kc_machine_words.specs.declared.words.Handle.{Handle}
 use Rattle.kc_machine_words.specs.declared.words.Mode.{Mode}
 

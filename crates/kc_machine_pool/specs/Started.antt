@@ -4,7 +4,7 @@ use Rattle.kc_machine.specs.Machine.{World, State, Opening}
 use Rattle.kc_machine_seats.specs.Made.{IsWellMadeIntent}
 use Rattle.kc_machine_steps.specs.Lines.{joined}
 use Rattle.kc_machine_steps.specs.declared.line.Intent.{Intent}
-use Rattle.kc_machine_steps.specs.declared.line.Line.{Line}
+use Rattle.kc_model.specs.declared.footprint.Line.{Line}
 
 -- f 0, .., f (n - 1)
 abbrev pub listed : (ℕ → Line) → ℕ → List Line

@@ -34,7 +34,7 @@ use Rattle.kc_machine_resolving.proofs.Changes.{Changes, other, filled, started,
 use Rattle.kc_machine_resolving.specs.Settled.{Settled, CheckedAreSettled}
 use Rattle.kc_machine_steps.specs.Lines.{is_installed, word_of}
 use Rattle.kc_machine_steps.specs.Passes.{status}
-use Rattle.kc_machine_steps.specs.declared.line.Line.{Line}
+use Rattle.kc_model.specs.declared.footprint.Line.{Line}
 use Rattle.kc_machine_steps.specs.declared.pass.PassStep.TheVariants.{Install, Check, CheckHold, CheckStatus, CheckFirst, CheckDrop, Decide, Release}
 use Rattle.kc_machine_steps.specs.declared.task.Event.{Event}
 use Rattle.kc_machine_traces.proofs.Joins.{run-append}

@@ -2,7 +2,7 @@
 use Rattle.std.proofs.Common.{◌≡◌, ◌≢◌, ℕ, Bool, true, false, List, Option, None, Some, refl, sym, if◌then◌else◌}
 use Rattle.std.specs.Prelude.{slice_get, nat_lt}
 use Rattle.kc_machine_steps.specs.declared.line.Intent.{Intent}
-use Rattle.kc_machine_steps.specs.declared.line.Line.{Line}
+use Rattle.kc_model.specs.declared.footprint.Line.{Line}
 use Rattle.kc_machine_steps.specs.declared.look.LookStep.{LookStep}
 use Rattle.kc_machine_words.specs.declared.words.Handle.{Handle}
 use Rattle.kc_machine_words.specs.declared.words.Mode.{Mode}

@@ -18,7 +18,7 @@ use Rattle.kc_machine_pool.specs.Started.{listed, line_of_words}
 use Rattle.kc_machine_resolving.proofs.Before.{target}
 use Rattle.kc_machine_seats.specs.Made.{IsWellMadeIntent, line_location}
 use Rattle.kc_machine_steps.specs.Lines.{has_put, value_after, joined, first_of, second_of, succeeds, next_version, resolved_version, resolved_value}
-use Rattle.kc_machine_steps.specs.declared.line.Line.{Line}
+use Rattle.kc_model.specs.declared.footprint.Line.{Line}
 use Rattle.kc_machine_steps.specs.declared.task.Event.{Event}
 use Rattle.kc_machine_traces.proofs.Entries.{lists_again}
 use Rattle.kc_machine_words.specs.declared.words.First.{First}

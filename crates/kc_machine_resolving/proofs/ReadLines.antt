@@ -24,7 +24,7 @@ use Rattle.kc_machine_pool.specs.Filled.{task}
 use Rattle.kc_machine_resolving.proofs.Growing.{grow}
 use Rattle.kc_machine_steps.specs.Passes.{status}
 use Rattle.kc_machine_steps.specs.declared.line.Intent.{Intent}
-use Rattle.kc_machine_steps.specs.declared.line.Line.{Line}
+use Rattle.kc_model.specs.declared.footprint.Line.{Line}
 use Rattle.kc_machine_steps.specs.declared.task.Event.{Event}
 use Rattle.kc_machine_traces.proofs.Moments.{begun_moment}
 use Rattle.kc_machine_traces.proofs.Others.{run_shape}

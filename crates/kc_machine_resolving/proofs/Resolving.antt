@@ -38,7 +38,7 @@ use Rattle.kc_machine_resolving.proofs.Lines.{cell_by, first_again, after_again,
 use Rattle.kc_machine_resolving.specs.Past.{PutsArePast}
 use Rattle.kc_machine_steps.specs.Lines.{has_put, joined, first_of, second_of, succeeds, is_installed, word_of}
 use Rattle.kc_machine_steps.specs.Passes.{status}
-use Rattle.kc_machine_steps.specs.declared.line.Line.{Line}
+use Rattle.kc_model.specs.declared.footprint.Line.{Line}
 use Rattle.kc_machine_steps.specs.declared.pass.PassStep.TheVariants.{Install, Decide, Release}
 use Rattle.kc_machine_steps.specs.declared.task.Event.{Event}
 use Rattle.kc_machine_traces.proofs.Copies.{SameWords}

@@ -1,6 +1,6 @@
 -- Locations that no pass may still touch below a place, and what of that a pass in its checks knows.
 use Rattle.std.specs.Prelude.{◌≡◌, ◌≢◌, ◌<◌, ◌⊎◌, ℕ, suc, List, Contains, Some, slice_get, true, false}
-use Rattle.kc_machine_steps.specs.declared.line.Line.{Line}
+use Rattle.kc_model.specs.declared.footprint.Line.{Line}
 use Rattle.kc_machine_steps.specs.declared.pass.PassStep.{PassStep}
 use Rattle.kc_machine_steps.specs.declared.pass.PassStep.TheVariants.{Install, Check, CheckHold, CheckStatus, CheckFirst, CheckDrop, Decide, Release}
 use Rattle.kc_machine_words.specs.declared.words.Mode.{Mode}

@@ -4,7 +4,7 @@ ghost use Rattle.std.specs.Prelude.{◌≡◌, ℕ, ◌<◌, ◌≤◌, ◌++◌
 ghost use Rattle.kc_model.specs.declared.footprint.Seen.{Seen};
 ghost use Rattle.kc_model.specs.Store.{cell_after};
 ghost use Rattle.kc_machine_steps.specs.declared.line.Intent.{Intent};
-ghost use Rattle.kc_machine_steps.specs.declared.line.Line.{Line};
+ghost use Rattle.kc_model.specs.declared.footprint.Line.{Line};
 ghost use Rattle.kc_machine_steps.specs.declared.task.Event.{Event};
 ghost use Rattle.kc_machine_steps.specs.Passes.{status};
 ghost use Rattle.kc_machine.specs.Machine.{Opening, run};

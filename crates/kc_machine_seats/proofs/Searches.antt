@@ -12,7 +12,7 @@ use Rattle.kc_machine_commits.specs.Nexts.{Next}
 use Rattle.kc_machine_commits.specs.Nexts.{Goes, Takes, Tells}
 use Rattle.kc_machine_commits.specs.declared.commit.Stage.TheVariants.{Scan, Take, Own}
 use Rattle.kc_machine_steps.specs.Lines.{picks, picked, next_among, next_line}
-use Rattle.kc_machine_steps.specs.declared.line.Line.{Line}
+use Rattle.kc_model.specs.declared.footprint.Line.{Line}
 use Rattle.kc_machine_steps.specs.declared.line.Pick.{Pick}
 
 abbrev pub IsPicked : Pick → Mode → List Line → Option ℕ → Type 0

@@ -1,7 +1,7 @@
 -- How the step of a pass fits the lines that the pass goes over.
 use Rattle.std.specs.Prelude.{◌≡◌, ◌≢◌, ◌⊎◌, ◌<◌, ℕ, List, Bool, true, false, Some, slice_get, length}
 use Rattle.kc_machine_steps.specs.declared.line.Intent.{Intent}
-use Rattle.kc_machine_steps.specs.declared.line.Line.{Line}
+use Rattle.kc_model.specs.declared.footprint.Line.{Line}
 use Rattle.kc_machine_steps.specs.declared.pass.AfterCheck.{AfterCheck}
 use Rattle.kc_machine_steps.specs.declared.pass.PassStep.{PassStep}
 use Rattle.kc_machine_steps.specs.declared.pass.PassStep.TheVariants.{Install, Check, CheckHold, CheckStatus, CheckFirst, CheckDrop, Decide, Release}

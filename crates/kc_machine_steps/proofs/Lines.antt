@@ -2,7 +2,7 @@
 use Rattle.std.proofs.Common.{◌≡◌, ℕ, suc, ◌+◌, ◌-◌, ◌<◌, ◌≤◌, List, Option, None, Some, refl, arith, true, false}
 use Rattle.std.specs.Prelude.{slice_get}
 use Rattle.kc_machine_steps.specs.Lines.{picks, picked, next_among}
-use Rattle.kc_machine_steps.specs.declared.line.Line.{Line}
+use Rattle.kc_model.specs.declared.footprint.Line.{Line}
 use Rattle.kc_machine_steps.specs.declared.line.Pick.{Pick}
 use Rattle.kc_machine_words.specs.declared.words.Mode.{Mode}
 

@@ -12,7 +12,7 @@ use Rattle.kc_machine_words.specs.declared.access.Access.{Access}
 use Rattle.kc_machine_words.specs.declared.access.Access.TheVariants as access
 use Rattle.kc_machine_words.specs.declared.access.Found.{Found}
 use Rattle.kc_machine_words.specs.declared.access.Found.TheVariants as found
-use Rattle.kc_machine_steps.specs.declared.line.Line.{Line}
+use Rattle.kc_model.specs.declared.footprint.Line.{Line}
 use Rattle.kc_machine_steps.specs.declared.pass.PassNext.{PassNext}
 use Rattle.kc_machine_steps.specs.declared.pass.PassNext.TheVariants as pass
 use Rattle.kc_machine_steps.specs.declared.aid.AidStep.{AidStep}

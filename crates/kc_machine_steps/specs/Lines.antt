@@ -1,6 +1,6 @@
 -- The lines of a commit.
 use Rattle.std.specs.Prelude.{ℕ, zero, suc, ◌+◌, ◌-◌, ◌==◌, List, [], ◌∷◌, Bool, true, false, not, Option, None, Some, if◌then◌else◌, slice_get, nat_lt, map}
-use Rattle.kc_machine_steps.specs.declared.line.Line.{Line}
+use Rattle.kc_model.specs.declared.footprint.Line.{Line}
 use Rattle.kc_machine_steps.specs.declared.line.Pick.{Pick}
 use Rattle.kc_machine_steps.specs.declared.line.TheConstants.{MOST_LINES}
 use Rattle.kc_machine_words.specs.declared.words.First.{First}

@@ -4,13 +4,13 @@ ghost use Rattle.std.specs.Prelude.{◌≡◌};
 ghost use Rattle.kc_machine_steps.specs.Aids.{aid_access, aid_next, aid_copy, status_next, hold_next, after_pass, leave_next, load_next};
 ghost use Rattle.kc_machine_steps.specs.Aids.{no_copy};
 
-use crate::line::{Line, joined};
+use crate::line::joined;
 use crate::pass::{
     PassNext, PassStep, from_install, from_release, pass_access, pass_next, release_access,
 };
 use arrayvec::ArrayVec;
 use kc_machine_words::{Access, First, Found, Grip, Mode, Owner, Phase, Reference, Touch};
-use kc_model::MOST;
+use kc_model::{Line, MOST};
 
 /// What was loaded of the aided descriptor.
 #[derive(Drop)]

@@ -9,8 +9,8 @@ mod task;
 
 pub use aid::{AidNext, AidStep, Aided, aid_access};
 pub use line::{
-    Intent, Line, Pick, after_line, copy_lines, copy_reads, fill_lines, first_of, next_line,
-    one_more, second_of,
+    Intent, Pick, after_line, copy_lines, copy_reads, fill_lines, first_of, next_line, one_more,
+    second_of,
 };
 pub use look::{Look, LookNext, LookStep, look_access, look_next, reference_of};
 pub use pass::{

@@ -5,17 +5,10 @@ ghost use Rattle.kc_machine_steps.specs.Lines.{after_line, first_of, second_of, 
 
 use arrayvec::ArrayVec;
 use kc_machine_words::{First, Handle, Mode, Phase, Second};
-use kc_model::{Footprint, LAST_VERSION, Loc, MOST, Put, Seen, Word};
+use kc_model::{Footprint, LAST_VERSION, Line, Loc, MOST, Put, Seen, Word};
 
 /// How many lines a commit may have.
 pub const MOST_LINES: u32 = 64;
-
-/// A comparison of what stands at a location, and the value that is put there, if one is.
-#[derive(Clone, Copy, Debug, Default, PartialEq, Eq)]
-pub struct Line {
-    pub seen: Seen,
-    pub put: Option<u32>,
-}
 
 /// What a descriptor is to do: its lines, in rising order of location.
 #[derive(Drop)]

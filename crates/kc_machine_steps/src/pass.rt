@@ -4,11 +4,11 @@ ghost use Rattle.std.specs.Prelude.{◌≡◌, slice_get};
 ghost use Rattle.kc_machine_steps.specs.Passes.{pass_access, install_access, check_access, decide_access, release_at, pass_next, install_next, check_next, check_hold_next, check_status_next, check_first_next, check_drop_next, decide_next, decided_as, from_install, from_check, from_release, release_access, fits, refers_to};
 
 use crate::line::{
-    Line, Pick, after_line, first_of, next_line, resolved, resolved_version, second_of, word_of,
+    Pick, after_line, first_of, next_line, resolved, resolved_version, second_of, word_of,
 };
 use crate::look::reference_of;
 use kc_machine_words::{Access, First, Found, Grip, Handle, Mode, Phase, Reference, Status, Touch};
-use kc_model::Word;
+use kc_model::{Line, Word};
 
 /// Where a pass stands. `met` is the reference that stood at a checked line's location.
 #[derive(Clone, Copy)]

@@ -2,7 +2,7 @@ use arrayvec::ArrayVec;
 use kc_machine::*;
 use kc_machine_steps::{Pick, first_of, from_install, next_line, second_of};
 use kc_machine_words::{Access, First, Found, Handle, Mode, Second, Touch};
-use kc_model::{Footprint, Loc, OpenError, Put, Seen, Word};
+use kc_model::{Footprint, Line, Loc, OpenError, Put, Seen, Word};
 use std::test::Fail;
 
 fn seen(loc: u32, version: u32, value: u32) -> Seen {

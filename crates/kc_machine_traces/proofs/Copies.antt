@@ -33,7 +33,7 @@ use Rattle.kc_machine_pool.specs.Owners.{Follows}
 use Rattle.kc_machine_pool.specs.References.{met_by_aid}
 use Rattle.kc_machine_pool.specs.Started.{listed, line_of_words}
 use Rattle.kc_machine_steps.specs.Lines.{first_of, second_of}
-use Rattle.kc_machine_steps.specs.declared.line.Line.{Line}
+use Rattle.kc_model.specs.declared.footprint.Line.{Line}
 use Rattle.kc_machine_traces.proofs.Whole.{Bound, bound_own, bound_whole}
 use Rattle.kc_machine_traces.specs.Copies.{LoadedOf, LoadedAt, CopyIsTrue, CopiesAreTrue, PassesAreWhole}
 

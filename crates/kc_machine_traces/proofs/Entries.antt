@@ -6,7 +6,7 @@ use borrow.Author.Tests.{ltb-true, ne_eqb}
 use Rattle.kc_machine_steps.specs.declared.aid.AidStep.{AidStep}
 use Rattle.kc_machine_steps.specs.declared.aid.Aided.{Aided}
 use Rattle.kc_machine_steps.specs.declared.line.Intent.{Intent}
-use Rattle.kc_machine_steps.specs.declared.line.Line.{Line}
+use Rattle.kc_model.specs.declared.footprint.Line.{Line}
 use Rattle.kc_machine_words.specs.declared.words.Handle.{Handle}
 use Rattle.kc_machine_words.specs.declared.words.Owner.{Owner}
 use Rattle.kc_machine_words.specs.declared.words.Phase.{Phase}

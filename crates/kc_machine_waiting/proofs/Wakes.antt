@@ -8,7 +8,7 @@ use Rattle.std.specs.Int.Bits.{and_zero_l}
 use borrow.Author.Tests.{ltb-true, ltb-false, eqb-true}
 use Rattle.kc_machine_commits.specs.declared.commit.OwnStep.{OwnStep}
 use Rattle.kc_machine_steps.specs.declared.line.Intent.{Intent}
-use Rattle.kc_machine_steps.specs.declared.line.Line.{Line}
+use Rattle.kc_model.specs.declared.footprint.Line.{Line}
 use Rattle.kc_machine_steps.specs.declared.line.Pick.TheVariants.{Put}
 use Rattle.kc_machine_words.specs.declared.words.Handle.{Handle}
 use Rattle.kc_machine_words.specs.declared.words.Phase.TheVariants.{Succeeded}

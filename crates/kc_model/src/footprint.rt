@@ -29,6 +29,13 @@ pub struct Put {
     pub after: u32,
 }
 
+/// What a commit does at a location: it compares what stands there, and puts a value where one is given.
+#[derive(Clone, Copy, Debug, Default, PartialEq, Eq)]
+pub struct Line {
+    pub seen: Seen,
+    pub put: Option<u32>,
+}
+
 /// What a transaction read and put, both in rising order of location.
 #[derive(Debug, Drop)]
 pub struct Footprint {

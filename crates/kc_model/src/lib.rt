@@ -21,7 +21,7 @@ mod writing;
 
 pub use errors::{ModelError, NoMemory, OpenError};
 pub use fetching::fetch_all;
-pub use footprint::{Entry, Footprint, LAST_VERSION, Loc, MOST, Put, Seen};
+pub use footprint::{Entry, Footprint, LAST_VERSION, Line, Loc, MOST, Put, Seen};
 pub use frail::{FrailSink, FrailSource};
 pub use items::Items;
 pub use outside::{Failed, Shelf, ShelfError, Sink, Source};

@@ -28,7 +28,7 @@ use Rattle.kc_xt.specs.Meaning.{Meaning}
 use Rattle.kc_xt.specs.Peeks.{Looks}
 use Rattle.kc_xt.specs.declared.attempts.Tried.{Tried}
 use Rattle.kc_xt.specs.declared.attempts.Tried.TheVariants as tried
-use Rattle.kc_xt.specs.declared.line.Line.{Line}
+use Rattle.kc_model.specs.declared.footprint.Line.{Line}
 use Rattle.kc_xt.specs.declared.peek.PeekBusy.{PeekBusy}
 
 pub steps_counted : (v w : SeatView) (d : StepsTo v w) → steps_made w ≡ steps_made v + count v w d

@@ -5,7 +5,7 @@ use Rattle.kc_model.proofs.Stores.{Contains-first, Contains-later}
 use Rattle.kc_model.specs.declared.footprint.Seen.{Seen}
 use Rattle.kc_store.proofs.Among.{first_or_later, nothing_in}
 use Rattle.kc_xt.specs.Lines.{seen_line, seens, with_line, with_looks}
-use Rattle.kc_xt.specs.declared.line.Line.{Line}
+use Rattle.kc_model.specs.declared.footprint.Line.{Line}
 
 one_more : (ls : List Line) (e r : Seen) → Contains (seens (with_line ls (seen_line e))) r → (e ≡ r) ⊎ Contains (seens ls) r
 one_more [] e r c = first_or_later e [] r c

@@ -11,7 +11,7 @@ use Rattle.kc_machine_histories.proofs.Decisions.{history_moves}
 use Rattle.kc_machine_histories.proofs.Insertions.{inserted_contains}
 use Rattle.kc_machine_histories.specs.Decisions.{Decision}
 use Rattle.kc_machine_resolving.proofs.Lines.{made_lines}
-use Rattle.kc_machine_steps.specs.declared.line.Line.{Line}
+use Rattle.kc_model.specs.declared.footprint.Line.{Line}
 use Rattle.kc_machine_steps.specs.declared.task.Event.{Event}
 use Rattle.kc_machine_traces.proofs.Joins.{every, made_parts}
 use Rattle.kc_model.specs.Footprint.{IsBelow}

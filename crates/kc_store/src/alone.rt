@@ -19,9 +19,9 @@ use crate::sole_peek::run_alone;
 use crate::store::{Caller, Rooms, Store};
 use crate::values::Wear;
 use crate::verdict::Answered;
-use kc_machine_steps::{Line, Told, fill_lines};
+use kc_machine_steps::{Told, fill_lines};
 use kc_machine_words::Mode;
-use kc_model::{Footprint, MOST, Reply};
+use kc_model::{Footprint, Line, MOST, Reply};
 use kc_table::{KcSeat, KcTable};
 use kc_xt::{Transact, Tried};
 

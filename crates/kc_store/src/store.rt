@@ -8,9 +8,8 @@ ghost use Rattle.kc_table_moves.specs.Views.{AreAll, IsPast, OpensAt, opened_sea
 ghost use Rattle.kc_store.specs.Steps.{busy_bound};
 
 use arrayvec::ArrayVec;
-use kc_machine_steps::Line;
 use kc_machine_words::LAST_GENERATION;
-use kc_model::{LAST_VERSION, MOST, OpenError};
+use kc_model::{LAST_VERSION, Line, MOST, OpenError};
 use kc_table::{KcSeat, KcTable, Past};
 use kc_xt::Room;
 use std::alloc::{AllocError, Global};

@@ -15,9 +15,9 @@ ghost use Rattle.kc_store.specs.Steps.{steps_made};
 ghost use Rattle.kc_store.specs.Tries.{is_crossed};
 ghost use Rattle.kc_store.specs.Works.{AllCommitted, Ends, MayRun, Runs, is_told_committing};
 
-use kc_machine_steps::{Line, Told};
+use kc_machine_steps::Told;
 use kc_machine_words::Mode;
-use kc_model::Footprint;
+use kc_model::{Footprint, Line};
 use kc_table::{KcSeat, KcTable};
 
 /// Ends the task that runs: by as many steps as are left, and then by a halt.

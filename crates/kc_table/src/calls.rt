@@ -21,9 +21,9 @@ ghost use Rattle.kc_table_straight.specs.Straight.{IsAside, IsOf, IsOnward, Paus
 use crate::seat::KcSeat;
 use crate::table::KcTable;
 use kc_machine::Seat;
-use kc_machine_steps::{Line, Task, Told, one_more};
+use kc_machine_steps::{Task, Told, one_more};
 use kc_machine_words::{Found, Mode};
-use kc_model::{Footprint, Loc, Seen, Word};
+use kc_model::{Footprint, Line, Loc, Seen, Word};
 use kc_table_layout::{base_at, location_at, shown};
 use kc_table_moves::{Asks, Chain, MOST_LOADS, Run, Stop, Token, Words, is_plain, load, peek};
 use kc_table_straight::{Ended, run_apart, run_commit};

@@ -13,9 +13,9 @@ use crate::touch::{Token, Words};
 use crate::view::View;
 use atomic_table::Play;
 use kc_machine::{OwnStep, Point, Seat, Stage};
-use kc_machine_steps::{Line, PassStep};
+use kc_machine_steps::PassStep;
 use kc_machine_words::{Handle, Mode, Phase};
-use kc_model::Word;
+use kc_model::{Line, Word};
 use kc_table_layout::touches_agree;
 use std::marker::{Brand, PhantomData};
 

@@ -11,7 +11,7 @@ use Rattle.kc_machine_claims.specs.Traces.{trace}
 use Rattle.kc_machine_effects.proofs.PoolLaws.{worn_true}
 use Rattle.kc_machine_looks.proofs.Stood.{hung_stood}
 use Rattle.kc_machine_steps.specs.Lines.{is_installed, lines_of}
-use Rattle.kc_machine_steps.specs.declared.line.Line.{Line}
+use Rattle.kc_model.specs.declared.footprint.Line.{Line}
 use Rattle.kc_machine_steps.specs.declared.task.Event.{Event}
 use Rattle.kc_machine_steps.specs.declared.task.Event.TheVariants.{Begin}
 use Rattle.kc_machine_steps.specs.declared.task.Task.{Task}

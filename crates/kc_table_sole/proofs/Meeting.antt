@@ -24,7 +24,7 @@ use Rattle.kc_machine_seats.proofs.MadeSteps.{intents_made}
 use Rattle.kc_machine_seats.specs.Made.{IntentIsMade, IsWellMadeIntent, IsWellMadeLine}
 use Rattle.kc_machine_steps.specs.Lines.{word_of}
 use Rattle.kc_machine_steps.specs.Passes.{refers_to, status}
-use Rattle.kc_machine_steps.specs.declared.line.Line.{Line}
+use Rattle.kc_model.specs.declared.footprint.Line.{Line}
 use Rattle.kc_machine_steps.specs.declared.pass.PassStep.TheVariants.{Install}
 use Rattle.kc_machine_steps.specs.declared.task.Event.{Event}
 use Rattle.kc_machine_traces.proofs.Others.{run_shape}

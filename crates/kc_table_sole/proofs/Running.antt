@@ -22,7 +22,7 @@ use Rattle.kc_machine_seats.specs.Fits.{StageFits, WorkFits}
 use Rattle.kc_machine_steps.specs.Lines.{after_line, next_line}
 use Rattle.kc_machine_steps.specs.Passes.{check_drop_next, decide_next, decided_as, from_release, install_access, pass_access, pass_next, release_or_finish}
 use Rattle.kc_machine_steps.specs.declared.line.Intent.{Intent}
-use Rattle.kc_machine_steps.specs.declared.line.Line.{Line}
+use Rattle.kc_model.specs.declared.footprint.Line.{Line}
 use Rattle.kc_machine_steps.specs.declared.line.Pick.TheVariants.{Installed, Put}
 use Rattle.kc_machine_steps.specs.declared.pass.AfterCheck.TheVariants as checked
 use Rattle.kc_machine_steps.specs.declared.pass.AfterCheck.{AfterCheck}

@@ -18,7 +18,7 @@ use Rattle.kc_model.specs.declared.word.Word.{Word}
 use Rattle.kc_model.specs.declared.word.Word.TheVariants.{Plain, Ref}
 use Rattle.kc_machine_words.specs.declared.access.Found.TheVariants as found
 use Rattle.kc_machine_steps.specs.declared.line.Intent.{Intent}
-use Rattle.kc_machine_steps.specs.declared.line.Line.{Line}
+use Rattle.kc_model.specs.declared.footprint.Line.{Line}
 use Rattle.kc_machine_steps.specs.declared.line.Pick.{Pick}
 use Rattle.kc_machine_steps.specs.declared.line.Pick.TheVariants.{Installed, Checked, Put}
 use Rattle.kc_machine_steps.specs.declared.pass.PassStep.TheVariants.{Install, Check, Decide, Release}

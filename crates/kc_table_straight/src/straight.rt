@@ -18,9 +18,9 @@ ghost use Rattle.kc_table_moves.specs.Atoms.{On, Went, seat_in};
 ghost use Rattle.kc_table_straight.specs.Straight.{IsForeign, Paused, Stopped, Surprised, at_own, at_take, is_free, seat_ended, shows};
 
 use kc_machine::{OwnStep, Point, Stage};
-use kc_machine_steps::{Line, PassStep, Told, decided_as, first_of, one_more, second_of};
+use kc_machine_steps::{PassStep, Told, decided_as, first_of, one_more, second_of};
 use kc_machine_words::{Control, Handle, LAST_GENERATION, Mode, Owner, Phase, Status};
-use kc_model::{LAST_VERSION, Word};
+use kc_model::{LAST_VERSION, Line, Word};
 use kc_table_layout::{
     awaiters_at, control_at, first_at, location_at, owner_at, second_at, status_at,
 };

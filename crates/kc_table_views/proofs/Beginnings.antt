@@ -8,7 +8,7 @@ use Rattle.kc_model.specs.declared.footprint.Seen.{Seen}
 use Rattle.kc_machine_steps.specs.declared.look.LookStep.TheVariants as look
 use Rattle.kc_machine_commits.specs.Halts.{unowned}
 use Rattle.kc_machine_steps.specs.Lines.{lines_of}
-use Rattle.kc_machine_steps.specs.declared.line.Line.{Line}
+use Rattle.kc_model.specs.declared.footprint.Line.{Line}
 use Rattle.kc_machine_steps.specs.declared.task.Task.{Task}
 use Rattle.kc_machine_steps.specs.declared.task.Task.TheVariants as task
 use Rattle.kc_machine.specs.Works.{Work}

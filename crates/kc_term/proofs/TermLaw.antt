@@ -20,7 +20,7 @@ use Rattle.kc_xt.specs.Meaning.{replied, retried, Meaning}
 use Rattle.kc_xt.specs.Peeks.{Gives}
 use Rattle.kc_xt.specs.Single.{RepliesOne}
 use Rattle.kc_xt.specs.Structure.{RepliesOneItem}
-use Rattle.kc_xt.specs.declared.line.Line.{Line}
+use Rattle.kc_model.specs.declared.footprint.Line.{Line}
 use Rattle.kc_xt.specs.declared.stop.Stop.{Stop}
 
 replied≢retried : (a : Reply) → replied a ≡ retried → ⊥

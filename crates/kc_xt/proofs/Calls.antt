@@ -17,7 +17,7 @@ use Rattle.kc_xt.specs.Log.{Log}
 use Rattle.kc_xt.specs.Peeks.{Gives}
 use Rattle.kc_xt.specs.Program.{Program, read, write, writes, retries, exchanges, swaps, compares_and_sets, fetches_and_adds, wrapped}
 use Rattle.kc_xt.specs.Steps.{Comes, Stops, Does}
-use Rattle.kc_xt.specs.declared.line.Line.{Line}
+use Rattle.kc_model.specs.declared.footprint.Line.{Line}
 use Rattle.kc_xt.specs.declared.peek.PeekBusy.{PeekBusy}
 use Rattle.kc_xt.specs.declared.stop.Stop.{Stop}
 use Rattle.kc_xt.specs.declared.stop.Stop.TheVariants.{TooLarge, Busy}

@@ -9,7 +9,7 @@ use Rattle.kc_xt.specs.Log.{Log}
 use Rattle.kc_xt.specs.Peeks.{Looks, Gives}
 use Rattle.kc_xt.specs.Program.{Program, ends, read, write, writes, retries}
 use Rattle.kc_xt.specs.Steps.{Ended, on_log, having_looked, LooksStop, stopping, Comes, Stops, Does, Goes}
-use Rattle.kc_xt.specs.declared.line.Line.{Line}
+use Rattle.kc_model.specs.declared.footprint.Line.{Line}
 use Rattle.kc_xt.specs.declared.stop.Stop.{Stop}
 use Rattle.kc_xt.specs.declared.stop.Stop.TheVariants.{Retry, TooLarge, Busy}
 

@@ -25,7 +25,7 @@ use Rattle.kc_xt.specs.Lines.{look, locations, line_at, seen_at, after_at, with_
 use Rattle.kc_xt.specs.Log.{Log, empty_log}
 use Rattle.kc_xt.specs.Meaning.{Touch, Meaning, AllBelow, is_touched, last_written, values, Makes, CanMake, answers, given_up}
 use Rattle.kc_xt.specs.Peeks.{Gives, Looks, PlainLooks}
-use Rattle.kc_xt.specs.declared.line.Line.{Line}
+use Rattle.kc_model.specs.declared.footprint.Line.{Line}
 use Rattle.kc_xt.specs.declared.peek.PeekBusy.{PeekBusy}
 use Rattle.kc_xt.specs.declared.stop.Stop.{Stop}
 use Rattle.kc_xt.specs.declared.stop.Stop.TheVariants.{Retry, TooLarge, Busy}
@@ -148,7 +148,7 @@ module _ (s : Store) where
   -- there is no put below the lines
   put_at-above : (ls : List Line) (l k : ℕ) → IsRisingAbove k (locations ls) → l ≤ k → put_at (puts ls) l ≡ None
   put_at-above [] l k h g = refl
-  put_at-above (b ∷ bs) l k (h1, h2) g = go b.after (put_at-above bs l b.seen.loc.0 h2 (omega arith))
+  put_at-above (b ∷ bs) l k (h1, h2) g = go b.put (put_at-above bs l b.seen.loc.0 h2 (omega arith))
     where
       go : (o : Option ℕ) → put_at (puts bs) l ≡ None → put_at (put_line b.seen o (puts bs)) l ≡ None
       go None ih = ih
@@ -161,7 +161,7 @@ module _ (s : Store) where
   -- the put of a location is that of its new value
   pub put_at-puts : (ls : List Line) (l : ℕ) → IsRising (locations ls) → AllShown s ls → put_at (puts ls) l ≡ option_map (put_of l) (after_at ls l)
   put_at-puts [] l r h = refl
-  put_at-puts (b ∷ bs) l r (h, hs) = go (b.seen.loc.0 == l) refl b.after (put_at-puts bs l (rising-tail b.seen.loc.0 (locations bs) r) hs)
+  put_at-puts (b ∷ bs) l r (h, hs) = go (b.seen.loc.0 == l) refl b.put (put_at-puts bs l (rising-tail b.seen.loc.0 (locations bs) r) hs)
     where
       go : (t : Bool) → (b.seen.loc.0 == l) ≡ t → (o : Option ℕ) → put_at (puts bs) l ≡ option_map (put_of l) (after_at bs l) → put_at (put_line b.seen o (puts bs)) l ≡ option_map (put_of l) (cond t o (after_at bs l))
       go true e None ih = let le : l ≤ b.seen.loc.0 = grind (arith, nat_tests) in put_at-above bs l b.seen.loc.0 r le
@@ -187,7 +187,7 @@ module _ (s : Store) where
   below-with_after b [] l v h = tt
   below-with_after b (c ∷ cs) l v (h, hs) = go (c.seen.loc.0 == l) (below-with_after b cs l v hs)
     where
-      go : (t : Bool) → LinesBelow b (with_after cs l v) → LinesBelow b (cond t (record c { after = Some v } ∷ cs) (c ∷ with_after cs l v))
+      go : (t : Bool) → LinesBelow b (with_after cs l v) → LinesBelow b (cond t (record c { put = Some v } ∷ cs) (c ∷ with_after cs l v))
       go true ih = (h, hs)
       go false ih = (h, ih)
 

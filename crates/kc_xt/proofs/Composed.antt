@@ -16,7 +16,7 @@ use Rattle.kc_xt.specs.Log.{Log}
 use Rattle.kc_xt.specs.Meaning.{Outcome, replied, retried, too_large, Meaning, Touch, Run, AllBelow, map_after, touched_after, joined, then_run, then_meaning, given_up, else_run, first_meaning}
 use Rattle.kc_xt.specs.Peeks.{Looks, Gives}
 use Rattle.kc_xt.specs.Steps.{HasRoom, stopping}
-use Rattle.kc_xt.specs.declared.line.Line.{Line}
+use Rattle.kc_model.specs.declared.footprint.Line.{Line}
 use Rattle.kc_xt.specs.declared.stop.Stop.{Stop}
 use Rattle.kc_xt.specs.declared.stop.Stop.TheVariants.{Retry, TooLarge, Busy}
 use Rattle.std.proofs.lemmas.List.{length-map}

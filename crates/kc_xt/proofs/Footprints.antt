@@ -10,7 +10,7 @@ use Rattle.kc_model.specs.declared.footprint.Put.{Put}
 use Rattle.kc_model.specs.declared.footprint.Seen.{Seen}
 use Rattle.kc_model.specs.declared.footprint.TheConstants.{LAST_VERSION}
 use Rattle.kc_xt.specs.Lines.{locations, seens, puts, put_line, VersionsFit, CanPut, worn_of}
-use Rattle.kc_xt.specs.declared.line.Line.{Line}
+use Rattle.kc_model.specs.declared.footprint.Line.{Line}
 
 -- the locations of the reads are those of the lines
 locations-seens : (ls : List Line) → map read_location (seens ls) ≡ locations ls
@@ -25,7 +25,7 @@ lower j k (l ∷ ks) le (h, g) = (omega arith, g)
 -- the puts rise where the lines do
 puts_rise_above : (k : ℕ) (ls : List Line) → IsRisingAbove k (locations ls) → IsRisingAbove k (map put_location (puts ls))
 puts_rise_above k [] h = tt
-puts_rise_above k (b ∷ bs) (h, g) = go b.after (puts_rise_above b.seen.loc.0 bs g)
+puts_rise_above k (b ∷ bs) (h, g) = go b.put (puts_rise_above b.seen.loc.0 bs g)
   where
     go : (o : Option ℕ) → IsRisingAbove b.seen.loc.0 (map put_location (puts bs)) → IsRisingAbove k (map put_location (put_line b.seen o (puts bs)))
     go None ih = lower k b.seen.loc.0 (map put_location (puts bs)) (omega arith) ih
@@ -39,7 +39,7 @@ above_rises k (l ∷ ks) (h, g) = g
 -- as puts_rise_above, from the first line on
 pub puts_rise : (ls : List Line) → IsRising (locations ls) → IsRising (map put_location (puts ls))
 puts_rise [] h = tt
-puts_rise (b ∷ bs) h = go b.after (puts_rise_above b.seen.loc.0 bs h)
+puts_rise (b ∷ bs) h = go b.put (puts_rise_above b.seen.loc.0 bs h)
   where
     go : (o : Option ℕ) → IsRisingAbove b.seen.loc.0 (map put_location (puts bs)) → IsRising (map put_location (put_line b.seen o (puts bs)))
     go None ih = above_rises b.seen.loc.0 (map put_location (puts bs)) ih
@@ -54,7 +54,7 @@ versions_seen (b ∷ bs) r (h, hs) (suc k, lt, e) = versions_seen bs r hs (k, om
 -- each put ends the version that its line saw
 puts_read : (ls : List Line) (p : Put) → Contains (puts ls) p → (r : Seen) × Contains (seens ls) r × (r.loc.0 ≡ p.loc.0) × (r.version ≡ p.version)
 puts_read [] p (k, lt, e) = absurd (omega arith)
-puts_read (b ∷ bs) p h = go b.after h (λ g. let w = puts_read bs p g in (w.0, Contains-later b.seen (seens bs) w.0 w.1, w.2, w.3))
+puts_read (b ∷ bs) p h = go b.put h (λ g. let w = puts_read bs p g in (w.0, Contains-later b.seen (seens bs) w.0 w.1, w.2, w.3))
   where
     go : (o : Option ℕ) → Contains (put_line b.seen o (puts bs)) p → (Contains (puts bs) p → (r : Seen) × Contains (b.seen ∷ seens bs) r × (r.loc.0 ≡ p.loc.0) × (r.version ≡ p.version)) → (r : Seen) × Contains (b.seen ∷ seens bs) r × (r.loc.0 ≡ p.loc.0) × (r.version ≡ p.version)
     go None g later = later g
@@ -87,16 +87,16 @@ reads_made ls f rising fit er ep = record {
 -- where no line is worn, all puts leave a version
 pub none_worn : (ls : List Line) → VersionsFit ls → worn_of ls ≡ None → CanPut ls
 none_worn [] fit h p (k, lt, e) = absurd (omega arith)
-none_worn (b ∷ bs) (fit, fits) h p c = by_test (is_some b.after && b.seen.version == LAST_VERSION) refl h (λ n k. none_worn bs fits n p k)
+none_worn (b ∷ bs) (fit, fits) h p c = by_test (is_some b.put && b.seen.version == LAST_VERSION) refl h (λ n k. none_worn bs fits n p k)
   where
     here : (o : Option ℕ) → (is_some o && b.seen.version == LAST_VERSION) ≡ false → (Contains (puts bs) p → p.version < LAST_VERSION) → Contains (put_line b.seen o (puts bs)) p → p.version < LAST_VERSION
     here None t later k = later k
     here (Some v) t later (zero, lt, e) = let below : b.seen.version < LAST_VERSION = grind (arith, nat_tests, t, fit) in subst (λ (q : Put). q.version < LAST_VERSION) e below
     here (Some v) t later (suc k, lt, e) = later (k, omega arith, e)
 
-    by_test : (t : Bool) → (is_some b.after && b.seen.version == LAST_VERSION) ≡ t → cond t (Some b.seen.loc) (worn_of bs) ≡ None → (worn_of bs ≡ None → Contains (puts bs) p → p.version < LAST_VERSION) → p.version < LAST_VERSION
+    by_test : (t : Bool) → (is_some b.put && b.seen.version == LAST_VERSION) ≡ t → cond t (Some b.seen.loc) (worn_of bs) ≡ None → (worn_of bs ≡ None → Contains (puts bs) p → p.version < LAST_VERSION) → p.version < LAST_VERSION
     by_test true e n later = absurd cc
-    by_test false e n later = here b.after e (later n) c
+    by_test false e n later = here b.put e (later n) c
 
 -- among rising puts each is the one of its location
 later_put : (q : Put) (ps : List Put) (p : Put) → IsRisingAbove q.loc.0 (map put_location ps) → Contains ps p → q.loc.0 < p.loc.0

@@ -11,7 +11,7 @@ use Rattle.kc_xt.specs.Meaning.{replied, retried, Touch, Run, AllBelow}
 use Rattle.kc_xt.specs.Peeks.{Gives}
 use Rattle.kc_xt.specs.Program.{Program, ends, replies, read, write, meaning, full, touching, has_room}
 use Rattle.kc_xt.specs.Steps.{Ended, on_log, having_looked, Comes, Stops, Does}
-use Rattle.kc_xt.specs.declared.line.Line.{Line}
+use Rattle.kc_model.specs.declared.footprint.Line.{Line}
 use Rattle.kc_xt.specs.declared.stop.Stop.{Stop}
 
 -- each cell of a program is below a bound

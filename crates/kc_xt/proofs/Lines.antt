@@ -5,7 +5,7 @@ use Rattle.std.proofs.lemmas.Bool.Decides.{nat_tests}
 use Rattle.kc_model.specs.declared.footprint.Seen.{Seen}
 use Rattle.kc_xt.specs.Lines.{locations, line_at, seen_at, after_at, with_line, seen_line, with_after, rolled_back, bare, with_looks}
 use Rattle.kc_xt.specs.Meaning.{insert_location, contains_location}
-use Rattle.kc_xt.specs.declared.line.Line.{Line}
+use Rattle.kc_model.specs.declared.footprint.Line.{Line}
 
 -- one more line is one more location
 pub locations-with_line : (ls : List Line) (a : Line) → locations (with_line ls a) ≡ insert_location (locations ls) a.seen.loc.0
@@ -18,7 +18,7 @@ locations-with_line (b ∷ bs) a =
 pub locations-with_after : (ls : List Line) (l v : ℕ) → locations (with_after ls l v) ≡ locations ls
 locations-with_after [] l v = refl
 locations-with_after (b ∷ bs) l v =
-    elim (b.seen.loc.0 == l) as (λ t. locations (cond t (record b { after = Some v } ∷ bs) (b ∷ with_after bs l v)) ≡ b.seen.loc.0 ∷ locations bs) [ true ↦ refl | false ↦ ap (λ x. b.seen.loc.0 ∷ x) (locations-with_after bs l v) ]
+    elim (b.seen.loc.0 == l) as (λ t. locations (cond t (record b { put = Some v } ∷ bs) (b ∷ with_after bs l v)) ≡ b.seen.loc.0 ∷ locations bs) [ true ↦ refl | false ↦ ap (λ x. b.seen.loc.0 ∷ x) (locations-with_after bs l v) ]
 
 -- a location without a line is not among the locations
 pub contains-none : (ls : List Line) (l : ℕ) → line_at ls l ≡ None → contains_location (locations ls) l ≡ false
@@ -47,7 +47,7 @@ after_at-none [] l h = refl
 after_at-none (b ∷ bs) l h = grind (arith, nat_tests, after_at-none bs l)
 
 -- a location with a line has its new value
-pub after_at-some : (ls : List Line) (l : ℕ) (b : Line) → line_at ls l ≡ Some b → after_at ls l ≡ b.after
+pub after_at-some : (ls : List Line) (l : ℕ) (b : Line) → line_at ls l ≡ Some b → after_at ls l ≡ b.put
 after_at-some [] l b h = cc
 after_at-some (a ∷ bs) l b h = grind (arith, nat_tests, after_at-some bs l b)
 
@@ -99,7 +99,7 @@ pub bare-with_after : (ls : List Line) (l v : ℕ) → bare (with_after ls l v) 
 bare-with_after [] l v = refl
 bare-with_after (b ∷ bs) l v = go (b.seen.loc.0 == l) (bare-with_after bs l v)
   where
-    go : (t : Bool) → bare (with_after bs l v) ≡ bare bs → bare (cond t (record b { after = Some v } ∷ bs) (b ∷ with_after bs l v)) ≡ seen_line b.seen ∷ bare bs
+    go : (t : Bool) → bare (with_after bs l v) ≡ bare bs → bare (cond t (record b { put = Some v } ∷ bs) (b ∷ with_after bs l v)) ≡ seen_line b.seen ∷ bare bs
     go true h = refl
     go false h = ap (λ xs. seen_line b.seen ∷ xs) h
 

@@ -10,7 +10,7 @@ use Rattle.kc_xt.specs.Lines.{look, locations, line_at, with_line, seen_line, wi
 use Rattle.kc_xt.specs.Meaning.{too_large, insert_location, contains_location, put}
 use Rattle.kc_xt.specs.Program.{Program, ends, read, write}
 use Rattle.kc_xt.specs.Steps.{on_log, having_looked}
-use Rattle.kc_xt.specs.declared.line.Line.{Line}
+use Rattle.kc_model.specs.declared.footprint.Line.{Line}
 
 -- a map with the lines' new values, as one more line or value changes it
 pub overlaid-with_line : (s : Store) (ls : List Line) (e : Seen) → line_at ls e.loc.0 ≡ None → overlaid s (with_line ls (seen_line e)) ≡ overlaid s ls
@@ -25,7 +25,7 @@ pub overlaid-some : (s : Store) (ls : List Line) (l : ℕ) (b : Line) → Agrees
 overlaid-some s ls l b a h =
     let e : look s l ≡ b.seen = a l b.seen (seen_at-line_at ls l ∙ ap (option_map (λ (b : Line). b.seen)) h) in
     let e2 : (s l).value ≡ b.seen.value = ap (λ (x : Seen). x.value) e in
-    ap (λ o. unwrap_or o (s l).value) (after_at-some ls l b h) ∙ ap (unwrap_or b.after) e2
+    ap (λ o. unwrap_or o (s l).value) (after_at-some ls l b h) ∙ ap (unwrap_or b.put) e2
 
 -- a read of a location with a line gives what the line says
 pub on_log-read_some : (n : ℕ) (s : Store) (ls : List Line) (l : ℕ) (k : ℕ → Program) (b : Line) → Agrees s ls → line_at ls l ≡ Some b → on_log n s ls (read l k) ≡ on_log n s ls (k (current b))

@@ -12,7 +12,7 @@ use Rattle.kc_xt.proofs.Options.{none≢some}
 use Rattle.kc_xt.proofs.Places.{rising-tail, line_at-with_line}
 use Rattle.kc_xt.specs.Lines.{look, locations, line_at, seen_at, after_at, with_line, seen_line, with_after, overlaid, Keeps, rolled_back, rolled_line, with_touches, with_wrote, looked_at, looks_of}
 use Rattle.kc_xt.specs.Meaning.{insert_location, contains_location, touch, put, Touch, AllBelow, map_with, map_after, touched_after, given_up}
-use Rattle.kc_xt.specs.declared.line.Line.{Line}
+use Rattle.kc_model.specs.declared.footprint.Line.{Line}
 
 -- a location that is not among the locations has no line
 pub missing : (ls : List Line) (l : ℕ) → contains_location (locations ls) l ≡ false → line_at ls l ≡ None
@@ -138,19 +138,19 @@ map_after-given_up m (t ∷ ts) = map_after-given_up m ts
 
 -- a rollback
 rolled-with_line : (to ls : List Line) (e : Seen) → after_at to e.loc.0 ≡ None → rolled_back to (with_line ls (seen_line e)) ≡ with_line (rolled_back to ls) (seen_line e)
-rolled-with_line to [] e h = ap (λ o. (let b : Line = record { seen = e; after = o } in b) ∷ []) h
+rolled-with_line to [] e h = ap (λ o. (let b : Line = record { seen = e; put = o } in b) ∷ []) h
 rolled-with_line to (b ∷ bs) e h = go (nat_lt b.seen.loc.0 e.loc.0) (rolled-with_line to bs e h)
   where
     go : (t : Bool) → rolled_back to (with_line bs (seen_line e)) ≡ with_line (rolled_back to bs) (seen_line e) → rolled_back to (cond t (b ∷ with_line bs (seen_line e)) (seen_line e ∷ b ∷ bs)) ≡ cond t (rolled_line to b ∷ with_line (rolled_back to bs) (seen_line e)) (seen_line e ∷ rolled_line to b ∷ rolled_back to bs)
     go true h2 = ap (λ xs. rolled_line to b ∷ xs) h2
-    go false h2 = ap (λ o. (let c : Line = record { seen = e; after = o } in c) ∷ rolled_line to b ∷ rolled_back to bs) h
+    go false h2 = ap (λ o. (let c : Line = record { seen = e; put = o } in c) ∷ rolled_line to b ∷ rolled_back to bs) h
 
 -- a rollback takes back a new value
 rolled-with_after : (to ls : List Line) (l v : ℕ) → rolled_back to (with_after ls l v) ≡ rolled_back to ls
 rolled-with_after to [] l v = refl
 rolled-with_after to (b ∷ bs) l v = go (b.seen.loc.0 == l) (rolled-with_after to bs l v)
   where
-    go : (t : Bool) → rolled_back to (with_after bs l v) ≡ rolled_back to bs → rolled_back to (cond t (record b { after = Some v } ∷ bs) (b ∷ with_after bs l v)) ≡ rolled_back to (b ∷ bs)
+    go : (t : Bool) → rolled_back to (with_after bs l v) ≡ rolled_back to bs → rolled_back to (cond t (record b { put = Some v } ∷ bs) (b ∷ with_after bs l v)) ≡ rolled_back to (b ∷ bs)
     go true h = refl
     go false h = ap (λ xs. rolled_line to b ∷ xs) h
 
@@ -207,7 +207,7 @@ allat-self (b ∷ bs) r = (grind (arith, nat_tests), allat-cons b bs bs b.seen.l
 -- lines that are all found are taken back to themselves
 rolled-allat : (to ls : List Line) → AllAt to ls → rolled_back to ls ≡ ls
 rolled-allat to [] h = refl
-rolled-allat to (b ∷ bs) (h1, h2) = ap₂ (λ o xs. (let c : Line = record { seen = b.seen; after = o } in c) ∷ xs) (after_at-some to b.seen.loc.0 b h1) (rolled-allat to bs h2)
+rolled-allat to (b ∷ bs) (h1, h2) = ap₂ (λ o xs. (let c : Line = record { seen = b.seen; put = o } in c) ∷ xs) (after_at-some to b.seen.loc.0 b h1) (rolled-allat to bs h2)
 
 -- a rollback to the same lines changes nothing
 pub rolled-self : (ls : List Line) → IsRising (locations ls) → rolled_back ls ls ≡ ls

@@ -25,7 +25,7 @@ use Rattle.kc_xt.specs.Lines.{look, locations, line_at, after_at, bare, with_loo
 use Rattle.kc_xt.specs.Log.{Log, empty_log}
 use Rattle.kc_xt.specs.Meaning.{Meaning, values}
 use Rattle.kc_xt.specs.Peeks.{Gives, Looks, PlainLooks}
-use Rattle.kc_xt.specs.declared.line.Line.{Line}
+use Rattle.kc_model.specs.declared.footprint.Line.{Line}
 use Rattle.kc_xt.specs.declared.stop.Stop.{Stop}
 use Rattle.kc_xt.specs.declared.stop.Stop.TheVariants.{Retry, TooLarge, Busy}
 
@@ -76,7 +76,7 @@ IsLowest s ls loc = (is_some (after_at ls loc.0) ≡ true) × ((s loc.0).version
 
 worn_line : (s : Store) (ls : List Line) (loc : Loc) → IsRising (locations ls) → AllShown s ls → worn_of ls ≡ Some loc → IsLowest s ls loc
 worn_line s [] loc rise all h = absurd (none≢some loc h)
-worn_line s (b ∷ bs) loc rise (shown, all) h = by_test (is_some b.after && b.seen.version == LAST_VERSION) refl h (worn_line s bs loc (rising-tail b.seen.loc.0 (locations bs) rise) all)
+worn_line s (b ∷ bs) loc rise (shown, all) h = by_test (is_some b.put && b.seen.version == LAST_VERSION) refl h (worn_line s bs loc (rising-tail b.seen.loc.0 (locations bs) rise) all)
   where
     version_here : b.seen.version ≡ (s b.seen.loc.0).version
     version_here = ap (λ (e : Seen). e.version) shown
@@ -84,10 +84,10 @@ worn_line s (b ∷ bs) loc rise (shown, all) h = by_test (is_some b.after && b.s
     here_same : (b.seen.loc.0 == b.seen.loc.0) ≡ true
     here_same = grind (arith, nat_tests)
 
-    by_test : (t : Bool) → (is_some b.after && b.seen.version == LAST_VERSION) ≡ t → cond t (Some b.seen.loc) (worn_of bs) ≡ Some loc → (worn_of bs ≡ Some loc → IsLowest s bs loc) → IsLowest s (b ∷ bs) loc
+    by_test : (t : Bool) → (is_some b.put && b.seen.version == LAST_VERSION) ≡ t → cond t (Some b.seen.loc) (worn_of bs) ≡ Some loc → (worn_of bs ≡ Some loc → IsLowest s bs loc) → IsLowest s (b ∷ bs) loc
     by_test true e h later =
         let same : b.seen.loc ≡ loc = some_is _ _ h in
-        let set : is_some b.after ≡ true = grind (arith, nat_tests, e) in
+        let set : is_some b.put ≡ true = grind (arith, nat_tests, e) in
         let last : b.seen.version ≡ LAST_VERSION = grind (arith, nat_tests, e) in
         let low : (k : ℕ) → is_some (after_at (b ∷ bs) k) ≡ true → (s k).version ≡ LAST_VERSION → b.seen.loc.0 ≤ k = λ k is v. lowest (b.seen.loc.0 == k) k refl is in
         subst (IsLowest s (b ∷ bs)) same
@@ -106,15 +106,15 @@ worn_line s (b ∷ bs) loc rise (shown, all) h = by_test (is_some b.after && b.s
         lowest true k same is v later =
             let q : b.seen.loc.0 ≡ k = grind (arith, nat_tests, same) in
             let version : b.seen.version ≡ LAST_VERSION = version_here ∙ ap (λ l. (s l).version) q ∙ v in
-            let set : is_some b.after ≡ true = rw same at is in
-            absurd (let both : (is_some b.after && b.seen.version == LAST_VERSION) ≡ true = grind (arith, nat_tests, set, version) in cc)
+            let set : is_some b.put ≡ true = rw same at is in
+            absurd (let both : (is_some b.put && b.seen.version == LAST_VERSION) ≡ true = grind (arith, nat_tests, set, version) in cc)
         lowest false k other is v later = later (rw other at is) v
 
 line_at-bare : (ls : List Line) (l : ℕ) → line_at ls l ≡ None → line_at (bare ls) l ≡ None
 line_at-bare [] l h = refl
 line_at-bare (b ∷ bs) l h = by_test (b.seen.loc.0 == l) h (line_at-bare bs l)
   where
-    by_test : (t : Bool) → cond t (Some b) (line_at bs l) ≡ None → (line_at bs l ≡ None → line_at (bare bs) l ≡ None) → cond t (Some (record b { after = None })) (line_at (bare bs) l) ≡ None
+    by_test : (t : Bool) → cond t (Some b) (line_at bs l) ≡ None → (line_at bs l ≡ None → line_at (bare bs) l ≡ None) → cond t (Some (record b { put = None })) (line_at (bare bs) l) ≡ None
     by_test true h later = absurd cc
     by_test false h later = later h
 

@@ -4,7 +4,7 @@ use Rattle.kc_model.specs.declared.footprint.Seen.{Seen}
 use Rattle.kc_xt.specs.Lines.{line_at, with_line, seen_line, with_after, ReadsAs}
 use Rattle.kc_xt.specs.Log.{Log}
 use Rattle.kc_xt.specs.Peeks.{Gives}
-use Rattle.kc_xt.specs.declared.line.Line.{Line}
+use Rattle.kc_model.specs.declared.footprint.Line.{Line}
 use Rattle.kc_xt.specs.declared.peek.PeekBusy.{PeekBusy}
 use Rattle.kc_xt.specs.declared.stop.Stop.{Stop}
 use Rattle.kc_xt.specs.declared.stop.Stop.TheVariants.{TooLarge, Busy}
@@ -86,8 +86,8 @@ HasLine ls l = (b : Line) × (line_at ls l ≡ Some b)
 
 -- a line of zeros
 abbrev pub zero_line : Line
-zero_line = record { seen = record { loc = record { 0 = 0 }; version = 0; value = 0 }; after = None }
+zero_line = record { seen = record { loc = record { 0 = 0 }; version = 0; value = 0 }; put = None }
 
 -- a line with a new value
 abbrev pub with_value : Line → ℕ → Line
-with_value b v = record b { after = Some v }
+with_value b v = record b { put = Some v }

@@ -13,7 +13,7 @@ use Rattle.kc_xt.specs.declared.attempts.Tried.{Tried}
 use Rattle.kc_xt.specs.declared.attempts.Tried.TheVariants as tried
 use Rattle.kc_xt.specs.declared.room.Went.{Went}
 use Rattle.kc_xt.specs.declared.room.Went.TheVariants as went
-use Rattle.kc_xt.specs.declared.line.Line.{Line}
+use Rattle.kc_model.specs.declared.footprint.Line.{Line}
 use Rattle.kc_xt.specs.declared.stop.Stop.{Stop}
 use Rattle.kc_xt.specs.declared.stop.Stop.TheVariants as stop
 use Rattle.kc_xt.specs.Lines.{look, looks_of, seens, puts, with_looks, worn_of}

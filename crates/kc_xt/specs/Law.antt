@@ -11,7 +11,7 @@ use Rattle.kc_xt.specs.Log.{Log}
 use Rattle.kc_xt.specs.Meaning.{Outcome, replied, retried, answers, Run, Meaning, AllBelow, Makes, CanMake, values}
 use Rattle.kc_xt.specs.Peeks.{Gives, Looks}
 use Rattle.kc_xt.specs.Steps.{LooksStop, HasRoom, StopsUnder, stopping}
-use Rattle.kc_xt.specs.declared.line.Line.{Line}
+use Rattle.kc_model.specs.declared.footprint.Line.{Line}
 use Rattle.kc_xt.specs.declared.stop.Stop.{Stop}
 
 -- the looks of a run: one more, which was given up, exactly at a Busy

@@ -6,7 +6,7 @@ use Rattle.kc_model.specs.declared.footprint.Put.{Put}
 use Rattle.kc_model.specs.declared.footprint.Seen.{Seen}
 use Rattle.kc_model.specs.declared.footprint.TheConstants.{LAST_VERSION}
 use Rattle.kc_xt.specs.Meaning.{Touch, contains_location, touch}
-use Rattle.kc_xt.specs.declared.line.Line.{Line}
+use Rattle.kc_model.specs.declared.footprint.Line.{Line}
 
 -- what a store shows at a location
 abbrev pub look : Store → ℕ → Seen
@@ -24,7 +24,7 @@ line_at (b ∷ bs) l = cond (b.seen.loc.0 == l) (Some b) (line_at bs l)
 
 -- what a line reads as: its new value, else the one seen
 abbrev pub current : Line → ℕ
-current b = unwrap_or b.after b.seen.value
+current b = unwrap_or b.put b.seen.value
 
 -- a location has a line that reads as v
 abbrev pub ReadsAs : List Line → ℕ → ℕ → Type 0
@@ -32,7 +32,7 @@ ReadsAs ls l v = (b : Line) × (line_at ls l ≡ Some b) × (v ≡ current b)
 
 -- the line of what was seen
 abbrev pub seen_line : Seen → Line
-seen_line e = record { seen = e; after = None }
+seen_line e = record { seen = e; put = None }
 
 -- with one more line, in its place
 abbrev pub with_line : List Line → Line → List Line
@@ -42,7 +42,7 @@ with_line (b ∷ bs) a = cond (nat_lt b.seen.loc.0 a.seen.loc.0) (b ∷ with_lin
 -- with a new value at a location that has a line
 abbrev pub with_after : List Line → ℕ → ℕ → List Line
 with_after [] l v = []
-with_after (b ∷ bs) l v = cond (b.seen.loc.0 == l) (record b { after = Some v } ∷ bs) (b ∷ with_after bs l v)
+with_after (b ∷ bs) l v = cond (b.seen.loc.0 == l) (record b { put = Some v } ∷ bs) (b ∷ with_after bs l v)
 
 -- what a log saw at a location
 abbrev pub seen_at : List Line → ℕ → Option Seen
@@ -52,7 +52,7 @@ seen_at (b ∷ bs) l = cond (b.seen.loc.0 == l) (Some b.seen) (seen_at bs l)
 -- the new value of a location
 abbrev pub after_at : List Line → ℕ → Option ℕ
 after_at [] l = None
-after_at (b ∷ bs) l = cond (b.seen.loc.0 == l) b.after (after_at bs l)
+after_at (b ∷ bs) l = cond (b.seen.loc.0 == l) b.put (after_at bs l)
 
 -- the store shows what the lines saw
 abbrev pub Agrees : Store → List Line → Type 0
@@ -72,7 +72,7 @@ overlaid s ls l = unwrap_or (after_at ls l) (s l).value
 
 -- with the new values that other lines have at the locations
 abbrev pub rolled_line : List Line → Line → Line
-rolled_line to b = record b { after = after_at to b.seen.loc.0 }
+rolled_line to b = record b { put = after_at to b.seen.loc.0 }
 
 -- all lines, with those new values
 abbrev pub rolled_back : List Line → List Line → List Line
@@ -124,12 +124,12 @@ put_line e (Some v) ps = record { loc = e.loc; version = e.version; after = v } 
 -- a put for each line with a new value
 abbrev pub puts : List Line → List Put
 puts [] = []
-puts (b ∷ bs) = put_line b.seen b.after (puts bs)
+puts (b ∷ bs) = put_line b.seen b.put (puts bs)
 
 -- the location of the first line with a new value that was seen at the last version
 abbrev pub worn_of : List Line → Option Loc
 worn_of [] = None
-worn_of (b ∷ bs) = cond (is_some b.after && b.seen.version == LAST_VERSION) (Some b.seen.loc) (worn_of bs)
+worn_of (b ∷ bs) = cond (is_some b.put && b.seen.version == LAST_VERSION) (Some b.seen.loc) (worn_of bs)
 
 -- no line was seen past the last version
 abbrev pub VersionsFit : List Line → Type 0

@@ -2,7 +2,7 @@
 use Rattle.std.specs.Prelude.{ℕ, List, [], refl, Option}
 use Rattle.std.specs.Coded.{Coded, code_by, coded×, coded_ℕ, coded_list, coded_option}
 use Rattle.kc_model.specs.declared.footprint.TheConstants.{MOST}
-use Rattle.kc_xt.specs.declared.line.Line.{Line}
+use Rattle.kc_model.specs.declared.footprint.Line.{Line}
 
 -- where it looks, how many lines it may have, and its lines, in rising order of location
 pub record Log (P : Type 0) : Type 0 where
@@ -18,8 +18,8 @@ empty_log peek = record { peek = peek; limit = MOST; lines = [] }
 abbrev pub line_code : Coded Line
 line_code =
     code_by (ℕ × (ℕ × (ℕ × Option ℕ))) (coded× coded_ℕ (coded× coded_ℕ (coded× coded_ℕ (coded_option coded_ℕ))))
-    (λ b. (b.seen.loc.0, (b.seen.version, (b.seen.value, b.after))))
-    (λ p. record { seen = record { loc = record { 0 = p.0 }; version = p.1.0; value = p.1.1.0 }; after = p.1.1.1 })
+    (λ b. (b.seen.loc.0, (b.seen.version, (b.seen.value, b.put))))
+    (λ p. record { seen = record { loc = record { 0 = p.0 }; version = p.1.0; value = p.1.1.0 }; put = p.1.1.1 })
     (λ _. refl)
 
 -- a log, coded as its parts

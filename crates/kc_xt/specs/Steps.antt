@@ -7,7 +7,7 @@ use Rattle.kc_xt.specs.Log.{Log}
 use Rattle.kc_xt.specs.Meaning.{Outcome, retried, too_large, Run}
 use Rattle.kc_xt.specs.Peeks.{Gives, Looks, LookFails}
 use Rattle.kc_xt.specs.Program.{Program, ends, meaning}
-use Rattle.kc_xt.specs.declared.line.Line.{Line}
+use Rattle.kc_model.specs.declared.footprint.Line.{Line}
 use Rattle.kc_xt.specs.declared.stop.Stop.{Stop}
 use Rattle.kc_xt.specs.declared.stop.Stop.TheVariants.{Retry, TooLarge, Busy}
 

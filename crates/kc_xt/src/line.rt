@@ -5,14 +5,7 @@ ghost use Rattle.kc_xt.specs.Calls.{zero_line, with_value};
 ghost use Rattle.kc_xt.specs.Lines.{after_at, rolled_back, seens, puts, worn_of};
 
 use arrayvec::ArrayVec;
-use kc_model::{LAST_VERSION, Loc, MOST, Put, Seen};
-
-// What was seen at a location, and its new value where one was set.
-#[derive(Clone, Copy, Debug, Default)]
-pub struct Line {
-    pub seen: Seen,
-    pub after: Option<u32>,
-}
+use kc_model::{LAST_VERSION, Line, Loc, MOST, Put, Seen};
 
 // Puts one more line at `at`. Most transactions touch locations in rising order, so that it is the last.
 #[inline(always)]
@@ -37,7 +30,7 @@ pub(crate) fn put_after(lines: &mut [Line], at: usize, value: u32)
     let line = lines[at];
     lines[at] = Line {
         seen: line.seen,
-        after: Some(value),
+        put: Some(value),
     };
 }
 
@@ -47,7 +40,7 @@ fn after_of(lines: &[Line], loc: Loc) -> Option<u32>
 {
     for line in lines {
         if line.seen.loc.0 == loc.0 {
-            return line.after;
+            return line.put;
         }
     }
     None
@@ -61,7 +54,7 @@ pub(crate) fn take_back(lines: &mut [Line], to: &[Line])
         let line = lines[i];
         lines[i] = Line {
             seen: line.seen,
-            after: after_of(to, line.seen.loc),
+            put: after_of(to, line.seen.loc),
         };
     }
 }
@@ -83,7 +76,7 @@ pub(crate) fn worn_of(lines: &[Line]) -> Option<Loc>
     ensures { result ≡ worn_of lines.now }
 {
     for line in lines {
-        if line.after.is_some() && line.seen.version == LAST_VERSION {
+        if line.put.is_some() && line.seen.version == LAST_VERSION {
             return Some(line.seen.loc);
         }
     }
@@ -110,7 +103,7 @@ pub(crate) fn fill_puts(made: &mut ArrayVec<Put, MOST>, lines: &[Line])
 {
     made.clear();
     for line in lines {
-        if let Some(after) = line.after {
+        if let Some(after) = line.put {
             made.push(Put {
                 loc: line.seen.loc,
                 version: line.seen.version,

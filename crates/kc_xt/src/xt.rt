@@ -10,13 +10,13 @@ ghost use Rattle.kc_xt.specs.Log.{empty_log};
 ghost use Rattle.kc_xt.specs.Steps.{Does};
 ghost use Rattle.kc_xt.specs.Program.{read, writes, exchanges, swaps, compares_and_sets, fetches_and_adds, wrapped};
 
-use crate::line::{Line, add_line, copy_of, fill_puts, fill_reads, put_after, take_back, worn_of};
+use crate::line::{add_line, copy_of, fill_puts, fill_reads, put_after, take_back, worn_of};
 use crate::peek::Peek;
 use crate::place::find;
 use crate::room::Room;
 use crate::stop::Stop;
 use arrayvec::ArrayVec;
-use kc_model::{Footprint, Loc, MOST};
+use kc_model::{Footprint, Line, Loc, MOST};
 use std::marker::Model;
 
 /// The log of a transaction, over room that its caller keeps: what it saw at each location that it touched, and the new values. Contracts see its peek,
@@ -59,7 +59,7 @@ pub struct Snapshot {
 
 impl Model for Snapshot {
     ghost use Rattle.std.specs.Prelude.{List};
-    ghost use Rattle.kc_xt.specs.declared.line.Line.{Line};
+    ghost use Rattle.kc_model.specs.declared.footprint.Line.{Line};
 
     ghost Value = { List Line };
 
@@ -98,7 +98,7 @@ impl<'a, P: Peek> Xt<'a, P> {
         }
         match self.peek.peek(loc) {
             Ok(seen) => {
-                add_line(self.lines, at, Line { seen, after: None });
+                add_line(self.lines, at, Line { seen, put: None });
                 Ok(at)
             }
             Err(_) => Err(Stop::Busy),
@@ -116,7 +116,7 @@ impl<'a, P: Peek> Xt<'a, P> {
     {
         let at = self.touch(loc)?;
         let line = self.lines.as_slice()[at];
-        let value = line.after.unwrap_or(line.seen.value);
+        let value = line.put.unwrap_or(line.seen.value);
         Ok(Found { at, value })
     }
 

@@ -3,7 +3,7 @@ use Rattle.std.proofs.lemmas.List.{get_or_default}
 use Rattle.std.proofs.lemmas.List.Edits.{map_over_more}
 use Rattle.kc_xt.specs.Calls.{zero_line}
 use Rattle.kc_xt.specs.Lines.{rolled_line}
-use Rattle.kc_xt.specs.declared.line.Line.{Line}
+use Rattle.kc_model.specs.declared.footprint.Line.{Line}
 use Rattle.kc_xt.proofs.line.take_back.Goals as goal
 
 pub loop-i-preserved : goal.loop-i-preserved
