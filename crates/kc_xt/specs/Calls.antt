@@ -87,7 +87,3 @@ HasLine ls l = (b : Line) × (line_at ls l ≡ Some b)
 -- a line of zeros
 abbrev pub zero_line : Line
 zero_line = record { seen = record { loc = record { 0 = 0 }; version = 0; value = 0 }; put = None }
-
--- a line with a new value
-abbrev pub with_value : Line → ℕ → Line
-with_value b v = record b { put = Some v }

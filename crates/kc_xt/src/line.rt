@@ -1,38 +1,11 @@
 //! The lines of a log.
 
-ghost use Rattle.std.specs.Prelude.{◌≡◌, ◌≤◌, ◌<◌, insert, length, slice_set, slice_index_or};
-ghost use Rattle.kc_xt.specs.Calls.{zero_line, with_value};
+ghost use Rattle.std.specs.Prelude.{◌≡◌, ◌≤◌, length};
 ghost use Rattle.kc_xt.specs.Lines.{after_at, rolled_back, seens, puts, worn_of};
 
+use crate::room::Room;
 use arrayvec::ArrayVec;
 use kc_model::{LAST_VERSION, Line, Loc, MOST, Put, Seen};
-
-// Puts one more line at `at`. Most transactions touch locations in rising order, so that it is the last.
-#[inline(always)]
-pub(crate) fn add_line(lines: &mut ArrayVec<Line, MOST>, at: usize, line: Line)
-    requires place { at ≤ length lines.old.items }
-    requires room { length lines.old.items < MOST }
-    ensures { lines.new.items ≡ insert lines.old.items at line }
-{
-    if at == lines.len() {
-        lines.push(line);
-    } else {
-        lines.insert(at, line);
-    }
-}
-
-// Gives the line at `at` a new value.
-#[inline(always)]
-pub(crate) fn put_after(lines: &mut [Line], at: usize, value: u32)
-    requires { at < length lines.old }
-    ensures { lines.new ≡ slice_set lines.old at (with_value (slice_index_or lines.old at zero_line) value) }
-{
-    let line = lines[at];
-    lines[at] = Line {
-        seen: line.seen,
-        put: Some(value),
-    };
-}
 
 // The new value of a location.
 fn after_of(lines: &[Line], loc: Loc) -> Option<u32>
@@ -47,15 +20,19 @@ fn after_of(lines: &[Line], loc: Loc) -> Option<u32>
 }
 
 // Takes the new values back to those that `to` has at the locations.
-pub(crate) fn take_back(lines: &mut [Line], to: &[Line])
+pub(crate) fn take_back(lines: &mut Room, to: &[Line])
     ensures { lines.new ≡ rolled_back to.now lines.old }
 {
-    for i in 0..lines.len() {
-        let line = lines[i];
-        lines[i] = Line {
-            seen: line.seen,
-            put: after_of(to, line.seen.loc),
-        };
+    for i in 0..lines.as_slice().len() {
+        let line = lines.as_slice()[i];
+        let put = after_of(to, line.seen.loc);
+        lines.set(
+            i,
+            Line {
+                seen: line.seen,
+                put,
+            },
+        );
     }
 }
 

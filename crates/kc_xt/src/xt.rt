@@ -3,14 +3,14 @@
 ghost use Rattle.std.specs.Prelude.{◌≡◌, ◌==◌, ◌+◌, ◌<◌, ◌≤◌, Some, None, [], if◌then◌else◌, length, IfOk, OnErr};
 ghost use Rattle.kc_model.specs.Rising.{IsRising};
 ghost use Rattle.kc_model.specs.Footprint.{IsWellMade};
-ghost use Rattle.kc_xt.specs.Calls.{Touches, Updates, Swaps, IsPlace, HasLine, having_set, stop_of};
-ghost use Rattle.kc_xt.specs.Lines.{locations, Keeps, SetsNothing, ReadsAs, rolled_back, seens, puts, CanPut, worn_of};
+ghost use Rattle.kc_xt.specs.Calls.{Touches, Updates, Swaps, IsMissing, IsPlace, HasLine, having_set, stop_of};
 ghost use Rattle.kc_xt.specs.Commit.{Filled};
+ghost use Rattle.kc_xt.specs.Lines.{locations, Keeps, SetsNothing, ReadsAs, rolled_back, seens, puts, CanPut, worn_of};
 ghost use Rattle.kc_xt.specs.Log.{empty_log};
 ghost use Rattle.kc_xt.specs.Steps.{Does};
 ghost use Rattle.kc_xt.specs.Program.{read, writes, exchanges, swaps, compares_and_sets, fetches_and_adds, wrapped};
 
-use crate::line::{add_line, copy_of, fill_puts, fill_reads, put_after, take_back, worn_of};
+use crate::line::{copy_of, fill_puts, fill_reads, take_back, worn_of};
 use crate::peek::Peek;
 use crate::place::find;
 use crate::room::Room;
@@ -25,7 +25,7 @@ use std::marker::Model;
 pub struct Xt<'a, P> {
     peek: P,
     limit: u32,
-    lines: &'a mut ArrayVec<Line, MOST>,
+    room: &'a mut Room,
 }
 
 impl<'a, P> Model for Xt<'a, P> {
@@ -39,9 +39,9 @@ impl<'a, P> Model for Xt<'a, P> {
 
     ghost coded = { log_code P.code };
 
-    ghost view = { λ a. record { peek = a.peek; limit = a.limit; lines = a.lines.now.items } };
+    ghost view = { λ a. record { peek = a.peek; limit = a.limit; lines = a.room.now } };
 
-    ghost invariant = { λ a. (a.limit ≤ MOST) × (length a.lines.now.items ≤ a.limit) × IsRising (locations a.lines.now.items) × VersionsFit a.lines.now.items };
+    ghost invariant = { λ a. (a.limit ≤ MOST) × (length a.room.now ≤ a.limit) × IsRising (locations a.room.now) × VersionsFit a.room.now };
 }
 
 // Where a location's line stands, and what it reads as.
@@ -72,12 +72,11 @@ impl<'a, P: Peek> Xt<'a, P> {
     pub fn new(peek: P, room: &'a mut Room) -> Xt<'a, P>
         ensures { result ≡ empty_log peek }
     {
-        let lines = &mut room.lines;
-        lines.clear();
+        room.clear();
         Xt {
             peek,
             limit: MOST as u32,
-            lines,
+            room,
         }
     }
 
@@ -89,17 +88,30 @@ impl<'a, P: Peek> Xt<'a, P> {
         ensures place { IfOk result (λ i. IsPlace self.new.lines loc.0 i) }
         ensures size { P.locations self.new.peek ≡ P.locations self.old.peek }
     {
-        let at = match find(self.lines.as_slice(), loc.0) {
-            Ok(at) => return Ok(at),
-            Err(at) => at,
-        };
-        if self.lines.len() >= self.limit as usize {
+        match find(self.room.as_slice(), loc.0) {
+            Ok(at) => Ok(at),
+            Err(at) => {
+                self.add(loc, at)?;
+                Ok(at)
+            }
+        }
+    }
+
+    // Makes the line of a location that has none, at its place. It is not in line, so that what touches a location is small enough to be.
+    fn add(&mut self, loc: Loc, at: usize) -> Result<(), Stop>
+        requires location { loc.0 < P.locations self.old.peek }
+        requires missing { IsMissing self.old.lines loc.0 at }
+        ensures step { Touches P.peek_gives loc.0 self.old (stop_of result) self.new }
+        ensures place { IfOk result (λ _. IsPlace self.new.lines loc.0 at) }
+        ensures size { P.locations self.new.peek ≡ P.locations self.old.peek }
+    {
+        if self.room.as_slice().len() >= self.limit as usize {
             return Err(Stop::TooLarge);
         }
         match self.peek.peek(loc) {
             Ok(seen) => {
-                add_line(self.lines, at, Line { seen, put: None });
-                Ok(at)
+                self.room.insert(at, Line { seen, put: None });
+                Ok(())
             }
             Err(_) => Err(Stop::Busy),
         }
@@ -115,7 +127,7 @@ impl<'a, P: Peek> Xt<'a, P> {
         ensures size { P.locations self.new.peek ≡ P.locations self.old.peek }
     {
         let at = self.touch(loc)?;
-        let line = self.lines.as_slice()[at];
+        let line = self.room.as_slice()[at];
         let value = line.put.unwrap_or(line.seen.value);
         Ok(Found { at, value })
     }
@@ -126,7 +138,14 @@ impl<'a, P: Peek> Xt<'a, P> {
         requires { IsPlace self.old.lines _loc.0 at }
         ensures { self.new ≡ having_set self.old _loc.0 value }
     {
-        put_after(self.lines.as_mut_slice(), at, value);
+        let line = self.room.as_slice()[at];
+        self.room.set(
+            at,
+            Line {
+                seen: line.seen,
+                put: Some(value),
+            },
+        );
     }
 
     // Gives a location that has a line a new value.
@@ -134,7 +153,7 @@ impl<'a, P: Peek> Xt<'a, P> {
         requires { HasLine self.old.lines loc.0 }
         ensures { self.new ≡ having_set self.old loc.0 value }
     {
-        if let Ok(at) = find(self.lines.as_slice(), loc.0) {
+        if let Ok(at) = find(self.room.as_slice(), loc.0) {
             self.put_at(loc, at, value);
         }
     }
@@ -256,7 +275,7 @@ impl<'a, P: Peek> Xt<'a, P> {
         ensures rising { IsRising (locations self.now.lines) }
     {
         Snapshot {
-            lines: copy_of(self.lines.as_slice()),
+            lines: copy_of(self.room.as_slice()),
         }
     }
 
@@ -265,7 +284,7 @@ impl<'a, P: Peek> Xt<'a, P> {
         requires { Keeps to.now self.old.lines }
         ensures { self.new ≡ record self.old { lines = rolled_back to.now self.old.lines } }
     {
-        take_back(self.lines.as_mut_slice(), to.lines.as_slice());
+        take_back(self.room, to.lines.as_slice());
     }
 
     /// Makes the footprint one of what all lines saw, and of the new values.
@@ -274,15 +293,15 @@ impl<'a, P: Peek> Xt<'a, P> {
         ensures puts { footprint.new.puts.items ≡ puts self.now.lines }
         ensures made { CanPut self.now.lines → IsWellMade footprint.new }
     {
-        fill_reads(&mut footprint.reads, self.lines.as_slice());
-        fill_puts(&mut footprint.puts, self.lines.as_slice());
+        fill_reads(&mut footprint.reads, self.room.as_slice());
+        fill_puts(&mut footprint.puts, self.room.as_slice());
     }
 
     /// Makes the footprint one of what all lines saw, and of no new value.
     pub fn fill_reads(&self, footprint: &mut Footprint)
         ensures { Filled self.now.lines [] footprint.new }
     {
-        fill_reads(&mut footprint.reads, self.lines.as_slice());
+        fill_reads(&mut footprint.reads, self.room.as_slice());
         footprint.puts.clear();
     }
 
@@ -291,7 +310,7 @@ impl<'a, P: Peek> Xt<'a, P> {
         ensures is { result ≡ worn_of self.now.lines }
         ensures none { result ≡ None → CanPut self.now.lines }
     {
-        worn_of(self.lines.as_slice())
+        worn_of(self.room.as_slice())
     }
 
     /// Its peek.
@@ -301,7 +320,7 @@ impl<'a, P: Peek> Xt<'a, P> {
         let Xt {
             peek,
             limit: _,
-            lines: _,
+            room: _,
         } = self;
         peek
     }
@@ -318,7 +337,7 @@ impl<'a, P: Peek> Xt<'a, P> {
         let Xt {
             peek,
             limit: _,
-            lines: _,
+            room: _,
         } = self;
         (peek, footprint)
     }

@@ -1,15 +1,11 @@
 use Rattle.std.proofs.Common.{refl}
 use Rattle.std.proofs.lemmas.List.{length-map}
 use Rattle.kc_xt.proofs.Lines.{locations-rolled_back}
-use Rattle.kc_xt.proofs.Places.{taken_back, versions-rolled_back}
+use Rattle.kc_xt.proofs.Places.{versions-rolled_back}
 use Rattle.kc_xt.proofs.xt.Xt.rollback.Goals as goal
 
 pub invariant_of-self : goal.invariant_of-self
-invariant_of-self g c =
-    let e = rw (c.as_mut_slice.ensures.value, c.as_slice.ensures.value, c.to.view_is) at c.take_back.ensures in
-    rw (taken_back c.args.to.now c.self.inside.lines.now.items c.take_back.new.lines e, length-map, locations-rolled_back) (c.self.invariant.0, c.self.invariant.1, c.self.invariant.2, versions-rolled_back _ _ c.self.invariant.3)
+invariant_of-self g c = rw (c.take_back.ensures, length-map, locations-rolled_back) (c.self.invariant.0, c.self.invariant.1, c.self.invariant.2, versions-rolled_back _ _ c.self.invariant.3)
 
 pub returns : goal.returns
-returns g c =
-    let e = rw (c.as_mut_slice.ensures.value, c.as_slice.ensures.value, c.to.view_is) at c.take_back.ensures in
-    rw (← c.self.view_is, taken_back c.args.to.now c.self.inside.lines.now.items c.take_back.new.lines e) refl
+returns g c = rw (← c.self.view_is, c.take_back.ensures, c.as_slice.ensures.value, c.to.view_is) refl
