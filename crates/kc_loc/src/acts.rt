@@ -1,22 +1,100 @@
-//! What each operation does on a log.
+//! What an operation does on a log.
 
 ghost use Rattle.std.specs.Prelude.{◌≡◌, ◌<◌};
 ghost use Rattle.kc_xt.specs.Steps.{Does};
-ghost use Rattle.kc_loc.specs.Meaning.{loc_program};
+ghost use Rattle.kc_loc.specs.Acts.{act_of, put_by, reply_by};
+ghost use Rattle.kc_loc.specs.Meaning.{loc_last, loc_program};
+ghost use Rattle.kc_loc.specs.declared.acts.Act.TheVariants.{Read};
 
-use crate::kinds::{Fun, Rel};
 use crate::operation::LocOp;
 use kc_model::{Loc, Reply};
 use kc_xt::{Peek, Stop, Xt};
 
-#[inline(always)]
-pub(crate) fn get<P: Peek>(loc: Loc, xt: &mut Xt<P>) -> Result<Reply, Stop>
-    requires { loc.0 < P.locations xt.old.peek }
-    ensures goes { Does P.peek_gives (loc_program (LocOp.Get loc)) xt.old result xt.new }
-    ensures size { P.locations xt.new.peek ≡ P.locations xt.old.peek }
-{
-    let value = xt.get(loc)?;
-    Ok(Reply::Value(value))
+/// How an operation goes about its locations.
+#[derive(Clone, Copy)]
+pub(crate) enum Act {
+    /// Gives each the value of the other.
+    Swap(Loc, Loc),
+    /// Puts a value, whatever stands there.
+    Put(Loc, u32),
+    /// Reads its only location, and may put another value there.
+    Read,
+}
+
+impl LocOp {
+    #[inline(always)]
+    pub(crate) fn act(&self) -> Act
+        ensures { result ≡ act_of self.now }
+    {
+        match *self {
+            LocOp::Swap(a, b) => Act::Swap(a, b),
+            LocOp::Set(loc, value) => Act::Put(loc, value),
+            LocOp::Get(_)
+            | LocOp::Exchange(_, _)
+            | LocOp::Cas(_, _, _)
+            | LocOp::FetchAdd(_, _)
+            | LocOp::Incr(_)
+            | LocOp::Decr(_)
+            | LocOp::Update(_, _)
+            | LocOp::Modify(_, _)
+            | LocOp::Check(_, _, _) => Act::Read,
+        }
+    }
+
+    // What it puts where it reads this value.
+    #[inline(always)]
+    fn put(&self, value: u32) -> Option<u32>
+        ensures { result ≡ put_by self.now value }
+    {
+        match *self {
+            LocOp::Exchange(_, new) => Some(new),
+            LocOp::Cas(_, before, after) if value == before => Some(after),
+            LocOp::FetchAdd(_, number) => Some(value.wrapping_add(number)),
+            LocOp::Incr(_) => Some(value.wrapping_add(1)),
+            LocOp::Decr(_) => Some(value.wrapping_sub(1)),
+            LocOp::Update(_, fun) | LocOp::Modify(_, fun) => Some(fun.of(value)),
+            LocOp::Cas(_, _, _)
+            | LocOp::Get(_)
+            | LocOp::Set(_, _)
+            | LocOp::Swap(_, _)
+            | LocOp::Check(_, _, _) => None,
+        }
+    }
+
+    // What it replies where it reads this value.
+    #[inline(always)]
+    fn reply(&self, value: u32) -> Result<Reply, Stop>
+        ensures { result ≡ reply_by self.now value }
+    {
+        match *self {
+            LocOp::Get(_) | LocOp::Exchange(_, _) | LocOp::FetchAdd(_, _) | LocOp::Update(_, _) =>
+                Ok(Reply::Value(value)),
+            LocOp::Cas(_, before, _) => Ok(Reply::Bool(value == before)),
+            LocOp::Check(_, rel, number) if !rel.holds(value, number) => Err(Stop::Retry),
+            LocOp::Check(_, _, _)
+            | LocOp::Set(_, _)
+            | LocOp::Swap(_, _)
+            | LocOp::Incr(_)
+            | LocOp::Decr(_)
+            | LocOp::Modify(_, _) => Ok(Reply::Unit),
+        }
+    }
+
+    // One that reads its location: one look-up for all of them keeps what stands in line small.
+    #[inline(always)]
+    pub(crate) fn change<P: Peek>(&self, xt: &mut Xt<P>) -> Result<Reply, Stop>
+        requires act { act_of self.now ≡ Read }
+        requires within { loc_last self.now < P.locations xt.old.peek }
+        ensures goes { Does P.peek_gives (loc_program self.now) xt.old result xt.new }
+        ensures size { P.locations xt.new.peek ≡ P.locations xt.old.peek }
+    {
+        let loc = Loc(self.last());
+        let value = xt.get(loc)?;
+        if let Some(after) = self.put(value) {
+            xt.set(loc, after)?;
+        }
+        self.reply(value)
+    }
 }
 
 #[inline(always)]
@@ -29,16 +107,6 @@ pub(crate) fn set<P: Peek>(loc: Loc, value: u32, xt: &mut Xt<P>) -> Result<Reply
     Ok(Reply::Unit)
 }
 
-#[inline(always)]
-pub(crate) fn exchange<P: Peek>(loc: Loc, value: u32, xt: &mut Xt<P>) -> Result<Reply, Stop>
-    requires { loc.0 < P.locations xt.old.peek }
-    ensures goes { Does P.peek_gives (loc_program (LocOp.Exchange loc value)) xt.old result xt.new }
-    ensures size { P.locations xt.new.peek ≡ P.locations xt.old.peek }
-{
-    let before = xt.exchange(loc, value)?;
-    Ok(Reply::Value(before))
-}
-
 pub(crate) fn swap<P: Peek>(a: Loc, b: Loc, xt: &mut Xt<P>) -> Result<Reply, Stop>
     requires a { a.0 < P.locations xt.old.peek }
     requires b { b.0 < P.locations xt.old.peek }
@@ -47,86 +115,4 @@ pub(crate) fn swap<P: Peek>(a: Loc, b: Loc, xt: &mut Xt<P>) -> Result<Reply, Sto
 {
     xt.swap(a, b)?;
     Ok(Reply::Unit)
-}
-
-#[inline(always)]
-pub(crate) fn compare_and_set<P: Peek>(
-    loc: Loc,
-    before: u32,
-    after: u32,
-    xt: &mut Xt<P>,
-) -> Result<Reply, Stop>
-    requires { loc.0 < P.locations xt.old.peek }
-    ensures goes { Does P.peek_gives (loc_program (LocOp.Cas loc before after)) xt.old result xt.new }
-    ensures size { P.locations xt.new.peek ≡ P.locations xt.old.peek }
-{
-    let was = xt.compare_and_set(loc, before, after)?;
-    Ok(Reply::Bool(was))
-}
-
-#[inline(always)]
-pub(crate) fn fetch_add<P: Peek>(loc: Loc, number: u32, xt: &mut Xt<P>) -> Result<Reply, Stop>
-    requires { loc.0 < P.locations xt.old.peek }
-    ensures goes { Does P.peek_gives (loc_program (LocOp.FetchAdd loc number)) xt.old result xt.new }
-    ensures size { P.locations xt.new.peek ≡ P.locations xt.old.peek }
-{
-    let before = xt.fetch_add(loc, number)?;
-    Ok(Reply::Value(before))
-}
-
-#[inline(always)]
-pub(crate) fn increment<P: Peek>(loc: Loc, xt: &mut Xt<P>) -> Result<Reply, Stop>
-    requires { loc.0 < P.locations xt.old.peek }
-    ensures goes { Does P.peek_gives (loc_program (LocOp.Incr loc)) xt.old result xt.new }
-    ensures size { P.locations xt.new.peek ≡ P.locations xt.old.peek }
-{
-    let value = xt.get(loc)?;
-    xt.set(loc, value.wrapping_add(1))?;
-    Ok(Reply::Unit)
-}
-
-#[inline(always)]
-pub(crate) fn decrement<P: Peek>(loc: Loc, xt: &mut Xt<P>) -> Result<Reply, Stop>
-    requires { loc.0 < P.locations xt.old.peek }
-    ensures goes { Does P.peek_gives (loc_program (LocOp.Decr loc)) xt.old result xt.new }
-    ensures size { P.locations xt.new.peek ≡ P.locations xt.old.peek }
-{
-    let value = xt.get(loc)?;
-    xt.set(loc, value.wrapping_sub(1))?;
-    Ok(Reply::Unit)
-}
-
-#[inline(always)]
-pub(crate) fn update<P: Peek>(loc: Loc, fun: Fun, xt: &mut Xt<P>) -> Result<Reply, Stop>
-    requires { loc.0 < P.locations xt.old.peek }
-    ensures goes { Does P.peek_gives (loc_program (LocOp.Update loc fun)) xt.old result xt.new }
-    ensures size { P.locations xt.new.peek ≡ P.locations xt.old.peek }
-{
-    let before = xt.get(loc)?;
-    xt.set(loc, fun.of(before))?;
-    Ok(Reply::Value(before))
-}
-
-#[inline(always)]
-pub(crate) fn modify<P: Peek>(loc: Loc, fun: Fun, xt: &mut Xt<P>) -> Result<Reply, Stop>
-    requires { loc.0 < P.locations xt.old.peek }
-    ensures goes { Does P.peek_gives (loc_program (LocOp.Modify loc fun)) xt.old result xt.new }
-    ensures size { P.locations xt.new.peek ≡ P.locations xt.old.peek }
-{
-    let value = xt.get(loc)?;
-    xt.set(loc, fun.of(value))?;
-    Ok(Reply::Unit)
-}
-
-pub(crate) fn check<P: Peek>(loc: Loc, rel: Rel, number: u32, xt: &mut Xt<P>) -> Result<Reply, Stop>
-    requires { loc.0 < P.locations xt.old.peek }
-    ensures goes { Does P.peek_gives (loc_program (LocOp.Check loc rel number)) xt.old result xt.new }
-    ensures size { P.locations xt.new.peek ≡ P.locations xt.old.peek }
-{
-    let value = xt.get(loc)?;
-    if rel.holds(value, number) {
-        Ok(Reply::Unit)
-    } else {
-        Err(Stop::Retry)
-    }
 }

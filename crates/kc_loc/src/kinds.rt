@@ -28,6 +28,7 @@ pub enum Rel {
 
 impl Fun {
     /// What the function makes of a value.
+    #[inline(always)]
     pub fn of(self, value: u32) -> u32
         ensures { result ≡ result_of self value }
     {
@@ -44,6 +45,7 @@ impl Fun {
 
 impl Rel {
     /// Whether it holds between a value and a number.
+    #[inline(always)]
     pub fn holds(self, value: u32, number: u32) -> bool
         ensures { result ≡ holds self value number }
     {

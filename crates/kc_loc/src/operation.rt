@@ -3,7 +3,7 @@
 ghost use Rattle.std.specs.Prelude.{◌≡◌};
 ghost use Rattle.kc_loc.specs.Meaning.{loc_meaning, loc_last, loc_end, LocIsFit};
 
-use crate::acts;
+use crate::acts::{self, Act};
 use crate::kinds::{Fun, Rel};
 use kc_model::{Loc, Reply};
 use kc_xt::{Peek, Stop, Transact, Xt};
@@ -36,7 +36,8 @@ pub enum LocOp {
 
 impl LocOp {
     // The greatest location of it.
-    fn last(&self) -> u32
+    #[inline(always)]
+    pub(crate) fn last(&self) -> u32
         ensures { result ≡ loc_last self.now }
     {
         match *self {
@@ -68,18 +69,10 @@ impl Transact for LocOp {
 
     #[inline(always)]
     fn run<P: Peek>(&self, xt: &mut Xt<P>) -> Result<Reply, Stop> {
-        match *self {
-            LocOp::Get(loc) => acts::get(loc, xt),
-            LocOp::Set(loc, value) => acts::set(loc, value, xt),
-            LocOp::Exchange(loc, value) => acts::exchange(loc, value, xt),
-            LocOp::Swap(a, b) => acts::swap(a, b, xt),
-            LocOp::Cas(loc, before, after) => acts::compare_and_set(loc, before, after, xt),
-            LocOp::FetchAdd(loc, number) => acts::fetch_add(loc, number, xt),
-            LocOp::Incr(loc) => acts::increment(loc, xt),
-            LocOp::Decr(loc) => acts::decrement(loc, xt),
-            LocOp::Update(loc, fun) => acts::update(loc, fun, xt),
-            LocOp::Modify(loc, fun) => acts::modify(loc, fun, xt),
-            LocOp::Check(loc, rel, number) => acts::check(loc, rel, number, xt),
+        match self.act() {
+            Act::Swap(a, b) => acts::swap(a, b, xt),
+            Act::Put(loc, value) => acts::set(loc, value, xt),
+            Act::Read => self.change(xt),
         }
     }
 }
