@@ -10,8 +10,8 @@
 #include <string.h>
 #include <time.h>
 
-enum { MOST_PUTS = 4, LOCATIONS = 512, COUNT = 8, BASE = LOCATIONS + 8 * COUNT, DESCRIPTOR = 136, POOL = 13 };
-static _Alignas(64) _Atomic uint64_t words[BASE + DESCRIPTOR * POOL];
+enum { MOST_PUTS = 4, LOCATIONS = 512, COUNT = 8, BASE = LOCATIONS + 16 * COUNT, DESCRIPTOR = 136, POOL = 13 };
+static _Alignas(128) _Atomic uint64_t words[BASE + DESCRIPTOR * POOL];
 static int puts_, same;
 static uint64_t commits;
 
@@ -25,7 +25,7 @@ __attribute__((noinline)) static void run(uint64_t caller) {
     uint64_t descriptor = 3 * caller, number = 0, seen[MOST_PUTS];
     _Atomic uint64_t *d = words + BASE + DESCRIPTOR * descriptor, *w[MOST_PUTS];
     for (int k = 0; k < puts_; k++) {
-        w[k] = words + LOCATIONS + 8 * (same ? k : 2 * caller + k);
+        w[k] = words + LOCATIONS + 16 * (same ? k : 2 * caller + k);
         while ((seen[k] = atomic_load(w[k])) >> 63) {}
     }
     for (uint64_t done = 0; done < commits;) {

@@ -73,7 +73,7 @@ next_test a b ne = go (nat_lt a b) refl
 
 module _ (values versions : List ℕ) (generation : ℕ) where
   pub word_written : (n m l : ℕ) (ws : List ℕ) → 1 ≤ m → l < n → AreWords n m (written values versions generation l 0 0) ws
-      → AreWords n m (written values versions generation (l + 1) 0 0) (set ws (512 + 8 * l) (packed (Plain (get_or versions l 0) (get_or values l 0))))
+      → AreWords n m (written values versions generation (l + 1) 0 0) (set ws (512 + 16 * l) (packed (Plain (get_or versions l 0) (get_or values l 0))))
   word_written n m l ws one lt a = one_written n m (written values versions generation l 0 0) (written values versions generation (l + 1) 0 0) ws (word l) _ one a lt (rw (is_below l (l + 1) (omega arith)) refl) rest
     where
       rest : (c : Cell) → c ≢ word l → written values versions generation (l + 1) 0 0 c ≡ written values versions generation l 0 0 c

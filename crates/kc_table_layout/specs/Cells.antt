@@ -42,11 +42,11 @@ IsThere n m (first d k) = (d < m) × (k < 64)
 IsThere n m (second d k) = (d < m) × (k < 64)
 IsThere n m (signal c) = c < 64
 
--- ---- where it lies: eight words to a signal and to a location, then 136 to a descriptor
+-- ---- where it lies: eight words to a signal, sixteen to a location, then 136 to a descriptor
 
 -- behind the locations
 abbrev pub base_of : ℕ → ℕ
-base_of n = 512 + 8 * n
+base_of n = 512 + 16 * n
 
 abbrev pub size_of : ℕ → ℕ → ℕ
 size_of n m = base_of n + 136 * m
@@ -54,8 +54,8 @@ size_of n m = base_of n + 136 * m
 -- in a table whose descriptors lie from `base` on
 abbrev pub place : ℕ → Cell → ℕ
 place base none = 0
-place base (word l) = 512 + 8 * l
-place base (awaiters l) = 513 + 8 * l
+place base (word l) = 512 + 16 * l
+place base (awaiters l) = 513 + 16 * l
 place base (control d) = base + 136 * d
 place base (status d) = base + 136 * d + 1
 place base (owner d) = base + 136 * d + 2

@@ -1,5 +1,5 @@
-//! Which word is where. Each signal, and each location with its awaiters, has eight words of its own, a cache line, and
-//! descriptors lie at multiples of eight.
+//! Which word is where. Each signal has eight words of its own, a cache line, and descriptors lie at multiples of eight. A
+//! location with its awaiters has two cache lines, since a processor that fetches one often takes its neighbour too.
 
 ghost use Rattle.std.specs.Prelude.{◌≡◌, ◌≤◌};
 ghost use Rattle.kc_table_layout.specs.declared.place.TheConstants.{LAST_BASE};
@@ -12,6 +12,9 @@ use kc_model::Loc;
 // Words of a cache line.
 const LINE: usize = 8;
 
+// Words of a location: two lines that begin at an even one.
+const PAIR: usize = 2 * LINE;
+
 // Behind the signals of 64 callers.
 const LOCATIONS: usize = 512;
 
@@ -19,7 +22,7 @@ const LOCATIONS: usize = 512;
 const DESCRIPTOR: usize = 136;
 
 /// Where the descriptors may begin at most. Those of every table begin before it, and sums of places stay in their type.
-pub const LAST_BASE: usize = 1_048_576;
+pub const LAST_BASE: usize = 2_097_152;
 
 /// Where the descriptors begin, in a table of so many locations.
 #[inline(always)]
@@ -27,7 +30,7 @@ pub fn base_at(locations: usize) -> usize
     requires { locations ≤ MOST_LOCATIONS }
     ensures { result ≡ base_of locations }
 {
-    LOCATIONS + LINE * locations
+    LOCATIONS + PAIR * locations
 }
 
 /// How many words a table of so many locations and descriptors has.
@@ -52,7 +55,7 @@ pub fn signal_at(caller: u32) -> usize
 pub fn location_at(loc: Loc) -> usize
     ensures { result ≡ place 0 (word loc.0) }
 {
-    LOCATIONS + LINE * loc.0 as usize
+    LOCATIONS + PAIR * loc.0 as usize
 }
 
 /// The awaiters of a location.

@@ -42,8 +42,8 @@ public:
     }
 
 private:
-    // Each location has a cache line, with its awaiters behind its word; a descriptor has control, status, owner, and two words a line.
-    static constexpr uint64_t line_words = 8, descriptor_words = 136, descriptors = 3 * most_threads + 1;
+    // Each location has two cache lines, with its awaiters behind its word; a descriptor has control, status, owner, and two words a line.
+    static constexpr uint64_t line_words = 16, descriptor_words = 136, descriptors = 3 * most_threads + 1;
     static constexpr uint64_t reference = 1ull << 63, first_version = 1ull << 32, active = 0, succeeded = 256, failed = 512;
 
     struct Line {
@@ -52,7 +52,7 @@ private:
     };
 
     using Word = std::atomic<uint64_t>;
-    alignas(64) Word words[line_words * cells + descriptor_words * descriptors]{};
+    alignas(128) Word words[line_words * cells + descriptor_words * descriptors]{};
 
     Word &location(uint32_t place) { return words[line_words * place]; }
 

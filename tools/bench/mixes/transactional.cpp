@@ -31,8 +31,8 @@ public:
     }
 
 private:
-    // On a cache line of its own, as in the lock-free store.
-    struct alignas(64) Cell {
+    // On two cache lines of its own, as in the lock-free store.
+    struct alignas(128) Cell {
         uint32_t value = 0;
     };
 
