@@ -5,6 +5,7 @@ use Rattle.std.proofs.Math.Path.{fun_ext}
 use Rattle.kc_loc.specs.Acts.{act_of, put_by, reply_by}
 use Rattle.kc_loc.specs.Kinds.{holds}
 use Rattle.kc_loc.specs.Meaning.{loc_last, loc_program}
+use Rattle.kc_loc.specs.declared.acts.Act.{Act}
 use Rattle.kc_loc.specs.declared.acts.Act.TheVariants as act
 use Rattle.kc_loc.specs.declared.operation.LocOp.{LocOp}
 use Rattle.kc_loc.specs.declared.operation.LocOp.TheVariants as op
@@ -51,31 +52,30 @@ reads_first (op.Update l f) is k = refl
 reads_first (op.Modify l f) is k = refl
 reads_first (op.Check l r n) is k = ap (read l.0) (fun_ext (λ v. check_behind (holds r v n) l.0 k))
 
+-- an operation of which the act says all, else itself
+abbrev of_act : Act → LocOp → LocOp
+of_act (act.Swap a b) o = op.Swap a b
+of_act (act.Put l v) o = op.Set l v
+of_act act.Read o = o
+
+of_act_of : (o : LocOp) → of_act (act_of o) o ≡ o
+of_act_of (op.Get l) = refl
+of_act_of (op.Set l v) = refl
+of_act_of (op.Exchange l v) = refl
+of_act_of (op.Swap a b) = refl
+of_act_of (op.Cas l before after) = refl
+of_act_of (op.FetchAdd l n) = refl
+of_act_of (op.Incr l) = refl
+of_act_of (op.Decr l) = refl
+of_act_of (op.Update l f) = refl
+of_act_of (op.Modify l f) = refl
+of_act_of (op.Check l r n) = refl
+
 pub is_swap : (o : LocOp) (a b : Loc) → act_of o ≡ act.Swap a b → op.Swap a b ≡ o
-is_swap (op.Get l) a b e = cc
-is_swap (op.Set l v) a b e = cc
-is_swap (op.Exchange l v) a b e = cc
-is_swap (op.Swap c d) a b e = cc
-is_swap (op.Cas l before after) a b e = cc
-is_swap (op.FetchAdd l n) a b e = cc
-is_swap (op.Incr l) a b e = cc
-is_swap (op.Decr l) a b e = cc
-is_swap (op.Update l f) a b e = cc
-is_swap (op.Modify l f) a b e = cc
-is_swap (op.Check l r n) a b e = cc
+is_swap o a b e = subst (λ t. of_act t o ≡ o) e (of_act_of o)
 
 pub is_set : (o : LocOp) (l : Loc) (v : ℕ) → act_of o ≡ act.Put l v → op.Set l v ≡ o
-is_set (op.Get l) m w e = cc
-is_set (op.Set l v) m w e = cc
-is_set (op.Exchange l v) m w e = cc
-is_set (op.Swap c d) m w e = cc
-is_set (op.Cas l before after) m w e = cc
-is_set (op.FetchAdd l n) m w e = cc
-is_set (op.Incr l) m w e = cc
-is_set (op.Decr l) m w e = cc
-is_set (op.Update l f) m w e = cc
-is_set (op.Modify l f) m w e = cc
-is_set (op.Check l r n) m w e = cc
+is_set o l v e = subst (λ t. of_act t o ≡ o) e (of_act_of o)
 
 program_is : (o : LocOp) → act_of o ≡ act.Read → (let f : (Reply → Program) → Program = λ k. read (loc_last o) (λ v. behind (loc_last o) (put_by o v) (reply_by o v) k) in f) ≡ loc_program o
 program_is o is = fun_ext (λ k. sym (reads_first o is k))
