@@ -12,6 +12,7 @@ pub mod Placing
 pub mod Crossed
 pub mod Settling
 pub mod Back
+pub mod Filling
 pub mod LoneLooking
 pub mod LoneCommits
 pub mod Concluding

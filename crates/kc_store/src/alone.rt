@@ -16,14 +16,14 @@ ghost use Rattle.kc_store.specs.Lone.{CommitsAlone, is_worn};
 ghost use Rattle.kc_store.specs.Steps.{steps_made};
 
 use crate::sole_peek::run_alone;
-use crate::store::{Caller, Rooms, Store};
+use crate::store::{Caller, Store};
 use crate::values::Wear;
 use crate::verdict::Answered;
-use kc_machine_steps::{Told, fill_lines};
+use kc_machine_steps::Told;
 use kc_machine_words::Mode;
 use kc_model::{Footprint, Line, MOST, Reply};
 use kc_table::{KcSeat, KcTable};
-use kc_xt::{Transact, Tried};
+use kc_xt::{Room, Transact, Tried};
 
 /// What a transaction by the only caller answers, with what it read and put.
 #[derive(Debug, Drop)]
@@ -76,7 +76,7 @@ impl Store {
         end_alone(
             &self.table,
             &mut caller.seat,
-            &mut caller.rooms,
+            &mut caller.room,
             transaction,
             footprint,
         )
@@ -106,7 +106,7 @@ impl Store {
 fn end_alone<T: Transact>(
     table: &KcTable,
     seat: &mut KcSeat,
-    rooms: &mut Rooms,
+    room: &mut Room,
     transaction: &T,
     footprint: &mut Footprint,
 ) -> Answered
@@ -122,12 +122,11 @@ fn end_alone<T: Transact>(
     ensures blocked { seat.new.seat.blocked ≡ seat.old.seat.blocked }
     ensures within { IsBelow (T.end transaction.now) footprint.new }
 {
-    let tried = run_alone(table, seat, &mut rooms.log, transaction, footprint);
+    let tried = run_alone(table, seat, room, transaction, footprint);
     prove!(footprint.reads.len() <= MOST);
     match tried {
         Tried::Done(reply) => {
-            fill_lines(&mut rooms.lines, footprint);
-            if commit_alone(table, seat, footprint, rooms.lines.as_slice()) {
+            if commit_alone(table, seat, footprint, room.as_slice()) {
                 return Answered::Done(reply);
             }
             Answered::WornPool

@@ -8,13 +8,20 @@ ghost use Rattle.kc_store.specs.Answers.{Settles};
 ghost use Rattle.kc_store.specs.Commits.{AllTries};
 ghost use Rattle.kc_store.specs.Verdicts.{has_entry, verdict_of};
 
-use crate::store::{Caller, Rooms, Store};
+use crate::store::{Caller, Store};
 use crate::trying::try_once;
 use crate::verdict::{Answered, answer_on, is_final};
 use kc_model::Footprint;
 use kc_table::KcSeat;
-use kc_xt::{Transact, Trial};
+use kc_xt::{Room, Transact, Trial};
+use std::hint::spin_loop;
 use std::sync::Wait;
+
+// How often the processor pauses behind the first try that was lost; it is twice as often behind each later one. A pause takes some
+// ten to fifty nanoseconds.
+const FIRST_PAUSES: u32 = 64;
+
+const MOST_PAUSES: u32 = 1024;
 
 impl Store {
     /// Commits a transaction: tries it until a try was neither lost nor given up, and answers as that one. It takes no memory.
@@ -40,10 +47,19 @@ impl Store {
             rt,
             self,
             &mut caller.seat,
-            &mut caller.rooms,
+            &mut caller.room,
             transaction,
             footprint,
         )
+    }
+}
+
+// Lets others go on who commit to the same locations, with these at hand.
+#[cold]
+#[inline(never)]
+fn rest(pauses: u32) {
+    for _ in 0..pauses {
+        spin_loop();
     }
 }
 
@@ -53,7 +69,7 @@ fn commit_by<R: Wait, T: Transact>(
     rt: &R,
     store: &Store,
     seat: &mut KcSeat,
-    rooms: &mut Rooms,
+    room: &mut Room,
     transaction: &T,
     footprint: &mut Footprint,
 ) -> Answered
@@ -69,12 +85,13 @@ fn commit_by<R: Wait, T: Transact>(
     ensures within { has_entry (verdict_of result) ≡ true → IsBelow (T.end transaction.now) footprint.new }
 {
     let mut trial = Trial::new();
+    let mut pauses = FIRST_PAUSES;
     for _ in rt.forever() {
         let fate = try_once(
             &store.table,
             store.most_steps,
             seat,
-            rooms,
+            room,
             transaction,
             &mut trial,
             footprint,
@@ -82,6 +99,8 @@ fn commit_by<R: Wait, T: Transact>(
         if is_final(fate, &trial) {
             return answer_on(fate, &trial);
         }
+        rest(pauses);
+        pauses = pauses.saturating_mul(2).min(MOST_PAUSES);
     }
     unreachable!()
 }

@@ -2,6 +2,7 @@
 
 ghost use Rattle.std.specs.Prelude.{◌≡◌, ◌≢◌, ◌<◌, ◌≤◌, true, Some, IfOk};
 ghost use Rattle.kc_machine.specs.Seats.{is_idle};
+ghost use Rattle.kc_machine_steps.specs.Lines.{lines_of};
 ghost use Rattle.kc_model.specs.Footprint.{IsBelow};
 ghost use Rattle.kc_xt.specs.Commit.{Came, PutsWhereDone, tried_of};
 ghost use Rattle.kc_xt.specs.Peeks.{IsLook};
@@ -74,7 +75,7 @@ fn seen_by(told: Option<Told>) -> Result<Seen, PeekBusy>
     }
 }
 
-/// Runs a transaction on looks, and fills the footprint with what may be committed of it.
+/// Runs a transaction on looks, and fills the footprint with what may be committed of it. The room has its lines.
 #[inline(always)]
 pub(crate) fn look_and_run<T: Transact>(
     table: &KcTable,
@@ -92,6 +93,7 @@ pub(crate) fn look_and_run<T: Transact>(
     ensures came { Came (T.meaning transaction.now) (tried_of trial.new.went trial.new.reply) footprint.old footprint.new }
     ensures puts { PutsWhereDone (tried_of trial.new.went trial.new.reply) footprint.new }
     ensures within { tried_of trial.new.went trial.new.reply ≢ came.Busy → IsBelow (T.end transaction.now) footprint.new }
+    ensures lines { tried_of trial.new.went trial.new.reply ≢ came.Busy → lines_of footprint.new ≡ room.new }
     ensures looked { AllLooked (T.meaning transaction.now) (tried_of trial.new.went trial.new.reply) footprint.new seat.old left.old seat.new left.new }
 {
     let peek = StorePeek {

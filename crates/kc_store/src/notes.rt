@@ -25,7 +25,7 @@ impl HoldsSeat for Caller {
     ghost seat = { λ c. c };
 
     fn into_seat(self) -> KcSeat {
-        let Caller { seat, rooms: _ } = self;
+        let Caller { seat, room: _ } = self;
         seat
     }
 }

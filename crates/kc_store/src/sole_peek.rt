@@ -2,6 +2,7 @@
 
 ghost use Rattle.std.specs.Prelude.{◌≡◌, ◌≢◌, ◌<◌, ◌≤◌, true};
 ghost use Rattle.kc_machine.specs.Seats.{is_idle};
+ghost use Rattle.kc_machine_steps.specs.Lines.{lines_of};
 ghost use Rattle.kc_model.specs.Footprint.{IsBelow};
 ghost use Rattle.kc_xt.specs.Commit.{Came};
 ghost use Rattle.kc_xt.specs.Peeks.{IsLook};
@@ -53,7 +54,7 @@ fn look_alone(table: &KcTable, seat: &mut KcSeat, loc: Loc) -> Seen
     }
 }
 
-/// Runs a transaction on what stands, and fills the footprint with what may be committed of it.
+/// Runs a transaction on what stands, and fills the footprint with what may be committed of it. The room has its lines.
 pub(crate) fn run_alone<T: Transact>(
     table: &KcTable,
     seat: &mut KcSeat,
@@ -68,6 +69,7 @@ pub(crate) fn run_alone<T: Transact>(
     requires within { T.end transaction.now ≤ table.now.origin.locations }
     ensures came { Came (T.meaning transaction.now) result footprint.old footprint.new }
     ensures within { result ≢ came.Busy → IsBelow (T.end transaction.now) footprint.new }
+    ensures lines { result ≢ came.Busy → lines_of footprint.new ≡ room.new }
     ensures looked { AllAlone result seat.old footprint.new seat.new }
 {
     let mut trial = Trial::new();

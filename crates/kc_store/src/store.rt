@@ -7,9 +7,8 @@ ghost use Rattle.kc_machine.specs.declared.machine.TheConstants.{MOST_CALLERS};
 ghost use Rattle.kc_table_moves.specs.Views.{AreAll, IsPast, OpensAt, opened_seats};
 ghost use Rattle.kc_store.specs.Steps.{busy_bound};
 
-use arrayvec::ArrayVec;
 use kc_machine_words::LAST_GENERATION;
-use kc_model::{LAST_VERSION, Line, MOST, OpenError};
+use kc_model::{LAST_VERSION, OpenError};
 use kc_table::{KcSeat, KcTable, Past};
 use kc_xt::Room;
 use std::alloc::{AllocError, Global};
@@ -42,14 +41,8 @@ impl Model for Store {
 #[derive(Drop)]
 pub struct Caller {
     pub(crate) seat: KcSeat,
-    pub(crate) rooms: Rooms,
-}
-
-/// Room for the lines of a commit, and for the log of an attempt.
-#[derive(Drop)]
-pub(crate) struct Rooms {
-    pub(crate) lines: ArrayVec<Line, MOST>,
-    pub(crate) log: Room,
+    /// For the log of an attempt, whose lines are those of its commit.
+    pub(crate) room: Room,
 }
 
 impl Model for Caller {
@@ -131,10 +124,7 @@ fn shared(
     for seat in seats {
         given.push(Caller {
             seat,
-            rooms: Rooms {
-                lines: ArrayVec::new(),
-                log: Room::new(),
-            },
+            room: Room::new(),
         })?;
     }
     let most_steps = (callers + 1) * (callers + 1) * STEPS_EACH;

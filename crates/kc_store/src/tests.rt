@@ -9,7 +9,7 @@ use crate::trying::fate_of;
 use crate::verdict::verdict_on;
 use crate::{Caller, Store, Verdict};
 use kc_loc::LocOp;
-use kc_machine_steps::{Task, fill_lines};
+use kc_machine_steps::Task;
 use kc_machine_words::Mode;
 use kc_model::{Footprint, Loc, MOST};
 use kc_table::{KcSeat, KcTable};
@@ -43,7 +43,7 @@ fn overtaken(store: &Store, a: &mut Caller, b: &mut Caller) -> Option<Verdict>
     look_and_run(
         &store.table,
         &mut a.seat,
-        &mut a.rooms.log,
+        &mut a.room,
         &ADD,
         &mut trial,
         &mut footprint,
@@ -54,12 +54,11 @@ fn overtaken(store: &Store, a: &mut Caller, b: &mut Caller) -> Option<Verdict>
     }
     let mut other = Footprint::new();
     store.try_commit_into(b, &ADD, &mut other);
-    fill_lines(&mut a.rooms.lines, &footprint);
     let told = commit(
         &store.table,
         &mut a.seat,
         &footprint,
-        a.rooms.lines.as_slice(),
+        a.room.as_slice(),
         &mut left,
     );
     Some(verdict_on(fate_of(told, &footprint, 0), &trial))
@@ -96,7 +95,7 @@ fn stop_within(store: &Store, caller: &mut Caller) -> bool
     look_and_run(
         &store.table,
         &mut caller.seat,
-        &mut caller.rooms.log,
+        &mut caller.room,
         &ADD,
         &mut trial,
         &mut footprint,
@@ -126,7 +125,7 @@ fn look_once(store: &Store, caller: &mut Caller, footprint: &mut Footprint) -> W
     look_and_run(
         &store.table,
         &mut caller.seat,
-        &mut caller.rooms.log,
+        &mut caller.room,
         &ADD,
         &mut trial,
         footprint,

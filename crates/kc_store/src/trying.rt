@@ -13,13 +13,13 @@ ghost use Rattle.kc_store.specs.Tries.{Tries};
 ghost use Rattle.kc_store.specs.Verdicts.{fate_by, has_entry, lost_at, verdict_as};
 
 use crate::looks::look_and_run;
-use crate::store::{Caller, Rooms, Store};
+use crate::store::{Caller, Store};
 use crate::tasks::commit;
 use crate::verdict::{Fate, Verdict, verdict_on};
-use kc_machine_steps::{Told, fill_lines};
+use kc_machine_steps::Told;
 use kc_model::{Footprint, Seen};
 use kc_table::{KcSeat, KcTable};
-use kc_xt::{Transact, Trial, Went};
+use kc_xt::{Room, Transact, Trial, Went};
 
 impl Store {
     /// Tries a transaction once: runs it on looks, commits what it read and wrote in mode Light, and where that was crossed
@@ -47,7 +47,7 @@ impl Store {
             &self.table,
             self.most_steps,
             &mut caller.seat,
-            &mut caller.rooms,
+            &mut caller.room,
             transaction,
             &mut trial,
             footprint,
@@ -62,7 +62,7 @@ pub(crate) fn try_once<T: Transact>(
     table: &KcTable,
     most_steps: u32,
     seat: &mut KcSeat,
-    rooms: &mut Rooms,
+    room: &mut Room,
     transaction: &T,
     trial: &mut Trial,
     footprint: &mut Footprint,
@@ -81,21 +81,12 @@ pub(crate) fn try_once<T: Transact>(
 {
     let before = seat.steps();
     let mut left = most_steps;
-    look_and_run(
-        table,
-        seat,
-        &mut rooms.log,
-        transaction,
-        trial,
-        footprint,
-        &mut left,
-    );
+    look_and_run(table, seat, room, transaction, trial, footprint, &mut left);
     if let Went::Busy = trial.went {
         let steps = seat.steps() - before;
         return Fate::Busy { steps };
     }
-    fill_lines(&mut rooms.lines, footprint);
-    let told = commit(table, seat, footprint, rooms.lines.as_slice(), &mut left);
+    let told = commit(table, seat, footprint, room.as_slice(), &mut left);
     let steps = seat.steps() - before;
     fate_of(told, footprint, steps)
 }

@@ -56,7 +56,7 @@ module _ {P : Type 0} (gives : Gives P) where
 
   -- a location with a line is read on with that line
   touched_there : (l : ℕ) (x : Log P) (b : Line) → line_at x.lines l ≡ Some b → Touched l x x
-  touched_there l x b h = record { line = b; at = h; comes = λ k. record { limit = refl; keeps = λ l e h. h; looks = []; looked = refl; grown = refl; room = λ lt. absurd (omega (arith, lt)); same = λ n room s a. on_log-read_some n s x.lines l k b a h } }
+  touched_there l x b h = record { line = b; at = h; comes = λ k. record { limit = refl; over = refl; keeps = λ l e h. h; looks = []; looked = refl; grown = refl; room = λ lt. absurd (omega (arith, lt)); same = λ n room s a. on_log-read_some n s x.lines l k b a h } }
 
   -- a location that was looked at is read on with the new line
   touched_looked : (l : ℕ) (x y : Log P) (e : Seen) → LooksAt gives l x (Ok e) y → e.loc.0 ≡ l → y.lines ≡ with_line x.lines (seen_line e) → Touched l x y
@@ -68,6 +68,7 @@ module _ {P : Type 0} (gives : Gives P) where
         at = ap (λ ls. line_at ls l) q ∙ ap (line_at (with_line x.lines (seen_line e))) (sym el) ∙ line_at-with_line x.lines (seen_line e);
         comes = λ k. record {
           limit = g.limit;
+          over = g.over;
           keeps = rw q (keeps-with_line x.lines e h2);
           looks = e ∷ [];
           looked = (y.peek, (let Q : ℕ → Type 0 = λ j. gives x.peek j (Ok e) y.peek in subst Q (sym el) g.look), refl);
@@ -111,6 +112,7 @@ module _ {P : Type 0} (gives : Gives P) where
   full_stops : (l : ℕ) (x : Log P) (k : ℕ → Program) → line_at x.lines l ≡ None → x.limit ≤ length x.lines → Stops gives (read l k) x TooLarge x
   full_stops l x k h room = record {
     limit = refl;
+    over = refl;
     keeps = λ l e h. h;
     looks = [];
     looked = refl;
@@ -123,6 +125,7 @@ module _ {P : Type 0} (gives : Gives P) where
   busy_stops : (l : ℕ) (x y : Log P) (k : ℕ → Program) (b : PeekBusy) → LooksAt gives l x (Err b) y → y.lines ≡ x.lines → Stops gives (read l k) x Busy y
   busy_stops l x y k b g q = record {
     limit = g.limit;
+    over = g.over;
     keeps = rw q (λ l e h. h);
     looks = [];
     looked = (x.peek, refl, record { loc = l; missing = ap (λ ls. line_at ls l) q ∙ g.missing; busy = b; fails = g.look });
@@ -160,6 +163,7 @@ module _ {P : Type 0} (gives : Gives P) where
   writes_there : (l v : ℕ) (x : Log P) (p : Program) → HasLine x.lines l → Comes gives (write l v p) x p (having_set x l v)
   writes_there l v x p (b, h) = record {
     limit = refl;
+    over = refl;
     keeps = keeps-with_after x.lines l v;
     looks = [];
     looked = refl;
@@ -170,7 +174,7 @@ module _ {P : Type 0} (gives : Gives P) where
 
   -- to write is to read first
   reads_first : (l v : ℕ) (x : Log P) (p : Program) → Comes gives (write l v p) x (read l (λ _. write l v p)) x
-  reads_first l v x p = record { limit = refl; keeps = λ l e h. h; looks = []; looked = refl; grown = refl; room = λ lt. absurd (omega (arith, lt)); same = λ n room s a. on_log-write n s x.lines l v p }
+  reads_first l v x p = record { limit = refl; over = refl; keeps = λ l e h. h; looks = []; looked = refl; grown = refl; room = λ lt. absurd (omega (arith, lt)); same = λ n room s a. on_log-write n s x.lines l v p }
 
   -- a new value, if there is one, and what comes behind it
   abbrev wrote : ℕ → Option ℕ → Program → Program

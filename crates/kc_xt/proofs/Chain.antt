@@ -32,7 +32,7 @@ having_looked-append es fs e = ap (λ (l : List Seen). let r : Ended = record { 
 module _ {P : Type 0} {gives : Gives P} where
   -- nothing was done
   pub stay : (p : Program) (x : Log P) → Comes gives p x p x
-  stay p x = record { limit = refl; keeps = λ l e h. h; looks = []; looked = refl; grown = refl; room = λ lt. absurd (omega (arith, lt)); same = λ n room s a. refl }
+  stay p x = record { limit = refl; over = refl; keeps = λ l e h. h; looks = []; looked = refl; grown = refl; room = λ lt. absurd (omega (arith, lt)); same = λ n room s a. refl }
 
   -- one part after another
   pub after : {p q r : Program} {x y z : Log P} → Comes gives p x q y → Comes gives q y r z → Comes gives p x r z
@@ -41,6 +41,7 @@ module _ {P : Type 0} {gives : Gives P} where
       let b = more y.lines z.lines g.looks g.grown in
       record {
         limit = g.limit ∙ h.limit;
+        over = g.over ∙ h.over;
         keeps = λ l e k. g.keeps l e (h.keeps l e k);
         looks = h.looks ++ g.looks;
         looked = Looks-append gives x.peek y.peek h.looks g.looks z.peek h.looked g.looked;
@@ -59,6 +60,7 @@ module _ {P : Type 0} {gives : Gives P} where
       let b = more y.lines z.lines g.looks g.grown in
       record {
         limit = g.limit ∙ h.limit;
+        over = g.over ∙ h.over;
         keeps = λ l e k. g.keeps l e (h.keeps l e k);
         looks = h.looks ++ g.looks;
         looked = LooksStop-append gives e z.lines x.peek y.peek h.looks g.looks z.peek h.looked g.looked;
@@ -72,7 +74,7 @@ module _ {P : Type 0} {gives : Gives P} where
 
   -- a retry touches nothing
   retry_stays : (x : Log P) → Stops gives retries x Retry x
-  retry_stays x = record { limit = refl; keeps = λ l e h. h; looks = []; looked = refl; grown = refl; room = λ lt. absurd (omega (arith, lt)); same = λ n room s a. refl }
+  retry_stays x = record { limit = refl; over = refl; keeps = λ l e h. h; looks = []; looked = refl; grown = refl; room = λ lt. absurd (omega (arith, lt)); same = λ n room s a. refl }
 
   -- what comes behind a part
   pub follows : {B : Type 0} {p q : Program} {x y : Log P} (z : Log P) → Comes gives p x q y → (r : Result B Stop) (k : B → Program) → MatchResult r (λ b. Comes gives q y (k b) z) (λ e. Stops gives q y e z) → MatchResult r (λ b. Comes gives p x (k b) z) (λ e. Stops gives p x e z)

@@ -265,14 +265,14 @@ as_answered (Err TooLarge) ne = refl
 as_answered (Err Busy) ne = absurd (ne refl)
 
 -- a run on the empty log over a plain store never stops with Busy
-pub plain_not_busy : {m : Meaning} {bound : ℕ} {r : Result Reply Stop} {y : Log (List Cell)} (cells : List Cell) → Obeys PlainLooks m bound (empty_log cells) r y → r ≢ Err Busy
+pub plain_not_busy : {m : Meaning} {bound : ℕ} {r : Result Reply Stop} {over : ℕ} {y : Log (List Cell)} (cells : List Cell) → Obeys PlainLooks m bound (empty_log over cells) r y → r ≢ Err Busy
 plain_not_busy {y = y} cells o e = go (rw e at o.looked)
   where
     go : LooksTo PlainLooks (Err Busy) y.lines cells o.looks y.peek → ⊥
     go (b, h, f) = err≢ok f.busy (look (store_of b) f.loc) f.fails.1
 
 -- it commits what the meaning gives on the store, and its footprint is filled by `fill` or `into_parts`
-pub commits : {m : Meaning} {bound : ℕ} {r : Result Reply Stop} {y : Log (List Cell)} (cells : List Cell) → Obeys PlainLooks m bound (empty_log cells) r y → (f : Footprint) → f.reads.items ≡ seens y.lines → f.puts.items ≡ puts y.lines → (CanPut y.lines → IsWellMade f) → Commits m bound (store_of cells) r f
+pub commits : {m : Meaning} {bound : ℕ} {r : Result Reply Stop} {over : ℕ} {y : Log (List Cell)} (cells : List Cell) → Obeys PlainLooks m bound (empty_log over cells) r y → (f : Footprint) → f.reads.items ≡ seens y.lines → f.puts.items ≡ puts y.lines → (CanPut y.lines → IsWellMade f) → Commits m bound (store_of cells) r f
 commits {m} {bound} {r} {y} cells o f er ep made =
     let s = store_of cells in
     let looks = looks_in PlainLooks r y.lines cells o.looks y.peek o.looked in

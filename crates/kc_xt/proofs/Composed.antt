@@ -81,6 +81,7 @@ module _ {P : Type 0} {gives : Gives P} (bound : ℕ) where
   pub obeys_then : (p : Meaning) (q : Reply → Meaning) (a : Reply) (x y : Log P) (r : Result Reply Stop) (z : Log P) → Obeys gives p bound x (Ok a) y → Obeys gives (q a) bound y r z → Obeys gives (then_meaning p q) bound x r z
   obeys_then p q a x y r z h g = record {
     limit = g.limit ∙ h.limit;
+    over = g.over ∙ h.over;
     keeps = λ l e k. g.keeps l e (h.keeps l e k);
     looks = h.looks ++ g.looks;
     looked = LooksTo-append gives r z.lines x.peek y.peek h.looks g.looks z.peek h.looked g.looked;
@@ -102,6 +103,7 @@ module _ {P : Type 0} {gives : Gives P} (bound : ℕ) where
   pub obeys_then_stops : (p : Meaning) (q : Reply → Meaning) (e : Stop) (x z : Log P) → Obeys gives p bound x (Err e) z → Obeys gives (then_meaning p q) bound x (Err e) z
   obeys_then_stops p q e x z h = record {
     limit = h.limit;
+    over = h.over;
     keeps = h.keeps;
     looks = h.looks;
     looked = h.looked;
@@ -119,6 +121,7 @@ module _ {P : Type 0} {gives : Gives P} (bound : ℕ) where
   pub obeys_first_stays : (p q : Meaning) (r : Result Reply Stop) (x z : Log P) → r ≢ Err Retry → Obeys gives p bound x r z → Obeys gives (first_meaning p q) bound x r z
   obeys_first_stays p q r x z ne h = record {
     limit = h.limit;
+    over = h.over;
     keeps = h.keeps;
     looks = h.looks;
     looked = h.looked;
@@ -133,11 +136,12 @@ module _ {P : Type 0} {gives : Gives P} (bound : ℕ) where
   }
 
   -- the second alternative, on what a rollback left
-  pub obeys_first_else : (p q : Meaning) (x y w : Log P) (r : Result Reply Stop) (z : Log P) → IsRising (locations x.lines) → Obeys gives p bound x (Err Retry) y → w ≡ (let u : Log P = record { peek = y.peek; limit = y.limit; lines = rolled_back x.lines y.lines } in u) → Obeys gives q bound w r z → Obeys gives (first_meaning p q) bound x r z
+  pub obeys_first_else : (p q : Meaning) (x y w : Log P) (r : Result Reply Stop) (z : Log P) → IsRising (locations x.lines) → Obeys gives p bound x (Err Retry) y → w ≡ (let u : Log P = record { peek = y.peek; limit = y.limit; over = y.over; lines = rolled_back x.lines y.lines } in u) → Obeys gives q bound w r z → Obeys gives (first_meaning p q) bound x r z
   obeys_first_else p q x y w r z rising h back g =
       let wl : w.lines ≡ rolled_back x.lines y.lines = ap (λ (u : Log P). u.lines) back in
       let wp : w.peek ≡ y.peek = ap (λ (u : Log P). u.peek) back in
       let wn : w.limit ≡ y.limit = ap (λ (u : Log P). u.limit) back in
+      let wo : w.over ≡ y.over = ap (λ (u : Log P). u.over) back in
       let kept : Keeps y.lines w.lines = λ l e k. ap (λ zs. seen_at zs l) wl ∙ seen_at-rolled_back x.lines y.lines l ∙ k in
       let grown : bare w.lines ≡ with_looks (bare x.lines) h.looks = ap bare wl ∙ bare-rolled_back x.lines y.lines ∙ h.grown in
       let a = more x.lines w.lines h.looks grown in
@@ -147,6 +151,7 @@ module _ {P : Type 0} {gives : Gives P} (bound : ℕ) where
       let h2 : Looks gives x.peek h.looks w.peek = (let Q : P → Type 0 = λ v. Looks gives x.peek h.looks v in subst Q (sym wp) h.looked) in
       record {
         limit = g.limit ∙ wn ∙ h.limit;
+        over = g.over ∙ wo ∙ h.over;
         keeps = λ l e k. g.keeps l e (kept l e (h.keeps l e k));
         looks = h.looks ++ g.looks;
         looked = LooksTo-append gives r z.lines x.peek w.peek h.looks g.looks z.peek h2 g.looked;
@@ -173,6 +178,7 @@ module _ {P : Type 0} {gives : Gives P} (bound : ℕ) where
   pub obeys_wider : (c : ℕ) → bound ≤ c → (p : Meaning) (x : Log P) (r : Result Reply Stop) (z : Log P) → Obeys gives p bound x r z → Obeys gives p c x r z
   obeys_wider c le p x r z h = record {
     limit = h.limit;
+    over = h.over;
     keeps = h.keeps;
     looks = h.looks;
     looked = h.looked;

@@ -9,13 +9,23 @@ use Rattle.kc_model.specs.declared.footprint.Footprint.{Footprint}
 use Rattle.kc_model.specs.declared.footprint.Put.{Put}
 use Rattle.kc_model.specs.declared.footprint.Seen.{Seen}
 use Rattle.kc_model.specs.declared.footprint.TheConstants.{LAST_VERSION}
-use Rattle.kc_xt.specs.Lines.{locations, seens, puts, put_line, VersionsFit, CanPut, worn_of}
+use Rattle.kc_xt.specs.Lines.{locations, seens, puts, put_line, rolled_back, VersionsFit, CanPut, worn_of}
 use Rattle.kc_model.specs.declared.footprint.Line.{Line}
 
 -- the locations of the reads are those of the lines
-locations-seens : (ls : List Line) → map read_location (seens ls) ≡ locations ls
+pub locations-seens : (ls : List Line) → map read_location (seens ls) ≡ locations ls
 locations-seens [] = refl
 locations-seens (b ∷ bs) = ap (λ ks. b.seen.loc.0 ∷ ks) (locations-seens bs)
+
+-- what was seen stays where new values are taken back
+pub seens-rolled_back : (to ls : List Line) → seens (rolled_back to ls) ≡ seens ls
+seens-rolled_back to [] = refl
+seens-rolled_back to (b ∷ bs) = ap (λ es. b.seen ∷ es) (seens-rolled_back to bs)
+
+-- all of them
+pub puts-rolled_back : (ls : List Line) → puts (rolled_back [] ls) ≡ []
+puts-rolled_back [] = refl
+puts-rolled_back (b ∷ bs) = puts-rolled_back bs
 
 -- above k, and so above less
 lower : (j k : ℕ) (ks : List ℕ) → j ≤ k → IsRisingAbove k ks → IsRisingAbove j ks

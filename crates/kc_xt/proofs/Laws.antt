@@ -70,8 +70,8 @@ module _ {P : Type 0} (gives : Gives P) (p : Program) (bound : ℕ) (below : Bel
 
   -- a program that came to its end, or stopped, obeyed its meaning
   pub obeys : (x : Log P) (r : Result Reply Stop) (y : Log P) → MatchResult r (λ a. Comes gives p x (ends (replied a)) y) (λ e. Stops gives p x e y) → Obeys gives (meaning p) bound x r y
-  obeys x (Ok a) y h = record { limit = h.limit; keeps = h.keeps; looks = h.looks; looked = h.looked; grown = h.grown; room = h.room; law = λ n under s g. is_run n s x.lines (Ok a) y.lines h.looks (h.same n under s g) }
-  obeys x (Err e) y h = record { limit = h.limit; keeps = h.keeps; looks = h.looks; looked = h.looked; grown = h.grown; room = h.room; law = λ n under s g. is_run n s x.lines (Err e) y.lines h.looks (h.same n under s g) }
+  obeys x (Ok a) y h = record { limit = h.limit; over = h.over; keeps = h.keeps; looks = h.looks; looked = h.looked; grown = h.grown; room = h.room; law = λ n under s g. is_run n s x.lines (Ok a) y.lines h.looks (h.same n under s g) }
+  obeys x (Err e) y h = record { limit = h.limit; over = h.over; keeps = h.keeps; looks = h.looks; looked = h.looked; grown = h.grown; room = h.room; law = λ n under s g. is_run n s x.lines (Err e) y.lines h.looks (h.same n under s g) }
 
 -- both sides of a test keep below b
 pub below_if : (b : ℕ) (t : Bool) (p q : Program) → Below b p → Below b q → Below b (cond t p q)

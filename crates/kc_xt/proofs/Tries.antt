@@ -124,35 +124,35 @@ seens-bare (b ∷ bs) = ap (λ es. b.seen ∷ es) (seens-bare bs)
 
 -- ---- what came of it
 
-module _ {P : Type 0} (gives : Gives P) (m : Meaning) (bound : ℕ) (x : P) (y : Log P) where
-  ran : (r : Result Reply Stop) → (o : Obeys gives m bound (empty_log x) r y) → (n : ℕ) → EndsUnder r MOST [] y.lines n → (s : Store) → AllShown s y.lines → IsRun (m n (values s) []) bound s [] r y.lines o.looks
+module _ {P : Type 0} (gives : Gives P) (m : Meaning) (bound over : ℕ) (x : P) (y : Log P) where
+  ran : (r : Result Reply Stop) → (o : Obeys gives m bound (empty_log over x) r y) → (n : ℕ) → EndsUnder r MOST [] y.lines n → (s : Store) → AllShown s y.lines → IsRun (m n (values s) []) bound s [] r y.lines o.looks
   ran r o n under s all = o.law n under s (λ l e h. shown_at s y.lines l e all h)
 
   found : (ps : _) (f : Footprint) → Filled y.lines ps f → (s : Store) → Finds f s → AllShown s y.lines
   found ps f filled s finds = shown_where_found s y.lines (λ e h. finds e (rw filled.reads h))
 
-  done : (a : Reply) (f : Footprint) → Obeys gives m bound (empty_log x) (Ok a) y → Filled y.lines (puts y.lines) f → Answers m (answer.Reply a) f
+  done : (a : Reply) (f : Footprint) → Obeys gives m bound (empty_log over x) (Ok a) y → Filled y.lines (puts y.lines) f → Answers m (answer.Reply a) f
   done a f o filled = record {
     well_made = filled.made;
     run = λ s finds. ap answer_of (ran (Ok a) o MOST o.room s (found _ f filled s finds)).answer;
     makes = λ s finds. let all = found _ f filled s finds in makes_all s (run_on m s).touches y.lines f all (ran (Ok a) o MOST o.room s all).lines filled;
   }
 
-  later : (f : Footprint) → Obeys gives m bound (empty_log x) (Err Retry) y → Filled y.lines [] f → Waits m f
+  later : (f : Footprint) → Obeys gives m bound (empty_log over x) (Err Retry) y → Filled y.lines [] f → Waits m f
   later f o filled = record {
     well_made = filled.made;
     run = λ s finds. let run = ran (Err Retry) o MOST o.room s (found _ f filled s finds) in (run.answer, run.waits run.answer);
     makes = λ s finds. let all = found _ f filled s finds in makes_reads s (run_on m s).touches y.lines f all (ran (Err Retry) o MOST o.room s all).lines filled;
   }
 
-  large : (f : Footprint) → Obeys gives m bound (empty_log x) (Err TooLarge) y → Filled y.lines [] f → Answers m answer.TooLarge f
+  large : (f : Footprint) → Obeys gives m bound (empty_log over x) (Err TooLarge) y → Filled y.lines [] f → Answers m answer.TooLarge f
   large f o filled = record {
     well_made = filled.made;
     run = λ s finds. ap answer_of (ran (Err TooLarge) o MOST refl s (found _ f filled s finds)).answer;
     makes = λ s finds. let all = found _ f filled s finds in makes_reads s (run_on m s).touches y.lines f all (ran (Err TooLarge) o MOST refl s all).lines filled;
   }
 
-  worn : (a : Reply) (loc : Loc) (f : Footprint) → Obeys gives m bound (empty_log x) (Ok a) y → worn_of y.lines ≡ Some loc → Filled y.lines [] f → Wears m loc.0 f
+  worn : (a : Reply) (loc : Loc) (f : Footprint) → Obeys gives m bound (empty_log over x) (Ok a) y → worn_of y.lines ≡ Some loc → Filled y.lines [] f → Wears m loc.0 f
   worn a loc f o is filled = record {
     well_made = filled.made;
     run = λ s finds.
@@ -166,7 +166,7 @@ module _ {P : Type 0} (gives : Gives P) (m : Meaning) (bound : ℕ) (x : P) (y :
   }
 
   abbrev Run : Result Reply Stop → Type 0
-  Run r = Obeys gives m bound (empty_log x) r y
+  Run r = Obeys gives m bound (empty_log over x) r y
 
   pub came : (t : Tried) (r : Result Reply Stop) (before f : Footprint) → Run r → Settles t r y.lines before f → Came m t before f
   came (tried.Done a) r before f o (is, filled) = done a f (subst Run is o) filled

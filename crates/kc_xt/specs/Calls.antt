@@ -20,6 +20,7 @@ pub record LooksAt {P : Type 0} (gives : Gives P) (l : ℕ) (x : Log P) (a : Res
   pub room : length x.lines < x.limit
   pub look : gives x.peek l a y.peek
   pub limit : y.limit ≡ x.limit
+  pub over : y.over ≡ x.over
 
 -- A location is touched: it has a line, or is looked at and gets one, or finds no room, or the look is given up.
 pub data Touches {P : Type 0} (gives : Gives P) (l : ℕ) (x : Log P) (stop : Option Stop) (y : Log P) : Type 0 where

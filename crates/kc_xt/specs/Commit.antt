@@ -123,3 +123,8 @@ Settles tried.Later r ls before f = (r ≡ Err stop.Retry) × Filled ls [] f
 Settles tried.TooLarge r ls before f = (r ≡ Err stop.TooLarge) × Filled ls [] f
 Settles tried.Busy r ls before f = (r ≡ Err stop.Busy) × (f ≡ before)
 Settles (tried.Worn loc) r ls before f = ((a : Reply) × (r ≡ Ok a)) × (worn_of ls ≡ Some loc) × Filled ls [] f
+
+-- where no look was given up, the footprint is filled with just these lines
+abbrev pub IsOfLines : Tried → List Line → Footprint → Type 0
+IsOfLines tried.Busy ls f = Unit {0}
+IsOfLines t ls f = Filled ls (puts ls) f

@@ -41,6 +41,7 @@ pub record IsRun (m : Run) (bound : ℕ) (s : Store) (before : List Line) (r : R
 -- It is the meaning's on each store that shows what the log saw; after Busy it is what the meaning comes to with no room for the location whose look was given up.
 pub record Obeys {P : Type 0} (gives : Gives P) (m : Meaning) (bound : ℕ) (x : Log P) (r : Result Reply Stop) (y : Log P) : Type 0 where
   pub limit : y.limit ≡ x.limit
+  pub over : y.over ≡ x.over
   pub keeps : Keeps x.lines y.lines
   pub looks : List Seen
   pub looked : LooksTo gives r y.lines x.peek looks y.peek

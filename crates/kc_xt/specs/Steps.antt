@@ -36,6 +36,7 @@ HasRoom n before after = length before < length after → length after ≤ n
 -- the program p on the log x has come to q on the log y
 pub record Comes {P : Type 0} (gives : Gives P) (p : Program) (x : Log P) (q : Program) (y : Log P) : Type 0 where
   pub limit : y.limit ≡ x.limit
+  pub over : y.over ≡ x.over
   pub keeps : Keeps x.lines y.lines
   pub looks : List Seen
   pub looked : Looks gives x.peek looks y.peek
@@ -64,6 +65,7 @@ LooksStop gives Busy ls a es z = (b : _) × Looks gives a es b × LookFails give
 -- the program p on the log x has stopped on the log y
 pub record Stops {P : Type 0} (gives : Gives P) (p : Program) (x : Log P) (e : Stop) (y : Log P) : Type 0 where
   pub limit : y.limit ≡ x.limit
+  pub over : y.over ≡ x.over
   pub keeps : Keeps x.lines y.lines
   pub looks : List Seen
   pub looked : LooksStop gives e y.lines x.peek looks y.peek

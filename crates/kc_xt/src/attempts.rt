@@ -8,7 +8,7 @@ ghost use Rattle.kc_model.specs.Store.{Store, store_of, Finds};
 ghost use Rattle.kc_model.specs.declared.reply.Reply.{Reply};
 ghost use Rattle.kc_xt.specs.declared.attempts.Tried.TheVariants as tried;
 ghost use Rattle.kc_xt.specs.declared.attempts.Tried.{Tried as Answered};
-ghost use Rattle.kc_xt.specs.Commit.{Came, PutsWhereDone, Looked, Settles, tried_of};
+ghost use Rattle.kc_xt.specs.Commit.{Came, IsOfLines, PutsWhereDone, Looked, Settles, tried_of};
 ghost use Rattle.kc_xt.specs.Meaning.{Meaning};
 ghost use Rattle.kc_xt.specs.Peeks.{PlainLooks};
 
@@ -35,7 +35,8 @@ pub enum Tried {
 }
 
 /// Runs a transaction on an empty log over the room, and fills the footprint with what may be committed of it: what it read, and at
-/// Done what it wrote. At Busy the footprint stays as it was. What came of it lies in the trial. The peek is handed back.
+/// Done what it wrote. The room is left with the lines of just that. At Busy the footprint stays as it was, and of the room nothing is
+/// said. What came of it lies in the trial. The peek is handed back.
 #[inline(always)]
 pub fn attempt<P: Peek, T: Transact>(
     peek: P,
@@ -51,23 +52,31 @@ pub fn attempt<P: Peek, T: Transact>(
     ensures within { tried_of trial.new.went trial.new.reply ≢ tried.Busy → IsBelow (T.end transaction.now) footprint.new }
     ensures looked { Looked P.peek_gives (T.meaning transaction.now) (tried_of trial.new.went trial.new.reply) peek footprint.new result }
     ensures size { P.locations result ≡ P.locations peek }
+    ensures lines { IsOfLines (tried_of trial.new.went trial.new.reply) room.new footprint.new }
 {
     let mut xt = Xt::new(peek, room);
     let answer = transaction.run(&mut xt);
     let Trial { went, reply } = trial;
-    *went = settle(&xt, answer, reply, footprint);
-    xt.into_peek()
+    *went = settle(&mut xt, answer, reply, footprint);
+    let Xt {
+        peek,
+        limit: _,
+        room: _room,
+    } = xt;
+    peek
 }
 
 // What may be committed of a run that was answered so.
 #[inline(always)]
 fn settle<P: Peek>(
-    xt: &Xt<P>,
+    xt: &mut Xt<P>,
     answer: Result<Reply, Stop>,
     reply: &mut Reply,
     footprint: &mut Footprint,
 ) -> Went
-    ensures { Settles (tried_of result reply.new) answer xt.now.lines footprint.old footprint.new }
+    ensures settles { Settles (tried_of result reply.new) answer xt.old.lines footprint.old footprint.new }
+    ensures lines { IsOfLines (tried_of result reply.new) xt.new.lines footprint.new }
+    ensures log { xt.new ≡ record xt.old { lines = xt.new.lines } }
 {
     match answer {
         Ok(made) => {
@@ -80,8 +89,10 @@ fn settle<P: Peek>(
 
 // Of a run that replied.
 #[inline(always)]
-fn settle_done<P: Peek>(xt: &Xt<P>, footprint: &mut Footprint) -> Went
-    ensures { (a : Reply) → Settles (tried_of result a) (Ok a) xt.now.lines footprint.old footprint.new }
+fn settle_done<P: Peek>(xt: &mut Xt<P>, footprint: &mut Footprint) -> Went
+    ensures settles { (a : Reply) → Settles (tried_of result a) (Ok a) xt.old.lines footprint.old footprint.new }
+    ensures lines { (a : Reply) → IsOfLines (tried_of result a) xt.new.lines footprint.new }
+    ensures log { xt.new ≡ record xt.old { lines = xt.new.lines } }
 {
     match xt.worn() {
         None => {
@@ -89,7 +100,7 @@ fn settle_done<P: Peek>(xt: &Xt<P>, footprint: &mut Footprint) -> Went
             Went::Done
         }
         Some(loc) => {
-            xt.fill_reads(footprint);
+            xt.fill_bare(footprint);
             Went::Worn(loc)
         }
     }
@@ -97,16 +108,18 @@ fn settle_done<P: Peek>(xt: &Xt<P>, footprint: &mut Footprint) -> Went
 
 // Of a run that stopped.
 #[inline(never)]
-fn settle_stopped<P: Peek>(xt: &Xt<P>, stop: Stop, footprint: &mut Footprint) -> Went
-    ensures { (a : Reply) → Settles (tried_of result a) (Err stop) xt.now.lines footprint.old footprint.new }
+fn settle_stopped<P: Peek>(xt: &mut Xt<P>, stop: Stop, footprint: &mut Footprint) -> Went
+    ensures settles { (a : Reply) → Settles (tried_of result a) (Err stop) xt.old.lines footprint.old footprint.new }
+    ensures lines { (a : Reply) → IsOfLines (tried_of result a) xt.new.lines footprint.new }
+    ensures log { xt.new ≡ record xt.old { lines = xt.new.lines } }
 {
     match stop {
         Stop::Retry => {
-            xt.fill_reads(footprint);
+            xt.fill_bare(footprint);
             Went::Later
         }
         Stop::TooLarge => {
-            xt.fill_reads(footprint);
+            xt.fill_bare(footprint);
             Went::TooLarge
         }
         Stop::Busy => Went::Busy,

@@ -23,9 +23,9 @@ use std::marker::Model;
 /// how many lines it may have, and the lines, in rising order of location.
 #[derive(Drop)]
 pub struct Xt<'a, P> {
-    peek: P,
-    limit: u32,
-    room: &'a mut Room,
+    pub(crate) peek: P,
+    pub(crate) limit: u32,
+    pub(crate) room: &'a mut Room,
 }
 
 impl<'a, P> Model for Xt<'a, P> {
@@ -39,7 +39,7 @@ impl<'a, P> Model for Xt<'a, P> {
 
     ghost coded = { log_code P.code };
 
-    ghost view = { λ a. record { peek = a.peek; limit = a.limit; lines = a.room.now } };
+    ghost view = { λ a. record { peek = a.peek; limit = a.limit; over = a.room.ghost_name; lines = a.room.now } };
 
     ghost invariant = { λ a. (a.limit ≤ MOST) × (length a.room.now ≤ a.limit) × IsRising (locations a.room.now) × VersionsFit a.room.now };
 }
@@ -70,7 +70,7 @@ impl Model for Snapshot {
 impl<'a, P: Peek> Xt<'a, P> {
     /// The empty log, with room for `MOST` lines.
     pub fn new(peek: P, room: &'a mut Room) -> Xt<'a, P>
-        ensures { result ≡ empty_log peek }
+        ensures { result ≡ empty_log room.entry.ghost_name peek }
     {
         room.clear();
         Xt {
@@ -297,10 +297,13 @@ impl<'a, P: Peek> Xt<'a, P> {
         fill_puts(&mut footprint.puts, self.room.as_slice());
     }
 
-    /// Makes the footprint one of what all lines saw, and of no new value.
-    pub fn fill_reads(&self, footprint: &mut Footprint)
-        ensures { Filled self.now.lines [] footprint.new }
+    /// Takes all new values back, and makes the footprint one of what all lines saw.
+    pub fn fill_bare(&mut self, footprint: &mut Footprint)
+        ensures log { self.new ≡ record self.old { lines = rolled_back [] self.old.lines } }
+        ensures saw { Filled self.old.lines [] footprint.new }
+        ensures has { Filled self.new.lines (puts self.new.lines) footprint.new }
     {
+        take_back(self.room, &[]);
         fill_reads(&mut footprint.reads, self.room.as_slice());
         footprint.puts.clear();
     }
@@ -311,18 +314,6 @@ impl<'a, P: Peek> Xt<'a, P> {
         ensures none { result ≡ None → CanPut self.now.lines }
     {
         worn_of(self.room.as_slice())
-    }
-
-    /// Its peek.
-    pub fn into_peek(self) -> P
-        ensures { result ≡ self.entry.peek }
-    {
-        let Xt {
-            peek,
-            limit: _,
-            room: _,
-        } = self;
-        peek
     }
 
     /// Its peek, and the footprint of what all lines saw and of the new values.

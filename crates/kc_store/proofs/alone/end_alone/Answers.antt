@@ -27,7 +27,7 @@ returns-then-commit_alone-clause-ends g c =
     let x = c.in-Done.ensures in
     let sole : IsSole v = ap (λ z. z.origin.callers) c.requires.table ∙ c.requires.alone in
     let below = fits_table (tried.Done c.in-Done.reply) v u f c.args.table.now (g.T.Transact.end c.args.transaction.now) c.requires.table x.looked (x.within (λ e. absurd (cc))) c.requires.within in
-    let few = few_reads f c.as_slice.result.now (sym (c.as_slice.ensures.value ∙ c.fill_lines.ensures)) c.as_slice.ensures.fits in
+    let few = few_reads f c.as_slice.result.now (x.lines (λ e. absurd (cc)) ∙ sym c.as_slice.ensures.value) c.as_slice.ensures.fits in
     done m c.in-Done.reply c.args.footprint.now v f u c.commit_alone.new.seat sole x.came x.looked (x.came.well_made, below, few) c.commit_alone.result c.commit_alone.ensures c.if-commit_alone.true
 
 pub returns-then-commit_alone-clause-keeps : goal.returns-then-commit_alone-clause-keeps
@@ -39,7 +39,7 @@ returns-then-commit_alone-clause-keeps g c =
     let x = c.in-Done.ensures in
     let sole : IsSole v = ap (λ z. z.origin.callers) c.requires.table ∙ c.requires.alone in
     let below = fits_table (tried.Done c.in-Done.reply) v u f c.args.table.now (g.T.Transact.end c.args.transaction.now) c.requires.table x.looked (x.within (λ e. absurd (cc))) c.requires.within in
-    let few = few_reads f c.as_slice.result.now (sym (c.as_slice.ensures.value ∙ c.fill_lines.ensures)) c.as_slice.ensures.fits in
+    let few = few_reads f c.as_slice.result.now (x.lines (λ e. absurd (cc)) ∙ sym c.as_slice.ensures.value) c.as_slice.ensures.fits in
     keeps_both m c.in-Done.reply c.args.footprint.now v f u c.commit_alone.new.seat sole x.came x.looked (x.came.well_made, below, few) c.commit_alone.result c.commit_alone.ensures
 
 pub returns-then-commit_alone-clause-blocked : goal.returns-then-commit_alone-clause-blocked
@@ -51,7 +51,7 @@ returns-then-commit_alone-clause-blocked g c =
     let x = c.in-Done.ensures in
     let sole : IsSole v = ap (λ z. z.origin.callers) c.requires.table ∙ c.requires.alone in
     let below = fits_table (tried.Done c.in-Done.reply) v u f c.args.table.now (g.T.Transact.end c.args.transaction.now) c.requires.table x.looked (x.within (λ e. absurd (cc))) c.requires.within in
-    let few = few_reads f c.as_slice.result.now (sym (c.as_slice.ensures.value ∙ c.fill_lines.ensures)) c.as_slice.ensures.fits in
+    let few = few_reads f c.as_slice.result.now (x.lines (λ e. absurd (cc)) ∙ sym c.as_slice.ensures.value) c.as_slice.ensures.fits in
     blocked_both m c.in-Done.reply c.args.footprint.now v f u c.commit_alone.new.seat sole x.came x.looked (x.came.well_made, below, few) c.commit_alone.result c.commit_alone.ensures
 
 pub returns-then-commit_alone-clause-within : goal.returns-then-commit_alone-clause-within
@@ -66,7 +66,7 @@ returns-else-commit_alone-clause-ends g c =
     let x = c.in-Done.ensures in
     let sole : IsSole v = ap (λ z. z.origin.callers) c.requires.table ∙ c.requires.alone in
     let below = fits_table (tried.Done c.in-Done.reply) v u f c.args.table.now (g.T.Transact.end c.args.transaction.now) c.requires.table x.looked (x.within (λ e. absurd (cc))) c.requires.within in
-    let few = few_reads f c.as_slice.result.now (sym (c.as_slice.ensures.value ∙ c.fill_lines.ensures)) c.as_slice.ensures.fits in
+    let few = few_reads f c.as_slice.result.now (x.lines (λ e. absurd (cc)) ∙ sym c.as_slice.ensures.value) c.as_slice.ensures.fits in
     worn_pool m c.in-Done.reply c.args.footprint.now v f u c.commit_alone.new.seat sole x.came x.looked (x.came.well_made, below, few) c.commit_alone.result c.commit_alone.ensures c.if-commit_alone.false
 
 pub returns-else-commit_alone-clause-keeps : goal.returns-else-commit_alone-clause-keeps
@@ -78,7 +78,7 @@ returns-else-commit_alone-clause-keeps g c =
     let x = c.in-Done.ensures in
     let sole : IsSole v = ap (λ z. z.origin.callers) c.requires.table ∙ c.requires.alone in
     let below = fits_table (tried.Done c.in-Done.reply) v u f c.args.table.now (g.T.Transact.end c.args.transaction.now) c.requires.table x.looked (x.within (λ e. absurd (cc))) c.requires.within in
-    let few = few_reads f c.as_slice.result.now (sym (c.as_slice.ensures.value ∙ c.fill_lines.ensures)) c.as_slice.ensures.fits in
+    let few = few_reads f c.as_slice.result.now (x.lines (λ e. absurd (cc)) ∙ sym c.as_slice.ensures.value) c.as_slice.ensures.fits in
     keeps_both m c.in-Done.reply c.args.footprint.now v f u c.commit_alone.new.seat sole x.came x.looked (x.came.well_made, below, few) c.commit_alone.result c.commit_alone.ensures
 
 pub returns-else-commit_alone-clause-blocked : goal.returns-else-commit_alone-clause-blocked
@@ -90,7 +90,7 @@ returns-else-commit_alone-clause-blocked g c =
     let x = c.in-Done.ensures in
     let sole : IsSole v = ap (λ z. z.origin.callers) c.requires.table ∙ c.requires.alone in
     let below = fits_table (tried.Done c.in-Done.reply) v u f c.args.table.now (g.T.Transact.end c.args.transaction.now) c.requires.table x.looked (x.within (λ e. absurd (cc))) c.requires.within in
-    let few = few_reads f c.as_slice.result.now (sym (c.as_slice.ensures.value ∙ c.fill_lines.ensures)) c.as_slice.ensures.fits in
+    let few = few_reads f c.as_slice.result.now (x.lines (λ e. absurd (cc)) ∙ sym c.as_slice.ensures.value) c.as_slice.ensures.fits in
     blocked_both m c.in-Done.reply c.args.footprint.now v f u c.commit_alone.new.seat sole x.came x.looked (x.came.well_made, below, few) c.commit_alone.result c.commit_alone.ensures
 
 pub returns-else-commit_alone-clause-within : goal.returns-else-commit_alone-clause-within

@@ -1,4 +1,5 @@
 use Rattle.std.proofs.Common.{refl, rules}
+use Rattle.kc_store.proofs.Filling.{lines_in_room}
 use Rattle.kc_store.proofs.LoneLooking.{all_alone, same_seat}
 use Rattle.kc_store.proofs.sole_peek.run_alone.Goals as goal
 
@@ -9,3 +10,6 @@ pub returns-clause-looked : goal.returns-clause-looked
 returns-clause-looked g c =
     let e = same_seat _ _ _ _ _ c.attempt.ensures.looked in
     rw c.tried.ensures (all_alone _ _ _ _ _ _ _ c.attempt.ensures.looked refl (search rules))
+
+pub returns-clause-lines : goal.returns-clause-lines
+returns-clause-lines g c = rw c.tried.ensures (lines_in_room _ _ _ c.attempt.ensures.lines)

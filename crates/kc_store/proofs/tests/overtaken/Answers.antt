@@ -17,7 +17,7 @@ commit-told-requires c =
     record {
       table = y.table;
       idle = y.idle;
-      lines = sym (c.as_slice.ensures.value ∙ c.fill_lines.ensures);
+      lines = x.lines (not_busy c.look_and_run.new.trial.went c.look_and_run.new.trial.reply c.in_default.not-Busy) ∙ sym c.as_slice.ensures.value;
       few = c.as_slice.ensures.fits;
       made = y.made;
       known = y.known;

@@ -26,7 +26,7 @@ invariant_of-self g c =
 pub returns-in-Ok-clause-step : goal.returns-in-Ok-clause-step
 returns-in-Ok-clause-step g c =
     let m = missing g c in
-    rw (← c.self.view_is) (looked c.in-Ok.seen refl (record { missing = m.missing; room = omega (arith, ap length c.as_slice.ensures.value); look = c.in-Ok.ensures.gives; limit = refl }) c.in-Ok.ensures.look.asked (lines_are g c))
+    rw (← c.self.view_is) (looked c.in-Ok.seen refl (record { missing = m.missing; room = omega (arith, ap length c.as_slice.ensures.value); look = c.in-Ok.ensures.gives; limit = refl; over = refl }) c.in-Ok.ensures.look.asked (lines_are g c))
 
 pub returns-in-Ok-clause-place : goal.returns-in-Ok-clause-place
 returns-in-Ok-clause-place g c = rw (lines_are g c) (is_place_new _ _ _ _ (missing g c) c.in-Ok.ensures.look.asked)
@@ -34,4 +34,4 @@ returns-in-Ok-clause-place g c = rw (lines_are g c) (is_place_new _ _ _ _ (missi
 pub returns-in-Err-clause-step : goal.returns-in-Err-clause-step
 returns-in-Err-clause-step g c =
     let m : IsMissing c.self.inside.room.now c.args.loc.0 c.args.at = subst (λ v. IsMissing v.lines c.args.loc.0 c.args.at) (sym c.self.view_is) c.requires.missing in
-    rw (← c.self.view_is) (no_answer _ refl (record { missing = m.missing; room = omega (arith, ap length c.as_slice.ensures.value); look = c.in-Err.ensures.gives; limit = refl }) refl)
+    rw (← c.self.view_is) (no_answer _ refl (record { missing = m.missing; room = omega (arith, ap length c.as_slice.ensures.value); look = c.in-Err.ensures.gives; limit = refl; over = refl }) refl)
