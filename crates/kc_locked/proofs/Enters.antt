@@ -35,9 +35,9 @@ pub grown_none : (k : ℕ) (h : HeldView) → IsSound h → Grown k [] h h
 grown_none k h sound = record { sound = sound; history = sym (append-nil h.history); opening = refl; spare = omega arith; mine = tt }
 
 -- what came of the commit, whether it waits or not
-pub entered : (m : Meaning) (h now : HeldView) (e : Entry) (r : Result Answer Waits) → IsSound h → IfOk r (λ a. Commits m a e h now) → OnErr r (now ≡ h) → Grown e.caller (made_by r e) h now
-entered m h now e (Ok a) sound done waits = grown_one h now e sound done.adds
-entered m h now e (Err w) sound done waits = subst (Grown e.caller [] h) (sym waits) (grown_none e.caller h sound)
+pub entered : (m : Meaning) (a : Answer) (h now : HeldView) (e : Entry) (r : Result (Unit {0}) Waits) → IsSound h → IfOk r (λ _. Commits m a e h now) → OnErr r (now ≡ h) → Grown e.caller (made_by r e) h now
+entered m a h now e (Ok u) sound done waits = grown_one h now e sound done.adds
+entered m a h now e (Err w) sound done waits = subst (Grown e.caller [] h) (sym waits) (grown_none e.caller h sound)
 
 abbrev Mine : Type 0
 Mine = Me (Option HeldView) View

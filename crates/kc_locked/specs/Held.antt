@@ -6,8 +6,12 @@ use Rattle.kc_model.specs.Store.{store_of, opened, Finds, after}
 use Rattle.kc_model.specs.declared.footprint.Entry.{Entry}
 use Rattle.kc_model.specs.declared.plain_store.Cell.{Cell}
 use Rattle.kc_model.specs.declared.reply.Answer.{Answer}
+use Rattle.kc_model.specs.declared.reply.Answer.TheVariants as answer
+use Rattle.kc_model.specs.declared.reply.Reply.{Reply}
 use Rattle.kc_xt.specs.Commit.{Answers}
 use Rattle.kc_xt.specs.Meaning.{Meaning}
+use Rattle.kc_xt.specs.declared.room.Went.{Went}
+use Rattle.kc_xt.specs.declared.room.Went.TheVariants as went
 
 -- the opening values, all commits since, what they made, and how many more there may be
 pub record HeldView : Type 0 where
@@ -38,3 +42,11 @@ pub record Adds (e : Entry) (before now : HeldView) : Type 0 where
 pub record Commits (m : Meaning) (a : Answer) (e : Entry) (before now : HeldView) : Type 0 where
   pub answers : Answers m a e.footprint
   pub adds : Adds e before now
+
+-- the answer of a commit that was made, by how its attempt went and what that replied
+abbrev pub answer_in : Went → Reply → Answer
+answer_in went.Done r = answer.Reply r
+answer_in went.Later r = answer.TooLarge
+answer_in went.TooLarge r = answer.TooLarge
+answer_in went.Busy r = answer.TooLarge
+answer_in (went.Worn l) r = answer.TooLarge

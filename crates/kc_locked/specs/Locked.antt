@@ -12,7 +12,6 @@ use Rattle.kc_locked.specs.declared.held.Waits.{Waits}
 use Rattle.kc_locked.specs.declared.rule.Part.{Part}
 use Rattle.kc_locked.specs.declared.rule.View.{View}
 use Rattle.kc_model.specs.declared.footprint.Entry.{Entry}
-use Rattle.kc_model.specs.declared.reply.Answer.{Answer}
 
 -- all are of this caller
 abbrev pub AllOf : ℕ → List Entry → Type 0
@@ -141,7 +140,7 @@ pub record Ended (o : Origin) (me after : Me (Option HeldView) View) : Type 0 wh
   pub fit : AllFit (length o.shares) now.history me.0.parts
 
 -- what was entered: one commit, or where it waits none
-abbrev pub made_by : Result Answer Waits → Entry → List Entry
+abbrev pub made_by : {A : Type 0} → Result A Waits → Entry → List Entry
 made_by (Ok a) e = e ∷ []
 made_by (Err w) e = []
 

@@ -6,7 +6,7 @@ ghost use Rattle.kc_model.specs.Store.{store_of, opened, Finds};
 ghost use Rattle.kc_xt.specs.Meaning.{retried};
 ghost use Rattle.kc_xt.specs.Commit.{run_on, Waits as WaitsFor};
 ghost use Rattle.kc_xt.specs.Ended.{answer_of_ended, print_of};
-ghost use Rattle.kc_locked.specs.Held.{held, Commits, IsSound};
+ghost use Rattle.kc_locked.specs.Held.{answer_in, held, Commits, IsSound};
 ghost use Rattle.kc_history.specs.Callers.{entry_of};
 
 use crate::history::History;
@@ -39,6 +39,16 @@ impl Model for Held {
     ghost view = { λ h. held h.history.opening h.history.entries h.store h.spare };
 
     ghost invariant = { λ h. IsSound (held h.history.opening h.history.entries h.store h.spare) };
+}
+
+/// The answer of a commit that was made, by its trial.
+pub fn answer_of(trial: &Trial) -> Answer
+    ensures { result ≡ answer_in trial.now.went trial.now.reply }
+{
+    match trial.went {
+        Went::Done => Answer::Reply(trial.reply),
+        _ => Answer::TooLarge,
+    }
 }
 
 impl Held {
@@ -75,40 +85,47 @@ impl Held {
         ensures waits { IsErr result ↔ ((run_on (T.meaning transaction.now) (store_of self.old.cells)).outcome ≡ retried) }
         ensures unchanged { OnErr result (self.new ≡ self.old) }
     {
-        let (mut room, mut footprint) = (Room::new(), Footprint::new());
-        let answer = self.commit_into(caller, number, &mut room, transaction, &mut footprint)?;
-        Ok(Ended::of(answer, footprint))
+        let (mut room, mut trial, mut footprint) = (Room::new(), Trial::new(), Footprint::new());
+        self.commit_into(
+            caller,
+            number,
+            &mut room,
+            &mut trial,
+            transaction,
+            &mut footprint,
+        )?;
+        Ok(Ended::of(answer_of(&trial), footprint))
     }
 
-    /// The same, with the footprint filled where it lies, over room that the caller keeps. Where it waits, the footprint has what it read, and no puts.
+    /// The same, with the footprint filled where it lies, over room that the caller keeps. What it answers lies in the trial
+    /// (`answer_of`). Where it waits, the footprint has what it read, and no puts.
     pub fn commit_into<T: Transact>(
         &mut self,
         caller: u32,
         number: u64,
         room: &mut Room,
+        trial: &mut Trial,
         transaction: &T,
         footprint: &mut Footprint,
-    ) -> Result<Answer, Waits>
+    ) -> Result<(), Waits>
         requires spare { 0 < self.old.spare }
         requires fit { T.is_fit transaction.now }
         requires within { T.end transaction.now ≤ length self.old.cells }
-        ensures answer { IfOk result (λ a. Commits (T.meaning transaction.now) a (entry_of caller number footprint.new) self.old self.new) }
+        ensures answer { IfOk result (λ _. Commits (T.meaning transaction.now) (answer_in trial.new.went trial.new.reply) (entry_of caller number footprint.new) self.old self.new) }
         ensures bound { IsBelow (T.end transaction.now) footprint.new }
         ensures waits { IsErr result ↔ ((run_on (T.meaning transaction.now) (store_of self.old.cells)).outcome ≡ retried) }
         ensures unchanged { OnErr result (self.new ≡ self.old) }
         ensures waiting { OnErr result (WaitsFor (T.meaning transaction.now) footprint.new × Finds footprint.new (store_of self.old.cells) × (footprint.new.puts.items ≡ [])) }
     {
-        let mut trial = Trial::new();
-        commit_over(&mut self.store, room, transaction, &mut trial, footprint);
-        let answer = match trial.went {
-            Went::Done => Answer::Reply(trial.reply),
-            Went::TooLarge => Answer::TooLarge,
+        commit_over(&mut self.store, room, transaction, trial, footprint);
+        match trial.went {
+            Went::Done | Went::TooLarge => {}
             Went::Later => return Err(Waits),
             Went::Worn(_) => unreachable!("no location has had so many commits"),
             Went::Busy => unreachable!("no look at a plain store is given up"),
-        };
+        }
         self.history.add(caller, number, footprint);
         self.spare -= 1;
-        Ok(answer)
+        Ok(())
     }
 }

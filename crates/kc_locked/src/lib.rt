@@ -8,5 +8,5 @@ mod store;
 #[cfg(test)]
 mod tests;
 
-pub use held::{Held, MOST_COMMITS, Waits};
+pub use held::{Held, MOST_COMMITS, Waits, answer_of};
 pub use store::{LockPass, LockPast, LockedStore, MOST_CALLERS};

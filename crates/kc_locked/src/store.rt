@@ -4,21 +4,22 @@ ghost use Rattle.kc_model.specs.Footprint.{IsBelow};
 ghost use Rattle.kc_xt.specs.Commit.{Answers, Waits as WaitsFor};
 ghost use Rattle.kc_xt.specs.Ended.{answer_of_ended, print_of};
 ghost use Rattle.kc_history.specs.Callers.{entry_of};
-ghost use Rattle.kc_locked.specs.Held.{HeldView, IsSound};
+ghost use Rattle.kc_locked.specs.Held.{HeldView, IsSound, answer_in};
 ghost use Rattle.kc_locked.specs.Locked.{free_view, shared_out, committed, Ended as Shown, Grown, Holds};
 ghost use Rattle.kc_locked.specs.Origin.{origin};
 ghost use Rattle.kc_locked.specs.Passes.{IsPast, Made, Opened, passes_of};
 ghost use Rattle.kc_locked.specs.Locked.{Matches, Taken, made_by};
 
-use crate::held::{Held, MOST_COMMITS, Waits};
+use crate::held::{Held, MOST_COMMITS, Waits, answer_of};
 use crate::rule::{Commits, Deals, Empty, Ends, Gathers, Gives, Knows, Origin, Rule, Takes, View};
 use atomic_table::{Seat, Shared, Table};
 use crossbeam_utils::CachePadded;
 use kc_model::{Answer, Footprint, MOST_LOCATIONS, OpenError};
-use kc_xt::{Ended, Room, Transact};
+use kc_xt::{Ended, Room, Transact, Trial};
 use std::alloc::{AllocError, Global};
+use std::hint::spin_loop;
 use std::marker::{Brand, Model};
-use std::sync::{Condvar, Mutex, Wait};
+use std::sync::{Condvar, Mutex, MutexGuard, Wait};
 use std::thread;
 
 /// How many passes a store may have.
@@ -169,7 +170,7 @@ impl LockedStore {
         ensures made { Made (T.meaning transaction.now) result footprint.new pass.old pass.new }
         ensures bound { IsBelow (T.end transaction.now) footprint.new }
     {
-        let mut gate = self.gate.lock(rt);
+        let mut gate = shut(rt, &self.gate);
         for _ in rt.forever() {
             if let Ok(answer) = self.attempt(rt, pass, transaction, footprint) {
                 if *gate > 0 && !footprint.puts.is_empty() {
@@ -217,21 +218,45 @@ impl LockedStore {
         let memory = &self.table.shared;
         let caller = pass.caller;
         let number = pass.made + 1;
+        let mut trial = Trial::new();
         take::<Brand, R>(rt, memory, &mut pass.token);
-        let answer = enter(
+        let entered = enter(
             memory,
             &mut pass.token,
             caller,
             number,
             &mut pass.room,
+            &mut trial,
             transaction,
             footprint,
         );
-        give::<Brand>(memory, &mut pass.token, caller, number, footprint, &answer);
-        let answer = answer?;
+        give::<Brand>(memory, &mut pass.token, caller, number, footprint, entered);
+        entered?;
         pass.made += 1;
         pass.left -= 1;
-        Ok(answer)
+        Ok(answer_of(&trial))
+    }
+}
+
+// How often the processor pauses before it looks again whether the gate is open: some three microseconds at first.
+const PAUSES: [u32; 4] = [64, 128, 256, 512];
+
+// Takes the gate. Who finds it taken pauses, so that who has it goes on with the store at hand, and waits for it at last.
+fn shut<'a, R: Wait>(rt: &R, gate: &'a Mutex<u32>) -> MutexGuard<'a, u32> {
+    for pauses in PAUSES {
+        if let Some(guard) = gate.try_lock() {
+            return guard;
+        }
+        rest(pauses);
+    }
+    gate.lock(rt)
+}
+
+#[cold]
+#[inline(never)]
+fn rest(pauses: u32) {
+    for _ in 0..pauses {
+        spin_loop();
     }
 }
 
@@ -258,9 +283,10 @@ fn enter<T: Transact>(
     caller: u32,
     number: u64,
     room: &mut Room,
+    trial: &mut Trial,
     transaction: &T,
     footprint: &mut Footprint,
-) -> Result<Answer, Waits>
+) -> Result<(), Waits>
     requires table { token.old.table_id ≡ memory.now.table_id }
     requires holds { token.old.me.1 ≡ (0, Some token.old.me.0.found) ∷ [] }
     requires sound { IsSound token.old.me.0.found }
@@ -269,15 +295,15 @@ fn enter<T: Transact>(
     requires within { T.end transaction.now ≤ length token.old.me.0.found.opening }
     ensures table { token.new.table_id ≡ token.old.table_id }
     ensures entered { (h : HeldView) × (token.new.me ≡ (token.old.me.0, (0, Some h) ∷ [])) × Grown caller (made_by result (entry_of caller number footprint.new)) token.old.me.0.found h }
-    ensures answers { IfOk result (λ a. Answers (T.meaning transaction.now) a footprint.new) }
+    ensures answers { IfOk result (λ _. Answers (T.meaning transaction.now) (answer_in trial.new.went trial.new.reply) footprint.new) }
     ensures waits { OnErr result (WaitsFor (T.meaning transaction.now) footprint.new) }
     ensures bound { IsBelow (T.end transaction.now) footprint.new }
 {
     match memory.exchange(token, 0, None) {
         Some(mut held) => {
-            let answer = held.commit_into(caller, number, room, transaction, footprint);
+            let entered = held.commit_into(caller, number, room, trial, transaction, footprint);
             memory.exchange(token, 0, Some(held));
-            answer
+            entered
         }
         None => unreachable!(),
     }
@@ -289,11 +315,11 @@ fn give<C: Commits>(
     token: &mut Token,
     caller: u32,
     number: u64,
-    footprint: &Footprint,
-    answer: &Result<Answer, Waits>,
+    _footprint: &Footprint,
+    _entered: Result<(), Waits>,
 )
     requires table { (token.old.table_id ≡ memory.now.table_id) × (memory.now.table_id.words ≡ 1) }
-    requires made { C.made ≡ made_by answer.now (entry_of caller number footprint.now) }
+    requires made { C.made ≡ made_by _entered (entry_of caller number _footprint.now) }
     requires holds { Holds C.made token.old.me }
     ensures table { token.new.table_id ≡ token.old.table_id }
     ensures gave { token.new.me ≡ (free_view (committed token.old.me.0.parts C.made), []) }

@@ -1,11 +1,11 @@
 ghost use Rattle.std.specs.Prelude.{◌≡◌, ◌+◌, ◌<◌, ◌≤◌, length};
 ghost use Rattle.kc_loc.specs.Meaning.{loc_last, loc_end};
 
-use crate::held::Held;
+use crate::held::{Held, answer_of};
 use crate::{LockPass, LockedStore, Waits};
 use kc_loc::{LocOp, Rel};
 use kc_model::{Answer, Footprint, Loc, OpenError, Reply};
-use kc_xt::{Ended, Room};
+use kc_xt::{Ended, Room, Trial};
 use std::alloc::Global;
 use std::sync::Wait;
 use std::test::Fail;
@@ -105,17 +105,18 @@ fn a_commit_that_would_wait_changes_nothing(rt: HostRuntime) -> Result<(), Fail>
     let Ok(mut held) = Held::open(rt.alloc(), &[0, 5], 2) else {
         panic!(rt; "the store was not opened");
     };
-    let (mut room, mut footprint) = (Room::new(), Footprint::new());
+    let (mut room, mut trial, mut footprint) = (Room::new(), Trial::new(), Footprint::new());
     let until_one = LocOp::Check(Loc(0), Rel::Eq, 1);
     assert_eq!(rt;
-        held.commit_into(0, 1, &mut room, &until_one, &mut footprint),
+        held.commit_into(0, 1, &mut room, &mut trial, &until_one, &mut footprint),
         Err(Waits)
     );
     assert_eq!(rt; footprint.reads.len(), 1);
     assert!(rt; footprint.puts.is_empty());
     let swap = LocOp::Swap(Loc(0), Loc(1));
-    let swapped = held.commit_into(0, 1, &mut room, &swap, &mut footprint);
-    assert_eq!(rt; swapped, Ok(Answer::Reply(Reply::Unit)));
+    let swapped = held.commit_into(0, 1, &mut room, &mut trial, &swap, &mut footprint);
+    assert_eq!(rt; swapped, Ok(()));
+    assert_eq!(rt; answer_of(&trial), Answer::Reply(Reply::Unit));
     assert_eq!(rt; first_read(&footprint), Some((0, 0)));
     if let Ok(Ended::Done { reply, footprint }) = held.commit(1, 1, &LocOp::Get(Loc(0))) {
         assert_eq!(rt; reply, Reply::Value(5));

@@ -6,4 +6,4 @@ abbrev pub ghosts-take : goal.ghosts-take
 ghosts-take g a = record { origin = a.memory.now.key }
 
 abbrev pub ghosts-give : goal.ghosts-give
-ghosts-give g a = record { made = made_by a.answer.now (entry_of a.caller a.number a.footprint.now) }
+ghosts-give g a = record { made = made_by a._entered (entry_of a.caller a.number a._footprint.now) }
