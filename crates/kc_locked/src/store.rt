@@ -15,9 +15,8 @@ use crate::rule::{Commits, Deals, Empty, Ends, Gathers, Gives, Knows, Origin, Ru
 use atomic_table::{Seat, Shared, Table};
 use crossbeam_utils::CachePadded;
 use kc_model::{Answer, Footprint, MOST_LOCATIONS, OpenError};
-use kc_xt::{Ended, Room, Transact, Trial};
+use kc_xt::{Ended, Room, Transact, Trial, rest};
 use std::alloc::{AllocError, Global};
-use std::hint::spin_loop;
 use std::marker::{Brand, Model};
 use std::sync::{Condvar, Mutex, MutexGuard, Wait};
 use std::thread;
@@ -238,7 +237,7 @@ impl LockedStore {
     }
 }
 
-// How often the processor pauses before it looks again whether the gate is open: some three microseconds at first.
+// How often the processor pauses before it looks again whether the gate is open.
 const PAUSES: [u32; 4] = [64, 128, 256, 512];
 
 // Takes the gate. Who finds it taken pauses, so that who has it goes on with the store at hand, and waits for it at last.
@@ -250,14 +249,6 @@ fn shut<'a, R: Wait>(rt: &R, gate: &'a Mutex<u32>) -> MutexGuard<'a, u32> {
         rest(pauses);
     }
     gate.lock(rt)
-}
-
-#[cold]
-#[inline(never)]
-fn rest(pauses: u32) {
-    for _ in 0..pauses {
-        spin_loop();
-    }
 }
 
 // Takes what lies in the slot.

@@ -13,12 +13,10 @@ use crate::trying::try_once;
 use crate::verdict::{Answered, answer_on, is_final};
 use kc_model::Footprint;
 use kc_table::KcSeat;
-use kc_xt::{Room, Transact, Trial};
-use std::hint::spin_loop;
+use kc_xt::{Room, Transact, Trial, rest};
 use std::sync::Wait;
 
-// How often the processor pauses behind the first try that was lost; it is twice as often behind each later one. A pause takes some
-// ten to fifty nanoseconds.
+// How often the processor pauses behind the first try that was lost; it is twice as often behind each later one.
 const FIRST_PAUSES: u32 = 64;
 
 const MOST_PAUSES: u32 = 1024;
@@ -51,15 +49,6 @@ impl Store {
             transaction,
             footprint,
         )
-    }
-}
-
-// Lets others go on who commit to the same locations, with these at hand.
-#[cold]
-#[inline(never)]
-fn rest(pauses: u32) {
-    for _ in 0..pauses {
-        spin_loop();
     }
 }
 
