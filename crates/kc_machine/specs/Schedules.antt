@@ -27,6 +27,7 @@ IsWellMadeTask n (task.Look l) = l.0 < n
 IsWellMadeTask n (task.Commit f m) = IsWellMade f × IsBelow n f × (length f.reads.items ≤ MOST)
 IsWellMadeTask n (task.Hang reads) = (reads.items ≢ []) × AreBelow n reads.items
 IsWellMadeTask n (task.Leave reads) = AreBelow n reads.items
+IsWellMadeTask n (task.Swap r after) = (r.loc.0 < n) × (r.version < LAST_VERSION)
 
 abbrev pub BeginsWellMade : ℕ → Event → Type 0
 BeginsWellMade n (Begin k t) = IsWellMadeTask n t

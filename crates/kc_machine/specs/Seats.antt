@@ -25,6 +25,8 @@ use Rattle.kc_machine_commits.specs.Commits.{commit_access, commit_after, commit
 use Rattle.kc_machine_commits.specs.Halts.{unowned, commit_halted}
 use Rattle.kc_machine_steps.specs.Aids.{no_copy}
 use Rattle.kc_machine_steps.specs.Lines.{one_more, lines_of}
+use Rattle.kc_machine_steps.specs.Swaps.{swap_access, swap_after, swap_onward, ends_at_once}
+use Rattle.kc_machine_steps.specs.declared.swap.SwapStep.TheVariants as swap
 use Rattle.kc_machine_steps.specs.Looks.{look_access, look_after, look_tells, look_halted, halts_at_once}
 
 abbrev pub fresh : ℕ → ℕ → ℕ → Seat
@@ -60,6 +62,7 @@ work_access caller calls (work.Look l) = look_access l.loc l.step
 work_access caller calls (work.Commit c) = commit_access caller calls c
 work_access caller calls (work.Hang h) = hang_access caller h
 work_access caller calls (work.Leave l) = leave_access caller l
+work_access caller calls (work.Swap x) = swap_access calls x
 
 abbrev pub access_of : Seat → Access
 access_of s = work_access s.caller s.calls s.work
@@ -90,6 +93,7 @@ answer_by s f (work.Look l) = after (record s { work = work.Look (look_after l f
 answer_by s f (work.Commit c) = after (record s { work = work.Commit (commit_after s.descriptors s.calls c f) }) (commit_onward s.descriptors s.calls c f)
 answer_by s f (work.Hang h) = after (record s { work = work.Hang (hang_after h f) }) (hang_onward h f)
 answer_by s f (work.Leave l) = after (record s { work = work.Leave (leave_after l) }) (leave_onward l)
+answer_by s f (work.Swap x) = after (record s { work = work.Swap (swap_after s.calls x f) }) (swap_onward s.calls x f)
 
 abbrev pub answer_of : Seat → Found → Seat
 answer_of s f = answer_by s f s.work
@@ -113,6 +117,7 @@ begun_idle s (task.Look l) = working s (work.Look (record { loc = l; halted = fa
 begun_idle s (task.Commit f m) = working s (committing s.first m (lines_of f))
 begun_idle s (task.Hang reads) = if s.blocked then s else working s (hanging reads.items)
 begun_idle s (task.Leave reads) = working s (leaving reads.items)
+begun_idle s (task.Swap r after) = working s (work.Swap (record { seen = r; after = after; step = swap.Exchange }))
 
 abbrev pub begun : Seat → Task → Seat
 begun s t = if is_idle s.work then begun_idle s t else s
@@ -125,6 +130,7 @@ ended s = record s { work = work.Idle; told = Some told.Halted }
 abbrev pub halted_by : Seat → Work → Seat
 halted_by s (work.Look l) = if halts_at_once l.step then ended s else record s { work = work.Look (look_halted l) }
 halted_by s (work.Commit c) = if unowned c.stage then ended s else record s { work = work.Commit (commit_halted c) }
+halted_by s (work.Swap x) = if ends_at_once x.step then ended s else s
 halted_by s _ = s
 
 abbrev pub halted : Seat → Seat

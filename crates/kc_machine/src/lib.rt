@@ -10,7 +10,8 @@ mod words;
 pub use hang::{HangStep, LeaveStep};
 pub use kc_machine_commits::{Commit, OwnStep, Stage};
 pub use kc_machine_steps::{
-    AfterCheck, AidStep, Aided, Event, Intent, Look, LookStep, PassStep, Task, Told,
+    AfterCheck, AidStep, Aided, Event, Intent, Look, LookStep, MOST_SWAPS, PassStep, Swap,
+    SwapStep, Task, Told,
 };
 pub use machine::Machine;
 pub use point::Point;

@@ -7,7 +7,7 @@ use crate::hang::{HangStep, LeaveStep};
 use crate::point::Point;
 use arrayvec::ArrayVec;
 use kc_machine_commits::Commit;
-use kc_machine_steps::{Look, LookStep, Onward, Task, Told, copy_reads, one_more};
+use kc_machine_steps::{Look, LookStep, Onward, Swap, SwapStep, Task, Told, copy_reads, one_more};
 use kc_machine_words::{Access, Found, Mode};
 use kc_model::{Line, Loc, MOST, Seen};
 use std::marker::Model;
@@ -20,6 +20,7 @@ pub enum Kind {
     Commit,
     Hang,
     Leave,
+    Swap,
 }
 
 /// A seat of a machine. Contracts see the task that runs as a `Work`.
@@ -31,7 +32,7 @@ pub struct Seat {
     descriptors: u32,
     /// Where its scans begin.
     first: u32,
-    /// How many descriptors it has taken.
+    /// How many descriptors it has taken, and words swapped.
     calls: u64,
     made: u64,
     /// Whether it hangs: from the step that ends its hang to the first one of its leave.
@@ -43,6 +44,7 @@ pub struct Seat {
     reads: ArrayVec<Seen, MOST>,
     hang: HangStep,
     leave: LeaveStep,
+    swap: Swap,
 }
 
 impl Model for Seat {
@@ -80,6 +82,15 @@ impl Seat {
             reads: ArrayVec::new(),
             hang: HangStep::Set { read: 0 },
             leave: LeaveStep::Unsignal,
+            swap: Swap {
+                seen: Seen {
+                    loc: Loc(0),
+                    version: 0,
+                    value: 0,
+                },
+                after: 0,
+                step: SwapStep::Exchange,
+            },
         }
     }
 
@@ -104,7 +115,7 @@ impl Seat {
         self.first
     }
 
-    /// How many descriptors it has taken, up to 2^64 - 1.
+    /// How many descriptors it has taken and words swapped, up to 2^64 - 1.
     pub fn calls(&self) -> u64
         ensures { result ≡ self.now.calls }
     {
@@ -152,6 +163,7 @@ impl Seat {
             Kind::Commit => self.commit.access(self.caller, self.calls),
             Kind::Hang => self.hang.access(self.caller, self.reads.as_slice()),
             Kind::Leave => self.leave.access(self.caller, self.reads.as_slice()),
+            Kind::Swap => self.swap.access(self.calls),
         }
     }
 
@@ -165,6 +177,7 @@ impl Seat {
             Kind::Commit => self.commit.answer(self.descriptors, self.calls, found),
             Kind::Hang => self.hang.answer(self.reads.as_slice(), found),
             Kind::Leave => self.leave.answer(self.reads.as_slice()),
+            Kind::Swap => self.swap.answer(self.calls, found),
         };
         self.go(onward);
     }
@@ -226,6 +239,14 @@ impl Seat {
                 self.leave = LeaveStep::Unsignal;
                 self.kind = Kind::Leave;
             }
+            Task::Swap { seen, after } => {
+                self.swap = Swap {
+                    seen: *seen,
+                    after: *after,
+                    step: SwapStep::Exchange,
+                };
+                self.kind = Kind::Swap;
+            }
         }
         self.told = None;
     }
@@ -258,6 +279,7 @@ impl Seat {
         let at_once = match self.kind {
             Kind::Look => self.look.halt(),
             Kind::Commit => self.commit.halt(),
+            Kind::Swap => self.swap.halt(),
             _ => false,
         };
         if at_once {

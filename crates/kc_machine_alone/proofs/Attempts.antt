@@ -54,6 +54,7 @@ idle_hold (work.Look a) i = absurd (cc)
 idle_hold (work.Commit a) i = absurd (cc)
 idle_hold (work.Hang a) i = absurd (cc)
 idle_hold (work.Leave a) i = absurd (cc)
+idle_hold (work.Swap a) i = absurd (cc)
 
 idle_holds : (s : Seat) (y : ℕ) → is_idle s.work ≡ true → holds_on y (stand s) ≡ 0
 idle_holds s y i = go s.work i
@@ -64,6 +65,7 @@ idle_holds s y i = go s.work i
     go (work.Commit a) i = absurd (cc)
     go (work.Hang a) i = absurd (cc)
     go (work.Leave a) i = absurd (cc)
+    go (work.Swap a) i = absurd (cc)
 
 module _ (o : Opening) (k : ℕ) (l : k < o.callers) where
   -- ---- a task begins

@@ -302,6 +302,7 @@ module _ (o : Opening) (k : ℕ) (l : k < o.callers) (free : ℕ) (there : free 
         none (work.Commit a) i = absurd (cc)
         none (work.Hang a) i = absurd (cc)
         none (work.Leave a) i = absurd (cc)
+        none (work.Swap a) i = absurd (cc)
 
         rests : Rests o.callers (owned_at o es') outside (run o es').world x.old
         rests = let z = paid_moves o.callers (owned_at o es) (owned_at o es') (run o es').world (others_or (none ((run o es').seats k).work i)) outside nothing 64 in omega (arith, z, r)
@@ -358,6 +359,7 @@ module _ (o : Opening) (k : ℕ) (l : k < o.callers) (free : ℕ) (there : free 
             by (Own t step) b z = absurd (cc)
         begun (work.Hang a) b z = absurd (cc)
         begun (work.Leave a) b z = absurd (cc)
+        begun (work.Swap a) b z = absurd (cc)
 
         untold_told : ((run o es').seats k).told ≡ None → is_some ((run o es').seats k).told ≡ true → ⊥
         untold_told t y = let z : false ≡ true = sym (ap (λ z. is_some z) t) ∙ y in absurd (cc)

@@ -106,6 +106,7 @@ module _ (o : Opening) (k : ℕ) (l : k < o.callers) (e : ℕ) (there : e < 3 * 
           by (Own h step) y z = absurd (cc)
       begun_busy (work.Hang a) y = absurd (cc)
       begun_busy (work.Leave a) y = absurd (cc)
+      begun_busy (work.Swap a) y = absurd (cc)
 
       go : Goes (3 * o.callers + 1) e (run o es').world ((run o es').seats k) (Left es) → SeatRank o.callers (owned_at o es) (3 * o.callers + 1) e (run o es').world old (Left es) ((run o es').seats k) → Told es (suc fuel)
       go g (inl z) = at_once z

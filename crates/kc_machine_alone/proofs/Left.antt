@@ -1,4 +1,6 @@
 -- How many steps are left at most.
+use Rattle.kc_machine_steps.specs.declared.swap.SwapStep.{SwapStep}
+use Rattle.kc_machine_steps.specs.declared.swap.SwapStep.TheVariants as swap
 use Rattle.kc_machine.specs.Machine.{World}
 use Rattle.kc_machine.specs.Works.{Work}
 use Rattle.kc_machine.specs.declared.hang.HangStep.{HangStep}
@@ -131,6 +133,13 @@ abbrev pub free_left : LeaveStep → ℕ
 free_left leave.Unsignal = 65
 free_left (leave.Clear k) = 64 - k
 
+-- ---- of a swap: its exchange, its wake, and its signals
+
+abbrev pub swap_left : SwapStep → ℕ
+swap_left swap.Exchange = 67
+swap_left swap.Wake = 66
+swap_left (swap.Signal owed) = 1 + (64 - count_trailing_zeros 64 owed)
+
 -- n descriptors, of which e is free
 abbrev pub work_left : (n e : ℕ) → World → Work → ℕ
 work_left n e w work.Idle = 0
@@ -138,3 +147,4 @@ work_left n e w (work.Look l) = look_left w l.step
 work_left n e w (work.Commit c) = stage_left n e w c.copy c.stage
 work_left n e w (work.Hang h) = hang_left w h.step
 work_left n e w (work.Leave l) = free_left l.step
+work_left n e w (work.Swap x) = swap_left x.step

@@ -1,4 +1,10 @@
 -- Each step of a seat leaves fewer, tells, or begins an aid.
+use Rattle.kc_machine_steps.specs.Swaps.{exchange_next, may_swap, onward_of as onward_of_swap, swap_access, swap_access_at, swap_next, swap_next_at, swaps_on}
+use Rattle.kc_machine_steps.specs.declared.swap.Swap.{Swap}
+use Rattle.kc_machine_steps.specs.declared.swap.SwapStep.{SwapStep}
+use Rattle.kc_machine_steps.specs.declared.swap.SwapStep.TheVariants as swap
+use Rattle.kc_machine_steps.specs.declared.swap.SwapNext.{SwapNext}
+use Rattle.kc_machine_steps.specs.declared.swap.SwapNext.TheVariants as swapping
 use Rattle.kc_machine.proofs.Functions.{put_here}
 use Rattle.kc_machine.specs.Hangs.{after_clear, after_set, clear_or_changed, hang_access, hang_access_of, hang_next, hangs_on, leave_access, leaves_on, look_goes_on, look_of, look_or_end, looked, next_read, onward_of, read_of, set_or_look, unblocks_or_tells}
 use Rattle.kc_machine.specs.Machine.{Opening, State, World, found_at, put_some, touched}
@@ -11,8 +17,8 @@ use Rattle.kc_machine.specs.declared.hang.HangStep.{HangStep}
 use Rattle.kc_machine.specs.declared.hang.LeaveStep.{LeaveStep}
 use Rattle.kc_machine.specs.declared.seat.Seat.{Seat}
 use Rattle.kc_machine_alone.proofs.AidFalls.{IsBounded}
-use Rattle.kc_machine_alone.proofs.Left.{free_left, hang_left, is_last, look_left, own_left, round, stage_left, takes, work_left}
-use Rattle.kc_machine_alone.proofs.Lowest.{lowest_low}
+use Rattle.kc_machine_alone.proofs.Left.{free_left, hang_left, is_last, look_left, own_left, round, stage_left, swap_left, takes, work_left}
+use Rattle.kc_machine_alone.proofs.Lowest.{lowest_low, lowest_rises}
 use Rattle.kc_machine_alone.proofs.OwnFalls.{OwnGoes, OwnTells, own_falls}
 use Rattle.kc_machine_alone.proofs.PassFalls.{one_after}
 use Rattle.kc_machine_alone.specs.Stretches.{begins_aid, stage_begins}
@@ -27,7 +33,7 @@ use Rattle.kc_machine_commits.specs.declared.commit.Stage.TheVariants.{Own, Scan
 use Rattle.kc_machine_pool.proofs.Filled.{is_there}
 use Rattle.kc_machine_ranges.specs.Possible.{one_step}
 use Rattle.kc_machine_ranges.specs.Ranges.{CallersIn, HandleIn}
-use Rattle.kc_machine_ranges.specs.Seats.{CopyIn, StageIn, WorkIn}
+use Rattle.kc_machine_ranges.specs.Seats.{CopyIn, StageIn, SwapIn, WorkIn}
 use Rattle.kc_machine_seats.specs.Fits.{OwnFits, StageFits, WorkFits}
 use Rattle.kc_machine_seats.specs.Formed.{HangStands, IsCopy, IsWellFormed, LeaveIsFormed, OwnIsFormed, StageIsFormed, WorkIsFormed}
 use Rattle.kc_machine_seats.specs.Made.{IntentIsMade, IsWellMadeIntent, ReadsAreMade}
@@ -45,7 +51,7 @@ use Rattle.kc_model.specs.declared.footprint.Loc.{Loc}
 use Rattle.kc_model.specs.declared.footprint.Seen.{Seen}
 use Rattle.kc_model.specs.declared.word.Word.{Word}
 use Rattle.kc_model.specs.declared.word.Word.TheVariants.{Plain, Ref}
-use Rattle.std.proofs.Common.{Bool, List, None, Option, Some, ap, arith, false, if◌then◌else◌, inl, inr, length, refl, subst, sym, true, ℕ, ◌*◌, ◌+◌, ◌-◌, ◌<◌, ◌==◌, ◌≡◌, ◌≢◌, ◌≤◌, ◌⊎◌}
+use Rattle.std.proofs.Common.{Bool, List, None, Option, Some, ap, arith, bit_and, false, if◌then◌else◌, inl, inr, length, refl, subst, sym, true, ℕ, ◌&&◌, ◌*◌, ◌+◌, ◌-◌, ◌<◌, ◌==◌, ◌≡◌, ◌≢◌, ◌≤◌, ◌⊎◌}
 use Rattle.std.proofs.Math.Nat.{pow-le-pow_right}
 use Rattle.std.proofs.lemmas.Option.{slice_get_within}
 use Rattle.std.specs.Int.Count.{count_trailing_zeros}
@@ -304,6 +310,49 @@ module _ (w : World) (fresh : (l g d i : ℕ) → w.word l ≡ Ref g d i → (w.
     hang_falls (hang.Look k step) l = looks_at k step l
     hang_falls (hang.Clear k changed) l = clears (touched w (hang_access_of caller (hang.Clear k changed) (slice_get reads k))) k changed (omega (arith, l, few))
 
+-- ---- swaps
+
+abbrev pub SwapGoes : ℕ → SwapNext → Type 0
+SwapGoes old (swapping.Goes step) = swap_left step < old
+SwapGoes old (swapping.Takes step) = swap_left step < old
+SwapGoes old (swapping.Tells t) = Unit {0}
+
+module _ (w : World) (r : Seen) (value calls : ℕ) where
+  abbrev SwapFalls : SwapStep → Type 0
+  SwapFalls step = SwapGoes (swap_left step) (swap_next_at r calls step (found_at w (swap_access_at r value calls step)))
+
+  exchanges : SwapFalls swap.Exchange
+  exchanges = at (w.word r.loc.0)
+    where
+      at : (z : Word) → SwapGoes 67 (exchange_next r calls (found.Word z))
+      at (Plain v y) = go ((v == r.version) && (y == r.value)) (may_swap calls)
+        where
+          go : (b c : Bool) → SwapGoes 67 (if b then (if c then swapping.Takes swap.Wake else swapping.Tells (told.Crossed 0)) else swapping.Tells (told.Failed 0))
+          go true true = omega arith
+          go true false = tt
+          go false c = tt
+      at (Ref g d i) = tt
+
+  wakes : SwapFalls swap.Wake
+  wakes = go (w.awaiters r.loc.0) (w.awaiters r.loc.0 == 0)
+    where
+      go : (owed : ℕ) (b : Bool) → SwapGoes 66 (if b then swapping.Tells (told.Succeeded calls) else swapping.Goes (swap.Signal owed))
+      go owed true = tt
+      go owed false = omega arith
+
+  -- each signal leaves its lowest bit
+  signals : (owed : ℕ) → owed < 2 ^ 64 → SwapFalls (swap.Signal owed)
+  signals owed l = go (bit_and owed (owed - 1) == 0) refl
+    where
+      go : (b : Bool) → (bit_and owed (owed - 1) == 0) ≡ b → SwapGoes (1 + (64 - count_trailing_zeros 64 owed)) (if b then swapping.Tells (told.Succeeded calls) else swapping.Goes (swap.Signal (bit_and owed (owed - 1))))
+      go true e = tt
+      go false e = let u = lowest_rises owed l (eqb-false (bit_and owed (owed - 1)) 0 e) in let a = u.0 in let b = u.1 in omega (arith, a, b)
+
+  pub swap_falls : (step : SwapStep) → ((owed : ℕ) → step ≡ swap.Signal owed → owed < 2 ^ 64) → SwapFalls step
+  swap_falls swap.Exchange f = exchanges
+  swap_falls swap.Wake f = wakes
+  swap_falls (swap.Signal owed) f = signals owed (f owed refl)
+
 -- ---- a seat
 
 -- what a seat's step needs to know
@@ -391,12 +440,30 @@ module _ (o : Opening) (m : State) (k : ℕ) (knows : Knows o m k) (e : ℕ) (th
       go (next.Takes x) (inr y) = falls y.0 y.1 refl
       go (next.Tells t) y = tells refl
 
+  swap_comes : (x : Swap) → SwapIn o x.step → Comes (work.Swap x)
+  swap_comes x r = go (swap_next s.calls x (found_at w (swap_access s.calls x))) (swap_falls w x.seen x.after s.calls x.step owed_fits)
+    where
+      v : World
+      v = touched w (swap_access s.calls x)
+
+      owed_fits : (owed : ℕ) → x.step ≡ swap.Signal owed → owed < 2 ^ 64
+      owed_fits owed q =
+          let z : CallersIn o owed = subst (SwapIn o) q r in
+          let p : 2 ^ o.callers ≤ 2 ^ 64 = pow-le-pow_right (omega arith) knows.callers in
+          omega (arith, p, z)
+
+      go : (z : SwapNext) → SwapGoes (swap_left x.step) z → Goes n e v (after (record s { work = work.Swap (swaps_on x z) }) (onward_of_swap z)) (swap_left x.step)
+      go (swapping.Goes step) y = falls y (λ u. absurd (cc)) refl
+      go (swapping.Takes step) y = falls y (λ u. absurd (cc)) refl
+      go (swapping.Tells t) y = tells refl
+
   comes : (x : Work) → WorkFits x → WorkIsFormed s.calls s.blocked x → IntentIsMade o.locations x → ReadsAreMade o.locations x → HangStands x → WorkIn o x → WorkSearches n x → (searches x ≡ true → IsFree w e) → is_idle x ≡ false → Comes x
   comes work.Idle a b c d f g h v i = absurd (cc)
   comes (work.Look l) a b c d f g h v i = look_comes l
   comes (work.Commit x) a b c d f g h v i = commit_comes x a b c g h v
   comes (work.Hang x) a b c d f g h v i = hang_comes x d.1.1 f
   comes (work.Leave x) a b c d f g h v i = leave_comes x d.1 b
+  comes (work.Swap x) a b c d f g h v i = swap_comes x g
 
   pub seat_falls : is_idle s.work ≡ false → Goes n e (one_step m k).world ((one_step m k).seats k) (work_left n e w s.work)
   seat_falls i = subst (λ x. Goes n e (touched w (access_of s)) x (work_left n e w s.work)) (sym (put_here m.seats k (answer_of s (found_at w (access_of s))))) (comes s.work knows.fits knows.formed knows.intents knows.reads knows.stands knows.ranges knows.searches free i)

@@ -1,11 +1,13 @@
 -- A seat alone is told or begins an aid.
+use Rattle.kc_machine_steps.specs.declared.swap.SwapStep.{SwapStep}
+use Rattle.kc_machine_steps.specs.declared.swap.SwapStep.TheVariants as swap
 use Rattle.kc_machine.specs.Machine.{Opening, World, run}
 use Rattle.kc_machine.specs.Schedules.{BeginsWellMade, IsSchedule}
 use Rattle.kc_machine.specs.Seats.{is_idle}
 use Rattle.kc_machine.specs.Works.{Work}
 use Rattle.kc_machine.specs.declared.hang.HangStep.{HangStep}
 use Rattle.kc_machine.specs.declared.hang.LeaveStep.{LeaveStep}
-use Rattle.kc_machine_alone.proofs.Left.{aid_left, free_left, hang_left, is_active, own_left, stage_left, takes, work_left}
+use Rattle.kc_machine_alone.proofs.Left.{aid_left, free_left, hang_left, is_active, own_left, stage_left, swap_left, takes, work_left}
 use Rattle.kc_machine_alone.proofs.PassFalls.{pass_most}
 use Rattle.kc_machine_alone.proofs.SeatFalls.{Goes, IsFree, Knows, begins, falls, look_most, round_below, searches, seat_falls, tells}
 use Rattle.kc_machine_alone.specs.Stretches.{EndsStretch, StretchesEnd}
@@ -125,6 +127,12 @@ work_most n e callers w (work.Leave a) q l f = by a.step
     by : (x : LeaveStep) → free_left x ≤ 1279 + 3 * callers
     by leave.Unsignal = omega arith
     by (leave.Clear k) = omega arith
+work_most n e callers w (work.Swap a) q l f = by a.step
+  where
+    by : (x : SwapStep) → swap_left x ≤ 1279 + 3 * callers
+    by swap.Exchange = omega arith
+    by swap.Wake = omega arith
+    by (swap.Signal owed) = omega arith
 
 module _ (o : Opening) (k : ℕ) (l : k < o.callers) (e : ℕ) (there : e < 3 * o.callers + 1) where
   abbrev Ends : List Event → ℕ → Type 0

@@ -1,4 +1,8 @@
 -- A seat alone is told within the bound.
+use Rattle.kc_machine_steps.specs.Swaps.{onward_of as onward_of_swap, swap_access, swap_next, swaps_on}
+use Rattle.kc_machine_steps.specs.declared.swap.Swap.{Swap}
+use Rattle.kc_machine_steps.specs.declared.swap.SwapNext.{SwapNext}
+use Rattle.kc_machine_steps.specs.declared.swap.SwapNext.TheVariants as swapping
 use Rattle.kc_machine.proofs.Functions.{put_here}
 use Rattle.kc_machine.specs.Hangs.{hang_access, hang_next, hangs_on, leave_access, leaves_on, next_read, onward_of, unblocks_or_tells}
 use Rattle.kc_machine.specs.Machine.{Opening, State, World, found_at, touched}
@@ -8,7 +12,7 @@ use Rattle.kc_machine.specs.Works.{Work}
 use Rattle.kc_machine.specs.declared.hang.HangNext.{HangNext}
 use Rattle.kc_machine.specs.declared.seat.Seat.{Seat}
 use Rattle.kc_machine_alone.proofs.AidFalls.{IsBounded}
-use Rattle.kc_machine_alone.proofs.Left.{free_left, hang_left, look_left, own_left, round, stage_left, takes, work_left}
+use Rattle.kc_machine_alone.proofs.Left.{free_left, hang_left, look_left, own_left, round, stage_left, swap_left, takes, work_left}
 use Rattle.kc_machine_alone.proofs.Modes.{Ground}
 use Rattle.kc_machine_alone.proofs.Ranks.{Builds, OwnRankGoes, OwnRanks, StageRank, own_ranks, top}
 use Rattle.kc_machine_alone.proofs.SeatFalls.{Knows}
@@ -173,12 +177,24 @@ module _ (o : Opening) (m : State) (k : ℕ) (knows : Knows o m k) (n : ℕ) (so
       go None = inl refl
       go (Some x) = inr (inl (tt, refl))
 
+  swap_ranks : (x : Swap) (old : ℕ) → Comes (work.Swap x) old
+  swap_ranks x old = go (swap_next s.calls x (found_at w (swap_access s.calls x)))
+    where
+      v : World
+      v = touched w (swap_access s.calls x)
+
+      go : (z : SwapNext) → SeatRank n at s.descriptors e v old (swap_left x.step) (after (record s { work = work.Swap (swaps_on x z) }) (onward_of_swap z))
+      go (swapping.Goes step) = inr (inl (tt, refl))
+      go (swapping.Takes step) = inr (inl (tt, refl))
+      go (swapping.Tells t) = inl refl
+
   comes : (x : Work) (old : ℕ) → WorkFits x → WorkIn o x → WorkIsFormed s.calls s.blocked x → WorkBuilds n at w x → WorkRank n at w x old → is_idle x ≡ false → Comes x old
   comes work.Idle old a b c d r i = absurd (cc)
   comes (work.Look l) old a b c d r i = look_ranks l old
   comes (work.Commit x) old a b c d r i = commit_ranks x old a (c.1, b.0.1) d r
   comes (work.Hang x) old a b c d r i = hang_ranks x old
   comes (work.Leave x) old a b c d r i = leave_ranks x old
+  comes (work.Swap x) old a b c d r i = swap_ranks x old
 
   pub seat_ranks : (old : ℕ) → is_idle s.work ≡ false → WorkBuilds n at w s.work → WorkRank n at w s.work old → SeatRank n at s.descriptors e (one_step m k).world old (work_left s.descriptors e w s.work) ((one_step m k).seats k)
   seat_ranks old i d r = subst (SeatRank n at s.descriptors e (touched w (access_of s)) old (work_left s.descriptors e w s.work)) (sym (put_here m.seats k (answer_of s (found_at w (access_of s))))) (comes s.work old knows.fits knows.ranges knows.formed d r i)

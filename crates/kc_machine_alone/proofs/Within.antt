@@ -1,4 +1,8 @@
 -- From any state, step by step.
+use Rattle.kc_machine_steps.specs.Swaps.{onward_of as onward_of_swap, swap_next, swaps_on}
+use Rattle.kc_machine_steps.specs.declared.swap.Swap.{Swap}
+use Rattle.kc_machine_steps.specs.declared.swap.SwapNext.{SwapNext}
+use Rattle.kc_machine_steps.specs.declared.swap.SwapNext.TheVariants as swapping
 use Rattle.kc_machine.specs.Hangs.{hang_step, hangs_on, leaves_on, next_read, onward_of, unblocks_or_tells}
 use Rattle.kc_machine.specs.Machine.{Opening, World, run}
 use Rattle.kc_machine.specs.Schedules.{IsSchedule}
@@ -122,6 +126,7 @@ hold_same s = go s.work
     go (work.Commit c) = stages c c.stage
     go (work.Hang h) = waits h.reads.items h.step
     go (work.Leave l) = refl
+    go (work.Swap x) = refl
 
 -- ---- what holds of the words
 
@@ -191,6 +196,7 @@ built o es w k l = go s.work (grounds (run o es).callers (run o es).descriptors 
     go (work.Commit c) g k = stages c c.stage g k
     go (work.Hang h) g k = tt
     go (work.Leave l) g k = tt
+    go (work.Swap y) g k = tt
 
 -- ---- what is owned stays so, or doesn't matter
 
@@ -212,6 +218,11 @@ hold_stays s f = go s.work refl
     leave_so : (l : Leave) (j : ℕ) (x : Option Seen) → HoldStays NoHold (after (record s { work = work.Leave (leaves_on l j x) }) (unblocks_or_tells x)).work
     leave_so l j None = inl refl
     leave_so l j (Some x) = inl refl
+
+    swap_so : (x : Swap) (n : SwapNext) → HoldStays NoHold (after (record s { work = work.Swap (swaps_on x n) }) (onward_of_swap n)).work
+    swap_so x (swapping.Goes step) = inl refl
+    swap_so x (swapping.Takes step) = inl refl
+    swap_so x (swapping.Tells t) = inl refl
 
     Next_so : Commit → Hold → Next → Type 0
     Next_so c h x = HoldStays h (after (record s { work = work.Commit (gone_on c x) }) (onward_by x)).work
@@ -239,6 +250,7 @@ hold_stays s f = go s.work refl
     go (work.Commit c) e = stages (loaded c f) c.stage
     go (work.Hang h) e = hang_so h (hang_step h f)
     go (work.Leave l) e = leave_so l (next_read l.step) (slice_get l.reads.items (next_read l.step))
+    go (work.Swap x) e = swap_so x (swap_next s.calls x f)
 
 pub rank_free : (n : ℕ) (at bt : ℕ → Hold) (v : World) (x : Work) (old : ℕ) → work_free x ≡ true → WorkRank n at v x old → WorkRank n bt v x old
 rank_free n at bt v work.Idle old e r = tt
@@ -260,6 +272,7 @@ rank_free n at bt v (work.Commit c) old e r = go c.stage e r
     go (Own h (own.Drop p)) e r = absurd (cc)
 rank_free n at bt v (work.Hang h) old e r = tt
 rank_free n at bt v (work.Leave l) old e r = tt
+rank_free n at bt v (work.Swap x) old e r = tt
 
 -- ---- at first
 
@@ -316,3 +329,4 @@ first_rank n at w (work.Commit c) = go c.stage
     go (Own h (own.Drop p)) = tt
 first_rank n at w (work.Hang h) = tt
 first_rank n at w (work.Leave l) = tt
+first_rank n at w (work.Swap x) = tt

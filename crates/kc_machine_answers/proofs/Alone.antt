@@ -81,3 +81,4 @@ before_start s h i q = go s.work refl q
     go (work.Commit c) w q = stages c c.stage w refl q
     go (work.Hang g) w q = waits g.reads.items g.step q
     go (work.Leave l) w q = absurd (cc)
+    go (work.Swap x) w q = absurd (cc)

@@ -1,4 +1,7 @@
 -- By which event a status becomes Crossed.
+use Rattle.kc_machine_steps.specs.Swaps.{swap_access_at}
+use Rattle.kc_machine_steps.specs.declared.swap.SwapStep.{SwapStep}
+use Rattle.kc_machine_steps.specs.declared.swap.SwapStep.TheVariants as swap
 use Rattle.std.proofs.Common.{◌≡◌, ◌<◌, ◌⊎◌, inl, inr, ◌∙◌, ℕ, Bool, true, false, List, Option, None, Some, refl, sym, ap, subst, if◌then◌else◌}
 use Rattle.std.specs.Prelude.{slice_get, nat_lt}
 use Rattle.std.proofs.lemmas.Bool.{ltb-true}
@@ -87,6 +90,11 @@ module _ (x : Passing) where
       go None = tt
       go (Some seen) = tt
 
+  by_swap : (r : Seen) (value calls : ℕ) (step : SwapStep) → TouchesStatus x (swap_access_at r value calls step)
+  by_swap r value calls swap.Exchange = tt
+  by_swap r value calls swap.Wake = tt
+  by_swap r value calls (swap.Signal owed) = tt
+
   on_line : (f : Option Line → Access) → TouchesStatus x (f None) → ((y : Line) → TouchesStatus x (f (Some y))) → (o : Option Line) → TouchesStatus x (f o)
   on_line f a b None = a
   on_line f a b (Some y) = b y
@@ -140,6 +148,7 @@ status_touches s = subst (λ p. TouchesStatus p (access_of s)) (sym (pass_is s))
     go (work.Commit c) = stages c c.stage
     go (work.Hang h) = by_hang (work_pass (work.Hang h)) s.caller h.step (slice_get h.reads.items (read_of h.step))
     go (work.Leave l) = by_leave (work_pass (work.Leave l)) s.caller l.reads.items l.step
+    go (work.Swap x) = by_swap (work_pass (work.Swap x)) x.seen x.after s.calls x.step
 
 -- ---- a status that is Crossed
 

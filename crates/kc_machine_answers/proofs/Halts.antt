@@ -1,5 +1,12 @@
 -- A task that is told Halted was halted.
-use Rattle.std.proofs.Common.{◌≢◌, arith, ◌≡◌, ◌<◌, ◌⊎◌, inl, inr, ⊎_elim, ◌∙◌, ◌++◌, ◌==◌, ℕ, zero, suc, Bool, true, false, List, [], ◌∷◌, length, Option, None, Some, refl, sym, ap, subst, if◌then◌else◌}
+use Rattle.kc_machine_words.specs.declared.access.Found.TheVariants as found
+use Rattle.kc_model.specs.declared.word.Word.TheVariants.{Plain, Ref}
+use Rattle.kc_machine_steps.specs.Swaps.{onward_of as onward_of_swap, owed_next as swap_owed_next, exchange_next, may_swap, swap_next_at, swap_onward}
+use Rattle.kc_machine_steps.specs.declared.swap.SwapNext.{SwapNext}
+use Rattle.kc_machine_steps.specs.declared.swap.SwapNext.TheVariants as swapping
+use Rattle.kc_machine_steps.specs.declared.swap.SwapStep.{SwapStep}
+use Rattle.kc_machine_steps.specs.declared.swap.SwapStep.TheVariants as swap
+use Rattle.std.proofs.Common.{◌≢◌, arith, ◌≡◌, ◌<◌, ◌⊎◌, inl, inr, ⊎_elim, ◌∙◌, ◌++◌, ◌==◌, ℕ, zero, suc, Bool, true, false, List, [], ◌∷◌, length, Option, None, Some, refl, sym, ap, subst, if◌then◌else◌, bit_and, ◌-◌, ◌&&◌}
 use Rattle.std.specs.Prelude.{slice_get}
 use borrow.Author.Tests.{eqb-true, eqb-false}
 use Rattle.kc_machine_steps.specs.declared.task.Task.{Task}
@@ -157,6 +164,55 @@ module _ (t : Told) (other : IsOther t) where
   leave_silent None q = other.free (same_told q)
   leave_silent (Some x) q = absurd (cc)
 
+-- ---- what a swap tells
+
+-- no word t that isn't its success
+module _ (t : Told) (calls : ℕ) (done : told.Succeeded calls ≢ t) where
+  abbrev Mute : SwapNext → Type 0
+  Mute n = onward_of_swap n ≡ onward.Tells t → ⊥
+
+  owed_mute : (owed : ℕ) → Mute (swap_owed_next calls owed)
+  owed_mute owed = go (owed == 0)
+    where
+      go : (b : Bool) → Mute (if b then swapping.Tells (told.Succeeded calls) else swapping.Goes (swap.Signal owed))
+      go true q = done (same_told q)
+      go false q = absurd (cc)
+
+  -- behind its exchange it tells its success, and nothing else
+  pub swap_mute : (r : Seen) (step : SwapStep) (f : Found) → (step ≡ swap.Exchange → ⊥) → Mute (swap_next_at r calls step f)
+  swap_mute r swap.Exchange f n = absurd (n refl)
+  swap_mute r swap.Wake (found.Callers c) n = owed_mute c
+  swap_mute r swap.Wake found.Nothing n = λ q. absurd (cc)
+  swap_mute r swap.Wake (found.Word c) n = λ q. absurd (cc)
+  swap_mute r swap.Wake (found.Control c) n = λ q. absurd (cc)
+  swap_mute r swap.Wake (found.Status c) n = λ q. absurd (cc)
+  swap_mute r swap.Wake (found.Owner c) n = λ q. absurd (cc)
+  swap_mute r swap.Wake (found.First c) n = λ q. absurd (cc)
+  swap_mute r swap.Wake (found.Second c) n = λ q. absurd (cc)
+  swap_mute r (swap.Signal owed) f n = owed_mute (bit_and owed (owed - 1))
+
+-- its exchange tells that it failed, or was crossed
+exchange_unhalted : (r : Seen) (calls : ℕ) (f : Found) → TellsHalted (onward_of_swap (exchange_next r calls f)) → ⊥
+exchange_unhalted r calls (found.Word (Plain v y)) = go ((v == r.version) && (y == r.value)) (may_swap calls)
+  where
+    go : (b c : Bool) → TellsHalted (onward_of_swap (if b then (if c then swapping.Takes swap.Wake else swapping.Tells (told.Crossed 0)) else swapping.Tells (told.Failed 0))) → ⊥
+    go true true q = absurd (cc)
+    go true false q = absurd (cc)
+    go false c q = absurd (cc)
+exchange_unhalted r calls (found.Word (Ref g d k)) = λ q. absurd (cc)
+exchange_unhalted r calls found.Nothing = λ q. absurd (cc)
+exchange_unhalted r calls (found.Control c) = λ q. absurd (cc)
+exchange_unhalted r calls (found.Status c) = λ q. absurd (cc)
+exchange_unhalted r calls (found.Owner c) = λ q. absurd (cc)
+exchange_unhalted r calls (found.First c) = λ q. absurd (cc)
+exchange_unhalted r calls (found.Second c) = λ q. absurd (cc)
+exchange_unhalted r calls (found.Callers c) = λ q. absurd (cc)
+
+swap_unhalted : (r : Seen) (calls : ℕ) (step : SwapStep) (f : Found) → TellsHalted (onward_of_swap (swap_next_at r calls step f)) → ⊥
+swap_unhalted r calls swap.Exchange f = exchange_unhalted r calls f
+swap_unhalted r calls swap.Wake f = swap_mute told.Halted calls (λ q. absurd (cc)) r swap.Wake f (λ q. absurd (cc))
+swap_unhalted r calls (swap.Signal owed) f = swap_mute told.Halted calls (λ q. absurd (cc)) r (swap.Signal owed) f (λ q. absurd (cc))
+
 halted_other : IsOther told.Halted
 halted_other = record { hung = λ q. absurd (cc); free = λ q. absurd (cc); changed = λ k q. absurd (cc) }
 
@@ -188,6 +244,7 @@ module _ (s : Seat) where
       go (work.Commit c) e y = goes_on (work.Commit (commit_after s.descriptors s.calls c f)) (commit_on (loaded c f) (commit_next s.descriptors s.calls (loaded c f) f) ∙ sym (ap is_marked e)) (commit_onward s.descriptors s.calls c f) (λ q. ap is_marked e ∙ commit_tells s.descriptors s.calls c f (ends c e) q) y
       go (work.Hang h) e y = goes_on _ (sym (ap is_marked e)) (hang_onward h f) (λ q. absurd (hang_silent told.Halted halted_other h.reads.items h.step f q)) y
       go (work.Leave l) e y = goes_on _ (sym (ap is_marked e)) (leave_onward l) (λ q. absurd (leave_silent told.Halted halted_other (slice_get l.reads.items _) q)) y
+      go (work.Swap x) e y = goes_on _ (sym (ap is_marked e)) (swap_onward s.calls x f) (λ q. absurd (swap_unhalted x.seen s.calls x.step f q)) y
 
   -- a task that begins wasn't halted
   begun_same : (t : Task) → Stopped (begun s t) → begun s t ≡ s
@@ -206,6 +263,7 @@ module _ (s : Seat) where
           hangs true y = refl
           hangs false y = fresh (hanging reads.items) refl y
       starts (task.Leave reads) y = fresh (begun_idle s (task.Leave reads)).work refl y
+      starts (task.Swap r after) y = fresh (begun_idle s (task.Swap r after)).work refl y
 
       go : (b : Bool) → Stopped (if b then begun_idle s t else s) → (if b then begun_idle s t else s) ≡ s
       go true y = starts t y

@@ -28,7 +28,7 @@ use Rattle.kc_machine_effects.specs.Stands.{Stand, Owns, At, Meets, Ends, Leaves
 use Rattle.kc_machine_passes.proofs.Always.{opened_facts}
 use Rattle.kc_machine_passes.proofs.Facts.{Facts, facts_effect}
 use Rattle.kc_machine_passes.proofs.Knowing.{PassKnows}
-use Rattle.kc_machine_passes.proofs.Moves.{Releases, in_pass, in_aid, word_after}
+use Rattle.kc_machine_passes.proofs.Moves.{Releases, in_pass, in_aid, word_later}
 use Rattle.kc_machine_passes.proofs.Owing.{released}
 use Rattle.kc_machine_passes.specs.Phases.{IsDecided, AidKnows}
 use Rattle.kc_machine_pool.proofs.Published.{Out}
@@ -181,7 +181,7 @@ module _ (n m k : ℕ) (l : k < n) {w w' : World} (at : ℕ → Stand) {s' : Sta
       by act (inr (in_aid v c p x over same stay)) = absurd (undecided r v.handle v.line p same (subst (AidKnows w) over (f.facts.aid_knows k l)).0 act)
 
       was : (w.status r.handle.descriptor ≡ status r.handle.generation Active) ⊎ Fills (at k) r.handle.descriptor r.handle.generation → w'.word a ≡ Ref r.handle.generation r.handle.descriptor r.line
-      was (inl q) = by q (word_after k e a r.handle.generation r.handle.descriptor r.line (old q))
+      was (inl q) = by q (word_later k e a r.handle.generation r.handle.descriptor r.line (old q))
       was (inr y) =
           let z = subst (λ b. Follows b (w.status r.handle.descriptor).generation r.handle.generation) y.early (f.facts.copies.lives.owned k l r.handle.descriptor r.handle.generation y.owns) in
           absurd (omega arith)

@@ -1,4 +1,8 @@
 -- A commit that is told Crossed was crossed.
+use Rattle.kc_machine_steps.specs.Swaps.{ends_at_once, onward_of as onward_of_swap, swap_next_at, swap_onward}
+use Rattle.kc_machine_steps.specs.declared.swap.Swap.{Swap}
+use Rattle.kc_machine_steps.specs.declared.swap.SwapStep.{SwapStep}
+use Rattle.kc_machine_steps.specs.declared.swap.SwapStep.TheVariants as swap
 use Rattle.std.proofs.Common.{arith, ◌≡◌, ◌<◌, ◌⊎◌, inl, inr, ◌∙◌, ◌++◌, ◌==◌, ℕ, Bool, true, false, List, [], ◌∷◌, take, Option, None, Some, refl, sym, ap, subst, if◌then◌else◌}
 use Rattle.std.specs.Prelude.{slice_get}
 use borrow.Author.Tests.{eqb-true, eqb-false}
@@ -40,7 +44,7 @@ use Rattle.kc_machine.specs.Seats.{is_idle, after, answer_by, answer_of, begun, 
 use Rattle.kc_machine.specs.declared.seat.Seat.{Seat}
 use Rattle.kc_machine_answers.proofs.Crossed.{before, seats_on, longer, there, moment_on, crossing_were_crossed}
 use Rattle.kc_machine_answers.proofs.Decided.{Decides, status_came}
-use Rattle.kc_machine_answers.proofs.Halts.{IsOther, same_told, hang_silent, leave_silent}
+use Rattle.kc_machine_answers.proofs.Halts.{IsOther, same_told, hang_silent, leave_silent, swap_mute}
 use Rattle.kc_machine_answers.specs.Crosses.{IsCrossed, CrossedSince, CrossesHaveACause}
 use Rattle.kc_machine_claims.specs.Traces.{Moment, trace}
 use Rattle.kc_machine_effects.specs.Holds.{Proper, own_hold}
@@ -56,7 +60,7 @@ use Rattle.kc_machine_pool.specs.Owners.{OwnsLife, is_filling, phase_read}
 use Rattle.kc_machine_seats.proofs.Searches.{scanned, taken}
 use Rattle.kc_machine_traces.proofs.Answers.{seat_cases, answers_when_done}
 use Rattle.kc_machine_traces.proofs.Joins.{run-append, every, made_parts}
-use Rattle.kc_machine_traces.proofs.Onward.{IsIntentOf, Left}
+use Rattle.kc_machine_traces.proofs.Onward.{IsIntentOf, Left, SwapLeft}
 use Rattle.kc_machine_traces.proofs.Others.{run_shape, event_in, event_else}
 use Rattle.kc_machine_traces.specs.Entries.{by, own_intent}
 
@@ -162,9 +166,13 @@ module _ (s : Seat) (i : ℕ) where
   abbrev ToldSo : Seat → Type 0
   ToldSo r = r.told ≡ Some (told.Crossed i)
 
-  -- it was told before, or drops what was crossed
+  -- it is to swap, and has changed no word
+  abbrev Exchanges : Type 0
+  Exchanges = (x : Swap) × (s.work ≡ work.Swap x) × (x.step ≡ swap.Exchange)
+
+  -- it was told before, or drops what was crossed, or swaps
   abbrev Came : Type 0
-  Came = ToldSo s ⊎ ((c : Commit) × (s.work ≡ work.Commit c) × Drops c i)
+  Came = ToldSo s ⊎ ((c : Commit) × (s.work ≡ work.Commit c) × Drops c i) ⊎ Exchanges
 
   told_on : (x : Work) (n : Onward) → (n ≡ onward.Tells (told.Crossed i) → Came) → ToldSo (after (record s { work = x }) n) → Came
   told_on x onward.Goes f q = inl q
@@ -180,12 +188,18 @@ module _ (s : Seat) (i : ℕ) where
       looks false (looking.Goes step) q = absurd (cc)
       looks false (looking.Saw seen) q = absurd (cc)
 
+      exchanges : (x : Swap) (step : SwapStep) → x.step ≡ step → onward_of_swap (swap_next_at x.seen s.calls step f) ≡ onward.Tells (told.Crossed i) → step ≡ swap.Exchange
+      exchanges x swap.Exchange e z = refl
+      exchanges x swap.Wake e z = absurd (swap_mute (told.Crossed i) s.calls (λ q. absurd (cc)) x.seen swap.Wake f (λ q. absurd (cc)) z)
+      exchanges x (swap.Signal owed) e z = absurd (swap_mute (told.Crossed i) s.calls (λ q. absurd (cc)) x.seen (swap.Signal owed) f (λ q. absurd (cc)) z)
+
       go : (x : Work) → s.work ≡ x → ToldSo (answer_by s f x) → Came
       go work.Idle e q = inl q
       go (work.Look l) e q = told_on _ (look_tells l f) (looks l.halted (look_next l.loc l.step f)) q
-      go (work.Commit c) e q = told_on _ (commit_onward s.descriptors s.calls c f) (λ z. inr (c, e, commit_crosses s.descriptors s.calls i c f z)) q
+      go (work.Commit c) e q = told_on _ (commit_onward s.descriptors s.calls c f) (λ z. inr (inl (c, e, commit_crosses s.descriptors s.calls i c f z))) q
       go (work.Hang h) e q = told_on _ (hang_onward h f) (λ z. absurd (hang_silent (told.Crossed i) (crossed_other i) h.reads.items h.step f z)) q
       go (work.Leave l) e q = told_on _ (leave_onward l) (λ z. absurd (leave_silent (told.Crossed i) (crossed_other i) (slice_get l.reads.items _) z)) q
+      go (work.Swap x) e q = told_on _ (swap_onward s.calls x f) (λ z. inr (inr (x, e, exchanges x x.step refl z))) q
 
   begun_came : (t : Task) → ToldSo (begun s t) → ToldSo s
   begun_came t = go (is_idle s.work)
@@ -202,6 +216,7 @@ module _ (s : Seat) (i : ℕ) where
           hangs true q = q
           hangs false q = fresh (hanging reads.items) q
       starts (task.Leave reads) q = fresh (begun_idle s (task.Leave reads)).work q
+      starts (task.Swap r after) q = fresh (begun_idle s (task.Swap r after)).work q
 
       go : (b : Bool) → ToldSo (if b then begun_idle s t else s) → ToldSo s
       go true q = starts t q
@@ -214,12 +229,17 @@ module _ (s : Seat) (i : ℕ) where
       ends_or x true q = absurd (cc)
       ends_or x false q = q
 
+      ends_or_stays : (b : Bool) → ToldSo (if b then ended s else s) → ToldSo s
+      ends_or_stays true q = absurd (cc)
+      ends_or_stays false q = q
+
       go : (x : Work) → ToldSo (halted_by s x) → ToldSo s
       go work.Idle q = q
       go (work.Look l) q = ends_or _ (halts_at_once l.step) q
       go (work.Commit c) q = ends_or _ (unowned c.stage) q
       go (work.Hang h) q = q
       go (work.Leave l) q = q
+      go (work.Swap x) q = ends_or_stays (ends_at_once x.step) q
 
 event_came : (m : State) (e : Event) (k i : ℕ) → ToldSo (m.seats k) i ((event_of m e).seats k) → Came (m.seats k) i
 event_came m e k i = go (k == seat_of e) refl
@@ -248,12 +268,20 @@ crosses_on o es e w old k i f m l asked q = go (moves o es k l e)
         let known = phase_known o es k h.descriptor h.generation (Crossed i) (there o es e k l) owns (ap (λ (x : Stand). phase_read x.own x.pass) t) in
         statuses_caused o es w k i h.descriptor h.generation f m l asked known.0 owns (ap (λ (x : Stand). is_filling x.own) t)
 
+    -- a seat that is to exchange was asked to swap
+    swaps_not : ((trace o es).shadows k).task ≡ Some (task.Commit f m) → (x : Swap) → s.work ≡ work.Swap x → x.step ≡ swap.Exchange → ⊥
+    swaps_not asked x y z =
+        let u = subst (λ v. Left (run o es).world k s.calls (task.Commit f m) s.told v (by k ((trace o es).shadows k).begun.history) (by k (trace o es).history)) y ((kept o k l es w).left (task.Commit f m) asked) in
+        let q : task.Commit f m ≡ task.Swap x.seen x.after = (subst (λ t. SwapLeft k s.calls (task.Commit f m) x.seen x.after t (by k ((trace o es).shadows k).begun.history) (by k (trace o es).history)) z u).1 in
+        absurd (cc)
+
     go : Stays o es e k l ⊎ Starts o es e k l → CrossedSince o (es ++ e ∷ []) k m (lines_of f) i
     go (inl y) = since_on o es e k l y m (lines_of f) i (by (event_came (run o es) e k i (sym (ap (λ (r : Seat). r.told) (seats_on o es e k)) ∙ q)))
       where
         by : Came s i → CrossedSince o es k m (lines_of f) i
         by (inl z) = old k i f m l (sym y.task ∙ asked) z
-        by (inr (c, z, d)) = drops (sym y.task ∙ asked) c z d
+        by (inr (inl (c, z, d))) = drops (sym y.task ∙ asked) c z d
+        by (inr (inr (x, z, d))) = absurd (swaps_not (sym y.task ∙ asked) x z d)
     go (inr y) =
         let b : (run o (es ++ e ∷ [])).seats k ≡ begun s y.asked = seats_on o es e k ∙ ap (λ x. (event_of (run o es) x).seats k) y.event ∙ ap (λ (n : State). n.seats k) (event_in (run o es) (Begin k y.asked) (there o es e k l)) ∙ put_here (run o es).seats k (begun s y.asked) in
         let n = ((answers_when_done o (es ++ e ∷ []) k).busy (ap (λ (r : Seat). is_idle r.work) b ∙ y.busy)).0 in

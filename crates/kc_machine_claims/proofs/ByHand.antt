@@ -5,13 +5,14 @@ use Rattle.kc_machine.specs.Machine.{put, run}
 use Rattle.kc_machine_claims.specs.Claims.{steps, HasPut, OwnsSucceeded, still_wakes, WakeIsToCome, IsCovered, has_bit, OwnerHolds, PassOwes, SomeoneReleases}
 use Rattle.kc_machine_claims.specs.Histories.{History, ending, cell_of, IsKnown, IsLegalHistory}
 use Rattle.kc_machine_claims.specs.Traces.{Trace, trace, traced, trace_from, first_store, IsHonest, IsHonestFrom}
-use Rattle.kc_machine_claims.specs.Worked.{seen, change, placed, two, installed, decided, helped, waited, guessed}
+use Rattle.kc_machine_claims.specs.Worked.{seen, change, placed, two, installed, decided, helped, waited, guessed, swapped}
 use Rattle.kc_machine_effects.specs.Holds.{Proper, own_hold}
-use Rattle.kc_machine_effects.specs.Stands.{Own, Runs, Over, At, stand}
+use Rattle.kc_machine_effects.specs.Stands.{Own, Runs, Over, At, Swaps, stand}
 use Rattle.kc_machine_steps.specs.Lines.{next_among}
 use Rattle.kc_machine_steps.specs.Passes.{status}
 use Rattle.kc_model.specs.declared.footprint.Line.{Line}
 use Rattle.kc_machine_steps.specs.declared.pass.PassStep.TheVariants.{Release}
+use Rattle.kc_machine_steps.specs.declared.swap.SwapStep.TheVariants as swap
 use Rattle.kc_machine_steps.specs.declared.task.Event.{Event}
 use Rattle.kc_machine_steps.specs.declared.task.Event.TheVariants.{Step}
 use Rattle.kc_machine_words.specs.declared.words.Handle.{Handle}
@@ -96,7 +97,7 @@ wakes_here : Contains (still_wakes (stand ((run two waited).seats 0)).own) chang
 wakes_here = subst (λ o. Contains (still_wakes o) changing) (sym waited_for) (Contains-first changing [])
 
 pub wake_to_come : WakeIsToCome (run two waited) (seen 0 0 5)
-wake_to_come = (0, changing, omega (arith, waited_callers), owns_succeeded, wakes_here, refl, refl, refl)
+wake_to_come = inl (0, changing, omega (arith, waited_callers), owns_succeeded, wakes_here, refl, refl, refl)
 
 waited_bit : has_bit ((run two waited).world.awaiters 0) 1 ≡ true
 unfolding put next_among steps
@@ -126,3 +127,14 @@ decided_callers = refl
 
 pub pass_releases : SomeoneReleases (run two decided) zero_handle 0
 pass_releases = (0, omega (arith, decided_callers), inl (subst (PassOwes zero_handle 0) (sym releasing) (refl, refl)))
+
+swapped_wake : (stand ((run two (swapped 5)).seats 0)).swap ≡ Swaps (seen 0 0 5) 7 swap.Wake
+unfolding put next_among steps
+swapped_wake = refl
+
+swapped_callers : (run two (swapped 5)).callers ≡ 2
+unfolding put next_among steps
+swapped_callers = refl
+
+pub swap_wakes : WakeIsToCome (run two (swapped 5)) (seen 0 0 5)
+swap_wakes = inr (0, seen 0 0 5, 7, omega (arith, swapped_callers), swapped_wake, refl, refl)

@@ -5,6 +5,7 @@ use Rattle.kc_machine_words.specs.declared.access.Access.{Access}
 use Rattle.kc_machine_words.specs.declared.access.Touch.TheVariants.{CompareExchange}
 use Rattle.kc_machine_words.specs.declared.words.Handle.{Handle}
 use Rattle.kc_machine_words.specs.declared.words.Mode.{Mode}
+use Rattle.kc_machine_words.specs.declared.words.Mode.TheVariants as mode
 use Rattle.kc_machine_words.specs.declared.words.Phase.TheVariants.{Active, Succeeded}
 use Rattle.kc_machine_words.specs.declared.words.TheConstants.{LAST_GENERATION}
 use Rattle.kc_model.specs.Footprint.{Puts}
@@ -33,9 +34,10 @@ use Rattle.kc_machine.specs.Machine.{World, State, Opening, event_of, run}
 use Rattle.kc_machine.specs.Seats.{access_of, is_idle}
 use Rattle.kc_machine.specs.Words.{bit_of}
 use Rattle.kc_machine_claims.specs.Histories.{History, Placed, ending, cell_of, IsLegalHistory, IsLegalWhereInstalled, EntriesDiffer, Grows}
-use Rattle.kc_machine_claims.specs.Traces.{trace, first_store, IsHonest}
+use Rattle.kc_machine_claims.specs.Traces.{trace, first_store, swap_entry, IsHonest}
+use Rattle.kc_machine_steps.specs.declared.swap.SwapStep.TheVariants as swap
 use Rattle.kc_machine_effects.specs.Holds.{Proper, own_hold}
-use Rattle.kc_machine_effects.specs.Stands.{Own, NoOwn, Owns, Runs, Waits, Turn, At, Meets, Ends, Leaves, Passing, NoPass, Over, Aiding, NoAid, Aids, Passes, Stand, stand}
+use Rattle.kc_machine_effects.specs.Stands.{Own, NoOwn, Owns, Runs, Waits, Turn, At, Meets, Ends, Leaves, Passing, NoPass, Over, Aiding, NoAid, Aids, Passes, Swapping, Swaps, Stand, stand}
 use Rattle.kc_machine_steps.specs.Lines.{resolved_version, resolved_value}
 use Rattle.kc_machine_steps.specs.Passes.{status}
 
@@ -96,6 +98,19 @@ SuccessesHaveTheirEntry o schedule = (k n : ℕ) (f : Footprint) (m : Mode) → 
     → ((trace o schedule).shadows k).task ≡ Some (task.Commit f m) → ((run o schedule).seats k).told ≡ Some (told.Succeeded n)
     → (p : ℕ) × Contains (trace o schedule).history (record { place = p; mode = m; entry = record { caller = k; number = n; footprint = f } })
     × All (λ x. x.place < p) ((trace o schedule).shadows k).begun.history
+
+-- likewise a swap
+
+abbrev pub SwapsHaveTheirEntry : Opening → List Event → Type 0
+SwapsHaveTheirEntry o schedule = (k n : ℕ) (r : Seen) (after : ℕ) → k < o.callers
+    → ((trace o schedule).shadows k).task ≡ Some (task.Swap r after) → ((run o schedule).seats k).told ≡ Some (told.Succeeded n)
+    → (p : ℕ) × Contains (trace o schedule).history (record { place = p; mode = mode.All; entry = swap_entry k n r after })
+    × All (λ x. x.place < p) ((trace o schedule).shadows k).begun.history
+
+abbrev pub SwapFailuresHaveACause : Opening → List Event → Type 0
+SwapFailuresHaveACause o schedule = IsHonest o schedule → (k i : ℕ) (r : Seen) (after : ℕ) → k < o.callers
+    → ((trace o schedule).shadows k).task ≡ Some (task.Swap r after) → ((run o schedule).seats k).told ≡ Some (told.Failed i)
+    → HasPut (trace o schedule).history r
 
 -- ---- references
 
@@ -165,8 +180,17 @@ owed_by (Owns h i (own.Wake j owed)) = owed
 owed_by (Owns h i (own.Signal owed)) = owed
 owed_by _ = 0
 
+-- whom a swap has still to signal
+abbrev pub owed_by_swap : Swapping → ℕ
+owed_by_swap (Swaps r after (swap.Signal owed)) = owed
+owed_by_swap _ = 0
+
+-- an owner or a swap has still to signal c
+abbrev pub Owes : Stand → ℕ → Type 0
+Owes s c = (has_bit (owed_by s.own) c ≡ true) ⊎ (has_bit (owed_by_swap s.swap) c ≡ true)
+
 abbrev pub IsAwake : State → ℕ → Type 0
-IsAwake m c = (m.world.signal c ≡ true) ⊎ ((k : ℕ) × (k < m.callers) × (has_bit (owed_by (stand (m.seats k)).own) c ≡ true))
+IsAwake m c = (m.world.signal c ≡ true) ⊎ ((k : ℕ) × (k < m.callers) × Owes (stand (m.seats k)) c)
 
 -- the lines at whose locations an owner has still to make its wake
 abbrev pub still_wakes : Own → List Line
@@ -183,9 +207,16 @@ OwnsSucceeded w (Runs h i) = w.status h.descriptor ≡ status h.generation Succe
 OwnsSucceeded w (Waits h i k) = w.status h.descriptor ≡ status h.generation Succeeded
 
 -- a succeeded commit put the location from the read's version, and its owner has still to make its wake there
-abbrev pub WakeIsToCome : State → Seen → Type 0
-WakeIsToCome m r = (k : ℕ) × (x : Line) × (k < m.callers) × OwnsSucceeded m.world (stand (m.seats k)).own
+abbrev pub OwnerWakes : State → Seen → Type 0
+OwnerWakes m r = (k : ℕ) × (x : Line) × (k < m.callers) × OwnsSucceeded m.world (stand (m.seats k)).own
     × Contains (still_wakes (stand (m.seats k)).own) x × (x.seen.loc ≡ r.loc) × (x.seen.version ≡ r.version) × (is_some x.put ≡ true)
+
+-- likewise a swap
+abbrev pub SwapWakes : State → Seen → Type 0
+SwapWakes m r = (k : ℕ) × (x : Seen) × (after : ℕ) × (k < m.callers) × ((stand (m.seats k)).swap ≡ Swaps x after swap.Wake) × (x.loc ≡ r.loc) × (x.version ≡ r.version)
+
+abbrev pub WakeIsToCome : State → Seen → Type 0
+WakeIsToCome m r = OwnerWakes m r ⊎ SwapWakes m r
 
 abbrev pub StandsAt : Opening → List Event → Seen → Type 0
 StandsAt o schedule r = (ending (first_store o) (trace o schedule).history r.loc.0).version ≡ r.version

@@ -2,7 +2,9 @@
 use Rattle.std.specs.Prelude.{ℕ, ◌+◌, ◌&&◌, List, [], ◌∷◌, Bool, true, false, not, if◌then◌else◌, Option, None, Some}
 use Rattle.kc_model.specs.declared.footprint.Line.{Line}
 use Rattle.kc_machine_steps.specs.declared.task.Task.{Task}
+use Rattle.kc_machine_steps.specs.declared.swap.SwapStep.TheVariants as swap
 use Rattle.kc_machine_words.specs.declared.words.Handle.{Handle}
+use Rattle.kc_machine_words.specs.declared.words.Mode.TheVariants.{All}
 use Rattle.kc_machine_words.specs.declared.words.Phase.{Phase}
 use Rattle.kc_machine_words.specs.declared.words.Phase.TheVariants.{Active, Succeeded}
 use Rattle.kc_model.specs.Footprint.{Reads}
@@ -15,7 +17,7 @@ use Rattle.kc_machine.specs.Seats.{is_idle}
 use Rattle.kc_machine.specs.Words.{phase_is}
 use Rattle.kc_machine.specs.declared.seat.Seat.{Seat}
 use Rattle.kc_machine_claims.specs.Histories.{History, inserted, footprint_of, IsKnown}
-use Rattle.kc_machine_effects.specs.Stands.{Stand, stand, Turn, At, Meets, Ends, Leaves, Passing, NoPass, Over, Aiding, NoAid, Aids, Passes, Waiting, NoWait, Hangs, HangLooks, Leaving}
+use Rattle.kc_machine_effects.specs.Stands.{Stand, stand, Turn, At, Meets, Ends, Leaves, Passing, NoPass, Over, Aiding, NoAid, Aids, Passes, Waiting, NoWait, Hangs, HangLooks, Leaving, Swapping, Swaps}
 use Rattle.kc_machine_steps.specs.declared.pass.PassStep.{PassStep}
 use Rattle.kc_machine_steps.specs.declared.pass.PassStep.TheVariants.{Install, Check, CheckHold, CheckStatus, CheckFirst, CheckDrop, Decide, Release}
 use Rattle.kc_machine_steps.specs.declared.task.Event.{Event}
@@ -105,6 +107,18 @@ history_after t w v s place (Over h m xs turn) =
     then inserted (record { place = place_or t.clock place; mode = m; entry = entry_for s xs }) t.history
     else t.history
 
+-- ---- swaps: the event that changes the word inserts the entry, at its own number
+
+abbrev pub swap_line : Seen → ℕ → Line
+swap_line r after = record { seen = r; put = Some after }
+
+abbrev pub swap_entry : ℕ → ℕ → Seen → ℕ → Entry
+swap_entry caller number r after = record { caller = caller; number = number; footprint = footprint_of (swap_line r after ∷ []) }
+
+abbrev pub history_by_swap : ℕ → ℕ → ℕ → Swapping → Swapping → History → History
+history_by_swap clock caller number (Swaps r after swap.Exchange) (Swaps x y swap.Wake) h = inserted (record { place = clock; mode = All; entry = swap_entry caller number r after }) h
+history_by_swap clock caller number _ _ h = h
+
 -- ---- hangs
 
 -- the last bit was set: from the bits to the looks
@@ -154,7 +168,8 @@ traced t e =
     record {
       machine = m;
       clock = t.clock + 1;
-      history = history_after (now t) t.machine.world m.world (stand s) x.place (stand s).pass;
+      history = history_by_swap t.clock s.caller (m.seats k).calls (stand s).swap (stand (m.seats k)).swap
+          (history_after (now t) t.machine.world m.world (stand s) x.place (stand s).pass);
       shadows = put t.shadows k (shadow_after (now t) e s (m.seats k) x);
     }
 
@@ -184,12 +199,13 @@ first_store o l = record { version = o.version l; value = o.value l }
 
 -- ---- honest schedules
 
--- each read of a commit that begins is known to the history then
+-- each read of a commit or of a swap that begins is known to the history then
 abbrev pub BeginsHonestly : Store → History → Event → Type 0
 BeginsHonestly s h (Begin k (task.Commit f m)) = (r : Seen) → Reads f r → IsKnown s h r
 BeginsHonestly s h (Begin k (task.Look l)) = Unit {0}
 BeginsHonestly s h (Begin k (task.Hang reads)) = Unit {0}
 BeginsHonestly s h (Begin k (task.Leave reads)) = Unit {0}
+BeginsHonestly s h (Begin k (task.Swap r after)) = IsKnown s h r
 BeginsHonestly s h (Step k) = Unit {0}
 BeginsHonestly s h (Halt k) = Unit {0}
 

@@ -61,3 +61,7 @@ waited = hangs 1 (seen 0 0 5) 2 ++ decided
 -- a commit begins that guesses a version
 abbrev pub guessed : List Event
 guessed = commits 0 (change 0 1 7 9) 1
+
+-- seat 1 is blocked on location 0, which seat 0 then swaps from a value, and stands before its wake
+abbrev pub swapped : ℕ → List Event
+swapped before = hangs 1 (seen 0 0 5) 2 ++ Begin 0 (task.Swap (seen 0 0 before) 7) ∷ steps 0 1

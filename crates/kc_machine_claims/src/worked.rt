@@ -8,7 +8,7 @@ ghost use Rattle.kc_machine.specs.Machine.{run};
 ghost use Rattle.kc_machine_claims.specs.Histories.{ending, IsLegalHistory};
 ghost use Rattle.kc_machine_claims.specs.Traces.{trace, first_store, IsHonest};
 ghost use Rattle.kc_machine_claims.specs.Claims.{stands_for, HasPut, OwnerHolds, SomeoneReleases, IsCovered, WakeIsToCome, alone, comparing};
-ghost use Rattle.kc_machine_claims.specs.Worked.{seen, change, placed, two, installed, decided, overtaken, helped, waited, guessed, started};
+ghost use Rattle.kc_machine_claims.specs.Worked.{seen, change, placed, two, installed, decided, overtaken, helped, waited, guessed, started, swapped};
 
 /// An entry stands at the place of its pass, here the seventh event, once the eighth decides; from then on the reference
 /// in its word stands for the new value.
@@ -51,6 +51,16 @@ pub fn a_wait_by_hand()
     ensures blocking { ((trace two waited).shadows 1).blocking ≡ seen 0 0 5 ∷ [] }
     ensures to_come { WakeIsToCome (run two waited) (seen 0 0 5) }
     ensures covered { IsCovered two waited 1 (seen 0 0 5) }
+{}
+
+/// A swap that finds what it saw enters the history as a commit of one put, at its own event, here the fifth; its wake is
+/// then to come. One that finds another value enters nothing.
+pub fn a_swap_by_hand()
+    ensures made { (trace two (swapped 5)).history ≡ placed 4 0 (change 0 0 5 7) ∷ [] }
+    ensures stands { stands_for (run two (swapped 5)).world ((run two (swapped 5)).world.word 0) ≡ record { version = 1; value = 7 } }
+    ensures to_come { WakeIsToCome (run two (swapped 5)) (seen 0 0 5) }
+    ensures missed { (trace two (swapped 6)).history ≡ [] }
+    ensures told { ((run two (swapped 6)).seats 0).told ≡ Some (told.Failed 0) }
 {}
 
 /// One put alone costs two compare-exchanges from the start to the decision.

@@ -1,5 +1,5 @@
 -- A halt is a path of effects.
-use Rattle.std.proofs.Common.{◌≡◌, ℕ, true, false, refl, sym, ap, if◌then◌else◌, None}
+use Rattle.std.proofs.Common.{◌≡◌, ℕ, true, false, refl, sym, ap, ◌∙◌, if◌then◌else◌, None}
 use Rattle.kc_machine_steps.specs.declared.look.Look.{Look}
 use Rattle.kc_machine_steps.specs.declared.look.LookStep.{LookStep}
 use Rattle.kc_machine_words.specs.declared.words.Handle.{Handle}
@@ -26,7 +26,11 @@ use Rattle.kc_machine_commits.specs.Halts.{unowned, halted_at, halted_own}
 use Rattle.kc_machine_effects.proofs.OwnSteps.{path_to}
 use Rattle.kc_machine_effects.specs.Effects
 use Rattle.kc_machine_effects.specs.Effects.{Path, stay, onward}
-use Rattle.kc_machine_effects.specs.Stands.{Stand, stand, works, commits, resting, owns, Looks, Waits}
+use Rattle.kc_machine_effects.specs.Stands.{Stand, stand, works, commits, resting, owns, Looks, Waits, Swaps}
+use Rattle.kc_machine_steps.specs.Swaps.{ends_at_once}
+use Rattle.kc_machine_steps.specs.declared.swap.Swap.{Swap}
+use Rattle.kc_machine_steps.specs.declared.swap.SwapStep.{SwapStep}
+use Rattle.kc_machine_steps.specs.declared.swap.SwapStep.TheVariants as swap
 use Rattle.kc_machine_steps.specs.Looks.{halts_at_once, look_halted_at}
 
 module _ (k : ℕ) (w : World) (s : Seat) where
@@ -132,3 +136,9 @@ module _ (k : ℕ) (w : World) (s : Seat) where
       go (work.Commit c) e = commit_halts c c.stage
       go (work.Hang h) e = path_to k (ap (works (resting s)) (sym e)) stay
       go (work.Leave l) e = path_to k (ap (works (resting s)) (sym e)) stay
+      go (work.Swap x) e = at x x.step e refl
+        where
+          at : (x : Swap) (step : SwapStep) → s.work ≡ work.Swap x → x.step ≡ step → Path k w (record (resting s) { swap = Swaps x.seen x.after step }) w (stand (if ends_at_once step then ended s else s))
+          at x swap.Exchange e q = one (Effects.halt_swap (resting s))
+          at x swap.Wake e q = path_to k (ap (λ n. record (resting s) { swap = Swaps x.seen x.after n }) (sym q) ∙ ap (works (resting s)) (sym e)) stay
+          at x (swap.Signal owed) e q = path_to k (ap (λ n. record (resting s) { swap = Swaps x.seen x.after n }) (sym q) ∙ ap (works (resting s)) (sym e)) stay

@@ -45,3 +45,31 @@ pub commit_leaves : (t : Stand) (c : Commit) (x : Stage) → Leaves t (commits t
 commit_leaves t c (Scan d worn) = (refl, refl)
 commit_leaves t c (Take d g) = (refl, refl)
 commit_leaves t c (Own h step) = own_leaves t c h step
+
+-- a commit swaps nothing
+aid_unswapped : (t : Stand) (r : Reference) (c : Aided) (a : AidStep) → (aids t r c a).swap ≡ t.swap
+aid_unswapped t r c aid.Hold = refl
+aid_unswapped t r c aid.Status = refl
+aid_unswapped t r c (aid.First p) = refl
+aid_unswapped t r c (aid.Second p f) = refl
+aid_unswapped t r c (aid.Release p x) = refl
+aid_unswapped t r c aid.Owner = refl
+aid_unswapped t r c aid.LoadFirst = refl
+aid_unswapped t r c (aid.LoadSecond f) = refl
+aid_unswapped t r c (aid.Pass p) = refl
+aid_unswapped t r c (aid.Leave o) = refl
+aid_unswapped t r c (aid.Drop stray o) = refl
+
+pub commit_unswapped : (t : Stand) (c : Commit) (x : Stage) → (commits t c.intent c.copy x).swap ≡ t.swap
+commit_unswapped t c (Scan d worn) = refl
+commit_unswapped t c (Take d g) = refl
+commit_unswapped t c (Own h (own.Aid j r a)) = aid_unswapped (record t { own = Waits h c.intent j }) r c.copy a
+commit_unswapped t c (Own h (own.Pass p)) = refl
+commit_unswapped t c (Own h own.FillOwner) = refl
+commit_unswapped t c (Own h (own.FillFirst j)) = refl
+commit_unswapped t c (Own h (own.FillSecond j)) = refl
+commit_unswapped t c (Own h own.Start) = refl
+commit_unswapped t c (Own h own.Abandon) = refl
+commit_unswapped t c (Own h (own.Wake j owed)) = refl
+commit_unswapped t c (Own h (own.Signal owed)) = refl
+commit_unswapped t c (Own h (own.Drop p)) = refl

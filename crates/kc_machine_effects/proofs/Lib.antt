@@ -5,6 +5,7 @@ pub mod PassSteps
 pub mod AidSteps
 pub mod LookSteps
 pub mod OwnSteps
+pub mod SwapSteps
 pub mod WaitSteps
 pub mod SeatSteps
 pub mod HaltSteps

@@ -56,6 +56,7 @@ same_told s = go s.work
     go (work.Commit c) = (commit_leaves (record (resting s) { halted = c.halted }) c c.stage).0
     go (work.Hang h) = hung (resting s) h h.step
     go (work.Leave l) = refl
+    go (work.Swap l) = refl
 
 pub scans_hold : (o : Opening) (schedule : List Event) → WornScansHold (run o schedule)
 scans_hold o schedule = λ k d worn e i l q m b. let r = pool_after o schedule in (r.search k l).scans d worn e (ap place q) m b

@@ -10,6 +10,11 @@ use Rattle.kc_machine_steps.specs.declared.look.LookStep.{LookStep}
 use Rattle.kc_machine_steps.specs.declared.look.LookStep.TheVariants as look
 use Rattle.kc_machine_steps.specs.declared.look.LookNext.{LookNext}
 use Rattle.kc_machine_steps.specs.declared.look.LookNext.TheVariants as looking
+use Rattle.kc_machine_steps.specs.Swaps.{swaps_on}
+use Rattle.kc_machine_steps.specs.Swaps.{onward_of as onward_of_swap}
+use Rattle.kc_machine_steps.specs.declared.swap.Swap.{Swap}
+use Rattle.kc_machine_steps.specs.declared.swap.SwapNext.{SwapNext}
+use Rattle.kc_machine_steps.specs.declared.swap.SwapNext.TheVariants as swapping
 use Rattle.kc_machine_commits.specs.Nexts.{Next}
 use Rattle.kc_machine_commits.specs.declared.commit.Commit.{Commit}
 use Rattle.kc_machine_commits.specs.Nexts as next
@@ -27,6 +32,7 @@ use Rattle.kc_machine.specs.declared.seat.Seat.{Seat}
 use Rattle.kc_machine_commits.specs.Commits.{gone_on, onward_by}
 use Rattle.kc_machine_effects.proofs.LookSteps.{looks, saw_unheld}
 use Rattle.kc_machine_effects.proofs.OwnSteps.{commit_steps, next_commit, path_to}
+use Rattle.kc_machine_effects.proofs.SwapSteps.{swap_steps, next_swap}
 use Rattle.kc_machine_effects.proofs.WaitSteps.{hang_steps, next_hang, leave_steps, leaves}
 use Rattle.kc_machine_effects.specs.Effects
 use Rattle.kc_machine_effects.specs.Effects.{Path, stay, onward}
@@ -58,6 +64,11 @@ module _ (k : ℕ) (m : State) (s : Seat) where
   leave_gone l j None = refl
   leave_gone l j (Some x) = refl
 
+  swap_gone : (x : Swap) (n : SwapNext) → next_swap (resting s) x.seen x.after n ≡ stand (after (record s { work = work.Swap (swaps_on x n) }) (onward_of_swap n))
+  swap_gone x (swapping.Goes step) = refl
+  swap_gone x (swapping.Takes step) = refl
+  swap_gone x (swapping.Tells t) = refl
+
   -- a look that was halted is at its drop
   unheld : (l : Loc) (step : LookStep) → Drops step → look_hold (Looks l (look_next l step (found_at m.world (look_access l step)))) ≡ NoHold
   unheld l (look.Drop r stray o) d = saw_unheld l o
@@ -80,6 +91,7 @@ module _ (k : ℕ) (m : State) (s : Seat) where
   work_steps (work.Commit c) w f y = path_to k (commit_gone _ _) (commit_steps k m (resting s) c w y)
   work_steps (work.Hang h) w f y = path_to k (hang_gone h _) (hang_steps k m (resting s) h.reads.items h.step y)
   work_steps (work.Leave l) w f y = path_to k (leave_gone l _ _) (leave_steps k m (resting s) l.reads.items l.step y)
+  work_steps (work.Swap x) w f y = path_to k (swap_gone x _) (swap_steps k m (resting s) x.seen x.after x.step y)
 
   -- the effects of a step
   pub step_path : FitsAndFormed s → possible m (access_of s) ≡ true → Path k m.world (stand s) (touched m.world (access_of s)) (stand (answer_of s (found_at m.world (access_of s))))
@@ -99,6 +111,7 @@ module _ (k : ℕ) (w : World) (s : Seat) where
       go true q = same work.Idle e
       go false q = onward (Effects.begin_hang (resting s) reads.items q) stay
   begins e (task.Leave reads) = onward (Effects.begin_leave (resting s) reads.items) stay
+  begins e (task.Swap r after) = onward (Effects.begin_swap (resting s) r after) stay
 
   -- the effects of the beginning of a task
   pub begin_path : (t : Task) → Path k w (stand s) w (stand (begun s t))
@@ -110,3 +123,4 @@ module _ (k : ℕ) (w : World) (s : Seat) where
       go (work.Commit c) e = same (work.Commit c) e
       go (work.Hang h) e = same (work.Hang h) e
       go (work.Leave l) e = same (work.Leave l) e
+      go (work.Swap x) e = same (work.Swap x) e

@@ -38,15 +38,18 @@ use Rattle.kc_machine_commits.specs.declared.commit.OwnStep.TheVariants as own
 use Rattle.kc_machine.specs.declared.hang.HangStep.TheVariants as hang
 use Rattle.kc_machine.specs.declared.hang.LeaveStep.TheVariants as leave
 use Rattle.kc_machine.specs.Machine.{World}
-use Rattle.kc_machine.specs.Words.{bits_after}
+use Rattle.kc_machine.specs.Words.{bits_after, word_is}
 use Rattle.kc_machine_commits.specs.Commits.{after_scan, fill_next, finished, wake_next, owed_next, told_of}
 use Rattle.kc_machine_commits.specs.Halts.{halted_pass, halted_aid_pass, halted_aid, halted_own}
 use Rattle.kc_machine_effects.specs.Changes.{with_word, with_awaiters, with_status, with_owner, with_first, with_second, with_signal, taken, held_once_more, held_once_less}
 use Rattle.kc_machine_effects.specs.Holds.{look_hold as hold_of_look}
 use Rattle.kc_machine_effects.specs.Holds.{NoHold, dropping, step_hold, turn_hold, aid_step_hold, look_step_hold}
-use Rattle.kc_machine_effects.specs.Stands.{NoOwn, Owns, Runs, Waits, Turn, At, Meets, Ends, Leaves, NoPass, Over, NoAid, Aids, Passes, NoLook, Looks, Scanning, NoScan, Scans, Takes, Hangs, HangLooks, Leaving, Stand, idle, turn, location_of, met_by_look_step}
+use Rattle.kc_machine_effects.specs.Stands.{NoOwn, Owns, Runs, Waits, Turn, At, Meets, Ends, Leaves, NoPass, Over, NoAid, Aids, Passes, NoLook, Looks, Scanning, NoScan, Scans, Takes, Hangs, HangLooks, Leaving, Swaps, Stand, idle, turn, location_of, met_by_look_step}
 use Rattle.kc_machine_steps.specs.Aids.{copy_owner, copy_line}
 use Rattle.kc_machine_steps.specs.Lines.{one_more, after_line, first_of, second_of, joined, resolved_version, resolved_value, word_of, lines_of, is_installed}
+use Rattle.kc_machine_steps.specs.Swaps.{seen_word, word_after}
+use Rattle.kc_machine_steps.specs.declared.swap.SwapStep.TheVariants as swap
+use Rattle.kc_machine_steps.specs.declared.swap.TheConstants.{MOST_SWAPS}
 use Rattle.kc_machine_steps.specs.Looks.{reference_of, seen_at, seen_as, again_or_saw}
 use Rattle.kc_machine_steps.specs.Passes.{status, fits, refers_to, from_install, from_check, from_release, decided_as, agrees_or_fails, check_drop_next}
 
@@ -76,6 +79,7 @@ pub data Effect (k : ℕ) : World → Stand → World → Stand → Type 0 where
   begin_commit : {w : World} (s : Stand) (f : Footprint) (m : Mode) → Effect k w (idle s) w (record (idle s) { told = None; scan = Scans (record { mode = m; lines = record { items = lines_of f } }) s.first 0 })
   begin_hang : {w : World} (s : Stand) (reads : List Seen) → s.blocked ≡ false → Effect k w (idle s) w (record (idle s) { told = None; wait = Hangs reads (hang.Set 0) })
   begin_leave : {w : World} (s : Stand) (reads : List Seen) → Effect k w (idle s) w (record (idle s) { told = None; wait = Leaving reads leave.Unsignal })
+  begin_swap : {w : World} (s : Stand) (r : Seen) (after : ℕ) → Effect k w (idle s) w (record (idle s) { told = None; swap = Swaps r after swap.Exchange })
   -- the search for a descriptor
   scan_free : {w : World} (s : Stand) {i : Intent} {d n : ℕ} → (w.control d).generation < LAST_GENERATION → (w.control d).holds ≡ 0 → Effect k w (record s { scan = Scans i d n }) w (record s { scan = Takes i d (w.control d).generation })
   scan_held : {w : World} (s : Stand) {i : Intent} {d n : ℕ} → (w.control d).generation < LAST_GENERATION → (w.control d).holds ≢ 0 → Effect k w (record s { scan = Scans i d n }) w (record s { scan = Scans i (after_scan s.descriptors d) 0 })
@@ -161,9 +165,17 @@ pub data Effect (k : ℕ) : World → Stand → World → Stand → Type 0 where
   leave_unsignals : {w : World} (s : Stand) {reads : List Seen} → Effect k w (record s { wait = Leaving reads leave.Unsignal }) (with_signal w s.caller false) (record s { wait = Leaving reads (leave.Clear 0); blocked = false })
   leave_clears : {w : World} (s : Stand) {reads : List Seen} {j : ℕ} (x : Seen) → slice_get reads j ≡ Some x → Effect k w (record s { wait = Leaving reads (leave.Clear j) }) (with_awaiters w x.loc.0 (bits_after (bits.Clear s.caller) (w.awaiters x.loc.0))) (record s { wait = Leaving reads (leave.Clear (after_line j)); blocked = false })
   leave_ends : {w : World} (s : Stand) {reads : List Seen} {j : ℕ} → slice_get reads j ≡ None → Effect k w (record (idle s) { wait = Leaving reads (leave.Clear j) }) w (record (ends s told.Free) { blocked = false })
+  -- a swap
+  swap_takes : {w : World} (s : Stand) {r : Seen} {after : ℕ} → w.word r.loc.0 ≡ seen_word r → s.calls < MOST_SWAPS → Effect k w (record (idle s) { swap = Swaps r after swap.Exchange }) (with_word w r.loc.0 (word_after r after)) (record (idle s) { swap = Swaps r after swap.Wake; calls = one_more s.calls })
+  swap_unfit : {w : World} (s : Stand) {r : Seen} {after v y : ℕ} → w.word r.loc.0 ≡ Plain v y → word_is (Plain v y) (seen_word r) ≡ false → Effect k w (record (idle s) { swap = Swaps r after swap.Exchange }) w (ends s (told.Failed 0))
+  swap_gives_up : {w : World} (s : Stand) {r : Seen} {after : ℕ} → Effect k w (record (idle s) { swap = Swaps r after swap.Exchange }) w (ends s (told.Crossed 0))
+  swap_wakes : {w : World} (s : Stand) {r : Seen} {after : ℕ} → Effect k w (record (idle s) { swap = Swaps r after swap.Wake }) (with_awaiters w r.loc.0 0) (record (idle s) { swap = Swaps r after (swap.Signal (w.awaiters r.loc.0)) })
+  swap_signals : {w : World} (s : Stand) {r : Seen} {after owed : ℕ} → Effect k w (record (idle s) { swap = Swaps r after (swap.Signal owed) }) (with_signal w (count_trailing_zeros 64 owed) true) (record (idle s) { swap = Swaps r after (swap.Signal (bit_and owed (owed - 1))) })
+  swap_ends : {w : World} (s : Stand) {r : Seen} {after : ℕ} → Effect k w (record (idle s) { swap = Swaps r after (swap.Signal 0) }) w (ends s (told.Succeeded s.calls))
   -- halts
   halt_scan : {w : World} (s : Stand) {b : Bool} {x : Scanning} → x ≢ NoScan → Effect k w (record (idle s) { halted = b; scan = x }) w (ends s told.Halted)
   halt_look : {w : World} (s : Stand) {l : Loc} {step : LookStep} (r : Reference) (stray : Bool) → look_step_hold step ≡ dropping r stray → met_by_look_step step ≡ Some r → Effect k w (looked s l step) w (record s { halted = true; look = Looks l (looking.Goes (look.Drop r stray None)) })
+  halt_swap : {w : World} (s : Stand) {r : Seen} {after : ℕ} → Effect k w (record (idle s) { swap = Swaps r after swap.Exchange }) w (ends s told.Halted)
   halt_commit : {w : World} {s : Stand} → Effect k w s w (record s { halted = true })
   halt_fill : {w : World} (s : Stand) {h : Handle} {i : Intent} {step : OwnStep} → s.halted ≡ true → halted_own step ≡ own.Abandon → Effect k w (record s { own = Owns h i step }) w (record s { own = Owns h i own.Abandon })
   halt_pass : {w : World} (s : Stand) {h e : Handle} {i : Intent} {m : Mode} {xs : List Line} {p : PassStep} (q : PassStep) → s.halted ≡ true → q ≡ halted_pass (checked.Decide Halted) (Decide Halted) p → step_hold q ≡ step_hold p → Effect k w (record s { own = Runs h i; pass = Over e m xs (At p) }) w (record s { own = Runs h i; pass = Over e m xs (At q) })

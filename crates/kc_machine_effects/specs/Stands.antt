@@ -30,6 +30,7 @@ use Rattle.kc_machine.specs.declared.hang.HangStep.TheVariants as hang
 use Rattle.kc_machine.specs.Works.{Work}
 use Rattle.kc_machine.specs.declared.hang.LeaveStep.{LeaveStep}
 use Rattle.kc_machine.specs.Works as work
+use Rattle.kc_machine_steps.specs.declared.swap.SwapStep.{SwapStep}
 use Rattle.kc_machine.specs.declared.seat.Seat.{Seat}
 
 -- the seat's own descriptor: it is filled, woken for or dropped; its pass runs; its pass waits at a line while another's is aided
@@ -83,12 +84,17 @@ pub data Waiting : Type 0 where
   HangLooks : List Seen → ℕ → Waiting
   Leaving : List Seen → LeaveStep → Waiting
 
+-- a swap
+pub data Swapping : Type 0 where
+  NoSwap : Swapping
+  Swaps : Seen → (after : ℕ) → SwapStep → Swapping
+
 pub record Stand : Type 0 where
   pub caller : ℕ
   pub descriptors : ℕ
   -- where its searches begin
   pub first : ℕ
-  -- how many descriptors it has taken
+  -- how many descriptors it has taken, and words swapped
   pub calls : ℕ
   pub blocked : Bool
   pub told : Option Told
@@ -99,10 +105,11 @@ pub record Stand : Type 0 where
   pub look : Looking
   pub scan : Scanning
   pub wait : Waiting
+  pub swap : Swapping
 
 -- no task runs
 abbrev pub idle : Stand → Stand
-idle s = record s { halted = false; own = NoOwn; pass = NoPass; aid = NoAid; look = NoLook; scan = NoScan; wait = NoWait }
+idle s = record s { halted = false; own = NoOwn; pass = NoPass; aid = NoAid; look = NoLook; scan = NoScan; wait = NoWait; swap = NoSwap }
 
 abbrev pub resting : Seat → Stand
 resting s = record {
@@ -119,6 +126,7 @@ resting s = record {
   look = NoLook;
   scan = NoScan;
   wait = NoWait;
+  swap = NoSwap;
 }
 
 abbrev pub turn : PassStep → PassNext → Turn
@@ -156,6 +164,7 @@ works t (work.Look l) = record t { halted = l.halted; look = Looks l.loc (lookin
 works t (work.Commit c) = commits (record t { halted = c.halted }) c.intent c.copy c.stage
 works t (work.Hang h) = hangs t h.reads.items h.step
 works t (work.Leave l) = record t { wait = Leaving l.reads.items l.step }
+works t (work.Swap x) = record t { swap = Swaps x.seen x.after x.step }
 
 abbrev pub stand : Seat → Stand
 stand s = works (resting s) s.work

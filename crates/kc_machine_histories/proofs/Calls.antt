@@ -38,6 +38,7 @@ use Rattle.kc_machine_effects.specs.Holds.{Hold, NoHold, Proper, own_hold}
 use Rattle.kc_machine_effects.specs.Stands.{stand, works, resting, commits, hangs}
 use Rattle.kc_machine_pool.proofs.Statuses.{owed_started}
 use Rattle.kc_machine_pool.specs.Owners.{fills, is_filling}
+use Rattle.kc_machine_steps.specs.Swaps.{swap_onward, ends_at_once}
 use Rattle.kc_machine_traces.proofs.Answers.{moved, seat_cases}
 use Rattle.kc_machine_traces.proofs.Onward.{pass_started, aid_started, woken_started, halted_same}
 use Rattle.kc_machine_traces.proofs.Others.{event_else}
@@ -80,6 +81,7 @@ own_is s = go s.work
     go (work.Commit c) = stages c c.stage
     go (work.Hang h) = waits h.reads.items h.step
     go (work.Leave l) = (refl, refl)
+    go (work.Swap l) = (refl, refl)
 
 -- ---- from one to the next
 
@@ -179,6 +181,7 @@ module _ (s : Seat) where
       go (work.Commit c) e = after_next (loaded c f) c.stage _ (stage_on (loaded c f) c.stage f)
       go (work.Hang h) e = unowned_on NoHold false _ refl (hang_onward h f)
       go (work.Leave l) e = unowned_on NoHold false _ refl (leave_onward l)
+      go (work.Swap x) e = unowned_on NoHold false _ refl (swap_onward s.calls x f)
 
   halt_on : SeatOn (work_hold s.work) (work_fills s.work) (halted s)
   halt_on = go s.work refl
@@ -192,12 +195,17 @@ module _ (s : Seat) where
       look_or y true e = not_owned NoHold refl
       look_or y false e = not_owned (work_hold y) e
 
+      swap_or : (b : Bool) → SeatOn NoHold false s → SeatOn NoHold false (if b then ended s else s)
+      swap_or true e = not_owned NoHold refl
+      swap_or false e = e
+
       go : (x : Work) → s.work ≡ x → SeatOn (work_hold x) (work_fills x) (halted_by s x)
       go work.Idle e = not_owned (work_hold s.work) (ap work_hold e)
       go (work.Look l) e = look_or _ (halts_at_once l.step) refl
       go (work.Commit c) e = stages c c.stage
       go (work.Hang h) e = not_owned (work_hold s.work) (ap work_hold e)
       go (work.Leave l) e = not_owned (work_hold s.work) (ap work_hold e)
+      go (work.Swap x) e = swap_or (ends_at_once x.step) (not_owned (work_hold s.work) (ap work_hold e))
 
   begun_on : (t : Task) → SeatOn (work_hold s.work) (work_fills s.work) (begun s t)
   begun_on t = go (is_idle s.work) refl
@@ -211,6 +219,7 @@ module _ (s : Seat) where
           at true = owned_still (work_hold s.work) (work_fills s.work) n
           at false = not_owned NoHold refl
       starts (task.Leave reads) = not_owned NoHold refl
+      starts (task.Swap reads after) = not_owned NoHold refl
 
       go : (b : Bool) → is_idle s.work ≡ b → SeatOn (work_hold s.work) (work_fills s.work) (if b then begun_idle s t else s)
       go true e = starts t

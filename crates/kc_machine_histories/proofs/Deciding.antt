@@ -11,6 +11,9 @@ use Rattle.kc_machine_claims.specs.Traces.{Trace, is_success, is_placed, decides
 use Rattle.kc_machine_effects.proofs.Tests.{status_active}
 use Rattle.kc_machine_effects.specs.Stands.{Passing, NoPass, Over, Turn, At, Meets, Ends, Leaves, Stand, stand}
 use Rattle.kc_machine_histories.proofs.Passes.{Touches, Quits, pass_touches, step_quits}
+use Rattle.kc_machine_traces.proofs.Swapping.{swap_cases, swap_passless}
+use Rattle.kc_machine_traces.specs.Swaps.{SwapOf, takes}
+use Rattle.kc_machine_steps.specs.declared.swap.SwapStep.TheVariants as swap
 use Rattle.kc_machine_steps.specs.Passes.{status, pass_access, install_access, check_access, release_at}
 use Rattle.kc_model.specs.declared.footprint.Line.{Line}
 use Rattle.kc_machine_steps.specs.declared.pass.PassStep.{PassStep}
@@ -153,6 +156,10 @@ module _ (t : Trace) (e : Event) (P : History → Type 0) where
   abbrev pub Undecided : Type 0
   Undecided = (h : Handle) (m : Mode) (xs : List Line) (u : Turn) → st.pass ≡ Over h m xs u → decides t.machine.world v h ≡ false
 
+  -- it swaps no word
+  abbrev pub Calm : Type 0
+  Calm = takes (stand (t.machine.seats k)).swap (stand ((event_of t.machine e).seats k)).swap ≡ false
+
   some_place : (o : Option ℕ) → is_some o ≡ true → o ≡ Some (place_or t.clock o)
   some_place None e = absurd (cc)
   some_place (Some p) e = refl
@@ -160,19 +167,20 @@ module _ (t : Trace) (e : Event) (P : History → Type 0) where
   same_handle : {h g : Handle} {m n : Mode} {xs ys : List Line} {u r : Turn} → Over h m xs u ≡ Over g n ys r → h ≡ g
   same_handle q = cc
 
-  -- where a seat with a placed pass has a place
-  pub history_cases : (Undecided → P t.history) → ((x : Placed) → Entrance t e x → P (inserted x t.history)) → is_some (t.shadows k).place ≡ is_placed st.pass → P (traced t e).history
-  history_cases same more has = go st.pass refl
+  -- where a seat with a placed pass has a place; a seat that swaps has no pass
+  pub history_cases : (Calm → Undecided → P t.history) → ((x : Placed) → Entrance t e x → P (inserted x t.history)) → ((x : Placed) → SwapOf t.machine e t.clock x → P (inserted x t.history)) → is_some (t.shadows k).place ≡ is_placed st.pass → P (traced t e).history
+  history_cases same more swaps has = swap_cases P t.machine e t.clock (history_after (now t) t.machine.world v st (t.shadows k).place st.pass) (λ z. go z st.pass refl)
+      (λ x y. subst (λ p. P (inserted x (history_after (now t) t.machine.world v st (t.shadows k).place p))) (sym (swap_passless (t.machine.seats k) y.seen y.after swap.Exchange y.works)) (swaps x y))
     where
-      go : (p : Passing) → st.pass ≡ p → P (history_after (now t) t.machine.world v st (t.shadows k).place p)
-      go NoPass q = same (λ h m xs u y. let z : NoPass ≡ Over h m xs u = sym q ∙ y in absurd (cc))
-      go (Over h m xs turn) q = at (decides t.machine.world v h) refl
+      go : Calm → (p : Passing) → st.pass ≡ p → P (history_after (now t) t.machine.world v st (t.shadows k).place p)
+      go z NoPass q = same z (λ h m xs u y. let z : NoPass ≡ Over h m xs u = sym q ∙ y in absurd (cc))
+      go z (Over h m xs turn) q = at (decides t.machine.world v h) refl
         where
           x : Placed
           x = record { place = place_or t.clock (t.shadows k).place; mode = m; entry = entry_for st xs }
 
           at : (b : Bool) → decides t.machine.world v h ≡ b → P (if b then inserted x t.history else t.history)
-          at false d = same (λ g n ys u y. ap (decides t.machine.world v) (same_handle (sym y ∙ q)) ∙ d)
+          at false d = same z (λ g n ys u y. ap (decides t.machine.world v) (same_handle (sym y ∙ q)) ∙ d)
           at true d =
               let y = by_event t.machine h m xs e turn q d in
               let z = q ∙ ap (Over h m xs) y.turn in

@@ -1,9 +1,9 @@
 -- The history moves by decisions alone, each for an owner.
-use Rattle.std.proofs.Common.{arith, ◌≡◌, ◌<◌, ◌⊎◌, inl, inr, ◌++◌, Bool, true, false, List, [], ◌∷◌, Some, refl, sym, ap, subst, ◌∙◌}
+use Rattle.std.proofs.Common.{arith, ◌≡◌, ◌<◌, ◌⊎◌, inl, inr, ◌++◌, Bool, true, false, List, [], ◌∷◌, length, Some, refl, sym, ap, subst, ◌∙◌}
 use Rattle.std.specs.Prelude.{nat_lt}
 use Rattle.std.proofs.lemmas.Bool.{ltb-true}
 use Rattle.kc_machine.specs.Machine.{World, State, Opening, event_of, seat_of, run}
-use Rattle.kc_machine_claims.proofs.Follows.{trace_runs}
+use Rattle.kc_machine_claims.proofs.Follows.{trace_runs, trace_counts}
 use Rattle.kc_machine_claims.specs.Histories.{History, Placed, inserted}
 use Rattle.kc_machine_claims.specs.Traces.{Trace, decides, caller_for, number_for, entry_for, trace}
 use Rattle.kc_machine_effects.specs.Holds.{Proper, own_hold}
@@ -21,6 +21,7 @@ use Rattle.kc_machine_traces.proofs.Entries.{Entered, Enters, enters}
 use Rattle.kc_machine_traces.proofs.Joins.{run-append, trace-append}
 use Rattle.kc_machine_traces.proofs.Others.{run_shape, event_out}
 use Rattle.kc_machine_traces.specs.Entries.{own_intent}
+use Rattle.kc_machine_traces.specs.Swaps.{SwapOf, takes}
 use Rattle.kc_machine_words.specs.declared.words.Handle.{Handle}
 use Rattle.kc_machine_words.specs.declared.words.Mode.{Mode}
 use Rattle.kc_machine_words.specs.declared.words.Phase.TheVariants.{Active, Succeeded}
@@ -74,21 +75,28 @@ module _ (o : Opening) (es : List Event) (e : Event) where
         footprint = ap (λ (w : Entry). w.footprint) z;
       }
 
+  pub swap_of_run : (x : Placed) → SwapOf (trace o es).machine e (trace o es).clock x → SwapOf (run o es) e (length es) x
+  swap_of_run x y = subst (λ c. SwapOf (run o es) e c x) (trace_counts o es) (subst (λ (m : State). SwapOf m e (trace o es).clock x) (trace_runs o es) y)
+
   -- the pass of the event's seat decides nothing for success
   abbrev pub Undecides : Type 0
   Undecides = (h : Handle) (m : Mode) (xs : List Line) (u : Turn) → st.pass ≡ Over h m xs u → decides (run o es).world v h ≡ false
 
+  abbrev pub Calm : Type 0
+  Calm = takes (stand ((run o es).seats (seat_of e))).swap (stand ((event_of (run o es) e).seats (seat_of e))).swap ≡ false
+
   -- what holds of the history that stays, and of it with the entry, holds behind the event
   module _ (P : History → Type 0) where
-    pub history_moves_by : (Undecides → P (trace o es).history) → ((x : Placed) → Decision o es e x → P (inserted x (trace o es).history)) → P (trace o (es ++ e ∷ [])).history
-    history_moves_by same more = subst P (sym (ap (λ (t : Trace). t.history) (trace-append o es (e ∷ []))))
+    pub history_moves_by : (Calm → Undecides → P (trace o es).history) → ((x : Placed) → Decision o es e x → P (inserted x (trace o es).history)) → ((x : Placed) → SwapOf (run o es) e (length es) x → P (inserted x (trace o es).history)) → P (trace o (es ++ e ∷ [])).history
+    history_moves_by same more swaps = subst P (sym (ap (λ (t : Trace). t.history) (trace-append o es (e ∷ []))))
         (history_cases (trace o es) e P
-        (λ u. same (λ h m xs t q. ap (λ (n : State). decides n.world (event_of n e).world h) (sym (trace_runs o es)) ∙ u h m xs t (ap (λ (n : State). (stand (n.seats (seat_of e))).pass) (trace_runs o es) ∙ q)))
-        (λ x n. more x (decision_of x n)) ((placing o es).seats (seat_of e)))
+        (λ z u. same (sym (ap (λ (n : State). takes (stand (n.seats (seat_of e))).swap (stand ((event_of n e).seats (seat_of e))).swap) (trace_runs o es)) ∙ z) (λ h m xs t q. ap (λ (n : State). decides n.world (event_of n e).world h) (sym (trace_runs o es)) ∙ u h m xs t (ap (λ (n : State). (stand (n.seats (seat_of e))).pass) (trace_runs o es) ∙ q)))
+        (λ x n. more x (decision_of x n)) (λ x y. swaps x (swap_of_run x y)) ((placing o es).seats (seat_of e)))
 
-    pub history_moves : P (trace o es).history → ((x : Placed) → Decision o es e x → P (inserted x (trace o es).history)) → P (trace o (es ++ e ∷ [])).history
-    history_moves same more = history_moves_by (λ u. same) more
+    pub history_moves : P (trace o es).history → ((x : Placed) → Decision o es e x → P (inserted x (trace o es).history)) → ((x : Placed) → SwapOf (run o es) e (length es) x → P (inserted x (trace o es).history)) → P (trace o (es ++ e ∷ [])).history
+    history_moves same more swaps = history_moves_by (λ z u. same) more swaps
 
   pub moves_by_decision : MovesByDecision o es e
-  moves_by_decision = history_moves (λ h. (h ≡ (trace o es).history) ⊎ ((x : Placed) × Decision o es e x × (h ≡ inserted x (trace o es).history)))
-      (inl refl) (λ x d. inr (x, d, refl))
+  moves_by_decision = history_moves
+      (λ h. (h ≡ (trace o es).history) ⊎ ((x : Placed) × Decision o es e x × (h ≡ inserted x (trace o es).history)) ⊎ ((x : Placed) × SwapOf (run o es) e (length es) x × (h ≡ inserted x (trace o es).history)))
+      (inl refl) (λ x d. inr (inl (x, d, refl))) (λ x y. inr (inr (x, y, refl)))

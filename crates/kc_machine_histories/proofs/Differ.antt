@@ -1,4 +1,5 @@
 -- No call has two entries.
+use Rattle.std.proofs.Common.{length}
 use Rattle.std.proofs.Common.{arith, ◌≡◌, ◌<◌, ◌≤◌, ◌+◌, ◌⊎◌, inl, inr, ℕ, zero, suc, ◌++◌, Bool, true, false, List, [], ◌∷◌, refl, sym, ap, subst, ◌∙◌, if◌then◌else◌, Contains}
 use Rattle.std.specs.Prelude.{nat_lt}
 use Rattle.std.proofs.lemmas.Bool.{ltb-true, lt-ltb}
@@ -8,7 +9,7 @@ use Rattle.kc_machine.specs.Schedules.{IsSchedule}
 use Rattle.kc_machine_claims.specs.Histories.{History, Placed, inserted, EntriesDiffer}
 use Rattle.kc_machine_claims.specs.Traces.{is_success, trace}
 use Rattle.kc_machine_effects.specs.Holds.{NoHold, Proper, own_hold}
-use Rattle.kc_machine_effects.specs.Stands.{stand}
+use Rattle.kc_machine_effects.specs.Stands.{NoOwn, stand}
 use Rattle.kc_machine_histories.proofs.Calls.{own_goes}
 use Rattle.kc_machine_histories.proofs.Decisions.{history_moves}
 use Rattle.kc_machine_histories.proofs.Filters.{found}
@@ -20,6 +21,9 @@ use Rattle.kc_machine_ranges.proofs.Runs.{called}
 use Rattle.kc_machine_steps.specs.Lines.{one_more}
 use Rattle.kc_machine_steps.specs.Passes.{status}
 use Rattle.kc_machine_steps.specs.declared.task.Event.{Event}
+use Rattle.kc_machine_traces.proofs.Swapping.{swap_ownless_behind}
+use Rattle.kc_machine_traces.proofs.Entries.{swap_caller}
+use Rattle.kc_machine_traces.specs.Swaps.{SwapOf}
 use Rattle.kc_machine_traces.proofs.Joins.{run-append, every, made_parts}
 use Rattle.kc_machine_traces.proofs.Numbers.{numbers_fit}
 use Rattle.kc_machine_traces.proofs.Others.{run_shape, event_out}
@@ -79,9 +83,17 @@ module _ (o : Opening) (es : List Event) (e : Event) (w : IsSchedule o es) (old 
     abbrev Below : History → Type 0
     Below = NumbersBelow k (n.seats k).calls
 
+    -- who owns a life doesn't swap
+    swaps_not : (x : Placed) → SwapOf m e (length es) x → x.entry.caller ≡ k → ⊥
+    swaps_not x d y =
+        let i = sym (swap_caller o es e (length es) x d) ∙ y in
+        let own : (stand (n.seats (seat_of e))).own ≡ NoOwn = swap_ownless_behind m e (length es) x d in
+        let z : NoHold ≡ Proper h.descriptor h.generation = sym (ap own_hold own) ∙ ap (λ j. own_hold (stand (n.seats j)).own) i ∙ h.owns in
+        absurd (cc)
+
     -- it goes on with its call
     goes_on : OwnsLife m k h.descriptor h.generation → (n.seats k).calls ≡ (m.seats k).calls → (is_filling (stand (n.seats k)).own ≡ true → is_filling (stand (m.seats k)).own ≡ true) → Below (trace o (es ++ e ∷ [])).history
-    goes_on owns c f = history_moves o es e Below kept more
+    goes_on owns c f = history_moves o es e Below kept more (λ x d z i. inserted_contains x (trace o es).history z (λ y. y.entry.caller ≡ k → y.entry.number < (n.seats k).calls) (λ y. absurd (swaps_not x d y)) kept i)
       where
         before : Undone m k
         before = at (is_filling (stand (m.seats k)).own) refl h.not_yet
@@ -116,7 +128,7 @@ module _ (o : Opening) (es : List Event) (e : Event) (w : IsSchedule o es) (old 
 
     -- it is a new call
     takes : own_hold (stand (m.seats k)).own ≡ NoHold → (n.seats k).calls ≡ one_more (m.seats k).calls → Below (trace o (es ++ e ∷ [])).history
-    takes none c = history_moves o es e Below kept more
+    takes none c = history_moves o es e Below kept more (λ x d z i. inserted_contains x (trace o es).history z (λ y. y.entry.caller ≡ k → y.entry.number < (n.seats k).calls) (λ y. absurd (swaps_not x d y)) kept i)
       where
         above : (m.seats k).calls < one_more (m.seats k).calls
         above = one_above (m.seats k).calls (called o es w k (let a = (run_shape o es).2 in omega arith))
@@ -190,6 +202,16 @@ are_new o = every (λ es. IsSchedule o es → AreNew o es) step (λ w. record { 
               let u : Undone (run o es) k = record { descriptor = d.handle.descriptor; generation = d.handle.generation; owns = d.owns; not_yet = inr (ap (λ (z : Status). is_success z.phase) d.was) } in
               let b = a.calls k (let z = (run_shape o es).2 in let l = d.caller in omega arith) u y c (sym s.0) in
               let n = d.number in
+              let q = s.1 in
+              omega arith) a.apart)
+              (λ x d. apart_inserted x (trace o es).history (λ y c s.
+              let k = seat_of e in
+              let caller = swap_caller o es e (length es) x d in
+              let fits = All-contains (λ z. z.entry.number ≤ ((run o es).seats z.entry.caller).calls) (trace o es).history y (numbers_fit o es) c in
+              let same : ((run o es).seats y.entry.caller).calls ≡ ((run o es).seats k).calls = ap (λ j. ((run o es).seats j).calls) (sym s.0 ∙ caller) in
+              let number : x.entry.number ≡ one_more ((run o es).seats k).calls = ap (λ (z : Placed). z.entry.number) d.is in
+              let low = d.low in
+              let above = one_above ((run o es).seats k).calls (omega arith) in
               let q = s.1 in
               omega arith) a.apart);
         }

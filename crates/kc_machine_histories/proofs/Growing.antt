@@ -1,4 +1,5 @@
 -- Where nothing later touches what is installed, histories grow, and stay legal.
+use Rattle.kc_machine.specs.Machine.{run}
 use Rattle.std.proofs.Common.{arith, ◌≡◌, ◌<◌, ◌≤◌, ◌⊎◌, inl, inr, ℕ, zero, suc, ◌++◌, ◌==◌, Bool, true, false, List, [], ◌∷◌, length, take, map, Option, None, Some, refl, sym, ap, subst, ◌∙◌, Contains, cond}
 use Rattle.std.specs.Option.{is_some}
 use Rattle.std.specs.List.{filter_map}
@@ -15,9 +16,9 @@ use Rattle.kc_machine_histories.proofs.Decisions.{history_moves, moves_by_decisi
 use Rattle.kc_machine_histories.proofs.Growth.{known_same, known_or_end, end_known, one_value}
 use Rattle.kc_machine_histories.proofs.Insertions.{ending_same, ending_last, at_new, grows_same, grows_on, grows_inserted}
 use Rattle.kc_machine_histories.proofs.Legality.{installed_inserted}
-use Rattle.kc_machine_histories.proofs.Places.{rises, new_place}
+use Rattle.kc_machine_histories.proofs.Places.{rises, below, new_place}
 use Rattle.kc_machine_histories.specs.Decisions.{Decision, MovesByDecision}
-use Rattle.kc_machine_histories.specs.Insertions.{put_by, IsLastWherePut, NoneInstallsAbove}
+use Rattle.kc_machine_histories.specs.Insertions.{put_by, IsBelowPlace, IsLastWherePut, IsNewPlace, NoneInstallsAbove, NonePutsAbove}
 use Rattle.kc_machine_histories.specs.Later.{NoneTouchesAbove, DecidesSoon, NothingLaterTouches, NothingLaterTouchesAlong}
 use Rattle.kc_machine_steps.specs.Lines.{has_put, is_installed}
 use Rattle.kc_model.specs.declared.footprint.Line.{Line}
@@ -28,6 +29,7 @@ use Rattle.kc_machine_traces.proofs.Known.{known_stays, versions_rise}
 use Rattle.kc_machine_words.specs.declared.words.Mode.{Mode}
 use Rattle.kc_machine_words.specs.declared.words.Mode.TheVariants.{All, Light}
 use Rattle.kc_machine_words.specs.declared.words.Phase.TheVariants.{Succeeded}
+use Rattle.kc_machine_traces.specs.Swaps.{SwapOf}
 use Rattle.kc_model.proofs.Stores.{Contains-first, Contains-later}
 use Rattle.kc_model.specs.Footprint.{Reads, put_at}
 use Rattle.kc_model.specs.Store.{Store, cell_after}
@@ -139,11 +141,38 @@ module _ (o : Opening) (es : List Event) (e : Event) (f : NothingLaterTouches o 
     pub legal_by : IsLegalWhereInstalled s old → FindsInstalled x (ending s old) → IsLegalWhereInstalled s (inserted x old)
     legal_by l g = installed_inserted s x old (rises o es) (new_place o es (seat_of e) x.place d.place) l (found g) unread
 
-  pub grows_once : Grows old (trace o (es ++ e ∷ [])).history
-  grows_once = history_moves o es e (Grows old) (grows_same old) grows_by
+  -- no entry has a place above that of a swap
+  module _ (x : Placed) (d : SwapOf (run o es) e (length es) x) where
+    below_swap : IsBelowPlace x.place old
+    below_swap = subst (λ p. IsBelowPlace p old) (sym (ap (λ (z : Placed). z.place) d.is)) (below o es)
 
-  pub legal_once : IsLegalWhereInstalled s old → ((x : Placed) → Decision o es e x → FindsInstalled x (ending s old)) → IsLegalWhereInstalled s (trace o (es ++ e ∷ [])).history
-  legal_once l g = history_moves o es e (IsLegalWhereInstalled s) l (λ x d. legal_by x d l (g x d))
+    none_puts : (l : ℕ) → NonePutsAbove x.place old l
+    none_puts l y c b = let a = below_swap y c in absurd (omega arith)
+
+    swap_place : IsNewPlace x.place old
+    swap_place y c q = let a = below_swap y c in omega arith
+
+    pub swap_grows : Grows old (inserted x old)
+    swap_grows = grows_inserted x old (rises o es) (λ l q. none_puts l)
+
+    pub swap_ends_by : (l : ℕ) → ending s (inserted x old) l ≡ cell_after (put_by x l) (ending s old l)
+    swap_ends_by l = ending_last s x old l (rises o es) (none_puts l)
+
+    pub swap_known_by : (r : Seen) → IsKnown s (inserted x old) r → IsKnown s old r ⊎ (ending s (inserted x old) r.loc.0 ≡ cell_of r)
+    swap_known_by r k = known_or_end s x old r (rises o es) (none_puts r.loc.0) k
+
+    -- at its place stands what the whole history makes
+    pub swap_at : (l : ℕ) → at_place s old x.place l ≡ ending s old l
+    swap_at l = at_new s old x.place l (none_puts l) swap_place
+
+    pub swap_legal_by : IsLegalWhereInstalled s old → FindsInstalled x (ending s old) → IsLegalWhereInstalled s (inserted x old)
+    swap_legal_by l g = installed_inserted s x old (rises o es) swap_place l (λ r c i. swap_at r.loc.0 ∙ g r c i) (λ y c b r a i. let z = below_swap y c in absurd (omega arith))
+
+  pub grows_once : Grows old (trace o (es ++ e ∷ [])).history
+  grows_once = history_moves o es e (Grows old) (grows_same old) grows_by swap_grows
+
+  pub legal_once : IsLegalWhereInstalled s old → ((x : Placed) → Decision o es e x → FindsInstalled x (ending s old)) → ((x : Placed) → SwapOf (run o es) e (length es) x → FindsInstalled x (ending s old)) → IsLegalWhereInstalled s (trace o (es ++ e ∷ [])).history
+  legal_once l g q = history_moves o es e (IsLegalWhereInstalled s) l (λ x d. legal_by x d l (g x d)) (λ x d. swap_legal_by x d l (q x d))
 
 -- ---- a schedule
 
@@ -212,7 +241,8 @@ module _ (o : Opening) where
 
         go : MovesByDecision o es e → IsKnown first (trace o (es ++ e ∷ [])).history r → Stood (es ++ e ∷ []) r
         go (inl q) k = stood_before (g (subst (λ h. IsKnown first h r) q k))
-        go (inr (x, d, q)) k = at x q (known_last x d (subst (λ h. IsKnown first h r) q k))
+        go (inr (inr (x, d, q))) k = at x q (swap_known_by o es e f x d r (subst (λ h. IsKnown first h r) q k))
+        go (inr (inl (x, d, q))) k = at x q (known_last x d (subst (λ h. IsKnown first h r) q k))
           where
             known_last : (x : Placed) → Decision o es e x → IsKnown first (inserted x (trace o es).history) r → IsKnown first (trace o es).history r ⊎ (ending first (inserted x (trace o es).history) r.loc.0 ≡ cell_of r)
             known_last x d k = known_by o es e f x d r k

@@ -1,4 +1,4 @@
--- In an honest schedule a commit knew its reads when it began.
+-- In an honest schedule a commit, and a swap, knew its reads when it began.
 use Rattle.std.proofs.Common.{arith, ◌≡◌, ◌<◌, ◌⊎◌, inl, inr, ℕ, zero, suc, ◌++◌, false, List, [], ◌∷◌, map, Option, None, Some, refl, sym, ap, subst, ◌∙◌, Contains}
 use Rattle.std.specs.Option.{is_some}
 use Rattle.kc_machine_steps.specs.declared.line.Intent.{Intent}
@@ -38,24 +38,35 @@ use Rattle.kc_machine_traces.specs.Entries.{by, own_intent}
 
 -- ---- the task that a seat's shadow names
 
-abbrev pub Knew : Opening → ℕ → List Event → Type 0
-Knew o k es = (f : Footprint) (m : Mode) → ((trace o es).shadows k).task ≡ Some (task.Commit f m) → (r : Seen) → Reads f r → IsKnown (first_store o) ((trace o es).shadows k).begun.history r
+-- it began honestly
+abbrev Began : Opening → ℕ → List Event → Type 0
+Began o k es = (t : Task) → ((trace o es).shadows k).task ≡ Some t → BeginsHonestly (first_store o) ((trace o es).shadows k).begun.history (Begin k t)
 
-knew_on : (o : Opening) (k : ℕ) (l : k < o.callers) (es : List Event) (e : Event) → BeginsHonestly (first_store o) (trace o es).history e → Knew o k es → Knew o k (es ++ e ∷ [])
-knew_on o k l es e b old f m q r c = go (moves o es k l e)
+began_on : (o : Opening) (k : ℕ) (l : k < o.callers) (es : List Event) (e : Event) → BeginsHonestly (first_store o) (trace o es).history e → Began o k es → Began o k (es ++ e ∷ [])
+began_on o k l es e b old t q = go (moves o es k l e)
   where
     same : {u t : Task} → ◌≡◌ {A = Option Task} (Some u) (Some t) → u ≡ t
     same q = cc
 
-    go : Stays o es e k l ⊎ Starts o es e k l → IsKnown (first_store o) ((trace o (es ++ e ∷ [])).shadows k).begun.history r
-    go (inl y) = subst (λ (x : Moment). IsKnown (first_store o) x.history r) (sym y.begun) (old f m (sym y.task ∙ q) r c)
+    go : Stays o es e k l ⊎ Starts o es e k l → BeginsHonestly (first_store o) ((trace o (es ++ e ∷ [])).shadows k).begun.history (Begin k t)
+    go (inl y) = subst (λ (x : Moment). BeginsHonestly (first_store o) x.history (Begin k t)) (sym y.begun) (old t (sym y.task ∙ q))
     go (inr y) =
-        let u : y.asked ≡ task.Commit f m = same (sym y.task ∙ q) in
-        let h : BeginsHonestly (first_store o) (trace o es).history (Begin k (task.Commit f m)) = subst (BeginsHonestly (first_store o) (trace o es).history) (y.event ∙ ap (Begin k) u) b in
-        subst (λ (x : Moment). IsKnown (first_store o) x.history r) (sym y.begun) (h r c)
+        let u : y.asked ≡ t = same (sym y.task ∙ q) in
+        let h : BeginsHonestly (first_store o) (trace o es).history (Begin k t) = subst (BeginsHonestly (first_store o) (trace o es).history) (y.event ∙ ap (Begin k) u) b in
+        subst (λ (x : Moment). BeginsHonestly (first_store o) x.history (Begin k t)) (sym y.begun) h
+
+began : (o : Opening) (k : ℕ) (l : k < o.callers) (es : List Event) → IsHonest o es → Began o k es
+began o k l = every (λ es. IsHonest o es → Began o k es) (λ es e f h. let p = honest_parts o es (e ∷ []) h in began_on o k l es e p.1.0 (f p.0)) (λ h t q. absurd (cc))
+
+-- a commit knew each of its reads, and a swap the one that it has
+abbrev pub Knew : Opening → ℕ → List Event → Type 0
+Knew o k es = (f : Footprint) (m : Mode) → ((trace o es).shadows k).task ≡ Some (task.Commit f m) → (r : Seen) → Reads f r → IsKnown (first_store o) ((trace o es).shadows k).begun.history r
 
 pub knew : (o : Opening) (k : ℕ) (l : k < o.callers) (es : List Event) → IsHonest o es → Knew o k es
-knew o k l = every (λ es. IsHonest o es → Knew o k es) (λ es e f h. let p = honest_parts o es (e ∷ []) h in knew_on o k l es e p.1.0 (f p.0)) (λ h f m q. absurd (cc))
+knew o k l es h f m q = began o k l es h (task.Commit f m) q
+
+pub knew_swapped : (o : Opening) (k : ℕ) (l : k < o.callers) (es : List Event) → IsHonest o es → (r : Seen) (after : ℕ) → ((trace o es).shadows k).task ≡ Some (task.Swap r after) → IsKnown (first_store o) ((trace o es).shadows k).begun.history r
+knew_swapped o k l es h r after q = began o k l es h (task.Swap r after) q
 
 -- ---- what a seat is to do is what it was asked
 
@@ -86,6 +97,7 @@ at_work s i = go s.work refl
     go (work.Commit c) e q = stages c c.stage e q
     go (work.Hang h) e q = waits h.reads.items h.step q
     go (work.Leave l) e q = absurd (cc)
+    go (work.Swap l) e q = absurd (cc)
 
 -- a line of a footprint is one of its reads
 read_of_line : (ps : List Put) (rs : List Seen) (x : Line) → Contains (map (line_of ps) rs) x → Contains rs x.seen
@@ -109,6 +121,7 @@ knew_its_reads o es w h k i x l q c = go ((trace o es).shadows k).task refl
     by_task (task.Look v) e z = absurd z
     by_task (task.Hang reads) e z = absurd z
     by_task (task.Leave reads) e z = absurd z
+    by_task (task.Swap v after) e z = absurd z
 
     go : (t : Option Task) → ((trace o es).shadows k).task ≡ t → IsKnown (first_store o) ((trace o es).shadows k).begun.history x.seen
     go None e = let z = ((answers_when_done o es k).busy busy).1 in let u : is_some ((trace o es).shadows k).task ≡ false = ap is_some e in absurd (cc)

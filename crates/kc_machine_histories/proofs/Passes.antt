@@ -109,6 +109,7 @@ pass_is s = go s.work
     go (work.Commit c) = stages c.halted c.intent c.copy c.stage
     go (work.Hang h) = waits h.reads.items h.step
     go (work.Leave l) = refl
+    go (work.Swap l) = refl
 
 -- ---- what it touches
 
@@ -157,6 +158,7 @@ pass_touches s = subst (λ p. Touches p (access_of s)) (sym (pass_is s)) (go s.w
     go (work.Commit c) = stages c c.stage
     go (work.Hang h) = tt
     go (work.Leave l) = tt
+    go (work.Swap l) = tt
 
 -- ---- the life that it goes over is held
 
@@ -208,6 +210,7 @@ pass_holds s = go s.work
     go (work.Commit c) = stages c c.stage
     go (work.Hang h) = waits h.reads.items h.step
     go (work.Leave l) = tt
+    go (work.Swap l) = tt
 
 -- ---- what follows it
 
@@ -314,6 +317,7 @@ module _ (s : Seat) where
       go (work.Commit c) e = subst (Keeps (stage_pass c.intent c.copy c.stage)) (sym (next_is (loaded c f) _)) (stage_keeps c c.stage f)
       go (work.Hang h) e = tt
       go (work.Leave l) e = tt
+      go (work.Swap l) e = tt
 
   -- behind the access of a decision
   own_quits : (c : Commit) (h : Handle) (p : PassStep) (w : World) → Quits (Over h c.intent.mode c.intent.lines.items (At p)) (own_pass c.intent c.copy h (after_own_pass c.intent (pass_next h c.intent.mode c.intent.lines.items p (found_at w (pass_access h c.intent.lines.items p)))))
@@ -369,6 +373,7 @@ module _ (s : Seat) where
       go (work.Commit c) e = subst (Quits (stage_pass c.intent c.copy c.stage)) (sym (next_is (loaded c (found_at w (work_access s.caller s.calls (work.Commit c)))) _)) (stage_quits c c.stage w)
       go (work.Hang h) e = tt
       go (work.Leave l) e = tt
+      go (work.Swap l) e = tt
 
   pub step_quits : (w : World) → Quits (stand s).pass (stand (answer_of s (found_at w (access_of s)))).pass
   step_quits w = subst (λ p. Quits p (stand (answer_of s (found_at w (access_of s)))).pass) (sym (pass_is s)) (subst (Quits (work_pass s.work)) (sym (pass_is (answer_of s (found_at w (access_of s))))) (answer_quits w))
@@ -421,6 +426,7 @@ module _ (s : Seat) where
       go (work.Commit c) e = stages c c.stage
       go (work.Hang h) e = tt
       go (work.Leave l) e = tt
+      go (work.Swap l) e = tt
 
   -- what has begun has no pass and owns nothing
   pub begun_fresh : (t : Task) → is_idle s.work ≡ true → IsFresh (stand (begun_idle s t))
@@ -434,11 +440,13 @@ module _ (s : Seat) where
       idle (work.Commit c) e = absurd (cc)
       idle (work.Hang h) e = absurd (cc)
       idle (work.Leave l) e = (refl, refl)
+      idle (work.Swap l) e = (refl, refl)
 
       go : (b : Bool) → IsFresh (stand (if b then s else working s (hanging reads.items)))
       go true = idle s.work e
       go false = (refl, refl)
   begun_fresh (task.Leave reads) e = (refl, refl)
+  begun_fresh (task.Swap r after) e = (refl, refl)
 
   begun_keeps : (t : Task) → Keeps (stand s).pass (stand (begun s t)).pass
   begun_keeps t = go (is_idle s.work) refl

@@ -22,6 +22,8 @@ use Rattle.kc_machine_steps.specs.declared.task.Event.TheVariants.{Begin, Step, 
 use Rattle.kc_machine_steps.specs.declared.task.Task.{Task}
 use Rattle.kc_machine_traces.proofs.Answers.{moved, seat_cases}
 use Rattle.kc_machine_traces.proofs.Joins.{run-append, trace-append}
+use Rattle.kc_machine_traces.proofs.Swapping.{swap_passless_behind}
+use Rattle.kc_machine_traces.specs.Swaps.{SwapOf}
 use Rattle.kc_machine_traces.proofs.Moments.{begun_moment}
 use Rattle.kc_machine_traces.proofs.Others.{event_else}
 use Rattle.kc_machine_words.specs.declared.words.Handle.{Handle}
@@ -189,6 +191,23 @@ module _ (t : Trace) (e : Event) (h : Placing t) where
           absurd (cc)
       go (inr z) = let l = h.below j y.place n.place in let c = z.1 in omega arith
 
+  -- nor is that of a swap's, whose seat has no pass
+  swap_apart : (y : Placed) → SwapOf t.machine e t.clock y → (k p : ℕ) → ((traced t e).shadows k).place ≡ Some p → y.place ≢ p
+  swap_apart y n k p q i = go (stood k p q).was
+    where
+      place : y.place ≡ t.clock
+      place = ap (λ (z : Placed). z.place) n.is
+
+      go : Was k p → ⊥
+      go (inl z) = let l = h.below k p z in let c = place in omega arith
+      go (inr z) =
+          let a = (stood k p q).placed z.0 in
+          let b : is_placed (stand r).pass ≡ false = ap is_placed (swap_passless_behind t.machine e t.clock y n) in
+          absurd (cc)
+
+  swap_new : (y : Placed) → SwapOf t.machine e t.clock y → IsNewPlace y.place t.history
+  swap_new y n w c i = let l = h.lower w c in let p = ap (λ (z : Placed). z.place) n.is in omega arith
+
   pub placing_on : Placing (traced t e)
   placing_on = record {
     seats = has_place_on;
@@ -196,12 +215,14 @@ module _ (t : Trace) (e : Event) (h : Placing t) where
     begun = begun_now;
     reached = λ k. let a = reached_now k in omega arith;
     apart = apart_now;
-    entries = λ k p q. history_cases t e (IsNewPlace p) (λ u. new_before k p q)
+    entries = λ k p q. history_cases t e (IsNewPlace p) (λ z u. new_before k p q)
         (λ y n z c. inserted_contains y t.history z (λ w. w.place ≢ p) (entry_apart y n k p q) (new_before k p q) c)
+        (λ y n z c. inserted_contains y t.history z (λ w. w.place ≢ p) (swap_apart y n k p q) (new_before k p q) c)
         (h.seats j);
-    rises = history_cases t e RisesByPlace (λ u. h.rises) (λ y n. rises_inserted y t.history h.rises (h.entries j y.place n.place)) (h.seats j);
-    lower = history_cases t e (IsBelowPlace (t.clock + 1)) (λ u y c. let l = h.lower y c in omega arith)
+    rises = history_cases t e RisesByPlace (λ z u. h.rises) (λ y n. rises_inserted y t.history h.rises (h.entries j y.place n.place)) (λ y n. rises_inserted y t.history h.rises (swap_new y n)) (h.seats j);
+    lower = history_cases t e (IsBelowPlace (t.clock + 1)) (λ z u y c. let l = h.lower y c in omega arith)
         (λ y n z c. inserted_contains y t.history z (λ w. w.place < t.clock + 1) (let l = h.below j y.place n.place in omega arith) (λ w d. let l = h.lower w d in omega arith) c)
+        (λ y n z c. inserted_contains y t.history z (λ w. w.place < t.clock + 1) (let p = ap (λ (z : Placed). z.place) n.is in omega arith) (λ w d. let l = h.lower w d in omega arith) c)
         (h.seats j);
   }
 

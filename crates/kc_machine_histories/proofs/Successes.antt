@@ -6,7 +6,9 @@ use borrow.Author.Tests.{eqb-true, eqb-false, eq-eqb}
 use Rattle.kc_machine_steps.specs.declared.task.Task.{Task}
 use Rattle.kc_machine_words.specs.declared.words.Mode.{Mode}
 use Rattle.kc_model.proofs.Stores.{Contains-first, Contains-later}
-use Rattle.kc_model.specs.declared.footprint.Footprint.{Footprint}
+use Rattle.kc_model.specs.declared.footprint.Entry.{Entry}
+use Rattle.kc_machine_words.specs.declared.words.Mode.TheVariants as mode
+use Rattle.kc_machine_traces.proofs.Moments.{begun_moment}
 use Rattle.kc_machine_steps.specs.declared.task.Task.TheVariants as task
 use Rattle.kc_machine_steps.specs.declared.task.Told.TheVariants as told
 use Rattle.kc_machine.proofs.Functions.{put_here, put_else}
@@ -15,9 +17,9 @@ use Rattle.kc_machine.specs.Schedules.{IsWellMadeTask, BeginsWellMade, IsSchedul
 use Rattle.kc_machine.specs.Seats.{is_idle, begun, begun_idle, working, hanging}
 use Rattle.kc_machine.specs.declared.seat.Seat.{Seat}
 use Rattle.kc_machine_claims.proofs.Follows.{trace_runs}
-use Rattle.kc_machine_claims.specs.Claims.{SuccessesHaveTheirEntry}
+use Rattle.kc_machine_claims.specs.Claims.{SuccessesHaveTheirEntry, SwapsHaveTheirEntry}
 use Rattle.kc_machine_claims.specs.Histories.{History, Placed}
-use Rattle.kc_machine_claims.specs.Traces.{Trace, Shadow, Moment, listens, place_after, blocking_after, begins, with_task, shadow_after, now, traced, trace}
+use Rattle.kc_machine_claims.specs.Traces.{swap_entry, Trace, Shadow, Moment, listens, place_after, blocking_after, begins, with_task, shadow_after, now, traced, trace}
 use Rattle.kc_machine_effects.specs.Stands.{stand}
 use Rattle.kc_machine_histories.proofs.Begun.{entry_behind}
 use Rattle.kc_machine_histories.proofs.Decisions.{history_moves}
@@ -35,7 +37,7 @@ use Rattle.kc_machine_traces.proofs.Others.{run_shape, event_in, words_kept, his
 use Rattle.kc_machine_traces.proofs.Outcomes.{LeftAfter, one_more, begins_left}
 use Rattle.kc_machine_traces.specs.Entries.{by}
 use Rattle.kc_machine_traces.specs.Moments.{BeginsNothing}
-use Rattle.kc_machine_traces.specs.Outcomes.{GainsTheCall, GainsAsTold}
+use Rattle.kc_machine_traces.specs.Outcomes.{IsEntryOf, GainsTheCall, GainsAsTold}
 use Rattle.kc_machine_traces.specs.Parts.{IsNoStep}
 
 -- ---- what an event makes of a seat's task
@@ -95,6 +97,7 @@ asked_idle s (task.Hang reads) i = go s.blocked i
     go true i = refl
     go false i = absurd (cc)
 asked_idle s (task.Leave reads) i = absurd (cc)
+asked_idle s (task.Swap r after) i = absurd (cc)
 
 module _ (o : Opening) (es : List Event) (k : ℕ) (l : k < o.callers) where
   abbrev s : Seat
@@ -198,6 +201,8 @@ module _ (o : Opening) (k : ℕ) (l : k < o.callers) (es : List Event) (e : Even
       behind = history_moves o es e (λ g. (x : Placed) → Contains g x → x.entry.caller ≡ k → Contains ((trace o es).shadows k).begun.history x ⊎ (began o es k ≤ x.place)) h.behind
           (λ y d x c. inserted_contains y (trace o es).history x (λ z. z.entry.caller ≡ k → Contains ((trace o es).shadows k).begun.history z ⊎ (began o es k ≤ z.place))
           (λ i. inr (subst (λ j. began o es j ≤ y.place) i (entry_behind o es e y d))) h.behind c)
+          (λ y d x c. inserted_contains y (trace o es).history x (λ z. z.entry.caller ≡ k → Contains ((trace o es).shadows k).begun.history z ⊎ (began o es k ≤ z.place))
+          (λ i. inr (let a = (begun_moment o es k).reached in let p = ap (λ (z : Placed). z.place) d.is in omega arith)) h.behind c)
 
   starts : All (BeginsWellMade o.locations) (e ∷ []) → Starts o es e k l → Kept o k l e'
   starts w y = record {
@@ -254,7 +259,14 @@ not_twice (y ∷ a) x b f (suc n, i, q) = not_twice a x b f.1 (n, omega arith, q
 
 -- ---- successes
 
-module _ (o : Opening) (es : List Event) (w : IsSchedule o es) (k n : ℕ) (f : Footprint) (m : Mode) (l : k < o.callers) (asked : ((trace o es).shadows k).task ≡ Some (task.Commit f m)) (said : ((run o es).seats k).told ≡ Some (told.Succeeded n)) where
+entry_caller : (k n : ℕ) (t : Task) (x : Placed) → IsEntryOf k n t x → x.entry.caller ≡ k
+entry_caller k n (task.Commit f m) x e = ap (λ (y : Entry). y.caller) e.1
+entry_caller k n (task.Swap r after) x e = ap (λ (y : Entry). y.caller) e.1
+entry_caller k n (task.Look l) x e = absurd e
+entry_caller k n (task.Hang reads) x e = absurd e
+entry_caller k n (task.Leave reads) x e = absurd e
+
+module _ (o : Opening) (es : List Event) (w : IsSchedule o es) (k n : ℕ) (u : Task) (l : k < o.callers) (asked : ((trace o es).shadows k).task ≡ Some u) (said : ((run o es).seats k).told ≡ Some (told.Succeeded n)) where
   abbrev h : History
   h = (trace o es).history
 
@@ -268,9 +280,9 @@ module _ (o : Opening) (es : List Event) (w : IsSchedule o es) (k n : ℕ) (f : 
       go true q = refl
       go false q = let z : Some (told.Succeeded n) ≡ None = sym said ∙ ((answers_when_done o es k).busy q).0 in absurd (cc)
 
-  gained : GainsTheCall k n (task.Commit f m) (by k a) (by k h)
-  gained = subst (λ t. GainsAsTold k (task.Commit f m) t (by k a) (by k h)) said
-      (ended_left (run o es).world k (task.Commit f m) ((run o es).seats k) (by k a) (by k h) idle ((kept o k l es w).left (task.Commit f m) asked))
+  gained : GainsTheCall k n u (by k a) (by k h)
+  gained = subst (λ t. GainsAsTold k u t (by k a) (by k h)) said
+      (ended_left (run o es).world k u ((run o es).seats k) (by k a) (by k h) idle ((kept o k l es w).left u asked))
 
   abbrev x : Placed
   x = gained.entry
@@ -282,7 +294,7 @@ module _ (o : Opening) (es : List Event) (w : IsSchedule o es) (k n : ℕ) (f : 
   stands = All-contains (Contains h) (by k h) x (All-filter (λ y. y.entry.caller == k) (Contains h) h (All-contains_itself h)) among
 
   caller : x.entry.caller ≡ k
-  caller = ap (λ e. e.caller) gained.is.1
+  caller = entry_caller k n u x gained.is
 
   late : began o es k ≤ x.place
   late = go ((kept o k l es w).behind x stands caller)
@@ -293,12 +305,17 @@ module _ (o : Opening) (es : List Event) (w : IsSchedule o es) (k n : ℕ) (f : 
           absurd (not_twice gained.front x gained.back (subst AreApart gained.after (filter_apart (λ y. y.entry.caller == k) h (entries_apart o es w))) (subst (λ g. Contains g x) gained.before twice))
       go (inr q) = q
 
-  is : x ≡ record { place = x.place; mode = m; entry = record { caller = k; number = n; footprint = f } }
-  is = let y = (kept o k l es w).made (task.Commit f m) asked in
-      λ i. record { place = x.place; mode = gained.is.0 i; entry = (gained.is.1 ∙ ap (λ g. record { caller = k; number = n; footprint = g }) (lines_say f y.0)) i }
-
-  success : (p : ℕ) × Contains h (record { place = p; mode = m; entry = record { caller = k; number = n; footprint = f } }) × All (λ y. y.place < p) a
-  success = (x.place, subst (Contains h) is stands, λ j d i. let b = begun_below o es k (get_or a j d) (Contains-get_or a j d i) in let c = late in omega arith)
+  -- it stands behind all that stood there
+  success : (m : Mode) (e : Entry) → x.mode ≡ m → x.entry ≡ e → (p : ℕ) × Contains h (record { place = p; mode = m; entry = e }) × All (λ y. y.place < p) a
+  success m e q r = (x.place, subst (Contains h) (λ i. record { place = x.place; mode = q i; entry = r i }) stands, λ j d i. let b = begun_below o es k (get_or a j d) (Contains-get_or a j d i) in let c = late in omega arith)
 
 pub successes_have_entries : (o : Opening) (es : List Event) → IsSchedule o es → SuccessesHaveTheirEntry o es
-successes_have_entries o es w k n f m l asked said = success o es w k n f m l asked said
+successes_have_entries o es w k n f m l asked said =
+    let is = (gained o es w k n (task.Commit f m) l asked said).is in
+    let y = (kept o k l es w).made (task.Commit f m) asked in
+    success o es w k n (task.Commit f m) l asked said m (record { caller = k; number = n; footprint = f }) is.0 (is.1 ∙ ap (λ g. record { caller = k; number = n; footprint = g }) (lines_say f y.0))
+
+pub swaps_have_entries : (o : Opening) (es : List Event) → IsSchedule o es → SwapsHaveTheirEntry o es
+swaps_have_entries o es w k n r after l asked said =
+    let is = (gained o es w k n (task.Swap r after) l asked said).is in
+    success o es w k n (task.Swap r after) l asked said mode.All (swap_entry k n r after) is.0 is.1

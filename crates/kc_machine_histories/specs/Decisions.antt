@@ -1,5 +1,5 @@
 -- How one event moves the history.
-use Rattle.std.specs.Prelude.{◌≡◌, ℕ, ◌<◌, ◌⊎◌, ◌++◌, List, [], ◌∷◌, false, Some}
+use Rattle.std.specs.Prelude.{◌≡◌, ℕ, ◌<◌, ◌⊎◌, ◌++◌, List, [], ◌∷◌, false, Some, length}
 use Rattle.kc_machine.specs.Machine.{Opening, run, seat_of}
 use Rattle.kc_machine_claims.specs.Histories.{Placed, inserted, footprint_of}
 use Rattle.kc_machine_claims.specs.Traces.{trace}
@@ -11,6 +11,7 @@ use Rattle.kc_model.specs.declared.footprint.Line.{Line}
 use Rattle.kc_machine_steps.specs.declared.pass.PassStep.TheVariants.{Decide}
 use Rattle.kc_machine_steps.specs.declared.task.Event.{Event}
 use Rattle.kc_machine_traces.specs.Entries.{own_intent}
+use Rattle.kc_machine_traces.specs.Swaps.{SwapOf}
 use Rattle.kc_machine_words.specs.declared.words.Handle.{Handle}
 use Rattle.kc_machine_words.specs.declared.words.Phase.TheVariants.{Active, Succeeded}
 
@@ -35,9 +36,9 @@ pub record Decision (o : Opening) (es : List Event) (e : Event) (x : Placed) : T
   pub number : x.entry.number ≡ ((run o es).seats x.entry.caller).calls
   pub footprint : x.entry.footprint ≡ footprint_of lines
 
--- the history stays, or has one entry more, at its place
+-- the history stays, or has one entry more, at its place: of a decision, or of a swap, whose place is the number of the event
 abbrev pub MovesByDecision : Opening → List Event → Event → Type 0
 MovesByDecision o es e =
     let old = (trace o es).history in
     let new = (trace o (es ++ e ∷ [])).history in
-    (new ≡ old) ⊎ ((x : Placed) × Decision o es e x × (new ≡ inserted x old))
+    (new ≡ old) ⊎ ((x : Placed) × Decision o es e x × (new ≡ inserted x old)) ⊎ ((x : Placed) × SwapOf (run o es) e (length es) x × (new ≡ inserted x old))

@@ -7,12 +7,12 @@ ghost use Rattle.kc_machine_words.specs.declared.words.Mode.{Mode};
 ghost use Rattle.kc_machine_steps.specs.declared.line.Intent.{Intent};
 ghost use Rattle.kc_model.specs.declared.footprint.Line.{Line};
 ghost use Rattle.kc_machine_steps.specs.declared.task.Event.{Event};
-ghost use Rattle.kc_machine.specs.Machine.{Opening, seat_of};
+ghost use Rattle.kc_machine.specs.Machine.{Opening, run, seat_of};
 ghost use Rattle.kc_machine_effects.specs.Stands.{Over, Turn};
 ghost use Rattle.kc_machine.specs.Schedules.{IsSchedule};
 ghost use Rattle.kc_model.specs.declared.footprint.Seen.{Seen};
 ghost use Rattle.kc_model.specs.Store.{cell_after};
-ghost use Rattle.kc_machine_claims.specs.Claims.{HistoriesGrow, SuccessesHaveTheirEntry, history_at};
+ghost use Rattle.kc_machine_claims.specs.Claims.{HistoriesGrow, SuccessesHaveTheirEntry, SwapsHaveTheirEntry, history_at};
 ghost use Rattle.kc_machine_claims.specs.Histories.{
   EntriesDiffer,
   FindsInstalled,
@@ -27,6 +27,7 @@ ghost use Rattle.kc_machine_claims.specs.Histories.{
 };
 ghost use Rattle.kc_machine_claims.specs.Traces.{IsHonest, first_store, is_placed, trace};
 ghost use Rattle.kc_machine_traces.specs.Entries.{own_intent};
+ghost use Rattle.kc_machine_traces.specs.Swaps.{SwapOf};
 ghost use Rattle.kc_machine_histories.specs.Decisions.{Decision, MovesByDecision, own_of};
 ghost use Rattle.kc_machine_histories.specs.Insertions.{IsBelowPlace, IsNewPlace, put_by};
 ghost use Rattle.kc_machine_histories.specs.Later.{NothingLaterTouches, NothingLaterTouchesAlong};
@@ -60,7 +61,8 @@ pub fn placed_passes_stay()
         → (u : Turn) × (pass_of o (es ++ e ∷ []) k ≡ Over h m xs u) }
 {}
 
-/// An event leaves the history, or inserts one entry: at the place of its seat's pass, which decides for success what was Active, with the call, the mode and the lines of its owner.
+/// An event leaves the history, or inserts one entry: at the place of its seat's pass, which decides for success what was Active,
+/// with the call, the mode and the lines of its owner; or, where the seat swaps a word, at the number of the event.
 pub fn histories_move_by_decisions()
     ensures { (o : Opening) (es : List Event) (e : Event) → MovesByDecision o es e }
 {}
@@ -75,16 +77,19 @@ pub fn entries_differ()
 pub fn successes_have_their_entry()
     ensures begun { (o : Opening) (es : List Event) (e : Event) (x : Placed) → Decision o es e x → began o es x.entry.caller ≤ x.place }
     ensures entries { (o : Opening) (es : List Event) → IsSchedule o es → SuccessesHaveTheirEntry o es }
+    ensures swaps { (o : Opening) (es : List Event) → IsSchedule o es → SwapsHaveTheirEntry o es }
 {}
 
 /// Where nothing later touches what a placed pass installs, which is a premise here, each decision's puts are the last ones at
-/// their locations: the history makes each of them, grows, and stays legal where entries installed, if what the entry
+/// their locations, and so is a swap's: the history makes each of them, grows, and stays legal where entries installed, if what the entry
 /// installed is what the history made.
 pub fn decisions_put_last()
     ensures makes { (o : Opening) (es : List Event) (e : Event) → NothingLaterTouches o es → (x : Placed) → Decision o es e x → (l : ℕ) → ending (first_store o) (inserted x (trace o es).history) l ≡ cell_after (put_by x l) (ending (first_store o) (trace o es).history l) }
     ensures grows { (o : Opening) (es : List Event) (e : Event) → NothingLaterTouches o es → Grows (trace o es).history (trace o (es ++ e ∷ [])).history }
     ensures legal { (o : Opening) (es : List Event) (e : Event) → NothingLaterTouches o es → IsLegalWhereInstalled (first_store o) (trace o es).history
-        → ((x : Placed) → Decision o es e x → FindsInstalled x (ending (first_store o) (trace o es).history)) → IsLegalWhereInstalled (first_store o) (trace o (es ++ e ∷ [])).history }
+        → ((x : Placed) → Decision o es e x → FindsInstalled x (ending (first_store o) (trace o es).history)) → ((x : Placed) → SwapOf (run o es) e (length es) x → FindsInstalled x (ending (first_store o) (trace o es).history))
+        → IsLegalWhereInstalled (first_store o) (trace o (es ++ e ∷ [])).history }
+    ensures swaps_make { (o : Opening) (es : List Event) (e : Event) → NothingLaterTouches o es → (x : Placed) → SwapOf (run o es) e (length es) x → (l : ℕ) → ending (first_store o) (inserted x (trace o es).history) l ≡ cell_after (put_by x l) (ending (first_store o) (trace o es).history l) }
 {}
 
 /// Where nothing later touches what placed passes install, at each moment of a schedule, its histories grow.

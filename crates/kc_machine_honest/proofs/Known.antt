@@ -71,6 +71,7 @@ module _ (o : Opening) (es : List Event) (w : IsSchedule o es) (k : ℕ) (l : k 
   of_commit (task.Look a) i q y = absurd y
   of_commit (task.Hang reads) i q y = absurd y
   of_commit (task.Leave reads) i q y = absurd y
+  of_commit (task.Swap r after) i q y = absurd y
 
   asked_by : (i : Intent) → own_intent (own_of o es k) ≡ Some i → IsAsked o.locations asked i
   asked_by i q = go asked refl ((answers_when_done o es k).busy (ap is_idle y.work)).1

@@ -1,21 +1,21 @@
 -- An honest schedule's history is legal.
-use Rattle.std.proofs.Common.{arith, ◌≡◌, ◌<◌, ℕ, Bool, true, false, List, [], ◌∷◌, Option, None, Some, refl, sym, ap, subst, ◌∙◌, Contains}
+use Rattle.std.proofs.Common.{arith, ◌≡◌, ◌<◌, ℕ, Bool, true, false, List, [], ◌∷◌, Option, None, Some, refl, sym, ap, subst, ◌∙◌, Contains, length, zero, suc}
 use Rattle.std.specs.Prelude.{slice_get}
 use Rattle.std.specs.Option.{is_some}
 use Rattle.kc_machine.specs.Machine.{World, Opening, seat_of, run}
 use Rattle.kc_machine.specs.Schedules.{IsSchedule}
 use Rattle.kc_machine_claims.specs.Claims.{stands_for}
-use Rattle.kc_machine_claims.specs.Histories.{History, Placed, inserted, at_place, cell_of, IsLegalHistory}
-use Rattle.kc_machine_claims.specs.Traces.{trace, first_store, IsHonest}
+use Rattle.kc_machine_claims.specs.Histories.{History, Placed, inserted, at_place, cell_of, IsLegalHistory, footprint_of}
+use Rattle.kc_machine_claims.specs.Traces.{trace, first_store, IsHonest, swap_line}
 use Rattle.kc_machine_effects.specs.Stands.{At}
 use Rattle.kc_machine_histories.proofs.Decisions.{history_moves}
 use Rattle.kc_machine_histories.proofs.Filters.{got}
-use Rattle.kc_machine_histories.proofs.Growing.{line_that_puts, line_that_reads, puts_installed}
+use Rattle.kc_machine_histories.proofs.Growing.{line_that_puts, line_that_reads, puts_installed, swap_at}
 use Rattle.kc_machine_histories.proofs.Insertions.{at_new}
 use Rattle.kc_machine_histories.proofs.Legality.{legal_inserted}
-use Rattle.kc_machine_histories.proofs.Places.{rises, new_place}
+use Rattle.kc_machine_histories.proofs.Places.{rises, new_place, below}
 use Rattle.kc_machine_histories.specs.Decisions.{Decision}
-use Rattle.kc_machine_histories.specs.Insertions.{put_by, NoneReadsAbove}
+use Rattle.kc_machine_histories.specs.Insertions.{put_by, NoneReadsAbove, IsBelowPlace}
 use Rattle.kc_machine_histories.specs.Later.{NoneTouchesAbove, DecidesSoon}
 use Rattle.kc_machine_honest.proofs.Bounds.{asked}
 use Rattle.kc_machine_honest.proofs.Known.{line_within}
@@ -23,12 +23,13 @@ use Rattle.kc_machine_honest.proofs.Stood.{stood}
 use Rattle.kc_machine_honest.specs.Honest.{ends_at, stands_at}
 use Rattle.kc_machine_resolving.proofs.Before.{target, most_lines, stands_installed}
 use Rattle.kc_machine_resolving.proofs.Growing.{known}
-use Rattle.kc_machine_resolving.proofs.Resolving.{words_resolve}
+use Rattle.kc_machine_resolving.proofs.Resolving.{words_resolve, swap_found}
 use Rattle.kc_machine_steps.specs.Lines.{is_installed, resolved_version, resolved_value}
 use Rattle.kc_model.specs.declared.footprint.Line.{Line}
 use Rattle.kc_machine_steps.specs.declared.pass.PassStep.TheVariants.{Decide}
 use Rattle.kc_machine_steps.specs.declared.task.Event.{Event}
 use Rattle.kc_machine_traces.proofs.Joins.{every, made_parts, honest_parts}
+use Rattle.kc_machine_traces.specs.Swaps.{SwapOf}
 use Rattle.kc_machine_words.specs.declared.words.Mode.{Mode}
 use Rattle.kc_machine_words.specs.declared.words.Phase.TheVariants.{Succeeded}
 use Rattle.kc_machine_words.specs.declared.words.Status.{Status}
@@ -94,10 +95,30 @@ module _ (o : Opening) where
     legal_by : IsLegalHistory (first_store o) h → IsLegalHistory (first_store o) (inserted x h)
     legal_by l = legal_inserted (first_store o) x h (rises o es) (new_place o es (seat_of e) x.place u.place) l finds unread
 
+  -- ---- one swap, whose place is above that of each entry
+
+  module _ (es : List Event) (e : Event) (w : IsSchedule o es) (x : Placed) (d : SwapOf (run o es) e (length es) x) where
+    abbrev before : History
+    before = (trace o es).history
+
+    below_swap : IsBelowPlace x.place before
+    below_swap = subst (λ p. IsBelowPlace p before) (sym (ap (λ (z : Placed). z.place) d.is)) (below o es)
+
+    -- it finds its one read
+    swap_finds : Finds x.entry.footprint (at_place (first_store o) before x.place)
+    swap_finds r c = sole (subst (λ f. Reads f r) (ap (λ (z : Placed). z.entry.footprint) d.is) c)
+      where
+        sole : Reads (footprint_of (swap_line d.seen d.after ∷ [])) r → stands_at o es x.place r.loc.0 ≡ cell_of r
+        sole (zero, l, q) = subst (λ (t : Seen). stands_at o es x.place t.loc.0 ≡ cell_of t) q (swap_at o es e (known o es w).later x d d.seen.loc.0 ∙ swap_found o es e w x d)
+        sole (suc i, l, q) = absurd (omega arith)
+
+    swap_legal : IsLegalHistory (first_store o) before → IsLegalHistory (first_store o) (inserted x before)
+    swap_legal l = legal_inserted (first_store o) x before (rises o es) (λ y c q. let a = below_swap y c in omega arith) l swap_finds (λ y c b r a. let z = below_swap y c in absurd (omega arith))
+
   pub legal : (es : List Event) → IsSchedule o es → IsHonest o es → IsLegalHistory (first_store o) (trace o es).history
   legal = every (λ es. IsSchedule o es → IsHonest o es → IsLegalHistory (first_store o) (trace o es).history)
       (λ es e f w' hon'.
       let w = (made_parts o es (e ∷ []) w').0 in
       let hon = (honest_parts o es (e ∷ []) hon').0 in
-      history_moves o es e (IsLegalHistory (first_store o)) (f w hon) (λ x u. legal_by es e w hon x u (f w hon)))
+      history_moves o es e (IsLegalHistory (first_store o)) (f w hon) (λ x u. legal_by es e w hon x u (f w hon)) (λ x d. swap_legal es e w x d (f w hon)))
       (λ w hon. refl)

@@ -4,5 +4,6 @@ pub mod Came
 pub mod Stood
 pub mod Legal
 pub mod Failing
+pub mod Missing
 pub mod Causes
 pub mod Put

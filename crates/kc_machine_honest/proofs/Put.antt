@@ -7,14 +7,14 @@ use Rattle.std.specs.Option.{is_some}
 use borrow.Author.Tests.{eq-eqb, eqb-true}
 use Rattle.kc_machine.specs.Machine.{Opening}
 use Rattle.kc_machine.specs.Schedules.{IsSchedule}
-use Rattle.kc_machine_claims.specs.Claims.{HasPut, FailuresHaveACause}
-use Rattle.kc_machine_claims.specs.Histories.{History, Placed, ending, put_of_line, footprint_of, IsKnown, IsLegalHistory}
-use Rattle.kc_machine_claims.specs.Traces.{trace, first_store, IsHonest}
+use Rattle.kc_machine_claims.specs.Claims.{HasPut, FailuresHaveACause, SwapFailuresHaveACause}
+use Rattle.kc_machine_claims.specs.Histories.{History, Placed, ending, put_of_line, footprint_of, IsKnown, IsLegalHistory, inserted}
+use Rattle.kc_machine_claims.specs.Traces.{trace, first_store, IsHonest, swap_line}
 use Rattle.kc_machine_histories.proofs.Decisions.{history_moves}
 use Rattle.kc_machine_histories.proofs.Filters.{found}
 use Rattle.kc_machine_histories.proofs.Growth.{version_is}
 use Rattle.kc_machine_histories.proofs.Insertions.{inserted_contains}
-use Rattle.kc_machine_histories.proofs.Knew.{knew}
+use Rattle.kc_machine_histories.proofs.Knew.{knew, knew_swapped}
 use Rattle.kc_machine_histories.specs.Insertions.{put_by}
 use Rattle.kc_machine_honest.proofs.Causes.{failures}
 use Rattle.kc_machine_honest.proofs.Legal.{legal}
@@ -53,7 +53,9 @@ PutsAreRead h = (x : Placed) → Contains h x → PutsWhatItReads x.entry.footpr
 
 puts_read : (o : Opening) (es : List Event) → PutsAreRead (trace o es).history
 puts_read o = every (λ es. PutsAreRead (trace o es).history)
-    (λ es e f. history_moves o es e PutsAreRead f (λ x d y c. inserted_contains x (trace o es).history y (λ z. PutsWhatItReads z.entry.footprint) (subst PutsWhatItReads (sym d.footprint) (lines_read d.lines)) f c))
+    (λ es e f.
+    let more : (x : Placed) (xs : List Line) → x.entry.footprint ≡ footprint_of xs → PutsAreRead (inserted x (trace o es).history) = λ x xs q y c. inserted_contains x (trace o es).history y (λ z. PutsWhatItReads z.entry.footprint) (subst PutsWhatItReads (sym q) (lines_read xs)) f c in
+    history_moves o es e PutsAreRead f (λ x d. more x d.lines d.footprint) (λ x d. more x (swap_line d.seen d.after ∷ []) (ap (λ (z : Placed). z.entry.footprint) d.is)))
     (λ x c. absurd (omega (arith, c.1)))
 
 -- ---- a version between the first and the last was put
@@ -138,3 +140,8 @@ causes o es w hon k i f m l asks said = go ((failures o es w hon).told k i f m l
     go p =
         let known = knew o k l es hon f m asks p.0 (found f.reads.items i p.0 p.1) in
         (p.0, p.1, past_put (first_store o) (trace o es).history p.0 (legal o es w hon) (puts_read o es) (known_above (first_store o) ((trace o es).shadows k).begun.history p.0 known) p.2)
+
+pub swap_causes : (o : Opening) (es : List Event) → IsSchedule o es → SwapFailuresHaveACause o es
+swap_causes o es w hon k i r value l asks said =
+    let known = knew_swapped o k l es hon r value asks in
+    past_put (first_store o) (trace o es).history r (legal o es w hon) (puts_read o es) (known_above (first_store o) ((trace o es).shadows k).begun.history r known) ((failures o es w hon).swaps k i r value l asks said)

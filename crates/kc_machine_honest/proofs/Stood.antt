@@ -1,5 +1,5 @@
 -- What a pass in its checks knows of what stands at its place.
-use Rattle.std.proofs.Common.{arith, ◌≡◌, ◌≢◌, ◌<◌, ◌≤◌, ◌⊎◌, inl, inr, ℕ, ◌++◌, ◌==◌, ◌&&◌, Bool, true, false, List, [], ◌∷◌, length, Option, None, Some, refl, sym, ap, subst, ◌∙◌, if◌then◌else◌}
+use Rattle.std.proofs.Common.{arith, ◌≡◌, ◌≢◌, ◌<◌, ◌≤◌, ◌⊎◌, inl, inr, ℕ, ◌++◌, ◌==◌, ◌&&◌, Bool, true, false, List, [], ◌∷◌, length, Option, None, Some, refl, sym, ap, subst, ◌∙◌, if◌then◌else◌, ⊎_elim}
 use Rattle.std.specs.Prelude.{nat_lt, slice_get}
 use Rattle.std.specs.Option.{is_some}
 use Rattle.std.proofs.lemmas.Bool.{ltb-true, cases_lt}
@@ -57,7 +57,7 @@ use Rattle.kc_machine_resolving.specs.Settled.{Settled, checked_by, MetStands, S
 use Rattle.kc_machine_seats.proofs.FitSeats.{fit_always}
 use Rattle.kc_machine_steps.specs.Lines.{after_line, is_installed, next_line, word_of, resolved_version}
 use Rattle.kc_machine_steps.specs.Looks.{reference_of}
-use Rattle.kc_machine_steps.specs.Passes.{status, fits, from_check, check_or_decide, from_install, install_or_check, release_or_finish, pass_access, check_access, install_access, pass_next, install_found, refers_to, check_found, crossed_or_first, agrees_or_fails, check_first_found, decided_as}
+use Rattle.kc_machine_steps.specs.Passes.{status, fits, from_check, check_or_decide, from_install, install_or_check, release_or_finish, pass_access, check_access, pass_next, check_found, crossed_or_first, agrees_or_fails, check_first_found, decided_as}
 use Rattle.kc_machine_steps.specs.declared.task.Event.{Event}
 use Rattle.kc_machine_traces.proofs.Joins.{run-append, every, made_parts, honest_parts}
 use Rattle.kc_machine_traces.proofs.Others.{run_shape, event_out}
@@ -119,7 +119,7 @@ module _ (o : Opening) (es : List Event) (e : Event) (w : IsSchedule o es) (w' :
       )
 
       go : (b : Bool) → nat_lt (seat_of e) m.callers ≡ b → (n.world.status d ≡ status g f) × (n.world.first d i ≡ m.world.first d i)
-      go true q = moved (ltb-true (seat_of e) m.callers q) n.world (event_changes m e)
+      go true q = ⊎_elim (λ c. moved (ltb-true (seat_of e) m.callers q) n.world c) (λ y. (ap (λ (x : State). x.world.status d) y.1.goes ∙ st, ap (λ (x : State). x.world.first d i) y.1.goes)) (event_changes m e)
       go false q = let s = event_out m e q in (ap (λ (x : State). x.world.status d) s ∙ st, ap (λ (x : State). x.world.first d i) s)
 
   resolves_on : (p l : ℕ) (r : Reference) (f : Phase) → p ≤ length es → Settled o es p l → (m.world.control r.handle.descriptor).generation ≡ r.handle.generation → ResolvesBetween o es p l r f → ResolvesBetween o es' p l r f

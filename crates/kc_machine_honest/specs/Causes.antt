@@ -49,3 +49,7 @@ OwnersFailByPastReads o es = (k d g j : ℕ) (f : Footprint) (m : Mode) → k < 
 
 abbrev pub ToldOfPastReads : Opening → List Event → Type 0
 ToldOfPastReads o es = (k j : ℕ) (f : Footprint) (m : Mode) → k < o.callers → ((trace o es).shadows k).task ≡ Some (task.Commit f m) → ((run o es).seats k).told ≡ Some (told.Failed j) → PastRead o es f j
+
+-- likewise the read of a swap that is told that it failed
+abbrev pub SwapsToldOfPastReads : Opening → List Event → Type 0
+SwapsToldOfPastReads o es = (k j : ℕ) (r : Seen) (after : ℕ) → k < o.callers → ((trace o es).shadows k).task ≡ Some (task.Swap r after) → ((run o es).seats k).told ≡ Some (told.Failed j) → IsPast o es r

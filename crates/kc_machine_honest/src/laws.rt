@@ -4,7 +4,7 @@ ghost use Rattle.std.specs.Prelude.{List};
 ghost use Rattle.kc_machine_steps.specs.declared.task.Event.{Event};
 ghost use Rattle.kc_machine.specs.Machine.{Opening};
 ghost use Rattle.kc_machine.specs.Schedules.{IsSchedule};
-ghost use Rattle.kc_machine_claims.specs.Claims.{FailuresHaveACause, HistoryIsLegal};
+ghost use Rattle.kc_machine_claims.specs.Claims.{FailuresHaveACause, HistoryIsLegal, SwapFailuresHaveACause};
 ghost use Rattle.kc_machine_claims.specs.Traces.{IsHonest};
 ghost use Rattle.kc_machine_honest.specs.Causes.{OwnersFailByPastReads, PassesFailByPastLines, ToldOfPastReads};
 ghost use Rattle.kc_machine_honest.specs.Honest.{CheckedLinesStood, CheckedReferencesStood, InstalledLinesStand};
@@ -40,4 +40,9 @@ pub fn failures_are_past()
 /// In an honest schedule, where a commit was told that it failed at a read, the history has an entry that put the read's location from the read's version.
 pub fn failures_have_a_cause()
     ensures { (o : Opening) (es : List Event) → IsSchedule o es → FailuresHaveACause o es }
+{}
+
+/// Likewise, where a swap was told that it failed, the history has an entry that put its location from its read's version.
+pub fn swap_failures_have_a_cause()
+    ensures { (o : Opening) (es : List Event) → IsSchedule o es → SwapFailuresHaveACause o es }
 {}

@@ -5,5 +5,5 @@ mod laws;
 
 pub use laws::{
     checks_stood, failures_are_past, failures_have_a_cause, histories_are_legal,
-    installed_lines_stand,
+    installed_lines_stand, swap_failures_have_a_cause,
 };

@@ -1,4 +1,5 @@
 -- What a hang's step makes of what it knows.
+use Rattle.kc_machine_effects.specs.Stands.{NoSwap}
 use Rattle.std.proofs.Common.{arith, ◌≡◌, ◌<◌, ◌≤◌, ◌+◌, ◌⊎◌, inl, inr, ℕ, ◌++◌, ◌==◌, Bool, true, false, List, [], ◌∷◌, length, Option, None, Some, refl, sym, ap, subst, ◌∙◌, if◌then◌else◌, Contains}
 use Rattle.std.specs.Prelude.{slice_get, nat_lt}
 use Rattle.std.proofs.lemmas.Bool.{cases_lt, ltb-false}
@@ -88,8 +89,11 @@ module _ (o : Opening) (es : List Event) (e : Event) (k : ℕ) (g : Going o es e
     sets None =
         let n : HangNext = hanging.Goes (hang.Look 0 look.Load) in
         let q = listens_as n (Hangs reads (hang.Set j)) (HangLooks reads 0) (waits (hang.Set j) at) refl in
-        on n (record { promises = ((λ i v b z. absurd (omega arith)), λ v z. tt); asked = tt; hears = subst (IsBehind o es') (sym q) (behind_now o es e (history_still o es e still)) })
+        on n (record { promises = ((λ i v b z. absurd (omega arith)), λ v z. tt); asked = tt; hears = subst (IsBehind o es') (sym q) (behind_now o es e (history_still o es e still unswapped)) })
       where
+        unswapped : (stand ((run o es).seats (seat_of e))).swap ≡ NoSwap
+        unswapped = ap (λ d. (stand ((run o es).seats (seat_of d))).swap) stepped ∙ ap (λ a. (works (resting s) a).swap) is ∙ ap (λ u. (hangs (resting s) reads u).swap) at
+
         still : pass_of o es (seat_of e) ≡ NoPass
         still = ap (λ d. pass_of o es (seat_of d)) stepped ∙ ap (λ a. (works (resting s) a).pass) is ∙ ap (λ u. (hangs (resting s) reads u).pass) at
 

@@ -1,4 +1,18 @@
 -- What a seat that looks or hangs knows, and what it has been told.
+use Rattle.kc_machine_words.specs.declared.access.Found.TheVariants as found
+use Rattle.std.proofs.Common.{if◌then◌else◌, ◌-◌, ◌==◌, ◌&&◌, Bool, false}
+use Rattle.kc_machine_steps.specs.Swaps.{may_swap, owed_next, swap_next_at}
+use Rattle.kc_machine_steps.specs.declared.swap.SwapNext.{SwapNext}
+use Rattle.kc_machine_steps.specs.declared.swap.SwapNext.TheVariants as swapping
+use Rattle.kc_machine_steps.specs.declared.swap.SwapStep.{SwapStep}
+use Rattle.kc_model.specs.declared.word.Word.TheVariants.{Plain, Ref}
+use Rattle.std.specs.Prelude.{bit_and}
+use Rattle.kc_machine_traces.proofs.Swapping.{swap_of}
+use Rattle.kc_machine_traces.proofs.Swapping.{stand_swap}
+use Rattle.kc_machine_steps.specs.declared.swap.SwapStep.TheVariants as swap
+use Rattle.kc_machine_effects.specs.Stands.{Swaps}
+use Rattle.kc_machine_effects.specs.Stands.{NoSwap}
+use Rattle.kc_machine_effects.specs.Stands.{stand}
 use Rattle.std.proofs.Common.{arith, ◌≡◌, ◌<◌, ◌+◌, inl, inr, ℕ, ◌++◌, Bool, true, false, List, [], ◌∷◌, length, Option, None, Some, refl, sym, ap, subst, ◌∙◌, Contains, All}
 use Rattle.std.specs.Prelude.{slice_get}
 use Rattle.std.specs.Option.{is_some}
@@ -66,13 +80,14 @@ module _ (o : Opening) (es : List Event) (e : Event) where
       let l = length-append es (e ∷ []) in
       record { past = omega arith; history = ap (λ xs. (trace o xs).history) (take_all ((trace o es).clock + 1) (es ++ e ∷ []) (omega arith)) ∙ q }
 
-  -- a seat without a pass decides nothing
-  pub history_still : pass_of o es (seat_of e) ≡ NoPass → (trace o (es ++ e ∷ [])).history ≡ (trace o es).history
-  history_still p = go (moves_by_decision o es e)
+  -- a seat without a pass decides nothing, and one without a swap swaps nothing
+  pub history_still : pass_of o es (seat_of e) ≡ NoPass → (stand ((run o es).seats (seat_of e))).swap ≡ NoSwap → (trace o (es ++ e ∷ [])).history ≡ (trace o es).history
+  history_still p u = go (moves_by_decision o es e)
     where
       go : MovesByDecision o es e → (trace o (es ++ e ∷ [])).history ≡ (trace o es).history
       go (inl q) = q
-      go (inr (x, d, q)) = let z = sym p ∙ d.pass in absurd (cc)
+      go (inr (inl (x, d, q))) = let z = sym p ∙ d.pass in absurd (cc)
+      go (inr (inr (x, y, q))) = let z : NoSwap ≡ Swaps y.seen y.after swap.Exchange = sym u ∙ stand_swap ((run o es).seats (seat_of e)) ∙ ap swap_of y.works in absurd (cc)
 
 -- ---- what a seat knows
 
@@ -82,6 +97,7 @@ Asked t (work.Look a) = t ≡ Some (task.Look a.loc)
 Asked t (work.Commit c) = Unit {0}
 Asked t (work.Hang h) = Unit {0}
 Asked t (work.Leave a) = Unit {0}
+Asked t (work.Swap a) = Unit {0}
 
 abbrev pub StepHears : Opening → List Event → Moment → HangStep → Type 0
 StepHears o es m (hang.Set k) = Unit {0}
@@ -94,6 +110,7 @@ Hears o es m (work.Look a) = Unit {0}
 Hears o es m (work.Commit c) = Unit {0}
 Hears o es m (work.Hang h) = StepHears o es m h.step
 Hears o es m (work.Leave a) = Unit {0}
+Hears o es m (work.Swap a) = Unit {0}
 
 pub record Works (o : Opening) (es : List Event) (x : Shadow) (a : Work) : Type 0 where
   pub promises : WorkPromises o es x a
@@ -126,6 +143,7 @@ module _ (o : Opening) (es : List Event) (x y : Shadow) (q : SameShadow x y) whe
       promises (work.Commit c) p = tt
       promises (work.Hang h) p = subst (λ m. HangPromises o es m h.reads.items h.step) (sym q.listening) p
       promises (work.Leave a) p = tt
+      promises (work.Swap a) p = tt
 
   told_same : (t : Told) → ToldTrue o es x t → ToldTrue o es y t
   told_same t f = record {
@@ -176,6 +194,7 @@ module _ (o : Opening) (es : List Event) (e : Event) (w : IsSchedule o es) (w' :
           )
       go (hang.Clear j c) z p = tt
   promises_on (work.Leave a) q p = tt
+  promises_on (work.Swap a) q p = tt
 
   hears_on : (a : Work) → Hears o es x.listening a → Hears o es' x.listening a
   hears_on work.Idle p = tt
@@ -188,6 +207,7 @@ module _ (o : Opening) (es : List Event) (e : Event) (w : IsSchedule o es) (w' :
       go (hang.Look j step) p = behind_on o es e x.listening p
       go (hang.Clear j c) p = tt
   hears_on (work.Leave a) p = tt
+  hears_on (work.Swap a) p = tt
 
   pub knows_on : Knows o es s x → Knows o es' s x
   knows_on f = record {
@@ -247,6 +267,34 @@ abbrev pub TellsOther : Next → Type 0
 TellsOther (next.Goes x) = Unit {0}
 TellsOther (next.Takes x) = Unit {0}
 TellsOther (next.Tells t) = of_look t ≡ false
+
+abbrev pub SwapTellsOther : SwapNext → Type 0
+SwapTellsOther (swapping.Goes step) = Unit {0}
+SwapTellsOther (swapping.Takes step) = Unit {0}
+SwapTellsOther (swapping.Tells t) = of_look t ≡ false
+
+pub swap_tells : (calls : ℕ) (r : Seen) (step : SwapStep) (f : Found) → SwapTellsOther (swap_next_at r calls step f)
+swap_tells calls r step f = go step f
+  where
+    owed : (n : ℕ) → SwapTellsOther (owed_next calls n)
+    owed n = at (n == 0)
+      where
+        at : (b : Bool) → SwapTellsOther (if b then swapping.Tells (told.Succeeded calls) else swapping.Goes (swap.Signal n))
+        at true = refl
+        at false = tt
+
+    go : (step : SwapStep) (f : Found) → SwapTellsOther (swap_next_at r calls step f)
+    go swap.Exchange (found.Word (Plain v y)) = at ((v == r.version) && (y == r.value)) (may_swap calls)
+      where
+        at : (a b : Bool) → SwapTellsOther (if a then (if b then swapping.Takes swap.Wake else swapping.Tells (told.Crossed 0)) else swapping.Tells (told.Failed 0))
+        at true true = tt
+        at true false = refl
+        at false b = refl
+    go swap.Exchange (found.Word (Ref g d i)) = refl
+    go swap.Exchange _ = tt
+    go swap.Wake (found.Callers c) = owed c
+    go swap.Wake _ = tt
+    go (swap.Signal n) f = owed (bit_and n (n - 1))
 
 pub commit_tells : (n calls : ℕ) (c : Commit) (x : Stage) (f : Found) → TellsOther (stage_next n calls c x f)
 commit_tells n calls c (stage.Scan d worn) f = scanned TellsOther (λ d v. tt) (λ d g. tt) refl n d worn f

@@ -1,4 +1,7 @@
 -- What an event leaves of a current life, and so of what a look knows.
+use Rattle.kc_machine_traces.specs.Swaps.{SwapOf}
+use Rattle.kc_machine_claims.specs.Histories.{Placed}
+use Rattle.std.proofs.Common.{⊎_elim}
 use Rattle.std.proofs.Common.{arith, ◌+◌, ◌==◌, if◌then◌else◌, ◌≡◌, ◌≢◌, ◌<◌, ◌≤◌, ◌⊎◌, inl, inr, ℕ, ◌++◌, Bool, true, false, List, [], ◌∷◌, Option, None, Some, refl, sym, ap, subst, ◌∙◌}
 use Rattle.std.specs.Prelude.{nat_lt}
 use Rattle.std.proofs.lemmas.Bool.{ltb-true}
@@ -101,8 +104,11 @@ module _ (o : Opening) (es : List Event) (e : Event) (w : IsSchedule o es) (w' :
         by l v (released h j p x q r) = record { owner = refl; first = refl; second = refl }
         by l v (decided h mode xs p q was) = record { owner = refl; first = refl; second = refl }
 
+        swapped : (x : Placed) → SwapOf m e 0 x → SameWords m.world n.world d
+        swapped x y = record { owner = ap (λ (s : State). s.world.owner d) (sym y.goes); first = ap (λ (s : State). s.world.first d) (sym y.goes); second = ap (λ (s : State). s.world.second d) (sym y.goes) }
+
         go : (b : Bool) → nat_lt (seat_of e) m.callers ≡ b → SameWords m.world (run o es').world d
-        go true q = subst (λ (x : State). SameWords m.world x.world d) (sym next_is) (by (ltb-true (seat_of e) m.callers q) n.world (event_changes m e))
+        go true q = subst (λ (x : State). SameWords m.world x.world d) (sym next_is) (⊎_elim (by (ltb-true (seat_of e) m.callers q) n.world) (λ y. swapped y.0 y.1) (event_changes m e))
         go false q = subst (λ (x : State). SameWords m.world x.world d) (sym (next_is ∙ event_out m e q)) (record { owner = refl; first = refl; second = refl })
 
     -- it is decided now, by a pass of the event's seat
@@ -136,7 +142,7 @@ module _ (o : Opening) (es : List Event) (e : Event) (w : IsSchedule o es) (w' :
             at false z = inl (put_else m.world.status h.descriptor (status h.generation p) d (eqb-false d h.descriptor z))
 
         go : (b : Bool) → nat_lt (seat_of e) m.callers ≡ b → ((run o es').world.status d ≡ m.world.status d) ⊎ DecidedNow (run o es').world
-        go true q = subst (λ (x : State). (x.world.status d ≡ m.world.status d) ⊎ DecidedNow x.world) (sym next_is) (by (ltb-true (seat_of e) m.callers q) n.world (event_changes m e))
+        go true q = subst (λ (x : State). (x.world.status d ≡ m.world.status d) ⊎ DecidedNow x.world) (sym next_is) (⊎_elim (by (ltb-true (seat_of e) m.callers q) n.world) (λ y. inl (ap (λ (s : State). s.world.status d) y.1.goes)) (event_changes m e))
         go false q = inl (ap (λ (x : State). x.world.status d) (next_is ∙ event_out m e q))
 
 -- ---- what a line stands for, by a phase

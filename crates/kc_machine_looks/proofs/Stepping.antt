@@ -1,4 +1,10 @@
 -- What a step makes of what its seat knows.
+use Rattle.kc_machine_looks.proofs.Knowing.{SwapTellsOther, swap_tells}
+use Rattle.kc_machine_steps.specs.Swaps.{onward_of as onward_of_swap}
+use Rattle.kc_machine_steps.specs.Swaps.{swap_after, swap_next}
+use Rattle.kc_machine_steps.specs.declared.swap.Swap.{Swap}
+use Rattle.kc_machine_steps.specs.declared.swap.SwapNext.{SwapNext}
+use Rattle.kc_machine_steps.specs.declared.swap.SwapNext.TheVariants as swapping
 use Rattle.std.proofs.Common.{◌≡◌, ℕ, ◌++◌, Bool, true, false, List, [], ◌∷◌, Option, None, Some, refl, sym, ap, subst, ◌∙◌}
 use Rattle.std.specs.Prelude.{slice_get}
 use Rattle.kc_machine_steps.specs.declared.task.Task.{Task}
@@ -105,6 +111,15 @@ module _ (o : Opening) (es : List Event) (e : Event) (k : ℕ) (g : Going o es e
       good y None = other_told o es' y told.Free refl
       good y (Some z) = record { promises = tt; asked = tt; hears = tt }
 
+  -- a swap
+  swaps : (a b : Swap) (n : SwapNext) → s.work ≡ work.Swap a → SwapTellsOther n → Then (after (record s { work = work.Swap b }) (onward_of_swap n))
+  swaps a b n is p = goes_by o es e k g stepped (ap is_idle is) (work.Swap b) (onward_of_swap n) (good (shadow_after (now (trace o es)) e s (after (record s { work = work.Swap b }) (onward_of_swap n)) x) n p)
+    where
+      good : (y : Shadow) (n : SwapNext) → SwapTellsOther n → GoesOr o es' y (work.Swap b) (onward_of_swap n)
+      good y (swapping.Goes z) p = record { promises = tt; asked = tt; hears = tt }
+      good y (swapping.Takes z) p = record { promises = tt; asked = tt; hears = tt }
+      good y (swapping.Tells u) p = other_told o es' y u p
+
   pub steps : Then (answer_of s f)
   steps = go s.work refl
     where
@@ -114,3 +129,4 @@ module _ (o : Opening) (es : List Event) (e : Event) (k : ℕ) (g : Going o es e
       go (work.Commit c) q = commits c (commit_after s.descriptors s.calls c f) (commit_next s.descriptors s.calls (loaded c f) f) q (commit_tells s.descriptors s.calls (loaded c f) (loaded c f).stage f)
       go (work.Hang h) q = hang_on o es e k g stepped h q
       go (work.Leave a) q = leaves a (leave_after a) (slice_get a.reads.items (next_read a.step)) q
+      go (work.Swap a) q = swaps a (swap_after s.calls a f) (swap_next s.calls a f) q (swap_tells s.calls a.seen a.step f)

@@ -1,4 +1,5 @@
 -- What a halt and a beginning make of what their seat knows.
+use Rattle.kc_machine_steps.specs.Swaps.{ends_at_once}
 use Rattle.std.proofs.Common.{◌≡◌, ℕ, ◌++◌, ◌&&◌, Bool, true, false, not, List, [], ◌∷◌, Option, None, Some, refl, sym, ap, subst, ◌∙◌, if◌then◌else◌}
 use Rattle.std.specs.Option.{is_some}
 use Rattle.std.proofs.lemmas.List.Elements.{All-nil, All-cons}
@@ -85,12 +86,17 @@ module _ (o : Opening) (es : List Event) (e : Event) (k : ℕ) (g : Going o es e
         commit_halts c q true = ends
         commit_halts c q false = turns (work.Commit (commit_halted c)) (ap is_idle q) (record { promises = tt; asked = tt; hears = tt })
 
+        swap_halts : (b : Bool) → Then (if b then ended s else s)
+        swap_halts true = ends
+        swap_halts false = stays o es e k g
+
         go : (a : Work) → s.work ≡ a → Then (halted_by s a)
         go work.Idle q = stays o es e k g
         go (work.Look a) q = look_halts a q (halts_at_once a.step) refl
         go (work.Commit c) q = commit_halts c q (unowned c.stage)
         go (work.Hang h) q = stays o es e k g
         go (work.Leave a) q = stays o es e k g
+        go (work.Swap a) q = swap_halts (ends_at_once a.step)
 
   -- a task begins, or the seat stays as it was
   module _ (u : Task) (beginning : e ≡ Begin k u) where
@@ -120,6 +126,7 @@ module _ (o : Opening) (es : List Event) (e : Event) (k : ℕ) (g : Going o es e
         go true = stays o es e k g
         go false = sets_out (hanging_of reads.items) i refl (λ c. record { promises = tt; asked = tt; hears = tt })
     begins_so (task.Leave reads) q i = sets_out _ i refl (λ c. record { promises = tt; asked = tt; hears = tt })
+    begins_so (task.Swap r after) q i = sets_out _ i refl (λ c. record { promises = tt; asked = tt; hears = tt })
 
     pub begins_or : Then (begun s u)
     begins_or = go (is_idle s.work) refl

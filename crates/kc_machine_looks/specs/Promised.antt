@@ -72,6 +72,7 @@ WorkPromises o es x (work.Look a) = StepPromises o es x.begun a.loc a.step
 WorkPromises o es x (work.Commit c) = Unit {0}
 WorkPromises o es x (work.Hang h) = HangPromises o es x.listening h.reads.items h.step
 WorkPromises o es x (work.Leave a) = Unit {0}
+WorkPromises o es x (work.Swap a) = Unit {0}
 
 -- what a look was told is promised
 abbrev pub AnswersArePromised : Opening → List Event → Type 0

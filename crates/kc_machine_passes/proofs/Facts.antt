@@ -26,7 +26,7 @@ use Rattle.kc_machine_passes.proofs.Holders.{owes_held, undecided_owes}
 use Rattle.kc_machine_passes.proofs.Installing.{passed_own, waiting_own}
 use Rattle.kc_machine_passes.proofs.Knowing.{at_phase, PassKnows, pass_knows_own, aid_knows_own}
 use Rattle.kc_machine_passes.proofs.Lives.{SameLife, same_line, line_stays, held_counts, words_stay, life_stays, last_stays, decided_stays}
-use Rattle.kc_machine_passes.proofs.Moves.{Installs, word_before, Releases, in_pass, in_aid, word_after}
+use Rattle.kc_machine_passes.proofs.Moves.{Installs, word_before, Releases, in_pass, in_aid, word_later}
 use Rattle.kc_machine_passes.proofs.Owing.{named, install_owes, owes_on}
 use Rattle.kc_machine_passes.proofs.Targets.{Target, course, own_target, grounds}
 use Rattle.kc_machine_passes.specs.Lines.{IsLastLife, IsInstalledLine}
@@ -184,7 +184,7 @@ module _ (n m k : ℕ) (l : k < n) {w w' : World} (at : ℕ → Stand) {s' : Sta
 
   -- what stands in a word while its life is Active stays there
   stands_on : (a g d i : ℕ) → w'.status d ≡ status g Active → w.word a ≡ Ref g d i → w'.word a ≡ Ref g d i
-  stands_on a g d i q y = ⊎_elim (λ z. z) (λ z. absurd (no_release z)) (word_after k e a g d i y)
+  stands_on a g d i q y = ⊎_elim (λ z. z) (λ z. absurd (no_release z)) (word_later k e a g d i y)
     where
       undecided : (h : Handle) (j : ℕ) (x : Phase) → IsDecided w h x → word_of h j ≡ Ref g d i → w'.status ≡ w.status → ⊥
       undecided h j x c r s =

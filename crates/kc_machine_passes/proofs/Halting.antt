@@ -99,6 +99,7 @@ module _ (s : Seat) where
       go (work.Commit c) f = stage_halts c c.stage f
       go (work.Hang h) f = hang_halts h.reads.items h.step
       go (work.Leave l) f = λ e mode xs q. unhalted e mode xs _ q
+      go (work.Swap x) f = λ e mode xs q. unhalted e mode xs _ q
 
 -- ---- a status that is Halted
 

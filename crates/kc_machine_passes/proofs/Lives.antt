@@ -1,5 +1,5 @@
 -- A life that a seat holds stays as it is.
-use Rattle.std.proofs.Common.{◌≡◌, ℕ, ◌<◌, ◌≤◌, ◌∙◌, ⊎_elim, sym, ap, subst, arith, true, List}
+use Rattle.std.proofs.Common.{◌≡◌, ℕ, ◌<◌, ◌≤◌, ◌∙◌, ⊎_elim, ap, subst, arith, true}
 use Rattle.kc_machine.specs.Machine.{World}
 use Rattle.kc_machine_effects.proofs.Counted.{one_here}
 use Rattle.kc_machine_effects.proofs.Held.{Fits, stays}
@@ -7,7 +7,6 @@ use Rattle.kc_machine_effects.proofs.Sums.{total_part}
 use Rattle.kc_machine_effects.specs.Effects.{Effect}
 use Rattle.kc_machine_effects.specs.Holds.{Proper, Has, on, holds_on}
 use Rattle.kc_machine_effects.specs.Stands.{Stand}
-use Rattle.kc_machine_passes.proofs.Targets.{Target}
 use Rattle.kc_machine_passes.specs.Lines.{IsLastLife, IsInstalledLine}
 use Rattle.kc_machine_passes.specs.Phases.{IsDecided}
 use Rattle.kc_machine_pool.proofs.Lives.{Lives, fitting}
@@ -16,11 +15,9 @@ use Rattle.kc_machine_pool.proofs.Statuses.{status_moves}
 use Rattle.kc_machine_pool.specs.Owners.{Follows}
 use Rattle.kc_machine_pool.specs.Started.{line_of_words}
 use Rattle.kc_machine_steps.specs.Lines.{joined, is_installed}
-use Rattle.kc_model.specs.declared.footprint.Line.{Line}
 use Rattle.kc_machine_traces.proofs.Copies.{SameWords, Filling, owner_fills, first_fills, second_fills}
 use Rattle.kc_machine_words.specs.declared.words.First.{First}
 use Rattle.kc_machine_words.specs.declared.words.Handle.{Handle}
-use Rattle.kc_machine_words.specs.declared.words.Mode.{Mode}
 use Rattle.kc_machine_words.specs.declared.words.Owner.{Owner}
 use Rattle.kc_machine_words.specs.declared.words.Phase.{Phase}
 use Rattle.kc_machine_words.specs.declared.words.Second.{Second}

@@ -17,9 +17,11 @@ use Rattle.kc_machine.proofs.Functions.{put_cases}
 use Rattle.kc_machine.specs.Machine.{World}
 use Rattle.kc_machine_effects.specs.Changes.{with_word}
 use Rattle.kc_machine_effects.specs.Effects
-use Rattle.kc_machine_effects.specs.Stands.{Stand, At, Over, Aids}
+use Rattle.kc_machine_effects.specs.Stands.{Stand, At, Over, Aids, Swaps, idle}
 use Rattle.kc_machine_passes.proofs.Owing.{released}
-use Rattle.kc_machine_steps.specs.Lines.{after_line, word_of, is_installed}
+use Rattle.kc_machine_steps.specs.Lines.{after_line, one_more, word_of, is_installed}
+use Rattle.kc_machine_steps.specs.Swaps.{word_after}
+use Rattle.kc_machine_steps.specs.declared.swap.SwapStep.TheVariants as swap
 use Rattle.kc_machine_steps.specs.Passes.{from_install}
 
 -- the seat's pass installs line i of life (d, g) at l, and goes on
@@ -53,6 +55,10 @@ word_before k (Effects.aid_release {w} s {r} {c} {p} {x} a) l g d i =
     put_cases (λ v. v ≡ Ref g d i → (w.word l ≡ Ref g d i) ⊎ Installs w (with_word w x.seen.loc.0 (released x p)) (Effects.aided s r c (aid.Release p x)) (Effects.aided s r c (aid.Drop false None)) l g d i) w.word x.seen.loc.0 (released x p) l
     (λ here y. absurd (cc))
     (λ ne y. inl y)
+word_before k (Effects.swap_takes {w} s {r} {after} a b) l g d i =
+    put_cases (λ v. v ≡ Ref g d i → (w.word l ≡ Ref g d i) ⊎ Installs w (with_word w r.loc.0 (word_after r after)) (record (idle s) { swap = Swaps r after swap.Exchange }) (record (idle s) { swap = Swaps r after swap.Wake; calls = one_more s.calls }) l g d i) w.word r.loc.0 (word_after r after) l
+    (λ here y. absurd (cc))
+    (λ ne y. inl y)
 word_before k e l g d i = λ y. inl y
 
 -- the seat releases line i of life (d, g): in its pass, or as the one line of an aid
@@ -60,17 +66,21 @@ pub data Releases (w w' : World) (s : Stand) (g d i : ℕ) : Type 0 where
   in_pass : (h : Handle) (m : Mode) (xs : List Line) (j : ℕ) (p : Phase) → s.pass ≡ Over h m xs (At (Release j p)) → word_of h j ≡ Ref g d i → w'.status ≡ w.status → Releases w w' s g d i
   in_aid : (r : Reference) (c : Aided) (p : Phase) (x : Line) → s.aid ≡ Aids r c (aiding.Goes (aid.Release p x)) → word_of r.handle r.line ≡ Ref g d i → w'.status ≡ w.status → Releases w w' s g d i
 
-pub word_after : (k : ℕ) {w w' : World} {s s' : Stand} → Effects.Effect k w s w' s' → (l g d i : ℕ) → w.word l ≡ Ref g d i → (w'.word l ≡ Ref g d i) ⊎ Releases w w' s g d i
-word_after k (Effects.install {w} s {h = h} {m} {xs} {j} x q a b e z put_in low) l g d i y =
+pub word_later : (k : ℕ) {w w' : World} {s s' : Stand} → Effects.Effect k w s w' s' → (l g d i : ℕ) → w.word l ≡ Ref g d i → (w'.word l ≡ Ref g d i) ⊎ Releases w w' s g d i
+word_later k (Effects.install {w} s {h = h} {m} {xs} {j} x q a b e z put_in low) l g d i y =
     put_cases (λ v. (v ≡ Ref g d i) ⊎ Releases w (with_word w x.seen.loc.0 (word_of h j)) (Effects.passes s h m xs (Install j)) g d i) w.word x.seen.loc.0 (word_of h j) l
     (λ here. let plain = sym b ∙ ap w.word (sym here) ∙ y in absurd (cc))
     (λ ne. inl y)
-word_after k (Effects.release {w} s {h = h} {m} {xs} {j} {p} x t a b e z) l g d i y =
+word_later k (Effects.release {w} s {h = h} {m} {xs} {j} {p} x t a b e z) l g d i y =
     put_cases (λ v. (v ≡ Ref g d i) ⊎ Releases w (with_word w x.seen.loc.0 (released x p)) (Effects.passes s h m xs (Release j p)) g d i) w.word x.seen.loc.0 (released x p) l
     (λ here. inr (in_pass h m xs j p refl (sym b ∙ ap w.word (sym here) ∙ y) refl))
     (λ ne. inl y)
-word_after k (Effects.aid_release {w} s {r = r} {c} {p} {x} b) l g d i y =
+word_later k (Effects.aid_release {w} s {r = r} {c} {p} {x} b) l g d i y =
     put_cases (λ v. (v ≡ Ref g d i) ⊎ Releases w (with_word w x.seen.loc.0 (released x p)) (Effects.aided s r c (aid.Release p x)) g d i) w.word x.seen.loc.0 (released x p) l
     (λ here. inr (in_aid r c p x refl (sym b ∙ ap w.word (sym here) ∙ y) refl))
     (λ ne. inl y)
-word_after k e l g d i y = inl y
+word_later k (Effects.swap_takes {w} s {r} {after} b c) l g d i y =
+    put_cases (λ v. (v ≡ Ref g d i) ⊎ Releases w (with_word w r.loc.0 (word_after r after)) (record (idle s) { swap = Swaps r after swap.Exchange }) g d i) w.word r.loc.0 (word_after r after) l
+    (λ here. let plain = sym b ∙ ap w.word (sym here) ∙ y in absurd (cc))
+    (λ ne. inl y)
+word_later k e l g d i y = inl y

@@ -42,3 +42,4 @@ three_at_most s = go s.work
     go (work.Commit c) = unlooking (works (resting s) (work.Commit c)) (commit_leaves (record (resting s) { halted = c.halted }) c c.stage).1
     go (work.Hang h) = hung s h h.step
     go (work.Leave l) = omega arith
+    go (work.Swap l) = omega arith

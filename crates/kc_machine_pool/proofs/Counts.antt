@@ -11,6 +11,7 @@ use Rattle.kc_machine_effects.specs.Effects
 use Rattle.kc_machine_effects.specs.Holds.{total}
 use Rattle.kc_machine_effects.specs.Stands.{Stand}
 use Rattle.kc_machine_steps.specs.Lines.{one_more}
+use Rattle.kc_machine_steps.specs.declared.swap.TheConstants.{MOST_SWAPS}
 use Rattle.kc_machine_words.specs.declared.words.Control.{Control}
 use Rattle.kc_machine_words.specs.declared.words.TheConstants.{LAST_GENERATION}
 
@@ -28,8 +29,15 @@ pub record Keeps (w w' : World) (s s' : Stand) : Type 0 where
   pub same : (d : ℕ) → (w'.control d).generation ≡ (w.control d).generation
   pub calls : s'.calls ≡ s.calls
 
-pub control_moves : (k : ℕ) {w w' : World} {s s' : Stand} → Effects.Effect k w s w' s' → Keeps w w' s s' ⊎ Takes w w' s s'
-control_moves k (Effects.take s d g e z l) = inr (record { d = d; g = g; at = refl; was = e; low = l; now = refl; calls = refl })
+-- a word was swapped
+pub record Swapped (w w' : World) (s s' : Stand) : Type 0 where
+  pub same : w'.control ≡ w.control
+  pub low : s.calls < MOST_SWAPS
+  pub calls : s'.calls ≡ one_more s.calls
+
+pub control_moves : (k : ℕ) {w w' : World} {s s' : Stand} → Effects.Effect k w s w' s' → Keeps w w' s s' ⊎ Takes w w' s s' ⊎ Swapped w w' s s'
+control_moves k (Effects.take s d g e z l) = inr (inl (record { d = d; g = g; at = refl; was = e; low = l; now = refl; calls = refl }))
+control_moves k (Effects.swap_takes s q l) = inr (inr (record { same = refl; low = l; calls = refl }))
 control_moves k _ = inl (record { same = λ d. grind cells; calls = refl })
 
 total_same : (f g : ℕ → ℕ) (n : ℕ) → ((i : ℕ) → f i ≡ g i) → total f n ≡ total g n
@@ -47,7 +55,7 @@ one_more_most n = go (nat_lt n 18446744073709551615)
 pub record Counts (b n m : ℕ) (w : World) (at : ℕ → Stand) : Type 0 where
   pub fit : (d : ℕ) → b ≤ LAST_GENERATION → (w.control d).generation ≤ LAST_GENERATION
   pub grown : (d : ℕ) → b ≤ (w.control d).generation
-  pub calls : total (λ k. (at k).calls) n ≤ total (λ d. (w.control d).generation - b) m
+  pub calls : total (λ k. (at k).calls - MOST_SWAPS) n ≤ total (λ d. (w.control d).generation - b) m
 
 module _ (b n m k : ℕ) (l : k < n) {w w' : World} (at : ℕ → Stand) {s' : Stand} (e : Effects.Effect k w (at k) w' s') (y : Placed m (at k).scan) (p : Counts b n m w at) where
   keeps_counts : Keeps w w' (at k) s' → Counts b n m w' (put at k s')
@@ -55,10 +63,25 @@ module _ (b n m k : ℕ) (l : k < n) {w w' : World} (at : ℕ → Stand) {s' : S
     fit = λ d c. let u = p.fit d c in let v = h.same d in omega arith;
     grown = λ d. let u = p.grown d in let v = h.same d in omega arith;
     calls =
-        let t = total_put (λ (s : Stand). s.calls) at k s' n l in
+        let t = total_put (λ (s : Stand). s.calls - MOST_SWAPS) at k s' n l in
         let u = total_same (λ d. (w'.control d).generation - b) (λ d. (w.control d).generation - b) m (λ d. ap (λ x. x - b) (h.same d)) in
         let c = p.calls in
+        let q = ap (λ x. x - MOST_SWAPS) h.calls in
+        omega arith;
+  }
+
+  -- the first calls count for nothing
+  swaps_counts : Swapped w w' (at k) s' → Counts b n m w' (put at k s')
+  swaps_counts h = record {
+    fit = λ d c. subst (λ (f : ℕ → Control). (f d).generation ≤ LAST_GENERATION) (sym h.same) (p.fit d c);
+    grown = λ d. subst (λ (f : ℕ → Control). b ≤ (f d).generation) (sym h.same) (p.grown d);
+    calls =
+        let t = total_put (λ (s : Stand). s.calls - MOST_SWAPS) at k s' n l in
+        let v = ap (λ (f : ℕ → Control). total (λ d. (f d).generation - b) m) h.same in
+        let c = p.calls in
         let q = h.calls in
+        let o = one_more_most (at k).calls in
+        let g = h.low in
         omega arith;
   }
 
@@ -67,7 +90,7 @@ module _ (b n m k : ℕ) (l : k < n) {w w' : World} (at : ℕ → Stand) {s' : S
     fit = λ d c. subst (λ (f : ℕ → Control). (f d).generation ≤ LAST_GENERATION) (sym h.now) (put_cases (λ (x : Control). x.generation ≤ LAST_GENERATION) w.control h.d (control (h.g + 1) 1) d (λ q. let u = h.low in omega arith) (λ ne. p.fit d c));
     grown = λ d. subst (λ (f : ℕ → Control). b ≤ (f d).generation) (sym h.now) (put_cases (λ (x : Control). b ≤ x.generation) w.control h.d (control (h.g + 1) 1) d (λ q. let u = p.grown h.d in let v = h.was in omega arith) (λ ne. p.grown d));
     calls =
-        let t = total_put (λ (s : Stand). s.calls) at k s' n l in
+        let t = total_put (λ (s : Stand). s.calls - MOST_SWAPS) at k s' n l in
         let u = total_put (λ (c : Control). c.generation - b) w.control h.d (control (h.g + 1) 1) m (y h.d 0 h.at) in
         let v = ap (λ (f : ℕ → Control). total (λ d. (f d).generation - b) m) h.now in
         let c = p.calls in
@@ -79,4 +102,4 @@ module _ (b n m k : ℕ) (l : k < n) {w w' : World} (at : ℕ → Stand) {s' : S
   }
 
   pub counts_effect : Counts b n m w' (put at k s')
-  counts_effect = ⊎_elim keeps_counts takes_counts (control_moves k e)
+  counts_effect = ⊎_elim keeps_counts (⊎_elim takes_counts swaps_counts) (control_moves k e)

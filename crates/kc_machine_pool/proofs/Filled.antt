@@ -105,6 +105,7 @@ owner_own k (Effects.signal s) f h i q u = f h i q tt
 owner_own k (Effects.drop s p) f h i q u = absurd u
 owner_own k (Effects.own_ends s) f h i q u = f h i q tt
 owner_own k (Effects.halt_fill s n e) f h i q u = absurd u
+owner_own k (Effects.swap_takes s e l) f h i q u = absurd (cc)
 owner_own k e f h i q u = f h i q u
 
 pub firsts_own : (k : ℕ) {w w' : World} {s s' : Stand} → Effects.Effect k w s w' s' → FirstsAreFilled w s.own → FirstsAreFilled w' s'.own

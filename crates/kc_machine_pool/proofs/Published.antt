@@ -5,6 +5,7 @@ use Rattle.kc_machine_words.specs.declared.words.Phase.TheVariants.{Active}
 use Rattle.kc_machine_words.specs.declared.words.Reference.{Reference}
 use Rattle.kc_model.specs.declared.word.Word.{Word}
 use Rattle.kc_model.specs.declared.word.Word.TheVariants.{Ref}
+use Rattle.kc_machine_steps.specs.Swaps.{word_after}
 use Rattle.kc_machine_steps.specs.declared.look.LookStep.TheVariants as look
 use Rattle.kc_machine_steps.specs.declared.look.LookNext.TheVariants as looking
 use Rattle.kc_machine_steps.specs.declared.pass.PassStep.TheVariants.{Install, Check, CheckHold, CheckStatus, CheckFirst, CheckDrop, Decide, Release}
@@ -69,6 +70,7 @@ pub words_own : (k : ℕ) {w w' : World} {s s' : Stand} → Effects.Effect k w s
 words_own k (Effects.install {w} s {h = i} {j = n} x q a b e z put_in low) p h l g d j = words_put w x.seen.loc.0 (word_of i n) h (λ g' d' j'. word_out w i n (p i.descriptor i.generation refl) g' d' j') l g d j
 words_own k (Effects.release {w} s x t a b e z) p h l g d j = words_put w x.seen.loc.0 _ h (λ g' d' j' q. absurd (cc)) l g d j
 words_own k (Effects.aid_release {w} s {x = x} a) p h l g d j = words_put w x.seen.loc.0 _ h (λ g' d' j' q. absurd (cc)) l g d j
+words_own k (Effects.swap_takes {w} s {r} {after} a b) p h l g d j = words_put w r.loc.0 (word_after r after) h (λ g' d' j' q. absurd (cc)) l g d j
 words_own k _ p h l g d j = h l g d j
 
 -- ---- the life that a pass goes over

@@ -17,6 +17,10 @@ use Rattle.kc_model.specs.declared.footprint.Loc.{Loc}
 use Rattle.kc_model.specs.declared.footprint.Seen.{Seen}
 use Rattle.kc_machine_words.specs.declared.access.Grip.TheVariants as grip
 use Rattle.kc_machine_words.specs.declared.access.Access.TheVariants as access
+use Rattle.kc_machine_steps.specs.Swaps.{swap_access_at}
+use Rattle.kc_machine_steps.specs.declared.swap.Swap.{Swap}
+use Rattle.kc_machine_steps.specs.declared.swap.SwapStep.{SwapStep}
+use Rattle.kc_machine_steps.specs.declared.swap.SwapStep.TheVariants as swap
 use Rattle.kc_machine_steps.specs.declared.line.Intent.{Intent}
 use Rattle.kc_model.specs.declared.footprint.Line.{Line}
 use Rattle.kc_machine_steps.specs.declared.look.LookStep.{LookStep}
@@ -244,6 +248,12 @@ module _ (n : ℕ) where
       work_made (work.Commit c) o v l y = stage_made c c.stage o v l y
       work_made (work.Hang h) o v l y = hang_made s.caller h.step (slice_get h.reads.items (read_of h.step))
       work_made (work.Leave a) o v l y = leave_made s.caller a.reads.items a.step
+      work_made (work.Swap a) o v l y = swap_made a a.step
+        where
+          swap_made : (x : Swap) (step : SwapStep) → Made (touched w (swap_access_at x.seen x.after s.calls step))
+          swap_made x swap.Exchange = f
+          swap_made x swap.Wake = f
+          swap_made x (swap.Signal owed) = f
 
 -- ---- every schedule
 

@@ -3,6 +3,7 @@ use Rattle.std.specs.Prelude.{◌≤◌, ◌+◌, ◌-◌, ℕ}
 use Rattle.kc_machine.specs.Machine.{State, Opening}
 use Rattle.kc_machine_effects.specs.Holds.{Hold, NoHold, Proper, Stray, own_hold, check_hold, aid_hold, look_hold, total}
 use Rattle.kc_machine_effects.specs.Stands.{Stand, stand}
+use Rattle.kc_machine_steps.specs.declared.swap.TheConstants.{MOST_SWAPS}
 use Rattle.kc_machine_words.specs.declared.words.TheConstants.{LAST_GENERATION}
 
 -- generations stay in their range where the opening's is in it
@@ -17,9 +18,9 @@ GenerationsGrow o m = (d : ℕ) → o.generation ≤ (m.world.control d).generat
 abbrev pub lives_begun : Opening → State → ℕ
 lives_begun o m = total (λ d. (m.world.control d).generation - o.generation) m.descriptors
 
--- the calls of all seats
+-- the calls of all seats, but for those that may be swaps
 abbrev pub calls_made : State → ℕ
-calls_made m = total (λ k. (stand (m.seats k)).calls) m.callers
+calls_made m = total (λ k. (stand (m.seats k)).calls - MOST_SWAPS) m.callers
 
 abbrev pub CallsFit : Opening → State → Type 0
 CallsFit o m = calls_made m ≤ lives_begun o m

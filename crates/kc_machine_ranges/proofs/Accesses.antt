@@ -40,13 +40,18 @@ use Rattle.kc_machine.specs.Schedules.{AreBelow}
 use Rattle.kc_machine.specs.Seats.{work_access, is_idle}
 use Rattle.kc_machine_commits.specs.Commits.{own_access, stage_access, fill_first, fill_second, wake_access}
 use Rattle.kc_machine_pool.proofs.Filled.{is_there}
-use Rattle.kc_machine_ranges.specs.Ranges.{HandleIn, ReferenceIn, LineIn, AccessIn}
-use Rattle.kc_machine_ranges.specs.Seats.{LookIn, PassIn, AidIn, CopyIn, OwnIn, HangIn, WorkIn, StageIn}
+use Rattle.kc_machine_ranges.specs.Ranges.{HandleIn, ReferenceIn, LineIn, WordIn, TouchIn, AccessIn}
+use Rattle.kc_machine_ranges.specs.Seats.{LookIn, PassIn, AidIn, CopyIn, OwnIn, HangIn, SwapIn, WorkIn, StageIn}
 use Rattle.kc_machine_seats.specs.Fits.{StepFits, AidFits, OwnFits, WorkFits, StageFits}
-use Rattle.kc_machine_seats.specs.Formed.{OwnIsFormed, IsCopy, WorkIsFormed, LeaveIsFormed, HangStands, StageIsFormed}
+use Rattle.kc_machine_seats.specs.Formed.{OwnIsFormed, IsCopy, SwapIsFormed, WorkIsFormed, LeaveIsFormed, HangStands, StageIsFormed}
 use Rattle.kc_machine_seats.specs.Made.{IsWellMadeIntent, IsWellMadeLine, IntentIsMade, ReadsAreMade}
 use Rattle.kc_machine_seats.specs.Seated.{WorkSearches, StageSearches}
 use Rattle.kc_machine_steps.specs.Aids.{aid_access}
+use Rattle.kc_machine_steps.specs.Swaps.{may_swap, seen_word, word_after, swap_access_at}
+use Rattle.kc_machine_steps.specs.declared.swap.SwapStep.{SwapStep}
+use Rattle.kc_machine_steps.specs.declared.swap.SwapStep.TheVariants as swap
+use Rattle.kc_machine_words.specs.declared.access.Touch.TheVariants.{Load, CompareExchange}
+use Rattle.kc_model.specs.declared.footprint.TheConstants.{LAST_VERSION}
 use Rattle.kc_machine_steps.specs.Lines.{next_version, resolved_version, succeeds, first_of}
 use Rattle.kc_machine_steps.specs.Looks.{look_access}
 use Rattle.kc_machine_steps.specs.Passes.{pass_access, install_access, check_access, release_access, release_at}
@@ -166,6 +171,18 @@ module _ (o : Opening) where
         let x = is_there reads k w.1 in
         subst (λ q. AccessIn o (clear_access caller q)) (sym x.1) (read_below reads k x.0 x.1 b, seated)
 
+    swap_touches : (r : Seen) (after : ℕ) (step : SwapStep) → (r.loc.0 < o.locations) × (r.version < LAST_VERSION) → SwapIsFormed step → SwapIn o step → AccessIn o (swap_access_at r after calls step)
+    swap_touches r after swap.Exchange b w y = (b.0, go (may_swap calls))
+      where
+        new : next_version r.version ≤ LAST_VERSION
+        new = let l = b.1 in version_grows r.version (omega arith)
+
+        go : (m : Bool) → TouchIn (WordIn o) (if m then CompareExchange (seen_word r) (word_after r after) else Load)
+        go true = let l = b.1 in (omega arith, new)
+        go false = tt
+    swap_touches r after swap.Wake b w y = (b.0, tt)
+    swap_touches r after (swap.Signal owed) b w y = lowest_below o.callers 64 owed w y most
+
     stage_touches : (c : Commit) (x : Stage) → IsWellMadeIntent o.locations c.intent → CopyIn o c.copy → IsCopy c.copy → StageFits c.halted c.intent c.copy x
         → StageIsFormed calls c.intent x → StageSearches (pool_size o.callers) x → StageIn o c.copy x → AccessIn o (stage_access caller calls c x)
     stage_touches c (Scan d worn) m n f a b q z = (q, tt)
@@ -181,3 +198,4 @@ module _ (o : Opening) where
         let x = is_there h.reads.items (read_of h.step) s in
         subst (λ e. AccessIn o (hang_access_of caller h.step e)) (sym x.1) (hang_touches x.0.loc h.step (read_below h.reads.items (read_of h.step) x.0 x.1 r.1) z)
     work_touches blocked (work.Leave l) i a b s m r q z = leave_touches blocked l.reads.items l.step r b
+    work_touches blocked (work.Swap x) i a b s m r q z = swap_touches x.seen x.after x.step r b z

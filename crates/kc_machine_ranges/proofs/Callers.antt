@@ -1,5 +1,5 @@
 -- A number below 2 ^ callers has callers' bits alone.
-use Rattle.std.proofs.Common.{◌≡◌, ◌<◌, ◌≤◌, ◌*◌, ◌%◌, ◌^◌, ◌∙◌, ℕ, Bool, true, false, refl, sym, ap, arith, if◌then◌else◌}
+use Rattle.std.proofs.Common.{◌≡◌, ◌<◌, ◌≤◌, ◌*◌, ◌%◌, ◌^◌, ◌∙◌, ℕ, Bool, true, false, refl, sym, ap, subst, arith, if◌then◌else◌}
 use Rattle.std.specs.Prelude.{nat_lt, bit_and}
 use Rattle.std.specs.Int.Bits.{and_zero_r}
 use Rattle.std.proofs.lemmas.Nat.{pow_pos}
@@ -23,8 +23,14 @@ use Rattle.kc_machine.specs.declared.seat.Seat.{Seat}
 use Rattle.kc_machine.specs.Works as work
 use Rattle.kc_machine.specs.Machine.{Opening}
 use Rattle.kc_machine.specs.Words.{bit_of}
-use Rattle.kc_machine_claims.specs.Claims.{has_bit, owed_by}
+use Rattle.kc_machine_claims.specs.Claims.{has_bit, owed_by, owed_by_swap}
 use Rattle.kc_machine_effects.specs.Stands.{Stand, Waits, resting, aids, owns, commits, hangs, works, stand}
+use Rattle.kc_machine_effects.specs.Stands.{Swaps}
+use Rattle.kc_machine_traces.proofs.Swapping.{swap_of, stand_swap}
+use Rattle.kc_machine_ranges.specs.Seats.{SwapIn}
+use Rattle.kc_machine_steps.specs.declared.swap.Swap.{Swap}
+use Rattle.kc_machine_steps.specs.declared.swap.SwapStep.{SwapStep}
+use Rattle.kc_machine_steps.specs.declared.swap.SwapStep.TheVariants as swap
 use Rattle.kc_machine_ranges.specs.Ranges.{CallersIn}
 use Rattle.kc_machine_ranges.specs.Seats.{OwnIn, StageIn, WorkIn}
 
@@ -49,35 +55,48 @@ caller_of x n c l e = go (nat_lt c n) refl
     go false q = let z = no_bit x n c l (ltb-false c n q) in absurd (let f : has_bit x c ≡ false = rw z refl in let w : true ≡ false = sym e ∙ f in cc)
 
 module _ (o : Opening) where
-  abbrev Owes : Stand → Type 0
-  Owes t = CallersIn o (owed_by t.own)
+  abbrev Owed : Stand → Type 0
+  Owed t = CallersIn o (owed_by t.own)
 
-  aids_owe : (t : Stand) (h : Handle) (i : Intent) (k : ℕ) (r : Reference) (a : Aided) (step : AidStep) → Owes (aids (record t { own = Waits h i k }) r a step)
+  aids_owe : (t : Stand) (h : Handle) (i : Intent) (k : ℕ) (r : Reference) (a : Aided) (step : AidStep) → Owed (aids (record t { own = Waits h i k }) r a step)
   aids_owe t h i k r a (aid.Pass p) = pow_pos o.callers
   aids_owe t h i k r a _ = pow_pos o.callers
 
-  owns_owe : (t : Stand) (i : Intent) (a : Aided) (h : Handle) (step : OwnStep) → OwnIn o a step → Owes (owns t i a h step)
+  owns_owe : (t : Stand) (i : Intent) (a : Aided) (h : Handle) (step : OwnStep) → OwnIn o a step → Owed (owns t i a h step)
   owns_owe t i a h (own.Pass p) y = pow_pos o.callers
   owns_owe t i a h (own.Aid k r step) y = aids_owe t h i k r a step
   owns_owe t i a h (own.Wake k owed) y = y
   owns_owe t i a h (own.Signal owed) y = y
   owns_owe t i a h _ y = pow_pos o.callers
 
-  commits_owe : (s : Seat) (halted : Bool) (i : Intent) (a : Aided) (x : Stage) → StageIn o a x → Owes (commits (record (resting s) { halted = halted }) i a x)
+  commits_owe : (s : Seat) (halted : Bool) (i : Intent) (a : Aided) (x : Stage) → StageIn o a x → Owed (commits (record (resting s) { halted = halted }) i a x)
   commits_owe s halted i a (Scan d worn) y = pow_pos o.callers
   commits_owe s halted i a (Take d g) y = pow_pos o.callers
   commits_owe s halted i a (Own h step) y = owns_owe (record (resting s) { halted = halted }) i a h step y.1
 
-  works_owe : (s : Seat) (x : Work) → WorkIn o x → Owes (works (resting s) x)
+  works_owe : (s : Seat) (x : Work) → WorkIn o x → Owed (works (resting s) x)
   works_owe s work.Idle y = pow_pos o.callers
   works_owe s (work.Look l) y = pow_pos o.callers
   works_owe s (work.Commit c) y = commits_owe s c.halted c.intent c.copy c.stage y.1
   works_owe s (work.Hang h) y = go h.step
     where
-      go : (step : HangStep) → Owes (hangs (resting s) h.reads.items step)
+      go : (step : HangStep) → Owed (hangs (resting s) h.reads.items step)
       go (hang.Look k step) = pow_pos o.callers
       go _ = pow_pos o.callers
   works_owe s (work.Leave l) y = pow_pos o.callers
+  works_owe s (work.Swap l) y = pow_pos o.callers
 
   pub owed_in : (s : Seat) → WorkIn o s.work → CallersIn o (owed_by (stand s).own)
   owed_in s y = works_owe s s.work y
+
+  pub owed_in_swap : (s : Seat) → WorkIn o s.work → CallersIn o (owed_by_swap (stand s).swap)
+  owed_in_swap s y = subst (λ q. CallersIn o (owed_by_swap q)) (sym (stand_swap s)) (go s.work y)
+    where
+      at : (x : Swap) (step : SwapStep) → SwapIn o step → CallersIn o (owed_by_swap (Swaps x.seen x.after step))
+      at x swap.Exchange y = pow_pos o.callers
+      at x swap.Wake y = pow_pos o.callers
+      at x (swap.Signal owed) y = y
+
+      go : (x : Work) → WorkIn o x → CallersIn o (owed_by_swap (swap_of x))
+      go (work.Swap x) y = at x x.step y
+      go _ y = pow_pos o.callers

@@ -29,6 +29,9 @@ use Rattle.kc_machine.specs.declared.hang.LeaveStep.{LeaveStep}
 use Rattle.kc_machine.specs.declared.hang.LeaveStep.TheVariants as leave
 use Rattle.kc_machine.specs.Works.{Work}
 use Rattle.kc_machine.specs.Works as work
+use Rattle.kc_machine_steps.specs.Swaps.{swap_access_at}
+use Rattle.kc_machine_steps.specs.declared.swap.SwapStep.{SwapStep}
+use Rattle.kc_machine_steps.specs.declared.swap.SwapStep.TheVariants as swap
 use Rattle.kc_machine.specs.Hangs.{hang_access_of, leave_access_at, clear_access, read_of}
 use Rattle.kc_machine.specs.Machine.{State}
 use Rattle.kc_machine.specs.Seats.{work_access, access_of}
@@ -180,6 +183,12 @@ work_back d caller calls t (work.Leave l) e = absurd (go l.step e)
         at : (o : Option Seen) → clear_access caller o ≡ back d → ⊥
         at None e = absurd (cc)
         at (Some x) e = absurd (cc)
+work_back d caller calls t (work.Swap x) e = absurd (go x.step e)
+  where
+    go : (s : SwapStep) → swap_access_at x.seen x.after calls s ≡ back d → ⊥
+    go swap.Exchange e = absurd (cc)
+    go swap.Wake e = absurd (cc)
+    go (swap.Signal owed) e = absurd (cc)
 
 gives_back : (m : State) (k d : ℕ) → HoldsAreCounted m → k < m.callers → access_of (m.seats k) ≡ back d → 0 < (m.world.control d).holds
 gives_back m k d c l e =

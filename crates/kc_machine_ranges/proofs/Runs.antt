@@ -1,6 +1,7 @@
 -- Words and seats stay in their ranges through every schedule of well-made tasks, so each step is possible.
-use Rattle.std.proofs.Common.{◌≡◌, ℕ, ◌-◌, ◌<◌, ◌∙◌, Bool, true, false, List, [], ◌∷◌, ◌++◌, All, refl, sym, subst, arith, if◌then◌else◌}
+use Rattle.std.proofs.Common.{◌≡◌, ℕ, ◌-◌, ◌<◌, ⊎_elim, ◌∙◌, Bool, true, false, List, [], ◌∷◌, ◌++◌, All, refl, sym, subst, arith, if◌then◌else◌}
 use Rattle.std.specs.Prelude.{nat_lt}
+use Rattle.kc_machine_steps.specs.declared.swap.TheConstants.{MOST_SWAPS}
 use Rattle.std.proofs.lemmas.List.Elements.{All-nil, All-head, All-tail, All-push}
 use borrow.Author.Tests.{ltb-true}
 use Rattle.kc_machine_words.specs.declared.access.Grip.{Grip}
@@ -29,13 +30,13 @@ use Rattle.kc_machine.specs.declared.hang.HangStep.{HangStep}
 use Rattle.kc_machine_commits.specs.declared.commit.Stage.{Stage}
 use Rattle.kc_machine_commits.specs.declared.commit.Stage.TheVariants.{Scan, Take, Own}
 use Rattle.kc_machine.specs.declared.hang.HangStep.TheVariants as hang
-use Rattle.kc_machine_claims.specs.Claims.{owed_by}
+use Rattle.kc_machine_claims.specs.Claims.{owed_by, owed_by_swap}
 use Rattle.kc_machine_effects.proofs.PoolLaws.{holds_counted}
 use Rattle.kc_machine_effects.proofs.Sums.{total_part}
 use Rattle.kc_machine_effects.specs.Stands.{Stand, Waits, resting, aids, owns, commits, hangs, works, stand}
 use Rattle.kc_machine_pool.proofs.LifeLaws.{generations_fit, calls_fit, three_holds}
 use Rattle.kc_machine_ranges.proofs.Accesses.{work_touches}
-use Rattle.kc_machine_ranges.proofs.Callers.{caller_of, owed_in}
+use Rattle.kc_machine_ranges.proofs.Callers.{caller_of, owed_in, owed_in_swap}
 use Rattle.kc_machine_ranges.proofs.Room.{total_most, lt_is, adds_room, subtracts_room}
 use Rattle.kc_machine_ranges.proofs.Steps.{answer_in, begun_in, halted_in}
 use Rattle.kc_machine_ranges.proofs.Words.{touched_in, found_in, opened_in}
@@ -75,6 +76,7 @@ works_calls t (work.Commit c) = go c.stage
     go (Own h step) = owns_calls (record t { halted = c.halted }) c.intent c.copy h step
 works_calls t (work.Hang h) = hangs_calls t h.reads.items h.step
 works_calls t (work.Leave l) = refl
+works_calls t (work.Swap l) = refl
 
 module _ (o : Opening) where
   pub called : (es : List Event) → IsSchedule o es → (k : ℕ) → k < o.callers → ((run o es).seats k).calls < 281474976710656
@@ -82,7 +84,7 @@ module _ (o : Opening) where
       let m = run o es in
       let s = run_shape o es in
       let n : k < m.callers = (let c = s.2 in omega arith) in
-      let part = total_part (λ j. (stand (m.seats j)).calls) m.callers k n in
+      let part = total_part (λ j. (stand (m.seats j)).calls - MOST_SWAPS) m.callers k n in
       let all = calls_fit o es in
       let lives = total_most (λ d. (m.world.control d).generation - o.generation) 1099511627775 m.descriptors (λ d. let g = generations_fit o es d w.0.generation in omega arith) in
       let d = s.1 in
@@ -114,6 +116,7 @@ module _ (o : Opening) where
   not_idle m caller calls (work.Commit c) e = refl
   not_idle m caller calls (work.Hang h) e = refl
   not_idle m caller calls (work.Leave l) e = refl
+  not_idle m caller calls (work.Swap l) e = refl
 
   steps : (es : List Event) → IsSchedule o es → (k : ℕ) → k < o.callers → InRange (run o es) → InRange (stepped (run o es) k)
   steps es w k l f = go (run o es) f (λ e. touches es w f.seats k l e) (answer_in o ((run o es).seats k) _ (fit_always o es k) (formed_always o es k) (intents_made o es w k) (searches_in_range o es k l) (found_in o (run o es).world (access_of ((run o es).seats k)) f.words) (f.seats k l))
@@ -204,7 +207,6 @@ pub awaiters_callers : (o : Opening) (es : List Event) → IsSchedule o es → A
 awaiters_callers o es w l c e = let b = caller_of ((run o es).world.awaiters l) o.callers c ((words_in o es w).awaiters l) e in let s = (run_shape o es).2 in omega arith
 
 pub owed_callers : (o : Opening) (es : List Event) → IsSchedule o es → OwedAreCallers (run o es)
-owed_callers o es w k c l e =
-    let s = (run_shape o es).2 in
-    let b = caller_of (owed_by (stand ((run o es).seats k)).own) o.callers c (owed_in o ((run o es).seats k) (seats_in o es w k (omega arith))) e in
-    omega arith
+owed_callers o es w k c l = ⊎_elim
+    (λ e. let s = (run_shape o es).2 in let b = caller_of (owed_by (stand ((run o es).seats k)).own) o.callers c (owed_in o ((run o es).seats k) (seats_in o es w k (omega arith))) e in omega arith)
+    (λ e. let s = (run_shape o es).2 in let b = caller_of (owed_by_swap (stand ((run o es).seats k)).swap) o.callers c (owed_in_swap o ((run o es).seats k) (seats_in o es w k (omega arith))) e in omega arith)

@@ -61,12 +61,21 @@ use Rattle.kc_machine_commits.specs.Commits.{own_next, stage_next, tells_or_goes
 use Rattle.kc_machine_commits.specs.Halts.{halted_pass, halted_aid_pass, halted_own, unowned, halted_at}
 use Rattle.kc_machine_ranges.proofs.Words.{FoundIn}
 use Rattle.kc_machine_ranges.specs.Ranges.{HandleIn, ReferenceIn, CallersIn, FirstIn, LineIn}
-use Rattle.kc_machine_ranges.specs.Seats.{OnwardIn, LookIn, AfterIn, PassIn, AidIn, CopyIn, OwnIn, StageIn, HangIn, WorkIn}
+use Rattle.kc_machine_ranges.specs.Seats.{OnwardIn, LookIn, AfterIn, PassIn, AidIn, CopyIn, OwnIn, StageIn, HangIn, SwapIn, WorkIn}
 use Rattle.kc_machine_seats.proofs.Searches.{scanned}
 use Rattle.kc_machine_seats.specs.Fits.{StepFits, AidFits, OwnFits, StageFits, WorkFits}
 use Rattle.kc_machine_seats.specs.Formed.{IsCopy, WorkIsFormed}
 use Rattle.kc_machine_seats.specs.Made.{IntentIsMade}
 use Rattle.kc_machine_seats.specs.Seated.{StageSearches, WorkSearches}
+use Rattle.kc_machine_steps.specs.declared.task.Told.TheVariants as told
+use Rattle.kc_machine_steps.specs.Swaps.{may_swap, exchange_next, swap_next_at, swaps_on, ends_at_once}
+use Rattle.kc_machine_steps.specs.Swaps.{owed_next as owed_by_swap}
+use Rattle.kc_machine_steps.specs.Swaps.{onward_of as onward_of_swap}
+use Rattle.kc_machine_steps.specs.declared.swap.Swap.{Swap}
+use Rattle.kc_machine_steps.specs.declared.swap.SwapNext.{SwapNext}
+use Rattle.kc_machine_steps.specs.declared.swap.SwapNext.TheVariants as swapping
+use Rattle.kc_machine_steps.specs.declared.swap.SwapStep.{SwapStep}
+use Rattle.kc_machine_steps.specs.declared.swap.SwapStep.TheVariants as swap
 use Rattle.kc_machine_steps.specs.Aids.{aid_copy, copy_owner, copy_line, aid_next, hold_next, owner_or_first, status_next, first_next, second_next, load_next, owner_next, load_first_next, load_second_next, after_pass, drop_or_release, leave_next}
 use Rattle.kc_machine_steps.specs.Passes.{check_or_decide, from_check, install_or_check, from_install, release_or_finish, from_release, fits, refers_to, install_found, check_found, check_hold_next, crossed_or_first, check_status_next, agrees_or_fails, check_first_found, check_drop_next, decided_as, decide_next, pass_next}
 
@@ -433,6 +442,27 @@ module _ (o : Opening) where
     hang_in (hang.Look k step) f i y = looks_in k step f (slice_get reads k) i y
     hang_in (hang.Clear k changed) f i y = cleared_in k changed
 
+  -- ---- swaps
+
+  abbrev SwapNextIn : SwapNext → Type 0
+  SwapNextIn (swapping.Goes step) = SwapIn o step
+  SwapNextIn (swapping.Takes step) = SwapIn o step
+  SwapNextIn (swapping.Tells t) = Unit {0}
+
+  swap_owed_in : (calls n : ℕ) → CallersIn o n → SwapNextIn (owed_by_swap calls n)
+  swap_owed_in calls n y = if_in SwapNextIn (n == 0) (swapping.Tells (told.Succeeded calls)) (swapping.Goes (swap.Signal n)) tt y
+
+  exchanged_in : (r : Seen) (calls : ℕ) (f : Found) → SwapNextIn (exchange_next r calls f)
+  exchanged_in r calls (found.Word (Plain v y)) = if_in SwapNextIn ((v == r.version) && (y == r.value)) _ (swapping.Tells (told.Failed 0)) (if_in SwapNextIn (may_swap calls) (swapping.Takes swap.Wake) (swapping.Tells (told.Crossed 0)) tt tt) tt
+  exchanged_in r calls (found.Word (Ref g d i)) = tt
+  exchanged_in r calls _ = tt
+
+  swap_in : (r : Seen) (calls : ℕ) (step : SwapStep) (f : Found) → FoundIn o f → SwapIn o step → SwapNextIn (swap_next_at r calls step f)
+  swap_in r calls swap.Exchange f i y = exchanged_in r calls f
+  swap_in r calls swap.Wake (found.Callers c) i y = swap_owed_in calls c i
+  swap_in r calls swap.Wake _ i y = tt
+  swap_in r calls (swap.Signal n) f i y = swap_owed_in calls (bit_and n (n - 1)) (let l = and_le_l n (n - 1) in omega arith)
+
   -- ---- a seat
 
   abbrev pub SeatIn : Seat → Type 0
@@ -458,6 +488,11 @@ module _ (o : Opening) where
     leave_answers l j None = tt
     leave_answers l j (Some x) = tt
 
+    swap_answers : (x : Swap) (n : SwapNext) → SwapNextIn n → SeatIn (after (record s { work = work.Swap (swaps_on x n) }) (onward_of_swap n))
+    swap_answers x (swapping.Goes step) y = y
+    swap_answers x (swapping.Takes step) y = y
+    swap_answers x (swapping.Tells t) y = tt
+
     pub answer_in : (f : Found) → WorkFits s.work → WorkIsFormed s.calls s.blocked s.work → IntentIsMade o.locations s.work → WorkSearches (pool_size o.callers) s.work → FoundIn o f → SeatIn s → SeatIn (answer_of s f)
     answer_in f fits formed made searches i y = go s.work fits formed made searches y
       where
@@ -467,12 +502,14 @@ module _ (o : Opening) where
         go (work.Commit c) a b m q z = commit_answers c m.most b.1 f _ (copied c.copy c.stage f i z.1 z.0) (stage_in c m.most b.1 s.descriptors s.calls c.stage f a q i z.1)
         go (work.Hang h) a b m q z = hang_answers h _ (hang_in h.reads.items h.step f i z)
         go (work.Leave l) a b m q z = leave_answers l _ _
+        go (work.Swap x) a b m q z = swap_answers x _ (swap_in x.seen s.calls x.step f i z)
 
     begins_in : (t : Task) → SeatIn s → SeatIn (begun_idle s t)
     begins_in (task.Look l) y = tt
     begins_in (task.Commit f mode) y = ((All-nil (LineIn o), omega arith), tt)
     begins_in (task.Hang reads) y = if_in SeatIn s.blocked s (working s (hanging_of reads.items)) y tt
     begins_in (task.Leave reads) y = tt
+    begins_in (task.Swap reads after) y = tt
 
     pub begun_in : (t : Task) → SeatIn s → SeatIn (begun s t)
     begun_in t y = if_in SeatIn (is_idle s.work) (begun_idle s t) s (begins_in t y) y
@@ -538,3 +575,4 @@ module _ (o : Opening) where
         go (work.Commit c) z = commit_halts c c.stage z.0 z.1
         go (work.Hang h) z = y
         go (work.Leave l) z = y
+        go (work.Swap x) z = if_in SeatIn (ends_at_once x.step) (ended s) s tt y

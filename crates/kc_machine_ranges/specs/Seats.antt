@@ -19,6 +19,8 @@ use Rattle.kc_machine_commits.specs.declared.commit.Stage.TheVariants.{Own}
 use Rattle.kc_machine.specs.declared.hang.HangStep.TheVariants as hang
 use Rattle.kc_machine.specs.Works.{Work}
 use Rattle.kc_machine.specs.Works as work
+use Rattle.kc_machine_steps.specs.declared.swap.SwapStep.{SwapStep}
+use Rattle.kc_machine_steps.specs.declared.swap.SwapStep.TheVariants as swap
 use Rattle.kc_machine.specs.Machine.{State, Opening}
 use Rattle.kc_machine_ranges.specs.Ranges.{HandleIn, ReferenceIn, CallersIn, PhaseIn, FirstIn, LineIn}
 
@@ -74,10 +76,15 @@ abbrev pub HangIn : Opening → HangStep → Type 0
 HangIn o (hang.Look k step) = LookIn o step
 HangIn o _ = Unit {0}
 
+abbrev pub SwapIn : Opening → SwapStep → Type 0
+SwapIn o (swap.Signal owed) = CallersIn o owed
+SwapIn o _ = Unit {0}
+
 abbrev pub WorkIn : Opening → Work → Type 0
 WorkIn o (work.Look l) = LookIn o l.step
 WorkIn o (work.Commit c) = CopyIn o c.copy × StageIn o c.copy c.stage
 WorkIn o (work.Hang h) = HangIn o h.step
+WorkIn o (work.Swap x) = SwapIn o x.step
 WorkIn o _ = Unit {0}
 
 abbrev pub SeatsIn : Opening → State → Type 0

@@ -1,4 +1,11 @@
 -- Which pass may decide behind an event, and what it installs.
+use Rattle.std.proofs.Common.{eqb-true}
+use Rattle.std.proofs.Common.{◌==◌, Bool, cond, zero, suc}
+use Rattle.kc_machine_claims.specs.Traces.{swap_line}
+use Rattle.kc_machine_claims.specs.Histories.{footprint_of}
+use Rattle.kc_model.specs.declared.word.Word.TheVariants.{Plain}
+use Rattle.kc_machine_traces.specs.Swaps.{SwapOf}
+use Rattle.std.proofs.Common.{⊎_elim}
 use Rattle.std.proofs.Common.{arith, ◌≡◌, ◌≢◌, ◌<◌, ◌≤◌, ◌⊎◌, inl, inr, ℕ, zero, suc, ◌++◌, Bool, true, false, List, [], ◌∷◌, length, Option, None, Some, refl, sym, ap, subst, ◌∙◌, Contains}
 use Rattle.std.specs.Prelude.{nat_lt, slice_get}
 use Rattle.std.specs.Option.{is_some}
@@ -158,7 +165,7 @@ module _ (o : Opening) (es : List Event) (e : Event) where
           (λ ne y. y) b
 
       go : (b : Bool) → nat_lt (seat_of e) (run o es).callers ≡ b → (run o es).world.status d ≡ status g Active
-      go true q = back (ltb-true (seat_of e) (run o es).callers q) n.world (event_changes (run o es) e) a
+      go true q = ⊎_elim (λ c. back (ltb-true (seat_of e) (run o es).callers q) n.world c a) (λ y. ap (λ (x : State). x.world.status d) (sym y.1.goes) ∙ a) (event_changes (run o es) e)
       go false q = ap (λ (x : State). x.world.status d) (sym (event_out (run o es) e q)) ∙ a
 
   -- a pass that may decide behind the event might before, over the same life; or it comes to be placed now
@@ -240,12 +247,39 @@ module _ (o : Opening) (es : List Event) (e : Event) where
                 let v = line_that_puts u.lines l (sym (ap (λ (g : Footprint). is_some (put_at g.puts.items l)) u.footprint) ∙ ap is_some q) in
                 absurd (other_line v.line v.among v.at)
 
+      -- a swap finds a plain word, so it is at another location
+      swap_untouched : DecidesSoon o es k p mode xs → (z : Placed) (u : SwapOf (run o es) e (length es) z) → Untouched z
+      swap_untouched b z u lt = (reads, puts (u.seen.loc.0 == l) refl)
+        where
+          elsewhere : u.seen.loc.0 ≢ l
+          elsewhere i =
+              let s = stands_installed o es w k p mode xs b x c y in
+              let q : Plain u.seen.version u.seen.value ≡ word_of b.handle s.0 = sym u.was ∙ ap (run o es).world.word i ∙ s.2 in
+              absurd (cc)
+
+          footprint : z.entry.footprint ≡ footprint_of (swap_line u.seen u.after ∷ [])
+          footprint = ap (λ (t : Placed). t.entry.footprint) u.is
+
+          reads : (r : Seen) → Reads z.entry.footprint r → r.loc.0 ≢ l
+          reads r a i =
+              let v = line_that_reads (swap_line u.seen u.after ∷ []) r (subst (λ g. Reads g r) footprint a) in
+              elsewhere (ap (λ (s : Seen). s.loc.0) (ap (λ (t : Line). t.seen) (sole_line v.0 v.1)) ∙ ap (λ (s : Seen). s.loc.0) v.2 ∙ i)
+            where
+              sole_line : (t : Line) → Contains (swap_line u.seen u.after ∷ []) t → swap_line u.seen u.after ≡ t
+              sole_line t (zero, i, q) = q
+              sole_line t (suc j, i, q) = absurd (omega arith)
+
+          puts : (t : Bool) → (u.seen.loc.0 == l) ≡ t → put_by z l ≡ None
+          puts true q = absurd (elsewhere (eqb-true u.seen.loc.0 l q))
+          puts false q = ap (λ (g : Footprint). put_at g.puts.items l) footprint ∙ ap (λ t. cond t (Some (record { loc = u.seen.loc; version = u.seen.version; after = u.after })) None) q
+
       later : NoneTouchesAbove p (trace o (es ++ e ∷ [])).history l
       later = go (soon_before k p mode xs d)
         where
           go : Before k p mode xs d.handle → NoneTouchesAbove p (trace o (es ++ e ∷ [])).history l
           go (inl (b, same)) = history_moves o es e (λ h. NoneTouchesAbove p h l) (f k p mode xs b x c y)
               (λ z u v a. inserted_contains z (trace o es).history v Untouched (untouched b same z u) (f k p mode xs b x c y) a)
+              (λ z u v a. inserted_contains z (trace o es).history v Untouched (swap_untouched b z u) (f k p mode xs b x c y) a)
           go (inr z) = λ v a b. let s = below o (es ++ e ∷ []) v a in let t = length-append es (e ∷ []) in let q = z.1 in absurd (omega arith)
 
     pub later_on : NothingLaterTouches o (es ++ e ∷ [])

@@ -1,4 +1,18 @@
 -- What an event changes in words, statuses and the words of descriptors.
+use Rattle.std.proofs.Common.{ap}
+use Rattle.std.proofs.Common.{◌∙◌}
+use Rattle.std.proofs.Common.{inr}
+use Rattle.std.proofs.Common.{inl}
+use Rattle.std.proofs.Common.{◌⊎◌}
+use Rattle.kc_machine.proofs.Functions.{put_here}
+use Rattle.kc_machine_claims.specs.Histories.{Placed}
+use Rattle.kc_machine_steps.specs.Swaps.{may_swap, exchange, seen_word, word_after, swap_access_at}
+use Rattle.kc_machine_steps.specs.declared.swap.SwapStep.{SwapStep}
+use Rattle.kc_machine_steps.specs.declared.swap.SwapStep.TheVariants as swap
+use Rattle.kc_machine_traces.proofs.Swapping.{exchanging, takes_place}
+use Rattle.kc_machine_traces.specs.Swaps.{SwapOf, swap_at, takes}
+use Rattle.kc_machine_words.specs.declared.access.Access.TheVariants as access
+use Rattle.kc_machine_words.specs.declared.access.Touch.TheVariants.{Load, CompareExchange}
 use Rattle.std.proofs.Common.{◌≡◌, ◌≢◌, ℕ, Bool, true, false, List, Option, None, Some, refl, sym, if◌then◌else◌}
 use Rattle.std.specs.Prelude.{slice_get, nat_lt}
 use Rattle.kc_machine_steps.specs.declared.line.Intent.{Intent}
@@ -150,6 +164,18 @@ module _ (w : World) where
       go None = nothing s
       go (Some x) = other refl refl refl refl refl
 
+  -- a swap's exchange, where it doesn't take place
+  exchanges : (s : Stand) (r : Seen) (after calls : ℕ) → (w.word r.loc.0 ≡ seen_word r → may_swap calls ≡ true → ⊥) → Changes w s (touched w (access.Location r.loc (exchange r after calls)))
+  exchanges s r after calls never = go (may_swap calls) refl
+    where
+      go : (b : Bool) → may_swap calls ≡ b → Changes w s (touched w (access.Location r.loc (if b then CompareExchange (seen_word r) (word_after r after) else Load)))
+      go false z = other refl refl refl refl refl
+      go true z = at (word_is (w.word r.loc.0) (seen_word r)) refl
+        where
+          at : (b : Bool) → word_is (w.word r.loc.0) (seen_word r) ≡ b → Changes w s (Put r.loc.0 (word_after r after) b)
+          at true y = absurd (never (plain_is (w.word r.loc.0) r.version r.value y) z)
+          at false y = nothing s
+
   module _ (s : Seat) where
     abbrev on : Commit → Handle → OwnStep → Stand
     on c h step = owns (record (resting s) { halted = c.halted }) c.intent c.copy h step
@@ -183,28 +209,53 @@ module _ (w : World) where
     stage_changes c (stage.Take d g) = other refl refl refl refl refl
     stage_changes c (stage.Own h step) = own_changes c h step
 
-    work_changes : (x : Work) → Changes w (works (resting s) x) (touched w (work_access s.caller s.calls x))
-    work_changes work.Idle = nothing (resting s)
-    work_changes (work.Look a) = look_changes (works (resting s) (work.Look a)) a.loc a.step
-    work_changes (work.Commit c) = stage_changes c c.stage
-    work_changes (work.Hang h) = hang_changes (works (resting s) (work.Hang h)) s.caller h.step (slice_get h.reads.items (read_of h.step))
-    work_changes (work.Leave a) = leave_changes (works (resting s) (work.Leave a)) s.caller a.reads.items a.step
+    -- it swaps nothing now
+    abbrev pub IsCalm : Work → Type 0
+    IsCalm x = (r : Seen) (after : ℕ) → x ≡ swap_at r after swap.Exchange → w.word r.loc.0 ≡ seen_word r → may_swap s.calls ≡ true → ⊥
 
-    step_changes : Changes w (stand s) (touched w (access_of s))
-    step_changes = work_changes s.work
+    work_changes : (x : Work) → IsCalm x → Changes w (works (resting s) x) (touched w (work_access s.caller s.calls x))
+    work_changes work.Idle calm = nothing (resting s)
+    work_changes (work.Look a) calm = look_changes (works (resting s) (work.Look a)) a.loc a.step
+    work_changes (work.Commit c) calm = stage_changes c c.stage
+    work_changes (work.Hang h) calm = hang_changes (works (resting s) (work.Hang h)) s.caller h.step (slice_get h.reads.items (read_of h.step))
+    work_changes (work.Leave a) calm = leave_changes (works (resting s) (work.Leave a)) s.caller a.reads.items a.step
+    work_changes (work.Swap x) calm = go x.step calm
+      where
+        go : (step : SwapStep) → IsCalm (swap_at x.seen x.after step) → Changes w (works (resting s) (swap_at x.seen x.after step)) (touched w (swap_access_at x.seen x.after s.calls step))
+        go swap.Exchange calm = exchanges (works (resting s) (swap_at x.seen x.after swap.Exchange)) x.seen x.after s.calls (calm x.seen x.after refl)
+        go swap.Wake calm = other refl refl refl refl refl
+        go (swap.Signal owed) calm = other refl refl refl refl refl
 
-pub event_changes : (m : State) (e : Event) → Changes m.world (stand (m.seats (seat_of e))) (event_of m e).world
-event_changes m e = go (nat_lt (seat_of e) m.callers)
+    step_changes : IsCalm s.work → Changes w (stand s) (touched w (access_of s))
+    step_changes calm = work_changes s.work calm
+
+-- an event that swaps no word
+pub calm_changes : (m : State) (e : Event) → takes (stand (m.seats (seat_of e))).swap (stand ((event_of m e).seats (seat_of e))).swap ≡ false → Changes m.world (stand (m.seats (seat_of e))) (event_of m e).world
+calm_changes m e = go (nat_lt (seat_of e) m.callers)
   where
-    step : (k : ℕ) (b : Bool) → Changes m.world (stand (m.seats k)) (if b then record m { world = touched m.world (access_of (m.seats k)); seats = put m.seats k (answer_of (m.seats k) (found_at m.world (access_of (m.seats k)))) } else m).world
-    step k true = step_changes m.world (m.seats k)
-    step k false = nothing m.world (stand (m.seats k))
+    next : (k : ℕ) (b : Bool) → State
+    next k b = if b then record m { world = touched m.world (access_of (m.seats k)); seats = put m.seats k (answer_of (m.seats k) (found_at m.world (access_of (m.seats k)))) } else m
 
-    happens : (e : Event) → Changes m.world (stand (m.seats (seat_of e))) (happened m e).world
-    happens (Begin k t) = nothing m.world (stand (m.seats k))
-    happens (Step k) = step k (possible m (access_of (m.seats k)))
-    happens (Halt k) = nothing m.world (stand (m.seats k))
+    step : (k : ℕ) (b : Bool) → takes (stand (m.seats k)).swap (stand ((next k b).seats k)).swap ≡ false → Changes m.world (stand (m.seats k)) (next k b).world
+    step k true z = step_changes m.world (m.seats k) (λ r after q was low.
+        let here = put_here m.seats k (answer_of (m.seats k) (found_at m.world (access_of (m.seats k)))) in
+        let y : true ≡ false = sym (exchanging m k r after q was low) ∙ ap (λ (x : Seat). takes (stand (m.seats k)).swap (stand x).swap) (sym here) ∙ z in
+        absurd (cc))
+    step k false z = nothing m.world (stand (m.seats k))
 
-    go : (b : Bool) → Changes m.world (stand (m.seats (seat_of e))) (if b then happened m e else m).world
-    go true = happens e
-    go false = nothing m.world (stand (m.seats (seat_of e)))
+    happens : (e : Event) → takes (stand (m.seats (seat_of e))).swap (stand ((happened m e).seats (seat_of e))).swap ≡ false → Changes m.world (stand (m.seats (seat_of e))) (happened m e).world
+    happens (Begin k t) z = nothing m.world (stand (m.seats k))
+    happens (Step k) z = step k (possible m (access_of (m.seats k))) z
+    happens (Halt k) z = nothing m.world (stand (m.seats k))
+
+    go : (b : Bool) → takes (stand (m.seats (seat_of e))).swap (stand ((if b then happened m e else m).seats (seat_of e))).swap ≡ false → Changes m.world (stand (m.seats (seat_of e))) (if b then happened m e else m).world
+    go true z = happens e z
+    go false z = nothing m.world (stand (m.seats (seat_of e)))
+
+-- a change, or a swap
+pub event_changes : (m : State) (e : Event) → Changes m.world (stand (m.seats (seat_of e))) (event_of m e).world ⊎ ((x : Placed) × SwapOf m e 0 x)
+event_changes m e = go (takes (stand (m.seats (seat_of e))).swap (stand ((event_of m e).seats (seat_of e))).swap) refl
+  where
+    go : (b : Bool) → takes (stand (m.seats (seat_of e))).swap (stand ((event_of m e).seats (seat_of e))).swap ≡ b → Changes m.world (stand (m.seats (seat_of e))) (event_of m e).world ⊎ ((x : Placed) × SwapOf m e 0 x)
+    go false z = inl (calm_changes m e z)
+    go true z = inr (takes_place m e 0 z)

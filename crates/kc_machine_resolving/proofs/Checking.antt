@@ -1,4 +1,8 @@
 -- What a pass in its checks knows of the locations that it has checked.
+use Rattle.std.proofs.Common.{⊎_elim}
+use Rattle.kc_machine_steps.specs.Swaps.{word_after}
+use Rattle.kc_machine_traces.specs.Swaps.{SwapOf}
+use Rattle.kc_machine_claims.specs.Histories.{Placed}
 use Rattle.std.proofs.Common.{arith, ◌≡◌, ◌≢◌, ◌<◌, ◌≤◌, ◌+◌, ◌-◌, ◌⊎◌, inl, inr, ℕ, ◌++◌, ◌==◌, ◌&&◌, Bool, true, false, not, List, [], ◌∷◌, length, Option, None, Some, refl, sym, ap, subst, ◌∙◌, if◌then◌else◌}
 use Rattle.std.specs.Prelude.{nat_lt, slice_get}
 use Rattle.std.proofs.lemmas.Bool.{ltb-true, lt-ltb, cases_lt}
@@ -47,7 +51,7 @@ use Rattle.kc_machine_resolving.specs.Settled.{Settled, checked_by, MetStands, S
 use Rattle.kc_machine_seats.proofs.Searches.{IsPicked, next_fits}
 use Rattle.kc_machine_steps.specs.Lines.{after_line, is_installed, next_line, picks, word_of, resolved_version}
 use Rattle.kc_machine_steps.specs.Looks.{reference_of}
-use Rattle.kc_machine_steps.specs.Passes.{status, fits, refers_to, from_check, check_or_decide, from_install, install_or_check, release_or_finish, pass_access, check_access, install_access, pass_next, install_found, check_found, crossed_or_first, agrees_or_fails, check_first_found, decided_as}
+use Rattle.kc_machine_steps.specs.Passes.{status, fits, from_check, check_or_decide, from_install, install_or_check, release_or_finish, pass_access, check_access, pass_next, check_found, crossed_or_first, agrees_or_fails, check_first_found, decided_as}
 use Rattle.kc_machine_steps.specs.declared.task.Event.{Event}
 use Rattle.kc_machine_steps.specs.declared.task.Event.TheVariants.{Begin, Step, Halt}
 use Rattle.kc_machine_traces.proofs.Joins.{run-append}
@@ -193,8 +197,14 @@ module _ (o : Opening) (es : List Event) (e : Event) (w : IsSchedule o es) (w' :
           (λ ne. word)
       moved b v (decided h mode xs p q was) = word
 
+      -- a swap is of a plain word
+      swapped : (x : Placed) → SwapOf m e 0 x → n.world.word l ≡ Ref g d i
+      swapped x y = ap (λ (z : State). z.world.word l) y.goes ∙ put_cases (λ v. v ≡ Ref g d i) m.world.word y.seen.loc.0 (word_after y.seen y.after) l
+          (λ z. let q : Plain y.seen.version y.seen.value ≡ Ref g d i = sym y.was ∙ ap m.world.word (sym z) ∙ word in absurd (cc))
+          (λ ne. word)
+
       go : (b : Bool) → nat_lt (seat_of e) m.callers ≡ b → n.world.word l ≡ Ref g d i
-      go true q = moved (ltb-true (seat_of e) m.callers q) n.world (event_changes m e)
+      go true q = ⊎_elim (λ c. moved (ltb-true (seat_of e) m.callers q) n.world c) (λ y. swapped y.0 y.1) (event_changes m e)
       go false q = ap (λ (x : State). x.world.word l) (event_out m e q) ∙ word
 
   -- so what is known of a reference that a check met stays known

@@ -27,7 +27,7 @@ module _ (o : Opening) (p l : ℕ) where
   abbrev stands : List Event → Cell
   stands es = at_place (first_store o) (trace o es).history p l
 
-  module _ (es : List Event) (e : Event) (s : Settled o es p l) where
+  module _ (es : List Event) (e : Event) (reached : p ≤ length es) (s : Settled o es p l) where
     -- an entry that comes to a lower place doesn't put the location
     unput : (y : Placed) → Decision o es e y → y.place < p → put_by y l ≡ None
     unput y d lt = go (put_by y l) refl
@@ -39,7 +39,7 @@ module _ (o : Opening) (p l : ℕ) where
             absurd (s (seat_of e) y.place y.mode d.lines (record { within = d.seat; handle = d.handle; turn = At (Decide Succeeded); pass = d.pass; place = d.place; active = d.was }) lt v.line v.among (puts_installed y.mode v.line v.puts) v.at)
 
     stays : stands (es ++ e ∷ []) ≡ stands es
-    stays = history_moves o es e (λ h. at_place (first_store o) h p l ≡ stands es) refl (λ y d. go y d (cases_lt y.place p))
+    stays = history_moves o es e (λ h. at_place (first_store o) h p l ≡ stands es) refl (λ y d. go y d (cases_lt y.place p)) (λ y d. ap (λ f. f l) (at_lower (first_store o) y (trace o es).history p (let q = ap (λ (z : Placed). z.place) d.is in omega arith)))
       where
         go : (y : Placed) → Decision o es e y → (y.place < p) ⊎ (p ≤ y.place) → at_place (first_store o) (inserted y (trace o es).history) p l ≡ stands es
         go y d (inl lt) = at_else (first_store o) y (trace o es).history p l (unput y d lt)
@@ -55,7 +55,7 @@ module _ (o : Opening) (p l : ℕ) where
   one_more c es e h = record {
     reached = let a = length-append es (e ∷ []) in let b = h.reached in omega arith;
     settled = settled_on o es e p l h.reached h.settled;
-    same = stays es e h.settled ∙ h.same;
+    same = stays es e h.reached h.settled ∙ h.same;
   }
 
   goes_so : (c : Cell) (es more : List Event) → StaysSo c es → StaysSo c (es ++ more)

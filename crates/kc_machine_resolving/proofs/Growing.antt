@@ -106,6 +106,7 @@ pass_drops s f = subst DropFits (sym (pass_is s)) (go s.work f)
         at (stage.Own h step) f = owns c.halted c.intent c.copy h step f
     go (work.Hang h) f = tt
     go (work.Leave l) f = tt
+    go (work.Swap x) f = tt
 
 -- ---- one event
 

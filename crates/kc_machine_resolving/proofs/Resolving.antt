@@ -1,4 +1,24 @@
 -- Words stand for what the history makes.
+use Rattle.std.proofs.Common.{ne_eqb}
+use Rattle.std.proofs.lemmas.Bool.Decides.{nat_tests}
+use Rattle.kc_machine_claims.specs.Traces.{swap_line}
+use Rattle.kc_machine_claims.specs.Histories.{footprint_of}
+use Rattle.kc_machine_effects.specs.Stands.{NoPass}
+use Rattle.kc_machine_steps.specs.Swaps.{word_after}
+use Rattle.std.proofs.Common.{eq-eqb}
+use Rattle.kc_machine_traces.specs.Swaps.{SwapOf}
+use Rattle.std.proofs.Common.{⊎_elim}
+use Rattle.kc_machine_histories.proofs.Growing.{swap_grows, swap_ends_by}
+use Rattle.kc_machine_histories.proofs.Decisions.{Calm}
+use Rattle.kc_machine_effects.specs.Changes.{with_word}
+use Rattle.kc_machine_seats.proofs.MadeSteps.{reads_made}
+use Rattle.kc_machine_seats.specs.Made.{ReadsAreMade}
+use Rattle.kc_machine_steps.specs.Lines.{next_version}
+use Rattle.kc_machine_traces.proofs.Swapping.{swap_passless}
+use Rattle.kc_machine_steps.specs.declared.swap.SwapStep.TheVariants as swap
+use Rattle.kc_model.specs.declared.footprint.TheConstants.{LAST_VERSION}
+use Rattle.kc_machine_resolving.proofs.Changes.{calm_changes}
+use Rattle.std.proofs.Common.{cond}
 use Rattle.std.proofs.Common.{arith, ◌≡◌, ◌≢◌, ◌<◌, ◌≤◌, ◌+◌, inl, ℕ, zero, suc, ◌++◌, ◌==◌, ◌&&◌, Bool, true, false, List, [], ◌∷◌, length, Option, None, Some, refl, sym, ap, subst, ◌∙◌, Contains, if◌then◌else◌}
 use Rattle.std.specs.Prelude.{nat_lt, slice_get}
 use Rattle.std.specs.Option.{is_some}
@@ -299,8 +319,12 @@ module _ (o : Opening) (es : List Event) (e : Event) (w : IsSchedule o es) (old 
     made_at : (z : Line) → Contains d.lines z → IsWellMadeLine o.locations z
     made_at z c = All-contains (IsWellMadeLine o.locations) d.lines z made.lines c
 
+    -- its seat has a pass, so it swaps nothing
+    changes : Changes m.world (stand (m.seats (seat_of e))) n.world
+    changes = ⊎_elim (λ c. c) (λ z. let q : NoPass ≡ Over g y.mode d.lines (At (Decide Succeeded)) = sym (swap_passless (m.seats (seat_of e)) z.1.seen z.1.after swap.Exchange z.1.works) ∙ d.pass in absurd (cc)) (event_changes m e)
+
     after : DecidedWorld n.world g
-    after = decided_world n.world (event_changes m e) g d.was (ap (λ (x : State). x.world.status g.descriptor) (sym (run-append o es (e ∷ []))) ∙ d.now_is)
+    after = decided_world n.world changes g d.was (ap (λ (x : State). x.world.status g.descriptor) (sym (run-append o es (e ∷ []))) ∙ d.now_is)
 
     stands_in : (z : Line) → Contains d.lines z → is_installed y.mode z ≡ true → (i : ℕ) × (slice_get d.lines i ≡ Some z) × (m.world.word z.seen.loc.0 ≡ word_of g i)
     stands_in z c t = stands_installed o es w (seat_of e) y.place y.mode d.lines (record { within = d.seat; handle = d.handle; turn = At (Decide Succeeded); pass = d.pass; place = d.place; active = d.was }) z c t
@@ -412,6 +436,51 @@ module _ (o : Opening) (es : List Event) (e : Event) (w : IsSchedule o es) (old 
         one_more seen None q = absurd (cc)
         one_more seen (Some b) q = refl
 
+  -- ---- what a swap makes
+
+  module _ (y : Placed) (d : SwapOf m e (length es) y) where
+    made_by : ending s h d.seen.loc.0 ≡ cell_of d.seen
+    made_by = sym (old.words d.seen.loc.0 (let c = (run_shape o es).0 in let l = d.there in omega arith)) ∙ ap (stands_for m.world) d.was
+
+    footprint_by : y.entry.footprint ≡ footprint_of (swap_line d.seen d.after ∷ [])
+    footprint_by = ap (λ (z : Placed). z.entry.footprint) d.is
+
+    put_here_by : put_by y d.seen.loc.0 ≡ Some (record { loc = d.seen.loc; version = d.seen.version; after = d.after })
+    put_here_by = ap (λ k. put_at k.puts.items d.seen.loc.0) footprint_by ∙ ap (λ t. cond t (Some (record { loc = d.seen.loc; version = d.seen.version; after = d.after })) None) (eq-eqb d.seen.loc.0 d.seen.loc.0 refl)
+
+    swap_finds : FindsInstalled y (ending s h)
+    swap_finds r c i = sole (subst (λ k. Reads k r) footprint_by c)
+      where
+        sole : Reads (footprint_of (swap_line d.seen d.after ∷ [])) r → ending s h r.loc.0 ≡ cell_of r
+        sole (zero, l, q) = subst (λ (t : Seen). ending s h t.loc.0 ≡ cell_of t) q made_by
+        sole (suc j, l, q) = absurd (omega arith)
+
+    room : d.seen.version < LAST_VERSION
+    room = let r = reads_made o es w (seat_of e) in (subst (ReadsAreMade o.locations) d.works r).1
+
+    words_swapped : (l : ℕ) → l < o.locations → stands_for n.world (n.world.word l) ≡ ending s (inserted y h) l
+    words_swapped l b = ap (λ (x : State). stands_for x.world (x.world.word l)) d.goes ∙ go (l == d.seen.loc.0) refl
+      where
+        v : World
+        v = with_word m.world d.seen.loc.0 (word_after d.seen d.after)
+
+        same : (x : Word) → stands_for v x ≡ stands_for m.world x
+        same (Plain a z) = refl
+        same (Ref a j z) = refl
+
+        go : (t : Bool) → (l == d.seen.loc.0) ≡ t → stands_for v (v.word l) ≡ ending s (inserted y h) l
+        go true q =
+            let i = eqb-true l d.seen.loc.0 q in
+            let new : next_version d.seen.version ≡ d.seen.version + 1 = let r = room in let t : nat_lt d.seen.version LAST_VERSION ≡ true = grind (arith, nat_tests) in rw t refl in
+            let here : v.word l ≡ word_after d.seen d.after = ap v.word i ∙ put_here m.world.word d.seen.loc.0 (word_after d.seen d.after) in
+            let cell : ◌≡◌ {A = Cell} (record { version = next_version d.seen.version; value = d.after }) (record { version = d.seen.version + 1; value = d.after }) = ap (λ a. record { version = a; value = d.after }) new in
+            ap (stands_for v) here ∙ cell ∙ sym (ap (ending s (inserted y h)) i ∙ swap_ends_by o es e later y d d.seen.loc.0 ∙ (λ j. cell_after (put_here_by j) (made_by j)))
+        go false q =
+            let ne = eqb-false l d.seen.loc.0 q in
+            let unput : put_by y l ≡ None = ap (λ k. put_at k.puts.items l) footprint_by ∙ ap (λ t. cond t (Some (record { loc = d.seen.loc; version = d.seen.version; after = d.after })) None) (ne_eqb d.seen.loc.0 l (λ z. ne (sym z))) in
+            ap (stands_for v) (put_else m.world.word d.seen.loc.0 (word_after d.seen d.after) l ne) ∙ same (m.world.word l) ∙ old.words l b
+            ∙ sym (swap_ends_by o es e later y d l ∙ ap (λ p. cell_after p (ending s h l)) unput)
+
   -- ---- puts that are past
 
   abbrev Past : World → History → ℕ → ℕ → Type 0
@@ -465,16 +534,16 @@ module _ (o : Opening) (es : List Event) (e : Event) (w : IsSchedule o es) (old 
   GoesTo k = ((l : ℕ) → l < o.locations → stands_for n.world (n.world.word l) ≡ ending s k l) × ((d i : ℕ) → Past n.world k d i)
 
   goes_to : GoesTo (trace o (es ++ e ∷ [])).history
-  goes_to = history_moves_by o es e GoesTo undecided success_on
+  goes_to = history_moves_by o es e GoesTo undecided success_on swapped_on
     where
-      undecided : Undecides o es e → GoesTo h
-      undecided u = go (nat_lt (seat_of e) m.callers) refl
+      undecided : Calm o es e → Undecides o es e → GoesTo h
+      undecided calm u = go (nat_lt (seat_of e) m.callers) refl
         where
           go : (b : Bool) → nat_lt (seat_of e) m.callers ≡ b → GoesTo h
           go true q =
               let c = (run_shape o es).2 in
               let lt = ltb-true (seat_of e) m.callers q in
-              ((λ l b. undecided_stands (omega arith) n.world (event_changes m e) refl u l ∙ old.words l b), λ d i. past_undecided (omega arith) n.world (event_changes m e) (controls_rise m e) u d i)
+              ((λ l b. undecided_stands (omega arith) n.world (calm_changes m e calm) refl u l ∙ old.words l b), λ d i. past_undecided (omega arith) n.world (calm_changes m e calm) (controls_rise m e) u d i)
           go false q = let z = event_out m e q in subst (λ (x : State). ((l : ℕ) → l < o.locations → stands_for x.world (x.world.word l) ≡ ending s h l) × ((d i : ℕ) → Past x.world h d i)) (sym z) (old.words, old.past)
 
       success_on : (y : Placed) → Decision o es e y → GoesTo (inserted y h)
@@ -496,11 +565,21 @@ module _ (o : Opening) (es : List Event) (e : Event) (w : IsSchedule o es) (old 
                   let l = ap (λ k. (ending s (inserted y h) (k i).loc).version) x.second in
                   omega arith)
 
+      swapped_on : (y : Placed) → SwapOf m e (length es) y → GoesTo (inserted y h)
+      swapped_on y d = (words_swapped y d, past)
+        where
+          world : n.world ≡ with_word m.world d.seen.loc.0 (word_after d.seen d.after)
+          world = ap (λ (x : State). x.world) d.goes
+
+          past : (j i : ℕ) → Past n.world (inserted y h) j i
+          past j i = past_same n.world (inserted y h) j i (controls_rise m e j) (λ l. versions_rise s h (inserted y h) l (swap_grows o es e later y d))
+              (ap (λ (x : World). x.status j) world) (record { owner = ap (λ (x : World). x.owner j) (sym world); first = ap (λ (x : World). x.first j) (sym world); second = ap (λ (x : World). x.second j) (sym world) })
+
   resolved_on : Resolved o (es ++ e ∷ [])
   resolved_on = record {
     words = subst (λ (x : State). (l : ℕ) → l < o.locations → stands_for x.world (x.world.word l) ≡ ending s (trace o (es ++ e ∷ [])).history l) (sym next) goes_to.0;
     past = subst (λ (x : State). (d i : ℕ) → Past x.world (trace o (es ++ e ∷ [])).history d i) (sym next) goes_to.1;
-    legal = legal_once o es e later old.legal finds;
+    legal = legal_once o es e later old.legal finds swap_finds;
   }
 
 -- ---- every schedule
@@ -518,3 +597,11 @@ module _ (o : Opening) (es : List Event) (e : Event) (w : IsSchedule o es) (x : 
 
   pub decision_finds : FindsInstalled x (ending (first_store o) (trace o es).history)
   decision_finds = finds o es e w (resolved o es w) x d
+
+module _ (o : Opening) (es : List Event) (e : Event) (w : IsSchedule o es) (x : Placed) (d : SwapOf (run o es) e (length es) x) where
+  pub swap_makes : (l : ℕ) → ending (first_store o) (inserted x (trace o es).history) l ≡ cell_after (put_by x l) (ending (first_store o) (trace o es).history l)
+  swap_makes = swap_ends_by o es e (known o es w).later x d
+
+  -- it finds what it was to find
+  pub swap_found : ending (first_store o) (trace o es).history d.seen.loc.0 ≡ cell_of d.seen
+  swap_found = made_by o es e w (resolved o es w) x d

@@ -1,4 +1,7 @@
 -- By which ways a pass comes to stand at a check, or before a decision.
+use Rattle.kc_machine_steps.specs.Swaps.{swap_onward}
+use Rattle.kc_machine_steps.specs.Swaps.{ends_at_once}
+use Rattle.kc_machine_steps.specs.Swaps.{swap_after}
 use Rattle.std.proofs.Common.{arith, ◌≡◌, ◌≤◌, ◌⊎◌, inl, inr, ◌+◌, ◌-◌, ℕ, ◌==◌, ◌&&◌, Bool, true, false, List, length, Option, None, Some, refl, sym, ap, subst, if◌then◌else◌}
 use Rattle.std.specs.Prelude.{slice_get, nat_lt, bit_or, bit_and}
 use Rattle.kc_machine_words.specs.declared.access.Found.{Found}
@@ -303,6 +306,7 @@ module _ (w : World) where
         go (work.Commit c) e = subst (Onto w (stage_pass c.intent c.copy c.stage)) (sym (next_is s (loaded c (F c c.stage)) (stage_next s.descriptors s.calls (loaded c (F c c.stage)) c.stage (F c c.stage)))) (stage_onto c c.stage)
         go (work.Hang h) e = let f = found_at w (work_access s.caller s.calls (work.Hang h)) in none_behind (work.Hang (hang_after h f)) refl (hang_onward h f)
         go (work.Leave l) e = none_behind (work.Leave (leave_after l)) refl (leave_onward l)
+        go (work.Swap x) e = let f = found_at w (work_access s.caller s.calls (work.Swap x)) in none_behind (work.Swap (swap_after s.calls x f)) refl (swap_onward s.calls x f)
 
     -- ---- a halt, a beginning
 
@@ -360,12 +364,17 @@ module _ (w : World) where
         look_or y true e = tt
         look_or y false e = subst (Onto w NoPass) (sym e) tt
 
+        swap_or : (b : Bool) → Onto w NoPass (work_pass s.work) → Onto w NoPass (work_pass (if b then ended s else s).work)
+        swap_or true f = tt
+        swap_or false f = f
+
         go : (x : Work) → s.work ≡ x → Onto w (work_pass x) (work_pass (halted_by s x).work)
         go work.Idle e = subst (Onto w NoPass) (sym (ap work_pass e)) tt
         go (work.Look l) e = look_or (work.Look (look_halted l)) (halts_at_once l.step) refl
         go (work.Commit c) e = stages c c.stage
         go (work.Hang h) e = subst (Onto w NoPass) (sym (ap work_pass e)) tt
         go (work.Leave l) e = subst (Onto w NoPass) (sym (ap work_pass e)) tt
+        go (work.Swap x) e = swap_or (ends_at_once x.step) (subst (Onto w NoPass) (sym (ap work_pass e)) tt)
 
     begun_onto : (t : Task) → Onto w (stand s).pass (stand (begun s t)).pass
     begun_onto t = go (is_idle s.work) refl

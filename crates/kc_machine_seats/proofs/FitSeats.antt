@@ -56,6 +56,11 @@ use Rattle.kc_machine_seats.specs.Fits.{IsInstalledAt, LoadsOn, MayDecide, StepF
 use Rattle.kc_machine_steps.specs.Aids
 use Rattle.kc_machine_steps.specs.Aids.{aid_next, aid_copy, no_copy, hold_next, owner_or_first, status_next, load_next, owner_next, load_second_next, after_pass, drop_or_release, leave_next}
 use Rattle.kc_machine_steps.specs.Lines.{next_line, after_line}
+use Rattle.kc_machine_steps.specs.Swaps.{swap_next, swaps_on, ends_at_once}
+use Rattle.kc_machine_steps.specs.Swaps.{onward_of as onward_of_swap}
+use Rattle.kc_machine_steps.specs.declared.swap.Swap.{Swap}
+use Rattle.kc_machine_steps.specs.declared.swap.SwapNext.{SwapNext}
+use Rattle.kc_machine_steps.specs.declared.swap.SwapNext.TheVariants as swapping
 use Rattle.kc_machine_steps.specs.Looks.{look_next, looks_on, told_by, halts_at_once, look_halted}
 use Rattle.kc_machine_steps.specs.Passes.{from_install}
 use Rattle.kc_machine_steps.specs.declared.task.Event.{Event}
@@ -312,6 +317,11 @@ module _ (s : Seat) where
   leave_answers l j None = tt
   leave_answers l j (Some x) = tt
 
+  swap_answers : (x : Swap) (n : SwapNext) → SeatFits (after (record s { work = work.Swap (swaps_on x n) }) (onward_of_swap n))
+  swap_answers x (swapping.Goes step) = tt
+  swap_answers x (swapping.Takes step) = tt
+  swap_answers x (swapping.Tells t) = tt
+
   pub answer_fits : (f : Found) → SeatFits s → SeatFits (answer_of s f)
   answer_fits f y = go s.work y
     where
@@ -321,6 +331,7 @@ module _ (s : Seat) where
       go (work.Commit c) z = commit_answers (loaded c f) (commit_next s.descriptors s.calls (loaded c f) f) (stage_fits c s.descriptors s.calls c.stage f z)
       go (work.Hang h) z = hang_answers h _
       go (work.Leave l) z = leave_answers l _ _
+      go (work.Swap x) z = swap_answers x (swap_next s.calls x f)
 
   begins : (t : Task) → SeatFits s → SeatFits (begun_idle s t)
   begins (task.Look l) y = tt
@@ -331,6 +342,7 @@ module _ (s : Seat) where
       go true = y
       go false = tt
   begins (task.Leave reads) y = tt
+  begins (task.Swap r after) y = tt
 
   pub begun_fits : (t : Task) → SeatFits s → SeatFits (begun s t)
   begun_fits t y = go (is_idle s.work)
@@ -342,6 +354,10 @@ module _ (s : Seat) where
   look_halts : (l : Look) (b : Bool) → SeatFits (if b then ended s else record s { work = work.Look (look_halted l) })
   look_halts l true = tt
   look_halts l false = tt
+
+  swap_halts : (x : Swap) (b : Bool) → SeatFits s → SeatFits (if b then ended s else s)
+  swap_halts x true y = tt
+  swap_halts x false y = y
 
   commit_halts : (c : Commit) (x : Stage) → StageFits c.halted c.intent c.copy x → SeatFits (if unowned x then ended s else record s { work = work.Commit (halted_at c x) })
   commit_halts c (Scan d n) y = tt
@@ -357,6 +373,7 @@ module _ (s : Seat) where
       go (work.Commit c) z = commit_halts c c.stage z
       go (work.Hang h) z = y
       go (work.Leave l) z = y
+      go (work.Swap x) z = swap_halts x (ends_at_once x.step) y
 
 pub fit_always : (o : Opening) (schedule : List Event) → PassStepsFit (run o schedule)
 fit_always o schedule = always o (λ k. SeatFits) any_event (λ k. tt) (λ k. answer_fits) (λ k s t e. begun_fits s t) (λ k. halted_fits) schedule (all_any schedule)

@@ -1,5 +1,5 @@
 -- Each event leaves a seat well formed, whatever it finds, where its passes stand at steps that fit.
-use Rattle.std.proofs.Common.{arith, ◌≡◌, ◌≢◌, ◌<◌, ◌≤◌, ◌-◌, ◌+◌, ℕ, Bool, true, false, refl, ◌==◌, ◌++◌, if◌then◌else◌, Option, None, Some, List, [], ◌∷◌}
+use Rattle.std.proofs.Common.{arith, ◌≡◌, ◌≢◌, ◌<◌, ◌≤◌, ◌-◌, ◌+◌, ℕ, Bool, true, false, refl, ◌==◌, ◌&&◌, ◌++◌, if◌then◌else◌, Option, None, Some, List, [], ◌∷◌}
 use Rattle.std.specs.Prelude.{nat_lt, length, slice_get, bit_or, bit_and}
 use Rattle.std.proofs.lemmas.List.{length-append}
 use Rattle.std.proofs.lemmas.Option.{slice_get_within}
@@ -61,6 +61,17 @@ use Rattle.kc_machine_seats.specs.Fits.{IsInstalledAt, OwnFits, StageFits, WorkF
 use Rattle.kc_machine_seats.specs.Formed.{OwnIsFormed, StageIsFormed, StandsAtARead, IsCopy, WorkIsFormed, IsWellFormed, SeatsAreWellFormed}
 use Rattle.kc_machine_steps.specs.Aids.{aid_copy, copy_owner, copy_line}
 use Rattle.kc_machine_steps.specs.Lines.{one_more, next_line, after_line, joined}
+use Rattle.kc_machine_seats.specs.Formed.{SwapIsFormed}
+use Rattle.kc_machine_steps.specs.declared.task.Told.TheVariants as told
+use Rattle.kc_model.specs.declared.word.Word.TheVariants.{Plain, Ref}
+use Rattle.kc_machine_steps.specs.Swaps.{may_swap, exchange_next, swap_next, swap_next_at, swaps_on, ends_at_once}
+use Rattle.kc_machine_steps.specs.Swaps.{owed_next as owed_by_swap}
+use Rattle.kc_machine_steps.specs.declared.swap.SwapStep.{SwapStep}
+use Rattle.kc_machine_steps.specs.declared.swap.SwapStep.TheVariants as swap
+use Rattle.kc_machine_steps.specs.Swaps.{onward_of as onward_of_swap}
+use Rattle.kc_machine_steps.specs.declared.swap.Swap.{Swap}
+use Rattle.kc_machine_steps.specs.declared.swap.SwapNext.{SwapNext}
+use Rattle.kc_machine_steps.specs.declared.swap.SwapNext.TheVariants as swapping
 use Rattle.kc_machine_steps.specs.Looks.{look_next, looks_on, told_by, halts_at_once, look_halted_at}
 
 -- ---- the own descriptor
@@ -293,6 +304,39 @@ module _ (s : Seat) where
   leave_answers l j None e = tt
   leave_answers l j (Some x) e = (refl, slice_get_within l.reads.items j x e)
 
+  abbrev SwapFormed : SwapNext → Type 0
+  SwapFormed (swapping.Goes step) = SwapIsFormed step
+  SwapFormed (swapping.Takes step) = SwapIsFormed step
+  SwapFormed (swapping.Tells t) = Unit {0}
+
+  swap_owed : (n : ℕ) → SwapFormed (owed_by_swap s.calls n)
+  swap_owed n = go (n == 0) refl
+    where
+      go : (b : Bool) → (n == 0) ≡ b → SwapFormed (if b then swapping.Tells (told.Succeeded s.calls) else swapping.Goes (swap.Signal n))
+      go true q = tt
+      go false q = eqb-false n 0 q
+
+  swap_exchanged : (r : Seen) (f : Found) → SwapFormed (exchange_next r s.calls f)
+  swap_exchanged r (found.Word (Plain v y)) = go ((v == r.version) && (y == r.value)) (may_swap s.calls)
+    where
+      go : (x m : Bool) → SwapFormed (if x then (if m then swapping.Takes swap.Wake else swapping.Tells (told.Crossed 0)) else swapping.Tells (told.Failed 0))
+      go true true = tt
+      go true false = tt
+      go false m = tt
+  swap_exchanged r (found.Word (Ref g d i)) = tt
+  swap_exchanged r _ = tt
+
+  swap_stepped : (r : Seen) (step : SwapStep) (f : Found) → SwapFormed (swap_next_at r s.calls step f)
+  swap_stepped r swap.Exchange f = swap_exchanged r f
+  swap_stepped r swap.Wake (found.Callers c) = swap_owed c
+  swap_stepped r swap.Wake _ = tt
+  swap_stepped r (swap.Signal n) f = swap_owed (bit_and n (n - 1))
+
+  swap_answers : (x : Swap) (n : SwapNext) → SwapFormed n → IsWellFormed (after (record s { work = work.Swap (swaps_on x n) }) (onward_of_swap n))
+  swap_answers x (swapping.Goes step) y = y
+  swap_answers x (swapping.Takes step) y = y
+  swap_answers x (swapping.Tells t) y = tt
+
   answer_formed : (f : Found) → SeatFits s → IsWellFormed s → IsWellFormed (answer_of s f)
   answer_formed f y z = go s.work y z
     where
@@ -302,6 +346,7 @@ module _ (s : Seat) where
       go (work.Commit c) a b = commit_answers (loaded c f) (commit_next s.descriptors s.calls (loaded c f) f) (stage_formed c s.descriptors s.calls c.stage f a b.0) (copied c.copy c.stage f b.1)
       go (work.Hang h) a b = hang_answers h (hang_step h f) b.0 (hang_steps h.reads.items h.step f b.1)
       go (work.Leave l) a b = leave_answers l (next_read l.step) (slice_get l.reads.items (next_read l.step)) refl
+      go (work.Swap x) a b = swap_answers x (swap_next s.calls x f) (swap_stepped x.seen x.step f)
 
   begins : (t : Task) → IsWellFormed s → IsWellFormed (begun_idle s t)
   begins (task.Look l) y = λ q. absurd (cc)
@@ -312,6 +357,7 @@ module _ (s : Seat) where
       go true e = y
       go false e = (e, some_read reads.items)
   begins (task.Leave reads) y = tt
+  begins (task.Swap r after) y = tt
 
   begun_formed : (t : Task) → IsWellFormed s → IsWellFormed (begun s t)
   begun_formed t y = go (is_idle s.work)
@@ -333,6 +379,10 @@ module _ (s : Seat) where
   commit_halts c (Take d g) y l = tt
   commit_halts c (Own h step) y l = ((y.0, own_halts c step y.1), l)
 
+  swap_halts : (b : Bool) → IsWellFormed s → IsWellFormed (if b then ended s else s)
+  swap_halts true y = tt
+  swap_halts false y = y
+
   halted_formed : IsWellFormed s → IsWellFormed (halted s)
   halted_formed z = go s.work z
     where
@@ -342,6 +392,7 @@ module _ (s : Seat) where
       go (work.Commit c) a = commit_halts c c.stage a.0 a.1
       go (work.Hang h) a = z
       go (work.Leave l) a = z
+      go (work.Swap x) a = swap_halts (ends_at_once x.step) z
 
 abbrev pub FitsAndFormed : Seat → Type 0
 FitsAndFormed s = SeatFits s × IsWellFormed s

@@ -34,6 +34,11 @@ use Rattle.kc_machine_seats.proofs.FormedSteps.{formed_always}
 use Rattle.kc_machine_seats.proofs.Intents.{intent_made}
 use Rattle.kc_machine_seats.specs.Formed.{WorkIsFormed, HangStands, HangsStandAtReads}
 use Rattle.kc_machine_seats.specs.Made.{IntentIsMade, ReadsAreMade, IntentsAreWellMade, ReadsAreWellMade}
+use Rattle.kc_machine_steps.specs.Swaps.{swap_next, swaps_on, ends_at_once}
+use Rattle.kc_machine_steps.specs.Swaps.{onward_of as onward_of_swap}
+use Rattle.kc_machine_steps.specs.declared.swap.Swap.{Swap}
+use Rattle.kc_machine_steps.specs.declared.swap.SwapNext.{SwapNext}
+use Rattle.kc_machine_steps.specs.declared.swap.SwapNext.TheVariants as swapping
 use Rattle.kc_machine_steps.specs.Looks.{look_next, looks_on, told_by, halts_at_once, look_halted_at}
 
 abbrev Made : ℕ → Work → Type 0
@@ -61,6 +66,11 @@ module _ (n : ℕ) (s : Seat) where
   leave_answers l j None y = (tt, tt)
   leave_answers l j (Some x) y = y
 
+  swap_answers : (x : Swap) (m : SwapNext) → Made n (work.Swap x) → SeatMade n (after (record s { work = work.Swap (swaps_on x m) }) (onward_of_swap m))
+  swap_answers x (swapping.Goes step) y = y
+  swap_answers x (swapping.Takes step) y = y
+  swap_answers x (swapping.Tells t) y = (tt, tt)
+
   answer_made : (f : Found) → SeatMade n s → SeatMade n (answer_of s f)
   answer_made f y = go s.work y
     where
@@ -70,6 +80,7 @@ module _ (n : ℕ) (s : Seat) where
       go (work.Commit c) z = commit_answers (loaded c f) (commit_next s.descriptors s.calls (loaded c f) f) z
       go (work.Hang h) z = hang_answers h (hang_step h f) z
       go (work.Leave l) z = leave_answers l (next_read l.step) _ z
+      go (work.Swap x) z = swap_answers x (swap_next s.calls x f) z
 
   begins : (t : Task) → IsWellMadeTask n t → SeatMade n s → SeatMade n (begun_idle s t)
   begins (task.Look l) z y = (tt, z)
@@ -80,6 +91,7 @@ module _ (n : ℕ) (s : Seat) where
       go true = y
       go false = (tt, z)
   begins (task.Leave reads) z y = (tt, z)
+  begins (task.Swap r after) z y = (tt, z)
 
   begun_made : (t : Task) → IsWellMadeTask n t → SeatMade n s → SeatMade n (begun s t)
   begun_made t z y = go (is_idle s.work)
@@ -101,6 +113,10 @@ module _ (n : ℕ) (s : Seat) where
   commit_halts c (Take d g) y = (tt, tt)
   commit_halts c (Own h step) y = y
 
+  swap_halts : (b : Bool) → SeatMade n s → SeatMade n (if b then ended s else s)
+  swap_halts true y = (tt, tt)
+  swap_halts false y = y
+
   halted_made : SeatMade n s → SeatMade n (halted s)
   halted_made y = go s.work y
     where
@@ -110,6 +126,7 @@ module _ (n : ℕ) (s : Seat) where
       go (work.Commit c) z = commit_halts c c.stage z
       go (work.Hang h) z = y
       go (work.Leave l) z = y
+      go (work.Swap x) z = swap_halts (ends_at_once x.step) y
 
 made_always : (o : Opening) (schedule : List Event) → IsSchedule o schedule → (k : ℕ) → SeatMade o.locations ((run o schedule).seats k)
 made_always o schedule w =
@@ -132,3 +149,4 @@ hangs_stand o schedule w = λ k. go ((run o schedule).seats k).calls ((run o sch
     go calls b (work.Commit c) y z = tt
     go calls b (work.Hang h) y z = y.1 z.0
     go calls b (work.Leave l) y z = tt
+    go calls b (work.Swap x) y z = tt

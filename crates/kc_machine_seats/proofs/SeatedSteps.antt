@@ -37,6 +37,11 @@ use Rattle.kc_machine_commits.specs.Commits.{after_scan, scan_next, take_next, s
 use Rattle.kc_machine_commits.specs.Halts.{unowned, halted_at}
 use Rattle.kc_machine_seats.proofs.Always.{always, any_event, all_any}
 use Rattle.kc_machine_seats.specs.Seated.{IsSeat, SeatsStay, StageSearches, WorkSearches, SearchesAreInRange}
+use Rattle.kc_machine_steps.specs.Swaps.{swap_next, swaps_on, ends_at_once}
+use Rattle.kc_machine_steps.specs.Swaps.{onward_of as onward_of_swap}
+use Rattle.kc_machine_steps.specs.declared.swap.Swap.{Swap}
+use Rattle.kc_machine_steps.specs.declared.swap.SwapNext.{SwapNext}
+use Rattle.kc_machine_steps.specs.declared.swap.SwapNext.TheVariants as swapping
 use Rattle.kc_machine_steps.specs.Looks.{look_next, look_tells, look_halted, looks_on, told_by, halts_at_once}
 
 -- ---- what stays
@@ -57,6 +62,7 @@ module _ (n k : ℕ) (s : Seat) (is : IsSeat n k s) where
       go (work.Commit c) = after_stays _ (commit_onward s.descriptors s.calls c f)
       go (work.Hang h) = after_stays _ (hang_onward h f)
       go (work.Leave l) = after_stays _ (leave_onward l)
+      go (work.Swap x) = after_stays _ (onward_of_swap (swap_next s.calls x f))
 
   begun_stays : (t : Task) → IsSeat n k (begun s t)
   begun_stays t = go (is_idle s.work)
@@ -70,6 +76,7 @@ module _ (n k : ℕ) (s : Seat) (is : IsSeat n k s) where
       begins (task.Commit f m) = is
       begins (task.Hang reads) = hung s.blocked reads.items
       begins (task.Leave reads) = is
+      begins (task.Swap r after) = is
 
       go : (b : Bool) → IsSeat n k (if b then begun_idle s t else s)
       go true = begins t
@@ -82,12 +89,17 @@ module _ (n k : ℕ) (s : Seat) (is : IsSeat n k s) where
       ends true x = is
       ends false x = is
 
+      swaps : (b : Bool) → IsSeat n k (if b then ended s else s)
+      swaps true = is
+      swaps false = is
+
       go : (x : Work) → IsSeat n k (halted_by s x)
       go work.Idle = is
       go (work.Look l) = ends (halts_at_once l.step) _
       go (work.Commit c) = ends (unowned c.stage) _
       go (work.Hang h) = is
       go (work.Leave l) = is
+      go (work.Swap x) = swaps (ends_at_once x.step)
 
 -- ---- searches
 
@@ -159,6 +171,11 @@ module _ (n : ℕ) where
     leave_answers l j None = tt
     leave_answers l j (Some x) = tt
 
+    swap_answers : (x : Swap) (m : SwapNext) → WorkSearches n (after (record s { work = work.Swap (swaps_on x m) }) (onward_of_swap m)).work
+    swap_answers x (swapping.Goes step) = tt
+    swap_answers x (swapping.Takes step) = tt
+    swap_answers x (swapping.Tells t) = tt
+
     answer_searches : (f : Found) → WorkSearches n s.work → WorkSearches n (answer_of s f).work
     answer_searches f y = go s.work y
       where
@@ -168,6 +185,7 @@ module _ (n : ℕ) where
         go (work.Commit c) z = commit_answers (loaded c f) (commit_next s.descriptors s.calls (loaded c f) f) (subst (λ i. NextSearches (commit_next i s.calls (loaded c f) f)) (sym is) (stage_searches s.calls (loaded c f) c.stage f z))
         go (work.Hang h) z = hang_answers h (hang_step h f)
         go (work.Leave l) z = leave_answers l (next_read l.step) _
+        go (work.Swap x) z = swap_answers x (swap_next s.calls x f)
 
     begun_searches : s.first < n → (t : Task) → WorkSearches n s.work → WorkSearches n (begun s t).work
     begun_searches l t y = go (is_idle s.work)
@@ -181,6 +199,7 @@ module _ (n : ℕ) where
         begins (task.Commit f m) = l
         begins (task.Hang reads) = hung s.blocked reads.items
         begins (task.Leave reads) = tt
+        begins (task.Swap r after) = tt
 
         go : (b : Bool) → WorkSearches n (if b then begun_idle s t else s).work
         go true = begins t
@@ -193,6 +212,10 @@ module _ (n : ℕ) where
         looks true l = tt
         looks false l = tt
 
+        swaps : (b : Bool) → WorkSearches n (if b then ended s else s).work
+        swaps true = tt
+        swaps false = y
+
         commits : (c : Commit) (x : Stage) → WorkSearches n (if unowned x then ended s else record s { work = work.Commit (halted_at c x) }).work
         commits c (Scan d worn) = tt
         commits c (Take d g) = tt
@@ -204,6 +227,7 @@ module _ (n : ℕ) where
         go (work.Commit c) = commits c c.stage
         go (work.Hang h) = y
         go (work.Leave l) = y
+        go (work.Swap x) = swaps (ends_at_once x.step)
 
 abbrev Seated : ℕ → ℕ → Seat → Type 0
 Seated n k s = IsSeat n k s × (3 * k < n → WorkSearches n s.work)

@@ -18,6 +18,8 @@ use Rattle.kc_machine_commits.specs.declared.commit.Stage.TheVariants.{Own}
 use Rattle.kc_machine.specs.declared.hang.LeaveStep.TheVariants as leave
 use Rattle.kc_machine.specs.Works.{Work}
 use Rattle.kc_machine.specs.Works as work
+use Rattle.kc_machine_steps.specs.declared.swap.SwapStep.{SwapStep}
+use Rattle.kc_machine_steps.specs.declared.swap.SwapStep.TheVariants as swap
 use Rattle.kc_machine.specs.Hangs.{read_of}
 use Rattle.kc_machine.specs.Machine.{State}
 use Rattle.kc_machine.specs.declared.seat.Seat.{Seat}
@@ -65,11 +67,17 @@ abbrev pub Drops : LookStep → Type 0
 Drops (look.Drop r stray seen) = Unit {0}
 Drops _ = ⊥
 
+-- it signals whom it owes it
+abbrev pub SwapIsFormed : SwapStep → Type 0
+SwapIsFormed (swap.Signal owed) = owed ≢ 0
+SwapIsFormed _ = Unit {0}
+
 abbrev pub WorkIsFormed : ℕ → Bool → Work → Type 0
 WorkIsFormed calls blocked (work.Look l) = l.halted ≡ true → Drops l.step
 WorkIsFormed calls blocked (work.Commit c) = StageIsFormed calls c.intent c.stage × IsCopy c.copy
 WorkIsFormed calls blocked (work.Hang h) = HangIsFormed blocked h
 WorkIsFormed calls blocked (work.Leave l) = LeaveIsFormed blocked l.reads.items l.step
+WorkIsFormed calls blocked (work.Swap x) = SwapIsFormed x.step
 WorkIsFormed calls blocked _ = Unit {0}
 
 abbrev pub IsWellFormed : Seat → Type 0

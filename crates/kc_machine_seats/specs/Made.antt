@@ -27,11 +27,12 @@ abbrev pub IntentIsMade : ℕ → Work → Type 0
 IntentIsMade n (work.Commit c) = IsWellMadeIntent n c.intent
 IntentIsMade n _ = Unit {0}
 
--- a hang has reads
+-- a hang has reads; a swap leaves its version room
 abbrev pub ReadsAreMade : ℕ → Work → Type 0
 ReadsAreMade n (work.Look l) = l.loc.0 < n
 ReadsAreMade n (work.Hang h) = (h.reads.items ≢ []) × AreBelow n h.reads.items
 ReadsAreMade n (work.Leave l) = AreBelow n l.reads.items
+ReadsAreMade n (work.Swap x) = (x.seen.loc.0 < n) × (x.seen.version < LAST_VERSION)
 ReadsAreMade n _ = Unit {0}
 
 abbrev pub IntentsAreWellMade : ℕ → State → Type 0

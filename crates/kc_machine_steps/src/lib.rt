@@ -5,6 +5,7 @@ mod aid;
 mod line;
 mod look;
 mod pass;
+mod swap;
 mod task;
 
 pub use aid::{AidNext, AidStep, Aided, aid_access};
@@ -17,4 +18,5 @@ pub use pass::{
     AfterCheck, PassNext, PassStep, check_access, decide_access, decided_as, fits, from_install,
     install_access, pass_access, pass_next, refers_to, release_at,
 };
+pub use swap::{MOST_SWAPS, Swap, SwapNext, SwapStep};
 pub use task::{Event, Onward, Task, Told};

@@ -43,7 +43,7 @@ pub fn after_line(line: u32) -> u32
     }
 }
 
-fn next_version(version: u32) -> u32
+pub(crate) fn next_version(version: u32) -> u32
     ensures { result ≡ next_version version }
 {
     if version < LAST_VERSION {

@@ -15,6 +15,8 @@ pub enum Task {
     Hang { reads: ArrayVec<Seen, MOST> },
     /// Hang no longer.
     Leave { reads: ArrayVec<Seen, MOST> },
+    /// Put a value at a location by one step, if this is what stands there.
+    Swap { seen: Seen, after: u32 },
 }
 
 /// What a seat is told as its task ends.
@@ -25,7 +27,7 @@ pub enum Told {
     Succeeded { number: u64 },
     /// This read is no longer what stands.
     Failed { entry: u32 },
-    /// This read is being changed by another commit.
+    /// This read is being changed by another commit; of a swap, also that the seat may swap no more.
     Crossed { entry: u32 },
     Halted,
     /// Each descriptor has had its last life.
@@ -49,7 +51,7 @@ pub enum Event {
 #[derive(Clone, Copy)]
 pub enum Onward {
     Goes,
-    /// A descriptor was taken: one call more.
+    /// A descriptor was taken, or a word swapped: one call more.
     Takes,
     /// The seat is no longer blocked.
     Unblocks,

@@ -38,6 +38,13 @@ fn two(mode: Mode, first: u32, second: u32) -> Task {
     )
 }
 
+fn swap(loc: u32, version: u32, value: u32, after: u32) -> Task {
+    Task::Swap {
+        seen: seen(loc, version, value),
+        after,
+    }
+}
+
 fn hang(version: u32) -> ArrayVec<Seen, 64> {
     let mut reads = ArrayVec::new();
     let _ = reads.try_push(seen(0, version, version));
@@ -74,6 +81,14 @@ fn own(machine: &Machine, seat: u32) -> Option<(u32, u64)> {
         machine.seat(seat).own()
     } else {
         None
+    }
+}
+
+fn calls(machine: &Machine, seat: u32) -> u64 {
+    if seat < machine.callers() {
+        machine.seat(seat).calls()
+    } else {
+        0
     }
 }
 
@@ -281,6 +296,120 @@ fn a_hang_is_woken_by_a_put(rt: HostRuntime) -> Result<(), Fail> {
     begin(&mut machine, 1, Task::Hang { reads: hang(0) });
     assert_eq!(rt; finish(&mut machine, 1), 3);
     assert_eq!(rt; told(&machine, 1), Some(Told::Changed { entry: 0 }));
+    Ok(())
+}
+
+#[test]
+fn a_swap_that_finds_what_it_saw_puts_the_next_version(rt: HostRuntime) -> Result<(), Fail> {
+    let mut machine = open(&rt, &[5, 6], 2)?;
+    begin(&mut machine, 0, swap(1, 0, 6, 9));
+    assert_eq!(rt; finish(&mut machine, 0), 2);
+    assert_eq!(rt; (told(&machine, 0), calls(&machine, 0)), (WON, 1));
+    assert_eq!(rt; look(&mut machine, 1, 1), Some(Told::Seen(seen(1, 1, 9))));
+    begin(&mut machine, 0, swap(1, 1, 9, 9));
+    assert_eq!(rt; finish(&mut machine, 0), 2);
+    assert_eq!(rt;
+        (told(&machine, 0), calls(&machine, 0)),
+        (Some(Told::Succeeded { number: 2 }), 2)
+    );
+    assert_eq!(rt; look(&mut machine, 1, 1), Some(Told::Seen(seen(1, 2, 9))));
+    assert_eq!(rt; look(&mut machine, 1, 0), Some(Told::Seen(seen(0, 0, 5))));
+    Ok(())
+}
+
+#[test]
+fn a_swap_that_finds_another_value_or_version_changes_nothing(rt: HostRuntime) -> Result<(), Fail> {
+    for (version, value) in [(0, 6), (1, 5), (1, 6)] {
+        let mut machine = open(&rt, &[5], 2)?;
+        begin(&mut machine, 0, swap(0, version, value, 9));
+        assert_eq!(rt; finish(&mut machine, 0), 1, "{version}: {value}");
+        assert_eq!(rt;
+            (told(&machine, 0), calls(&machine, 0)),
+            (LOST, 0),
+            "{version}: {value}"
+        );
+        assert_eq!(rt;
+            look(&mut machine, 1, 0),
+            Some(Told::Seen(seen(0, 0, 5))),
+            "{version}: {value}"
+        );
+    }
+    Ok(())
+}
+
+// After 9 to 11 steps the owner has installed its first line and not yet released it.
+#[test]
+fn a_swap_that_finds_a_reference_is_crossed(rt: HostRuntime) -> Result<(), Fail> {
+    for mode in [Mode::All, Mode::Light] {
+        for stop in 9..12 {
+            let mut machine = open(&rt, &[5, 6], 2)?;
+            begin(&mut machine, 0, two(mode, 7, 8));
+            step(&mut machine, 0, stop);
+            begin(&mut machine, 1, swap(0, 0, 5, 9));
+            assert_eq!(rt; finish(&mut machine, 1), 1, "after {stop}");
+            assert_eq!(rt;
+                (told(&machine, 1), calls(&machine, 1)),
+                (Some(Told::Crossed { entry: 0 }), 0),
+                "after {stop}"
+            );
+            finish(&mut machine, 0);
+            assert_eq!(rt; told(&machine, 0), WON, "after {stop}");
+            assert_eq!(rt;
+                look(&mut machine, 1, 0),
+                Some(Told::Seen(seen(0, 1, 7))),
+                "after {stop}"
+            );
+        }
+    }
+    Ok(())
+}
+
+// Whether or not it is halted behind its exchange, it signals seat 1, which hangs there, and no other.
+#[test]
+fn a_swap_wakes_who_hangs_on_its_location(rt: HostRuntime) -> Result<(), Fail> {
+    for halts in [false, true] {
+        let mut machine = open(&rt, &[0], 3)?;
+        begin(&mut machine, 1, Task::Hang { reads: hang(0) });
+        finish(&mut machine, 1);
+        assert_eq!(rt; told(&machine, 1), Some(Told::Hung));
+        begin(&mut machine, 0, swap(0, 0, 0, 1));
+        step(&mut machine, 0, 1);
+        if halts {
+            machine.event(Event::Halt { seat: 0 });
+        }
+        step(&mut machine, 0, 1);
+        let signals = matches!(access(&machine, 0), Access::Signal(1, true));
+        assert!(rt; signals);
+        assert_eq!(rt; finish(&mut machine, 0), 1);
+        assert_eq!(rt; told(&machine, 0), WON);
+    }
+    Ok(())
+}
+
+// The swap is halted after so many steps: the steps that it still makes, and whether it succeeds.
+#[test]
+fn a_swap_halted_before_its_exchange_ends_at_once(rt: HostRuntime) -> Result<(), Fail> {
+    for (stop, left, succeeds) in [(0, 0, false), (1, 1, true), (2, 0, true)] {
+        let mut machine = open(&rt, &[5], 2)?;
+        begin(&mut machine, 0, swap(0, 0, 5, 9));
+        step(&mut machine, 0, stop);
+        machine.event(Event::Halt { seat: 0 });
+        assert_eq!(rt; finish(&mut machine, 0), left, "after {stop}");
+        let (wanted, version, value) = if succeeds {
+            (WON, 1, 9)
+        } else {
+            (Some(Told::Halted), 0, 5)
+        };
+        assert_eq!(rt; told(&machine, 0), wanted, "after {stop}");
+        let idle = machine.callers() > 0 && machine.seat(0).is_idle();
+        assert!(rt; idle);
+        assert_eq!(rt; calls(&machine, 0), version as u64, "after {stop}");
+        assert_eq!(rt;
+            look(&mut machine, 1, 0),
+            Some(Told::Seen(seen(0, version, value))),
+            "after {stop}"
+        );
+    }
     Ok(())
 }
 

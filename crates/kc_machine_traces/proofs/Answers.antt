@@ -8,6 +8,7 @@ use Rattle.kc_machine_steps.specs.declared.task.Task.TheVariants as task
 use Rattle.kc_machine_steps.specs.declared.task.Onward.{Onward}
 use Rattle.kc_machine_steps.specs.declared.task.Onward.TheVariants as onward
 use Rattle.kc_machine.specs.Hangs.{hang_onward, leave_onward}
+use Rattle.kc_machine_steps.specs.Swaps.{swap_onward, ends_at_once}
 use Rattle.kc_machine.specs.Works.{Work}
 use Rattle.kc_machine_commits.specs.Commits.{commit_onward}
 use Rattle.kc_machine_commits.specs.Halts.{unowned}
@@ -72,6 +73,7 @@ module _ (s : Seat) (a : Option Task) (h : AnswersWhenDone s a) where
       go (work.Commit c) e = runs_on _ refl (ap is_idle e) (commit_onward s.descriptors s.calls c f)
       go (work.Hang g) e = runs_on _ refl (ap is_idle e) (hang_onward g f)
       go (work.Leave l) e = runs_on _ refl (ap is_idle e) (leave_onward l)
+      go (work.Swap x) e = runs_on _ refl (ap is_idle e) (swap_onward s.calls x f)
 
   stops : is_idle s.work ≡ false → AnswersWhenDone (ended s) a
   stops b = record { busy = λ e. absurd (cc); idle = λ e. sym (h.busy b).1 }
@@ -83,12 +85,17 @@ module _ (s : Seat) (a : Option Task) (h : AnswersWhenDone s a) where
       ends_or x i b true = stops b
       ends_or x i b false = record { busy = λ e. h.busy b; idle = λ e. absurd (cc) }
 
+      ends_or_stays : is_idle s.work ≡ false → (b : Bool) → AnswersWhenDone (if b then ended s else s) a
+      ends_or_stays i true = stops i
+      ends_or_stays i false = h
+
       go : (x : Work) → s.work ≡ x → AnswersWhenDone (halted_by s x) a
       go work.Idle e = h
       go (work.Look l) e = ends_or _ refl (ap is_idle e) (halts_at_once l.step)
       go (work.Commit c) e = ends_or _ refl (ap is_idle e) (unowned c.stage)
       go (work.Hang g) e = h
       go (work.Leave l) e = h
+      go (work.Swap x) e = ends_or_stays (ap is_idle e) (ends_at_once x.step)
 
 module _ (s : Seat) (m : Moment) (y : Shadow) (h : AnswersWhenDone s y.task) where
   abbrev asked : Task → Bool → Seat → Option Task
@@ -107,6 +114,7 @@ module _ (s : Seat) (m : Moment) (y : Shadow) (h : AnswersWhenDone s y.task) whe
       go true = subst (λ b. AnswersWhenDone s (with_task (if not b then Some (task.Hang reads) else None) m y).task) (sym e) h
       go false = sets_out (task.Hang reads) _ refl
   starts (task.Leave reads) e = sets_out (task.Leave reads) _ refl
+  starts (task.Swap reads after) e = sets_out (task.Swap reads after) _ refl
 
   begins_so : (t : Task) → AnswersWhenDone (begun s t) (asked t (is_idle s.work) (begun s t))
   begins_so t = go (is_idle s.work) refl

@@ -25,13 +25,13 @@ use Rattle.kc_machine_steps.specs.declared.task.Event.{Event}
 use Rattle.kc_machine.specs.Works as work
 use Rattle.kc_machine.specs.declared.hang.HangStep.{HangStep}
 use Rattle.kc_machine.specs.declared.hang.HangStep.TheVariants as hang
-use Rattle.kc_machine.proofs.Functions.{both}
+use Rattle.kc_machine.proofs.Functions.{both, put_here}
 use Rattle.kc_machine.specs.Machine.{World, State, Opening, event_of, seat_of, run}
 use Rattle.kc_machine.specs.Seats.{is_idle}
 use Rattle.kc_machine.specs.declared.seat.Seat.{Seat}
 use Rattle.kc_machine_claims.proofs.Follows.{trace_runs}
 use Rattle.kc_machine_claims.specs.Histories.{History, Placed, inserted}
-use Rattle.kc_machine_claims.specs.Traces.{Trace, is_success, decides, caller_for, number_for, entry_for, history_after, place_or, trace, now}
+use Rattle.kc_machine_claims.specs.Traces.{Trace, is_success, decides, caller_for, number_for, entry_for, history_after, history_by_swap, place_or, trace, now}
 use Rattle.kc_machine_effects.specs.Holds.{Proper, own_hold}
 use Rattle.kc_machine_effects.specs.Stands.{Stand, Own, NoOwn, Owns, Runs, Waits, Passing, NoPass, Over, Aiding, stand, works, resting, commits, owns, aids, hangs}
 use Rattle.kc_machine_pool.proofs.LifeLaws.{active_owned}
@@ -41,12 +41,15 @@ use Rattle.kc_machine_pool.specs.Started.{listed, line_of_words}
 use Rattle.kc_machine_seats.proofs.SeatedSteps.{seats_stay}
 use Rattle.kc_machine_steps.specs.Lines.{joined, first_of, second_of}
 use Rattle.kc_machine_traces.proofs.Copies.{copies_after, passes_whole}
-use Rattle.kc_machine_traces.proofs.Joins.{trace-append, every}
+use Rattle.kc_machine_traces.proofs.Joins.{run-append, trace-append, every}
 use Rattle.kc_machine_traces.proofs.Others.{run_shape, event_out, undecided, others_leave}
 use Rattle.kc_machine_traces.proofs.Stood.{same_call}
 use Rattle.kc_machine_traces.specs.Copies.{CopyIsTrue, IsWhole}
 use Rattle.kc_machine_traces.specs.Entries.{by, AreOfCallers, own_intent}
 use Rattle.kc_machine_traces.specs.Parts.{NoneOf}
+use Rattle.kc_machine_traces.specs.Swaps.{SwapOf, swapped}
+use Rattle.kc_machine_traces.proofs.Swapping.{swap_cases, swap_enters, swap_passless}
+use Rattle.kc_machine_steps.specs.declared.swap.SwapStep.TheVariants as swap
 use Rattle.kc_machine_words.specs.declared.words.Mode.{Mode}
 
 -- ---- insertions
@@ -134,6 +137,7 @@ unowning s d g = go s.work
     go (work.Commit c) i q = absurd (cc)
     go (work.Hang h) i q = absurd (cc)
     go (work.Leave l) i q = absurd (cc)
+    go (work.Swap l) i q = absurd (cc)
 
 module _ (o : Opening) (es : List Event) where
   -- a caller whose seat owns what was Active and has succeeded where the words are v, at its call
@@ -265,6 +269,7 @@ module _ (o : Opening) (es : List Event) where
       work_enters (work.Commit c) y m = stage_enters c c.stage y m
       work_enters (work.Hang h) y m = hang_enters h.reads.items h.step y m
       work_enters (work.Leave a) y m = tt
+      work_enters (work.Swap x) y m = tt
 
       pub enters : Enters (stand s).caller (stand s).calls (stand s).aid (stand s).pass
       enters = let c = (run_shape o es).2 in work_enters s.work ((copies_after o es).copied j (omega arith), passes_whole o es j) refl
@@ -290,12 +295,20 @@ module _ (o : Opening) (es : List Event) where
         go true q = let c = (run_shape o es).2 in let l = ltb-true (seat_of e) (run o es).callers q in inside (omega arith)
         go false q = let n = ap (λ (m : State). m.world) (event_out (run o es) e q) in subst P (sym (undecided (now (trace o es)) (run o es).world v st place st.pass n)) (outside n)
 
-    pub history_by : (seat_of e < o.callers → P (history_after (now (trace o es)) (run o es).world v st place st.pass)) → (v ≡ (run o es).world → P (trace o es).history) → P (trace o (es ++ e ∷ [])).history
-    history_by inside outside = subst P (sym (ap (λ (t : Trace). t.history) (trace-append o es (e ∷ []))))
-        (subst (λ (n : State). P (history_after (now (trace o es)) n.world (event_of n e).world (stand (n.seats (seat_of e))) place (stand (n.seats (seat_of e))).pass)) (sym (trace_runs o es)) (happens inside outside))
+    -- a swap's seat has no pass
+    swapped_in : (x : Placed) → SwapOf (run o es) e (trace o es).clock x → P (inserted x (trace o es).history) → P (inserted x (history_after (now (trace o es)) (run o es).world v st place st.pass))
+    swapped_in x y p = subst (λ u. P (inserted x (history_after (now (trace o es)) (run o es).world v st place u))) (sym (swap_passless ((run o es).seats (seat_of e)) y.seen y.after swap.Exchange y.works)) p
 
-  -- a history stays, or gets the entry of a caller whose seat owns what was decided
-  module _ (P : History → Type 0) (e : Event) (same : P (trace o es).history) (more : (x : Placed) → Entering (event_of (run o es) e).world x.entry.caller x.entry.number → P (inserted x (trace o es).history)) where
+    pub history_by : (seat_of e < o.callers → P (history_after (now (trace o es)) (run o es).world v st place st.pass)) → (v ≡ (run o es).world → P (trace o es).history)
+        → ((x : Placed) → SwapOf (run o es) e (trace o es).clock x → P (inserted x (trace o es).history)) → P (trace o (es ++ e ∷ [])).history
+    history_by inside outside more = subst P (sym (ap (λ (t : Trace). t.history) (trace-append o es (e ∷ []))))
+        (subst (λ (n : State). P (history_by_swap (trace o es).clock (n.seats (seat_of e)).caller ((event_of n e).seats (seat_of e)).calls (stand (n.seats (seat_of e))).swap (stand ((event_of n e).seats (seat_of e))).swap
+        (history_after (now (trace o es)) n.world (event_of n e).world (stand (n.seats (seat_of e))) place (stand (n.seats (seat_of e))).pass))) (sym (trace_runs o es))
+        (swap_cases P (run o es) e (trace o es).clock _ (λ z. happens inside outside) (λ x y. swapped_in x y (more x y))))
+
+  -- a history stays, or gets the entry of a caller whose seat owns what was decided, or of a swap
+  module _ (P : History → Type 0) (e : Event) (same : P (trace o es).history) (more : (x : Placed) → Entering (event_of (run o es) e).world x.entry.caller x.entry.number → P (inserted x (trace o es).history))
+      (swapped : (x : Placed) → SwapOf (run o es) e (trace o es).clock x → P (inserted x (trace o es).history)) where
     decided : (s : Stand) (at : Option ℕ) (p : Passing) → Enters (event_of (run o es) e).world s.caller s.calls s.aid p → P (history_after (now (trace o es)) (run o es).world (event_of (run o es) e).world s at p)
     decided s at NoPass f = same
     decided s at (Over h m xs turn) f = go (decides (run o es).world (event_of (run o es) e).world h) refl
@@ -308,19 +321,59 @@ module _ (o : Opening) (es : List Event) where
         go false q = same
 
     pub history_grows : P (trace o (es ++ e ∷ [])).history
-    history_grows = history_by e P (λ l. decided (stand ((run o es).seats (seat_of e))) ((trace o es).shadows (seat_of e)).place (stand ((run o es).seats (seat_of e))).pass (enters (event_of (run o es) e).world (seat_of e) l)) (λ q. same)
+    history_grows = history_by e P (λ l. decided (stand ((run o es).seats (seat_of e))) ((trace o es).shadows (seat_of e)).place (stand ((run o es).seats (seat_of e))).pass (enters (event_of (run o es) e).world (seat_of e) l)) (λ q. same) swapped
 
 -- ---- every schedule
 
+-- a swap enters for its own seat
+pub swap_caller : (o : Opening) (es : List Event) (e : Event) (clock : ℕ) (x : Placed) → SwapOf (run o es) e clock x → x.entry.caller ≡ seat_of e
+swap_caller o es e clock x n = ap (λ (y : Placed). y.entry.caller) n.is ∙ (seats_stay o es (seat_of e)).0
+
+pub swapper : (o : Opening) (es : List Event) (e : Event) (x : Placed) → SwapOf (run o es) e (trace o es).clock x → x.entry.caller ≡ seat_of e
+swapper o es e x n = swap_caller o es e (trace o es).clock x n
+
+-- a swap enters its entry
+pub swap_enters_it : (o : Opening) (es : List Event) (e : Event) (x : Placed) → SwapOf (run o es) e (trace o es).clock x → (trace o (es ++ e ∷ [])).history ≡ inserted x (trace o es).history
+swap_enters_it o es e x y =
+    let m = trace_runs o es in
+    let st = stand ((run o es).seats (seat_of e)) in
+    ap (λ (t : Trace). t.history) (trace-append o es (e ∷ []))
+    ∙ ap (λ (n : State). history_by_swap (trace o es).clock (n.seats (seat_of e)).caller ((event_of n e).seats (seat_of e)).calls (stand (n.seats (seat_of e))).swap (stand ((event_of n e).seats (seat_of e))).swap
+    (history_after (now (trace o es)) n.world (event_of n e).world (stand (n.seats (seat_of e))) ((trace o es).shadows (seat_of e)).place (stand (n.seats (seat_of e))).pass)) m
+    ∙ swap_enters (run o es) e (trace o es).clock _ x y
+    ∙ ap (λ p. inserted x (history_after (now (trace o es)) (run o es).world (event_of (run o es) e).world st ((trace o es).shadows (seat_of e)).place p)) (swap_passless ((run o es).seats (seat_of e)) y.seen y.after swap.Exchange y.works)
+
+-- its number is that of the seat's calls then
+pub swap_number : (o : Opening) (es : List Event) (e : Event) (x : Placed) → SwapOf (run o es) e (trace o es).clock x → x.entry.number ≡ ((run o (es ++ e ∷ [])).seats x.entry.caller).calls
+swap_number o es e x y =
+    let k = seat_of e in
+    let seat : (run o (es ++ e ∷ [])).seats k ≡ swapped ((run o es).seats k) y.seen y.after =
+    ap (λ (m : State). m.seats k) (run-append o es (e ∷ [])) ∙ ap (λ (m : State). m.seats k) y.goes ∙ put_here (run o es).seats k _ in
+    ap (λ (z : Placed). z.entry.number) y.is ∙ ap (λ (s : Seat). s.calls) (sym seat) ∙ ap (λ j. ((run o (es ++ e ∷ [])).seats j).calls) (sym (swapper o es e x y))
+
+-- the entries of a caller stay where its seat neither swaps nor owns what is decided
+pub by_no_swap : (o : Opening) (es : List Event) (e : Event) (k : ℕ) → ((x : Placed) → SwapOf (run o es) e (trace o es).clock x → seat_of e ≡ k → ⊥)
+    → ((x : Placed) → Entering o es (event_of (run o es) e).world x.entry.caller x.entry.number → x.entry.caller ≡ k → ⊥)
+    → by k (trace o (es ++ e ∷ [])).history ≡ by k (trace o es).history
+by_no_swap o es e k never none = history_grows o es (λ h. by k h ≡ by k (trace o es).history) e refl
+    (λ x n. by_inserted k x _ (none x n))
+    (λ x n. by_inserted k x _ (λ q. never x n (sym (swapper o es e x n) ∙ q)))
+
+idle_swaps_none : (o : Opening) (es : List Event) (e : Event) (k : ℕ) → is_idle ((run o es).seats k).work ≡ true → (x : Placed) → SwapOf (run o es) e (trace o es).clock x → seat_of e ≡ k → ⊥
+idle_swaps_none o es e k i x n q =
+    let z : false ≡ true = sym (ap is_idle n.works) ∙ ap (λ j. is_idle ((run o es).seats j).work) q ∙ i in
+    absurd (cc)
+
 pub entries_of_callers : (o : Opening) (es : List Event) → AreOfCallers o.callers (trace o es).history
 entries_of_callers o = every (λ es. AreOfCallers o.callers (trace o es).history)
-    (λ es e a. history_grows o es (AreOfCallers o.callers) e a (λ x n. all_inserted (λ y. y.entry.caller < o.callers) x _ n.within a))
+    (λ es e a. history_grows o es (AreOfCallers o.callers) e a (λ x n. all_inserted (λ y. y.entry.caller < o.callers) x _ n.within a)
+    (λ x n. all_inserted (λ y. y.entry.caller < o.callers) x _ (let c = (run_shape o es).2 in let q = swapper o es e x n in let l = n.within in omega arith) a))
     (All-nil (λ (y : Placed). y.entry.caller < o.callers))
 
 -- the entries of an idle seat's caller stay, whatever happens
 pub idle_keeps : (o : Opening) (es : List Event) (k : ℕ) (e : Event) → is_idle ((run o es).seats k).work ≡ true → by k (trace o (es ++ e ∷ [])).history ≡ by k (trace o es).history
-idle_keeps o es k e i = history_grows o es (λ h. by k h ≡ by k (trace o es).history) e refl
-    (λ x n. by_inserted k x _ (λ q. unowning ((run o es).seats k) n.descriptor n.generation i (subst (λ c. own_hold (stand ((run o es).seats c)).own ≡ Proper n.descriptor n.generation) q n.owns)))
+idle_keeps o es k e i = by_no_swap o es e k (λ x n q. idle_swaps_none o es e k i x n q)
+    (λ x n q. unowning ((run o es).seats k) n.descriptor n.generation i (subst (λ c. own_hold (stand ((run o es).seats c)).own ≡ Proper n.descriptor n.generation) q n.owns))
 
 pub idle_gains_none : (o : Opening) (es more : List Event) (k : ℕ) → is_idle ((run o es).seats k).work ≡ true → NoneOf k more → by k (trace o (es ++ more)).history ≡ by k (trace o es).history
 idle_gains_none o es [] k i n = ap (λ x. by k (trace o x).history) (append-nil es)

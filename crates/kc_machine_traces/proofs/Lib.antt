@@ -1,4 +1,5 @@
 pub mod Joins
+pub mod Swapping
 pub mod Others
 pub mod Moments
 pub mod Answers

@@ -9,6 +9,7 @@ use Rattle.kc_machine_steps.specs.declared.task.Task.TheVariants as task
 use Rattle.kc_machine_steps.specs.declared.task.Onward.{Onward}
 use Rattle.kc_machine_steps.specs.declared.task.Onward.TheVariants as onward
 use Rattle.kc_machine.specs.Hangs.{hang_onward, leave_onward}
+use Rattle.kc_machine_steps.specs.Swaps.{swap_onward, ends_at_once}
 use Rattle.kc_machine.specs.Works.{Work}
 use Rattle.kc_machine_commits.specs.Commits.{commit_onward}
 use Rattle.kc_machine_commits.specs.Halts.{unowned}
@@ -23,7 +24,7 @@ use Rattle.kc_machine.specs.declared.seat.Seat.{Seat}
 use Rattle.kc_machine_claims.specs.Histories.{Placed}
 use Rattle.kc_machine_claims.specs.Traces.{trace}
 use Rattle.kc_machine_traces.proofs.Answers.{moved, seat_cases}
-use Rattle.kc_machine_traces.proofs.Entries.{all_inserted, history_grows}
+use Rattle.kc_machine_traces.proofs.Entries.{all_inserted, history_grows, swap_number}
 use Rattle.kc_machine_traces.proofs.Joins.{run-append, every}
 use Rattle.kc_machine_traces.proofs.Others.{event_else}
 use Rattle.kc_machine_traces.specs.Entries.{NumbersFit}
@@ -50,6 +51,7 @@ answer_calls s f = go s.work
     go (work.Commit c) = on _ (commit_onward s.descriptors s.calls c f)
     go (work.Hang h) = on _ (hang_onward h f)
     go (work.Leave l) = on _ (leave_onward l)
+    go (work.Swap x) = on _ (swap_onward s.calls x f)
 
 begun_calls : (s : Seat) (t : Task) → s.calls ≤ (begun s t).calls
 begun_calls s t = go (is_idle s.work)
@@ -63,6 +65,7 @@ begun_calls s t = go (is_idle s.work)
     starts (task.Commit f m) = omega arith
     starts (task.Hang reads) = hangs reads.items s.blocked
     starts (task.Leave reads) = omega arith
+    starts (task.Swap reads after) = omega arith
 
     go : (b : Bool) → s.calls ≤ (if b then begun_idle s t else s).calls
     go true = starts t
@@ -75,12 +78,17 @@ halted_calls s = go s.work
     ends_or x true = omega arith
     ends_or x false = omega arith
 
+    ends_or_stays : (b : Bool) → s.calls ≤ (if b then ended s else s).calls
+    ends_or_stays true = omega arith
+    ends_or_stays false = omega arith
+
     go : (x : Work) → s.calls ≤ (halted_by s x).calls
     go work.Idle = omega arith
     go (work.Look l) = ends_or _ (halts_at_once l.step)
     go (work.Commit c) = ends_or _ (unowned c.stage)
     go (work.Hang h) = omega arith
     go (work.Leave l) = omega arith
+    go (work.Swap x) = ends_or_stays (ends_at_once x.step)
 
 calls_rise : (m : State) (e : Event) (k : ℕ) → (m.seats k).calls ≤ ((event_of m e).seats k).calls
 calls_rise m e k = go (k == seat_of e) refl
@@ -103,3 +111,5 @@ numbers_fit o = every (λ es. NumbersFit (run o es) (trace o es).history) step (
         let now : NumbersFit (run o (es ++ e ∷ [])) (trace o es).history = (λ i d l. let b = a i d l in let c = rise (get_or (trace o es).history i d).entry.caller in omega arith) in
         history_grows o es (λ h. NumbersFit (run o (es ++ e ∷ [])) h) e now
         (λ x n. all_inserted (λ y. y.entry.number ≤ ((run o (es ++ e ∷ [])).seats y.entry.caller).calls) x (trace o es).history (let c = n.call in let r = rise x.entry.caller in omega arith) now)
+        (λ x n. all_inserted (λ y. y.entry.number ≤ ((run o (es ++ e ∷ [])).seats y.entry.caller).calls) x (trace o es).history
+        (let c : x.entry.number ≡ ((run o (es ++ e ∷ [])).seats x.entry.caller).calls = swap_number o es e x n in omega arith) now)

@@ -1,6 +1,6 @@
 -- What a task has left in the history as its seat goes on: of the words that stand after its step.
 use Rattle.std.proofs.Common.{◌≡◌, ℕ, ◌+◌, ◌-◌, ◌&&◌, ◌==◌, Bool, true, false, not, List, Option, None, Some, refl, sym, subst, if◌then◌else◌}
-use Rattle.std.specs.Prelude.{nat_lt, slice_get}
+use Rattle.std.specs.Prelude.{nat_lt, slice_get, bit_and}
 use Rattle.kc_machine_words.specs.declared.access.Found.{Found}
 use Rattle.kc_machine_words.specs.declared.words.Handle.{Handle}
 use Rattle.kc_machine_words.specs.declared.words.Phase.{Phase}
@@ -39,6 +39,17 @@ use Rattle.kc_machine.specs.declared.hang.HangNext.{HangNext}
 use Rattle.kc_machine.specs.declared.hang.HangNext.TheVariants as hanging
 use Rattle.kc_machine.specs.Hangs.{hang_next, hangs_on, onward_of, look_of, look_goes_on, looked, look_or_end, clear_or_changed, unblocks_or_tells, leave_after, next_read}
 use Rattle.kc_machine.specs.Waits.{Hang, Leave}
+use Rattle.kc_machine_steps.specs.Swaps.{may_swap, owed_next, swap_next_at, swaps_on, ends_at_once}
+use Rattle.kc_machine_steps.specs.Swaps.{onward_of as onward_of_swap}
+use Rattle.kc_machine_steps.specs.declared.swap.Swap.{Swap}
+use Rattle.kc_machine_steps.specs.declared.swap.SwapNext.{SwapNext}
+use Rattle.kc_machine_steps.specs.declared.swap.SwapNext.TheVariants as swapping
+use Rattle.kc_machine_steps.specs.declared.swap.SwapStep.{SwapStep}
+use Rattle.kc_machine_steps.specs.declared.swap.SwapStep.TheVariants as swap
+use Rattle.kc_machine_effects.specs.Stands.{Swaps}
+use Rattle.kc_machine_traces.proofs.Swapping.{swap_of}
+use Rattle.kc_machine_traces.specs.Swaps.{takes}
+use Rattle.kc_model.specs.declared.word.Word.TheVariants.{Plain, Ref}
 use Rattle.kc_machine.specs.Works.{Work}
 use Rattle.kc_machine.specs.Works as work
 use Rattle.kc_machine.specs.Machine.{World}
@@ -69,6 +80,13 @@ IsIntentOf (task.Commit f m) i = i ≡ record { mode = m; lines = record { items
 IsIntentOf (task.Look l) i = ⊥
 IsIntentOf (task.Hang reads) i = ⊥
 IsIntentOf (task.Leave reads) i = ⊥
+IsIntentOf (task.Swap r after) i = ⊥
+
+-- behind its exchange the entry is there
+abbrev pub SwapLeft : (k n : ℕ) → Task → Seen → ℕ → SwapStep → History → History → Type 0
+SwapLeft k n u r after swap.Exchange a b = (b ≡ a) × (u ≡ task.Swap r after)
+SwapLeft k n u r after swap.Wake a b = GainsTheCall k n u a b
+SwapLeft k n u r after (swap.Signal owed) a b = GainsTheCall k n u a b
 
 abbrev pub Left : World → (k n : ℕ) → Task → Option Told → Work → History → History → Type 0
 Left w k n u t work.Idle a b = GainsAsTold k u t a b
@@ -76,6 +94,7 @@ Left w k n u t (work.Look l) a b = b ≡ a
 Left w k n u t (work.Commit c) a b = StageLeft w k n u c.stage a b × IsIntentOf u c.intent
 Left w k n u t (work.Hang h) a b = b ≡ a
 Left w k n u t (work.Leave l) a b = b ≡ a
+Left w k n u t (work.Swap x) a b = SwapLeft k n u x.seen x.after x.step a b
 
 abbrev pub SeatLeft : World → ℕ → Task → Seat → History → History → Type 0
 SeatLeft w k u s a b = Left w k s.calls u s.told s.work a b
@@ -239,15 +258,62 @@ module _ (v : World) (k : ℕ) (u : Task) (s : Seat) (a b : History) where
   leave_left x None q = q
   leave_left x (Some y) q = q
 
-  pub answer_left : (f : Found) → Knows v s.work → SeatLeft v k u s a b → SeatLeft v k u (answer_of s f) a b
+  -- it doesn't take place now
+  abbrev pub Quiet : Found → Work → Type 0
+  Quiet f x = takes (swap_of x) (swap_of (answer_by s f x).work) ≡ false
+
+  abbrev SwapNextLeft : Swap → SwapNext → Type 0
+  SwapNextLeft x n = SeatLeft v k u (after (record s { work = work.Swap (swaps_on x n) }) (onward_of_swap n)) a b
+
+  owed_left : (x : Swap) (owed : ℕ) → GainsTheCall k s.calls u a b → SwapNextLeft x (owed_next s.calls owed)
+  owed_left x owed q = go (owed == 0)
+    where
+      go : (z : Bool) → SwapNextLeft x (if z then swapping.Tells (told.Succeeded s.calls) else swapping.Goes (swap.Signal owed))
+      go true = q
+      go false = q
+
+  abbrev Stepping : Seen → ℕ → SwapStep → Swap
+  Stepping r value step = record { seen = r; after = value; step = step }
+
+  swap_left : (r : Seen) (value : ℕ) (step : SwapStep) (f : Found) → Quiet f (work.Swap (Stepping r value step)) → SwapLeft k s.calls u r value step a b → SwapNextLeft (Stepping r value step) (swap_next_at r s.calls step f)
+  swap_left r value swap.Exchange (found.Word (Plain y z)) e q = go ((y == r.version) && (z == r.value)) (may_swap s.calls) e q
+    where
+      Next : Bool → Bool → SwapNext
+      Next x m = if x then (if m then swapping.Takes swap.Wake else swapping.Tells (told.Crossed 0)) else swapping.Tells (told.Failed 0)
+
+      go : (x m : Bool) → takes (Swaps r value swap.Exchange) (swap_of (after (record s { work = work.Swap (swaps_on (Stepping r value swap.Exchange) (Next x m)) }) (onward_of_swap (Next x m))).work) ≡ false
+          → (b ≡ a) × (u ≡ task.Swap r value) → SwapNextLeft (Stepping r value swap.Exchange) (Next x m)
+      go true true e q = absurd (cc)
+      go true false e q = q.0
+      go false m e q = q.0
+  swap_left r value swap.Exchange (found.Word (Ref g d i)) e q = q.0
+  swap_left r value swap.Exchange found.Nothing e q = q
+  swap_left r value swap.Exchange (found.Control c) e q = q
+  swap_left r value swap.Exchange (found.Status c) e q = q
+  swap_left r value swap.Exchange (found.Owner c) e q = q
+  swap_left r value swap.Exchange (found.First c) e q = q
+  swap_left r value swap.Exchange (found.Second c) e q = q
+  swap_left r value swap.Exchange (found.Callers c) e q = q
+  swap_left r value swap.Wake (found.Callers c) e q = owed_left _ c q
+  swap_left r value swap.Wake found.Nothing e q = q
+  swap_left r value swap.Wake (found.Word c) e q = q
+  swap_left r value swap.Wake (found.Control c) e q = q
+  swap_left r value swap.Wake (found.Status c) e q = q
+  swap_left r value swap.Wake (found.Owner c) e q = q
+  swap_left r value swap.Wake (found.First c) e q = q
+  swap_left r value swap.Wake (found.Second c) e q = q
+  swap_left r value (swap.Signal owed) f e q = owed_left _ (bit_and owed (owed - 1)) q
+
+  pub answer_left : (f : Found) → Knows v s.work → Quiet f s.work → SeatLeft v k u s a b → SeatLeft v k u (answer_of s f) a b
   answer_left f = go s.work refl
     where
-      go : (x : Work) → s.work ≡ x → Knows v x → Left v k s.calls u s.told x a b → SeatLeft v k u (answer_by s f x) a b
-      go work.Idle z e q = subst (λ y. Left v k s.calls u s.told y a b) (sym z) q
-      go (work.Look l) z e q = look_left (look_after l f) l.halted (look_next l.loc l.step f) q
-      go (work.Commit c) z e q = after_next (loaded c f) _ (stage_left (loaded c f) c.stage f e q.0) q.1
-      go (work.Hang h) z e q = after_hang h _ (hang_left h.reads.items h.step f q)
-      go (work.Leave l) z e q = leave_left (leave_after l) (slice_get l.reads.items (next_read l.step)) q
+      go : (x : Work) → s.work ≡ x → Knows v x → Quiet f x → Left v k s.calls u s.told x a b → SeatLeft v k u (answer_by s f x) a b
+      go work.Idle z e n q = subst (λ y. Left v k s.calls u s.told y a b) (sym z) q
+      go (work.Look l) z e n q = look_left (look_after l f) l.halted (look_next l.loc l.step f) q
+      go (work.Commit c) z e n q = after_next (loaded c f) _ (stage_left (loaded c f) c.stage f e q.0) q.1
+      go (work.Hang h) z e n q = after_hang h _ (hang_left h.reads.items h.step f q)
+      go (work.Leave l) z e n q = leave_left (leave_after l) (slice_get l.reads.items (next_read l.step)) q
+      go (work.Swap x) z e n q = swap_left x.seen x.after x.step f n q
 
   -- ---- a halt
 
@@ -263,12 +329,18 @@ module _ (v : World) (k : ℕ) (u : Task) (s : Seat) (a b : History) where
       look_or x true q = q
       look_or x false q = q
 
+      swap_or : (x : Swap) (step : SwapStep) → s.work ≡ work.Swap (Stepping x.seen x.after step) → SwapLeft k s.calls u x.seen x.after step a b → SeatLeft v k u (if ends_at_once step then ended s else s) a b
+      swap_or x swap.Exchange z q = q.0
+      swap_or x swap.Wake z q = subst (λ y. Left v k s.calls u s.told y a b) (sym z) q
+      swap_or x (swap.Signal owed) z q = subst (λ y. Left v k s.calls u s.told y a b) (sym z) q
+
       go : (x : Work) → s.work ≡ x → Left v k s.calls u s.told x a b → SeatLeft v k u (halted_by s x) a b
       go work.Idle z q = subst (λ y. Left v k s.calls u s.told y a b) (sym z) q
       go (work.Look l) z q = look_or _ (halts_at_once l.step) q
       go (work.Commit c) z q = halt_stage c c.stage q.0 q.1
       go (work.Hang h) z q = subst (λ y. Left v k s.calls u s.told y a b) (sym z) q
       go (work.Leave l) z q = subst (λ y. Left v k s.calls u s.told y a b) (sym z) q
+      go (work.Swap x) z q = swap_or x x.step z q
 
   -- ---- a beginning, and an end
 
@@ -281,6 +353,7 @@ module _ (v : World) (k : ℕ) (u : Task) (s : Seat) (a b : History) where
       go true e = absurd (cc)
       go false e = q
   begun_left (task.Leave reads) z i e q = q
+  begun_left (task.Swap r after) z i e q = (q, sym z)
 
   pub ended_left : is_idle s.work ≡ true → SeatLeft v k u s a b → GainsAsTold k u s.told a b
   ended_left = go s.work
@@ -291,3 +364,4 @@ module _ (v : World) (k : ℕ) (u : Task) (s : Seat) (a b : History) where
       go (work.Commit c) i q = absurd (cc)
       go (work.Hang h) i q = absurd (cc)
       go (work.Leave l) i q = absurd (cc)
+      go (work.Swap x) i q = absurd (cc)

@@ -13,6 +13,8 @@ use Rattle.kc_machine_effects.specs.Stands.{Stand, Passing, NoPass, Over, stand}
 use Rattle.kc_machine_steps.specs.declared.task.Event.{Event}
 use Rattle.kc_machine_steps.specs.declared.task.Event.TheVariants.{Begin, Step, Halt}
 use Rattle.kc_machine_traces.proofs.Joins.{run-append, trace-append}
+use Rattle.kc_machine_traces.proofs.Swapping.{enters_none, takes_no_other}
+use Rattle.kc_machine_traces.specs.Swaps.{takes}
 use Rattle.kc_machine_traces.specs.Parts.{NoneOf, IsNoStep}
 use Rattle.kc_machine_words.specs.declared.words.Phase.{Phase}
 use Rattle.kc_machine_words.specs.declared.words.Phase.TheVariants.{Active, Succeeded, Failed, Crossed, Halted}
@@ -137,8 +139,11 @@ words_stay m (Halt j) w = go (nat_lt j m.callers)
     go true = refl
     go false = refl
 
-pub history_stays : (t : Trace) (e : Event) → (event_of t.machine e).world ≡ t.machine.world → (traced t e).history ≡ t.history
-history_stays t e q = let s = stand (t.machine.seats (seat_of e)) in undecided (now t) t.machine.world (event_of t.machine e).world s (t.shadows (seat_of e)).place s.pass q
+pub history_stays : (t : Trace) (e : Event) → (event_of t.machine e).world ≡ t.machine.world → takes (stand (t.machine.seats (seat_of e))).swap (stand ((event_of t.machine e).seats (seat_of e))).swap ≡ false → (traced t e).history ≡ t.history
+history_stays t e q z =
+    let s = stand (t.machine.seats (seat_of e)) in
+    enters_none t.clock (t.machine.seats (seat_of e)).caller ((event_of t.machine e).seats (seat_of e)).calls s.swap (stand ((event_of t.machine e).seats (seat_of e))).swap _ z
+    ∙ undecided (now t) t.machine.world (event_of t.machine e).world s (t.shadows (seat_of e)).place s.pass q
 
 words_from : (m : State) (es : List Event) → All IsNoStep es → (run_from m es).world ≡ m.world
 words_from m [] a = refl
@@ -146,7 +151,7 @@ words_from m (e ∷ es) a = words_from (event_of m e) es (All-tail IsNoStep e es
 
 history_from : (t : Trace) (es : List Event) → All IsNoStep es → (trace_from t es).history ≡ t.history
 history_from t [] a = refl
-history_from t (e ∷ es) a = history_from (traced t e) es (All-tail IsNoStep e es a) ∙ history_stays t e (words_stay t.machine e (All-head IsNoStep e es a))
+history_from t (e ∷ es) a = history_from (traced t e) es (All-tail IsNoStep e es a) ∙ history_stays t e (words_stay t.machine e (All-head IsNoStep e es a)) (takes_no_other t.machine e (All-head IsNoStep e es a))
 
 pub words_kept : (o : Opening) (es more : List Event) → All IsNoStep more → (run o (es ++ more)).world ≡ (run o es).world
 words_kept o es more a = ap (λ (x : State). x.world) (run-append o es more) ∙ words_from (run o es) more a

@@ -42,9 +42,16 @@ use Rattle.kc_machine_effects.specs.Stands.{Stand, Own, NoOwn, Waits, Passing, N
 use Rattle.kc_machine_pool.proofs.LifeLaws.{owners_differ, phase_known}
 use Rattle.kc_machine_pool.specs.Owners.{fills, is_filling, phase_read}
 use Rattle.kc_machine_traces.proofs.Answers.{head_of}
-use Rattle.kc_machine_traces.proofs.Entries.{Entered, Enters, enters, history_by, history_grows, by_inserted, idle_keeps}
+use Rattle.kc_machine_traces.proofs.Entries.{Entered, Enters, enters, history_by, by_inserted, by_no_swap, idle_keeps, swapper, swap_enters_it}
 use Rattle.kc_machine_traces.proofs.Joins.{run-append}
-use Rattle.kc_machine_traces.proofs.Onward.{IsIntentOf, IfDone, succeeded, StageLeft, StageKnows, Left, SeatLeft, Knows, answer_left, halted_left, begun_left, ended_left}
+use Rattle.kc_machine_traces.proofs.Swapping.{swap_of, stand_swap, takes_place, takes_true}
+use Rattle.kc_machine_traces.specs.Swaps.{SwapOf, swap_at, swapped, takes}
+use Rattle.kc_machine_seats.proofs.SeatedSteps.{seats_stay}
+use Rattle.kc_machine_claims.specs.Traces.{swap_entry}
+use Rattle.kc_machine_steps.specs.Lines as lines
+use Rattle.kc_machine_steps.specs.declared.swap.SwapStep.{SwapStep}
+use Rattle.kc_machine_steps.specs.declared.swap.SwapStep.TheVariants as swap
+use Rattle.kc_machine_traces.proofs.Onward.{SwapLeft, IsIntentOf, IfDone, succeeded, StageLeft, StageKnows, Left, SeatLeft, Knows, answer_left, halted_left, begun_left, ended_left}
 use Rattle.kc_machine_traces.proofs.Others.{run_shape, event_in, event_else, history_kept}
 use Rattle.kc_machine_traces.proofs.Statuses.{Moves, Starts, Decides, IsOver, step_moves}
 use Rattle.kc_machine_traces.specs.Entries.{by, own_intent}
@@ -81,6 +88,7 @@ entry_is k n (task.Commit f m) x i c q y e z h =
 entry_is k n (task.Look l) x i c q y e z h = absurd h
 entry_is k n (task.Hang reads) x i c q y e z h = absurd h
 entry_is k n (task.Leave reads) x i c q y e z h = absurd h
+entry_is k n (task.Swap r after) x i c q y e z h = absurd h
 
 -- ---- what is owned
 
@@ -147,7 +155,8 @@ same_intent i y q = cc
 no_hold : (d g : ℕ) → own_hold NoOwn ≡ Proper d g → ⊥
 no_hold d g q = absurd (cc)
 
-module _ (o : Opening) (es : List Event) (e : Event) (k : ℕ) (l : k < o.callers) (u : Task) where
+-- where the seat swaps no word now
+module _ (o : Opening) (es : List Event) (e : Event) (k : ℕ) (l : k < o.callers) (u : Task) (quiet : (x : Placed) → SwapOf (run o es) e (trace o es).clock x → seat_of e ≡ k → ⊥) where
   abbrev w : World
   w = (run o es).world
 
@@ -165,10 +174,10 @@ module _ (o : Opening) (es : List Event) (e : Event) (k : ℕ) (l : k < o.caller
 
   -- who has started nothing gains nothing
   unstarted : ((d g : ℕ) → own_hold (stand s).own ≡ Proper d g → is_filling (stand s).own ≡ false → ⊥) → by k new ≡ by k old
-  unstarted never = history_grows o es (λ h. by k h ≡ by k old) e refl
-      (λ x n. by_inserted k x old (λ q. never n.descriptor n.generation
+  unstarted never = by_no_swap o es e k quiet
+      (λ x n q. never n.descriptor n.generation
       (subst (λ c. own_hold (stand ((run o es).seats c)).own ≡ Proper n.descriptor n.generation) q n.owns)
-      (subst (λ c. is_filling (stand ((run o es).seats c)).own ≡ false) q n.started)))
+      (subst (λ c. is_filling (stand ((run o es).seats c)).own ≡ false) q n.started))
 
   -- the life h of a seat that has started it: nothing is gained and it is as it was, or it has succeeded now
   module _ (h : Handle) (owns : own_hold (stand s).own ≡ Proper h.descriptor h.generation) (started : is_filling (stand s).own ≡ false) (mine : (i : Intent) → own_intent (stand s).own ≡ Some i → IsIntentOf u i) (a : History) (left : IfDone (succeeded w h) k s.calls u a (by k old)) where
@@ -238,6 +247,7 @@ module _ (o : Opening) (es : List Event) (e : Event) (k : ℕ) (l : k < o.caller
     life_left = history_by o es e LeftBy
         (λ b. turned b ((trace o es).shadows (seat_of e)).place (st b).pass (enters o es v (seat_of e) b) (over (event_moves (run o es) e h.descriptor)))
         (λ q. kept old refl (ap (λ (x : World). is_success (x.status h.descriptor).phase) q))
+        (λ x y. kept (inserted x old) (by_inserted k x old (λ q. quiet x y (sym (swapper o es e x y) ∙ q))) (ap (λ (n : State). is_success (n.world.status h.descriptor).phase) y.goes))
       where
         over : (v.status h.descriptor ≡ w.status h.descriptor) ⊎ (Starts (stand ((run o es).seats (seat_of e))) h.descriptor ⊎ Decides w (stand ((run o es).seats (seat_of e))) h.descriptor)
             → (v.status h.descriptor ≡ w.status h.descriptor) ⊎ (Starts (stand ((run o es).seats (seat_of e))) h.descriptor ⊎ (IsOver (stand ((run o es).seats (seat_of e))).pass h.descriptor × ((w.status h.descriptor).phase ≡ Active)))
@@ -274,6 +284,15 @@ module _ (o : Opening) (es : List Event) (e : Event) (k : ℕ) (l : k < o.caller
         go (work.Commit c) z q r = (stage_goes c c.stage r.1 q r.0, r.1)
         go (work.Hang y) z q r = unstarted (λ d g i. absurd (no_hold d g (ap own_hold (sym (hang_unowned s y.reads.items y.step) ∙ q) ∙ i))) ∙ r
         go (work.Leave y) z q r = unstarted (λ d g i. absurd (no_hold d g (ap own_hold q ∙ i))) ∙ r
+        go (work.Swap y) z q r = at y.step r
+          where
+            stays : by k new ≡ by k old
+            stays = unstarted (λ d g i. absurd (no_hold d g (ap own_hold q ∙ i)))
+
+            at : (step : SwapStep) → SwapLeft k s.calls u y.seen y.after step a (by k old) → SwapLeft k s.calls u y.seen y.after step a (by k new)
+            at swap.Exchange r = (stays ∙ r.0, r.1)
+            at swap.Wake r = subst (GainsTheCall k s.calls u a) (sym stays) r
+            at (swap.Signal owed) r = subst (GainsTheCall k s.calls u a) (sym stays) r
 
 module _ (o : Opening) (k : ℕ) (l : k < o.callers) where
   -- ---- what a step knows
@@ -306,6 +325,7 @@ module _ (o : Opening) (k : ℕ) (l : k < o.callers) where
         go (work.Commit c) q = stage_knows c c.stage q
         go (work.Hang y) q = tt
         go (work.Leave y) q = tt
+        go (work.Swap y) q = tt
 
     -- ---- what is left, where the seat goes on
 
@@ -313,17 +333,28 @@ module _ (o : Opening) (k : ℕ) (l : k < o.callers) where
       abbrev Goes : State → Type 0
       Goes m = SeatLeft m.world k u ((run o es).seats k) a g → SeatLeft m.world k u (m.seats k) a g
 
-      own_step : Goes (event_of (run o es) (Step k))
+      -- nothing is swapped where the machine goes to m
+      abbrev Calm : State → Type 0
+      Calm m = takes (stand ((run o es).seats k)).swap (stand (m.seats k)).swap ≡ false
+
+      calm_seat : (x : Seat) → takes (stand ((run o es).seats k)).swap (stand x).swap ≡ false → takes (swap_of ((run o es).seats k).work) (swap_of x.work) ≡ false
+      calm_seat x z = ap (λ y. takes y (swap_of x.work)) (sym (stand_swap ((run o es).seats k))) ∙ ap (takes (stand ((run o es).seats k)).swap) (sym (stand_swap x)) ∙ z
+
+      own_step : Calm (event_of (run o es) (Step k)) → Goes (event_of (run o es) (Step k))
       own_step = go (nat_lt k (run o es).callers)
         where
-          step : (b : Bool) → Goes (if b then record (run o es) { world = touched (run o es).world (access_of ((run o es).seats k)); seats = put (run o es).seats k (answer_of ((run o es).seats k) (found_at (run o es).world (access_of ((run o es).seats k)))) } else run o es)
-          step true r = subst (λ x. SeatLeft (touched (run o es).world (access_of ((run o es).seats k))) k u x a g) (sym (put_here (run o es).seats k (answer_of ((run o es).seats k) (found_at (run o es).world (access_of ((run o es).seats k))))))
-              (answer_left (touched (run o es).world (access_of ((run o es).seats k))) k u ((run o es).seats k) a g (found_at (run o es).world (access_of ((run o es).seats k))) step_knows r)
-          step false r = r
+          next : Bool → State
+          next b = if b then record (run o es) { world = touched (run o es).world (access_of ((run o es).seats k)); seats = put (run o es).seats k (answer_of ((run o es).seats k) (found_at (run o es).world (access_of ((run o es).seats k)))) } else run o es
 
-          go : (b : Bool) → Goes (if b then stepped (run o es) k else run o es)
-          go true r = step (possible (run o es) (access_of ((run o es).seats k))) r
-          go false r = r
+          step : (b : Bool) → Calm (next b) → Goes (if b then record (run o es) { world = touched (run o es).world (access_of ((run o es).seats k)); seats = put (run o es).seats k (answer_of ((run o es).seats k) (found_at (run o es).world (access_of ((run o es).seats k)))) } else run o es)
+          step true z r = subst (λ x. SeatLeft (touched (run o es).world (access_of ((run o es).seats k))) k u x a g) (sym (put_here (run o es).seats k (answer_of ((run o es).seats k) (found_at (run o es).world (access_of ((run o es).seats k))))))
+              (answer_left (touched (run o es).world (access_of ((run o es).seats k))) k u ((run o es).seats k) a g (found_at (run o es).world (access_of ((run o es).seats k))) step_knows
+              (calm_seat (answer_of ((run o es).seats k) (found_at (run o es).world (access_of ((run o es).seats k)))) (ap (λ (x : Seat). takes (stand ((run o es).seats k)).swap (stand x).swap) (sym (put_here (run o es).seats k (answer_of ((run o es).seats k) (found_at (run o es).world (access_of ((run o es).seats k)))))) ∙ z)) r)
+          step false z r = r
+
+          go : (b : Bool) → Calm (if b then stepped (run o es) k else run o es) → Goes (if b then stepped (run o es) k else run o es)
+          go true z r = step (possible (run o es) (access_of ((run o es).seats k))) z r
+          go false z r = r
 
       own_halt : Goes (event_of (run o es) (Halt k))
       own_halt = go (nat_lt k (run o es).callers)
@@ -332,16 +363,16 @@ module _ (o : Opening) (k : ℕ) (l : k < o.callers) where
           go true r = subst (λ x. SeatLeft (run o es).world k u x a g) (sym (put_here (run o es).seats k (halted ((run o es).seats k)))) (halted_left (run o es).world k u ((run o es).seats k) a g r)
           go false r = r
 
-      own_goes : (e : Event) → seat_of e ≡ k → BeginsNothing k (e ∷ []) → Goes (event_of (run o es) e)
-      own_goes (Begin j t) q n = absurd (n.0 q)
-      own_goes (Step j) q n = subst (λ i. Goes (event_of (run o es) (Step i))) (sym q) own_step
-      own_goes (Halt j) q n = subst (λ i. Goes (event_of (run o es) (Halt i))) (sym q) own_halt
+      own_goes : (e : Event) → seat_of e ≡ k → BeginsNothing k (e ∷ []) → (seat_of e ≡ k → Calm (event_of (run o es) e)) → Goes (event_of (run o es) e)
+      own_goes (Begin j t) q n z = absurd (n.0 q)
+      own_goes (Step j) q n z = subst (λ i. Calm (event_of (run o es) (Step i)) → Goes (event_of (run o es) (Step i))) (sym q) own_step (z q)
+      own_goes (Halt j) q n z = subst (λ i. Goes (event_of (run o es) (Halt i))) (sym q) own_halt
 
-      seat_goes : (e : Event) → BeginsNothing k (e ∷ []) → Goes (event_of (run o es) e)
-      seat_goes e n = go (seat_of e == k) refl
+      seat_goes : (e : Event) → BeginsNothing k (e ∷ []) → (seat_of e ≡ k → Calm (event_of (run o es) e)) → Goes (event_of (run o es) e)
+      seat_goes e n z = go (seat_of e == k) refl
         where
           go : (b : Bool) → (seat_of e == k) ≡ b → Goes (event_of (run o es) e)
-          go true q = own_goes e (eqb-true (seat_of e) k q) n
+          go true q = own_goes e (eqb-true (seat_of e) k q) n z
           go false q = λ r. subst (λ x. SeatLeft (event_of (run o es) e).world k u x a g) (sym (event_else (run o es) e k (eqb-false (seat_of e) k q))) r
 
   -- ---- a whole task
@@ -349,9 +380,37 @@ module _ (o : Opening) (k : ℕ) (l : k < o.callers) where
   abbrev pub LeftAfter : Task → History → List Event → Type 0
   LeftAfter u a es = SeatLeft (run o es).world k u ((run o es).seats k) a (by k (trace o es).history)
 
+  -- the seat swaps a word
+  swaps_now : (u : Task) (a : History) (es : List Event) (e : Event) (x : Placed) → SwapOf (run o es) e (trace o es).clock x → seat_of e ≡ k → LeftAfter u a es → LeftAfter u a (es ++ e ∷ [])
+  swaps_now u a es e x y q r =
+      let s = (run o es).seats k in
+      let b = trace o (es ++ e ∷ []) in
+      let works : s.work ≡ swap_at y.seen y.after swap.Exchange = ap (λ j. ((run o es).seats j).work) (sym q) ∙ y.works in
+      let was = subst (λ w. Left (run o es).world k s.calls u s.told w a (by k (trace o es).history)) works r in
+      let seat : (run o (es ++ e ∷ [])).seats k ≡ swapped s y.seen y.after =
+      ap (λ (m : State). m.seats k) (run-append o es (e ∷ [])) ∙ ap (λ j. (event_of (run o es) e).seats j) (sym q) ∙ ap (λ (m : State). m.seats (seat_of e)) y.goes
+      ∙ put_here (run o es).seats (seat_of e) _ ∙ ap (λ j. swapped ((run o es).seats j) y.seen y.after) q in
+      let caller : ((run o es).seats (seat_of e)).caller ≡ k = (seats_stay o es (seat_of e)).0 ∙ q in
+      let number : lines.one_more ((run o es).seats (seat_of e)).calls ≡ lines.one_more s.calls = ap (λ j. lines.one_more ((run o es).seats j).calls) q in
+      let is : IsEntryOf k (lines.one_more s.calls) (task.Swap y.seen y.after) x = (ap (λ (z : Placed). z.mode) y.is, ap (λ (z : Placed). z.entry) y.is ∙ (λ i. swap_entry (caller i) (number i) y.seen y.after)) in
+      let gained : GainsTheCall k (lines.one_more s.calls) u (by k (trace o es).history) (by k (inserted x (trace o es).history)) =
+      gains k (lines.one_more s.calls) u x (trace o es).history (swapper o es e x y ∙ q) (subst (λ t. IsEntryOf k (lines.one_more s.calls) t x) (sym was.1) is) in
+      let now : GainsTheCall k (lines.one_more s.calls) u a (by k b.history) =
+      subst (GainsTheCall k (lines.one_more s.calls) u a) (ap (by k) (sym (swap_enters_it o es e x y))) (subst (λ z. GainsTheCall k (lines.one_more s.calls) u z (by k (inserted x (trace o es).history))) was.0 gained) in
+      subst (λ z. SeatLeft (run o (es ++ e ∷ [])).world k u z a (by k b.history)) (sym seat) now
+
   pub one_more : (u : Task) (a : History) (es : List Event) (e : Event) → BeginsNothing k (e ∷ []) → LeftAfter u a es → LeftAfter u a (es ++ e ∷ [])
-  one_more u a es e n r = subst (λ (m : State). SeatLeft m.world k u (m.seats k) a (by k (trace o (es ++ e ∷ [])).history)) (sym (run-append o es (e ∷ [])))
-      (seat_goes es u a (by k (trace o (es ++ e ∷ [])).history) e n (words_go o es e k l u a r))
+  one_more u a es e n r = go (seat_of e == k) (takes (stand ((run o es).seats (seat_of e))).swap (stand ((event_of (run o es) e).seats (seat_of e))).swap) refl refl
+    where
+      stays : ((x : Placed) → SwapOf (run o es) e (trace o es).clock x → seat_of e ≡ k → ⊥) → (seat_of e ≡ k → Calm es u a (by k (trace o (es ++ e ∷ [])).history) (event_of (run o es) e)) → LeftAfter u a (es ++ e ∷ [])
+      stays quiet calm = subst (λ (m : State). SeatLeft m.world k u (m.seats k) a (by k (trace o (es ++ e ∷ [])).history)) (sym (run-append o es (e ∷ [])))
+          (seat_goes es u a (by k (trace o (es ++ e ∷ [])).history) e n calm (words_go o es e k l u quiet a r))
+
+      go : (b c : Bool) → (seat_of e == k) ≡ b → takes (stand ((run o es).seats (seat_of e))).swap (stand ((event_of (run o es) e).seats (seat_of e))).swap ≡ c → LeftAfter u a (es ++ e ∷ [])
+      go false c q z = stays (λ x y i. eqb-false (seat_of e) k q i) (λ i. absurd (eqb-false (seat_of e) k q i))
+      go true true q z = let t = takes_place (run o es) e (trace o es).clock z in swaps_now u a es e t.0 t.1 (eqb-true (seat_of e) k q) r
+      go true false q z = stays (λ x y i. let n : true ≡ false = sym (takes_true (run o es) e (trace o es).clock x y) ∙ z in absurd (cc))
+          (λ i. subst (λ j. takes (stand ((run o es).seats j)).swap (stand ((event_of (run o es) e).seats j)).swap ≡ false) i z)
 
   goes_on : (u : Task) (a : History) (es more : List Event) → BeginsNothing k more → LeftAfter u a es → LeftAfter u a (es ++ more)
   goes_on u a es [] n r = subst (LeftAfter u a) (sym (append-nil es)) r

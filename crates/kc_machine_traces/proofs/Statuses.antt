@@ -24,6 +24,9 @@ use Rattle.kc_machine.specs.declared.hang.HangStep.{HangStep}
 use Rattle.kc_machine.specs.declared.hang.HangStep.TheVariants as hang
 use Rattle.kc_machine.specs.declared.hang.LeaveStep.{LeaveStep}
 use Rattle.kc_machine.specs.declared.hang.LeaveStep.TheVariants as leave
+use Rattle.kc_machine_steps.specs.Swaps.{swap_access_at}
+use Rattle.kc_machine_steps.specs.declared.swap.SwapStep.{SwapStep}
+use Rattle.kc_machine_steps.specs.declared.swap.SwapStep.TheVariants as swap
 use Rattle.kc_machine.specs.Works.{Work}
 use Rattle.kc_machine.specs.Works as work
 use Rattle.kc_machine.proofs.Functions.{put_cases}
@@ -166,6 +169,12 @@ module _ (w : World) where
     work_moves (work.Commit c) d = stage_moves c c.stage d
     work_moves (work.Hang h) d = inl (hang_stays s.caller h.step (slice_get h.reads.items (read_of h.step)) d)
     work_moves (work.Leave a) d = inl (leave_stays s.caller a.reads.items a.step d)
+    work_moves (work.Swap x) d = inl (swap_stays x.step)
+      where
+        swap_stays : (step : SwapStep) → (touched w (swap_access_at x.seen x.after s.calls step)).status d ≡ w.status d
+        swap_stays swap.Exchange = refl
+        swap_stays swap.Wake = refl
+        swap_stays (swap.Signal owed) = refl
 
     pub step_moves : Moves w (touched w (access_of s)) (stand s)
     step_moves = work_moves s.work

@@ -65,3 +65,4 @@ same_call s = go s.work
     go (work.Commit c) = staged (record (resting s) { halted = c.halted }) c c.stage
     go (work.Hang h) = hung (resting s) h h.step
     go (work.Leave l) = (refl, refl)
+    go (work.Swap l) = (refl, refl)

@@ -5,14 +5,17 @@ use Rattle.kc_machine_steps.specs.declared.task.Task.TheVariants as task
 use Rattle.kc_machine_steps.specs.declared.task.Told.{Told}
 use Rattle.kc_machine_steps.specs.declared.task.Told.TheVariants as told
 use Rattle.kc_machine_claims.specs.Histories.{History, Placed, footprint_of}
+use Rattle.kc_machine_claims.specs.Traces.{swap_entry}
+use Rattle.kc_machine_words.specs.declared.words.Mode.TheVariants.{All}
 use Rattle.kc_machine_steps.specs.Lines.{lines_of}
 
--- of call n of caller k, with the mode of the commit and the footprint of its lines
+-- of call n of caller k, with the mode of the commit and the footprint of its lines; of a swap, in mode All
 abbrev pub IsEntryOf : (k n : ℕ) → Task → Placed → Type 0
 IsEntryOf k n (task.Commit f m) x = (x.mode ≡ m) × (x.entry ≡ record { caller = k; number = n; footprint = footprint_of (lines_of f) })
 IsEntryOf k n (task.Look l) x = ⊥
 IsEntryOf k n (task.Hang reads) x = ⊥
 IsEntryOf k n (task.Leave reads) x = ⊥
+IsEntryOf k n (task.Swap r after) x = (x.mode ≡ All) × (x.entry ≡ swap_entry k n r after)
 
 -- b has the entry of call n of caller k more than a, and all of a in order
 pub record GainsTheCall (k n : ℕ) (t : Task) (a b : History) : Type 0 where

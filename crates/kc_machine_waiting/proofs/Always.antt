@@ -1,4 +1,14 @@
 -- Every event leaves it so that who listens hears.
+use Rattle.kc_machine_steps.specs.Swaps.{swaps_on, ends_at_once}
+use Rattle.kc_machine_steps.specs.Swaps.{onward_of as onward_of_swap}
+use Rattle.kc_machine_steps.specs.declared.swap.Swap.{Swap}
+use Rattle.kc_machine_steps.specs.declared.swap.SwapNext.{SwapNext}
+use Rattle.kc_machine_steps.specs.declared.swap.SwapNext.TheVariants as swapping
+use Rattle.kc_machine_steps.specs.declared.swap.SwapStep.{SwapStep}
+use Rattle.kc_machine_steps.specs.declared.swap.SwapStep.TheVariants as swap
+use Rattle.kc_machine_waiting.proofs.Listening.{SwapTellsSo, swap_calm}
+use Rattle.kc_machine.specs.Seats.{blocked_by}
+use Rattle.kc_machine_traces.specs.Swaps.{swap_at}
 use Rattle.std.proofs.Common.{arith, ◌≡◌, ◌≢◌, ◌<◌, ◌≤◌, ◌⊎◌, inl, inr, ◌++◌, ◌==◌, ℕ, Bool, true, false, List, [], ◌∷◌, Option, None, Some, refl, sym, ap, subst, ◌∙◌, if◌then◌else◌}
 use Rattle.std.specs.Prelude.{slice_get, nat_lt, Contains}
 use borrow.Author.Tests.{ltb-true, ltb-false, eqb-true, eqb-false}
@@ -73,6 +83,7 @@ module _ (o : Opening) (es : List Event) (e : Event) (w : IsSchedule o es) where
 
   out_history : nat_lt (seat_of e) o.callers ≡ false → (trace o (es ++ e ∷ [])).history ≡ (trace o es).history
   out_history q = history_moves o es e (λ h. h ≡ (trace o es).history) refl (λ x d. let l = d.seat in let z = ltb-false (seat_of e) o.callers q in absurd (omega arith))
+      (λ x d. let l = d.within in let c = (run_shape o es).2 in let z = ltb-false (seat_of e) o.callers q in absurd (omega arith))
 
   keeps : (c : ℕ) → c < o.callers → (r : Seat) → (c ≡ seat_of e → (event_of (run o es) e).seats (seat_of e) ≡ r) → Keeps o es (es ++ e ∷ []) c r
   keeps c within r q = go (nat_lt (seat_of e) o.callers) refl
@@ -139,6 +150,7 @@ module _ (o : Opening) (es : List Event) (w : IsSchedule o es) (k : ℕ) (within
         deaf (work.Commit c) q = refl
         deaf (work.Hang h) q = absurd (cc)
         deaf (work.Leave l) q = refl
+        deaf (work.Swap x) q = refl
 
     -- ---- a beginning
 
@@ -151,11 +163,13 @@ module _ (o : Opening) (es : List Event) (w : IsSchedule o es) (k : ℕ) (within
         no_hang (work.Commit c) q = absurd (cc)
         no_hang (work.Hang h) q = absurd (cc)
         no_hang (work.Leave l) q = absurd (cc)
+        no_hang (work.Swap x) q = absurd (cc)
 
         starts : (t : Task) → is_idle s.work ≡ true → Goal (Begin k t) (begun_idle s t)
         starts (task.Look l) q = calm_goal (Begin k (task.Look l)) _ (no_hang s.work q) refl (λ b. b)
         starts (task.Commit f mode) q = calm_goal (Begin k (task.Commit f mode)) _ (no_hang s.work q) refl (λ b. b)
         starts (task.Leave xs) q = calm_goal (Begin k (task.Leave xs)) _ (no_hang s.work q) refl (λ b. b)
+        starts (task.Swap r after) q = calm_goal (Begin k (task.Swap r after)) _ (no_hang s.work q) refl (λ b. b)
         starts (task.Hang xs) q = at s.blocked refl
           where
             first : s.blocked ≡ false → Goal (Begin k (task.Hang xs)) (working s (hanging xs.items))
@@ -182,12 +196,18 @@ module _ (o : Opening) (es : List Event) (w : IsSchedule o es) (k : ℕ) (within
         at y a c true = calm_goal (Halt k) (ended s) a refl (λ b. b)
         at y a c false = calm_goal (Halt k) (record s { work = y }) a c (λ b. b)
 
+        swap_or : {x : Swap} (step : SwapStep) → s.work ≡ work.Swap x → Goal (Halt k) (if ends_at_once step then ended s else s)
+        swap_or swap.Exchange q = calm_goal (Halt k) (ended s) (ap is_hang q) refl (λ b. b)
+        swap_or swap.Wake q = same_goal (Halt k)
+        swap_or (swap.Signal owed) q = same_goal (Halt k)
+
         go : (y : Work) → s.work ≡ y → Goal (Halt k) (halted_by s y)
         go work.Idle q = same_goal (Halt k)
         go (work.Look l) q = at (work.Look (look_halted l)) (ap is_hang q) refl (halts_at_once l.step)
         go (work.Commit c) q = at (work.Commit (commit_halted c)) (ap is_hang q) refl (unowned c.stage)
         go (work.Hang h) q = same_goal (Halt k)
         go (work.Leave l) q = same_goal (Halt k)
+        go (work.Swap x) q = swap_or x.step q
 
     -- ---- a step
 
@@ -203,6 +223,11 @@ module _ (o : Opening) (es : List Event) (w : IsSchedule o es) (k : ℕ) (within
     committed a c (next.Goes y) f = calm_goal (Step k) _ a refl (λ b. b)
     committed a c (next.Takes y) f = calm_goal (Step k) _ a refl (λ b. b)
     committed a c (next.Tells t) f = calm_goal (Step k) _ a refl (λ b. sym (f s.blocked) ∙ b)
+
+    swapped : is_hang s.work ≡ false → (x : Swap) (n : SwapNext) → SwapTellsSo (λ t. (b : Bool) → blocked_by b t ≡ b) n → Steps (after (record s { work = work.Swap (swaps_on x n) }) (onward_of_swap n))
+    swapped a x (swapping.Goes y) f = calm_goal (Step k) _ a refl (λ b. b)
+    swapped a x (swapping.Takes y) f = calm_goal (Step k) _ a refl (λ b. b)
+    swapped a x (swapping.Tells t) f = calm_goal (Step k) _ a refl (λ b. sym (f s.blocked) ∙ b)
 
     gives_up : (r : Seat) → r.blocked ≡ false → listens_by r.work ≡ false → Steps r
     gives_up r b l f = given_up o es (es ++ Step k ∷ []) k s x.listening x.blocking old r (since r) (reads r) b l
@@ -252,6 +277,7 @@ module _ (o : Opening) (es : List Event) (w : IsSchedule o es) (k : ℕ) (within
         still_history : (trace o (es ++ Step k ∷ [])).history ≡ (trace o es).history
         still_history = history_moves o es (Step k) (λ y. y ≡ (trace o es).history) refl
             (λ y d. let p : (stand s).pass ≡ NoPass = pass_is s ∙ ap work_pass q in let u = sym p ∙ d.pass in absurd (cc))
+            (λ y d. let u : work.Hang h ≡ swap_at d.seen d.after swap.Exchange = sym q ∙ d.works in absurd (cc))
 
         sets_goal : (v : Option Seen) → slice_get h.reads.items (after_line j) ≡ v → Steps (Then (Goes (set_or_look (after_line j) v)))
         sets_goal (Some v) g f =
@@ -301,6 +327,7 @@ module _ (o : Opening) (es : List Event) (w : IsSchedule o es) (k : ℕ) (within
         go (work.Commit c) q = committed (ap is_hang q) (loaded c f) _ (commit_calm s.descriptors s.calls (loaded c f) c.stage f)
         go (work.Hang h) q = hang_goal h q h.step refl
         go (work.Leave l) q = left l (next_read l.step) (slice_get l.reads.items (next_read l.step))
+        go (work.Swap y) q = swapped (ap is_hang q) y _ (swap_calm s.calls y.seen y.step f)
 
 -- ---- every schedule
 

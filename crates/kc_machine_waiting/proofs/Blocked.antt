@@ -1,4 +1,11 @@
 -- Blocked callers are covered.
+use Rattle.kc_machine_steps.specs.Swaps.{swaps_on, ends_at_once}
+use Rattle.kc_machine_steps.specs.Swaps.{onward_of as onward_of_swap}
+use Rattle.kc_machine_steps.specs.declared.swap.Swap.{Swap}
+use Rattle.kc_machine_steps.specs.declared.swap.SwapNext.{SwapNext}
+use Rattle.kc_machine_steps.specs.declared.swap.SwapNext.TheVariants as swapping
+use Rattle.kc_machine_waiting.proofs.Listening.{SwapTellsSo, swap_calm}
+use Rattle.kc_machine.specs.Seats.{blocked_by}
 use Rattle.std.proofs.Common.{arith, ◌≡◌, ◌≢◌, ◌<◌, ◌≤◌, ◌⊎◌, inl, inr, ◌++◌, ◌==◌, ℕ, Bool, true, false, List, [], ◌∷◌, Option, None, Some, refl, sym, ap, subst, ◌∙◌, if◌then◌else◌}
 use Rattle.std.specs.Prelude.{Contains, All}
 use Rattle.std.proofs.lemmas.List.Elements.{All-nil, All-cons}
@@ -64,6 +71,7 @@ module _ (m : State) (k : ℕ) where
       starts (task.Look l) = inl
       starts (task.Commit f mode) = inl
       starts (task.Leave xs) = inl
+      starts (task.Swap r after) = inl
       starts (task.Hang xs) = at s.blocked
         where
           at : (b : Bool) → Was (if b then s else working s (hanging xs.items))
@@ -81,12 +89,17 @@ module _ (m : State) (k : ℕ) where
       at y true = inl
       at y false = inl
 
+      swap_or : (b : Bool) → Was (if b then ended s else s)
+      swap_or true = inl
+      swap_or false = inl
+
       go : (y : Work) → Was (halted_by s y)
       go work.Idle = inl
       go (work.Look l) = at (work.Look (look_halted l)) (halts_at_once l.step)
       go (work.Commit c) = at (work.Commit (commit_halted c)) (unowned c.stage)
       go (work.Hang h) = inl
       go (work.Leave l) = inl
+      go (work.Swap x) = swap_or (ends_at_once x.step)
 
   steps_was : (f : Found) → Was (answer_of s f)
   steps_was f = go s.work
@@ -117,12 +130,18 @@ module _ (m : State) (k : ℕ) where
       left l j None = λ b. absurd (cc)
       left l j (Some v) = λ b. absurd (cc)
 
+      swapped : (x : Swap) (n : SwapNext) → SwapTellsSo (λ t. (b : Bool) → blocked_by b t ≡ b) n → Was (after (record s { work = work.Swap (swaps_on x n) }) (onward_of_swap n))
+      swapped x (swapping.Goes step) t = inl
+      swapped x (swapping.Takes step) t = inl
+      swapped x (swapping.Tells u) t = λ b. inl (sym (t s.blocked) ∙ b)
+
       go : (y : Work) → Was (answer_by s f y)
       go work.Idle = inl
       go (work.Look l) = looked l l.halted _
       go (work.Commit c) = committed (loaded c f) _ (commit_calm s.descriptors s.calls (loaded c f) c.stage f)
       go (work.Hang h) = hung h _
       go (work.Leave l) = left l _ _
+      go (work.Swap x) = swapped x _ (swap_calm s.calls x.seen x.step f)
 
 event_was : (m : State) (e : Event) → Was m (seat_of e) ((event_of m e).seats (seat_of e))
 event_was m e = seat_cases (Was m (seat_of e)) m e inl (new e)
@@ -184,6 +203,7 @@ module _ (o : Opening) (es : List Event) (e : Event) (w : IsSchedule o es) (w' :
       deaf (work.Commit c) f v = refl
       deaf (work.Hang h) f v = let z : true ≡ false = sym a ∙ f.0 in absurd (cc)
       deaf (work.Leave l) f v = refl
+      deaf (work.Swap x) f v = refl
 
   between_on : AllBetween o es'
   between_on k l = go (k == j) refl

@@ -1,4 +1,16 @@
 -- One event, and what a caller hears of it that listens on.
+use Rattle.std.proofs.Common.{zero, suc}
+use Rattle.kc_machine.specs.declared.seat.Seat.{Seat}
+use Rattle.std.proofs.Common.{⊎_elim}
+use Rattle.kc_machine_waiting.proofs.Owns.{IsMute, SwapKept, mute, stays}
+use Rattle.kc_machine_effects.specs.Stands.{Swapping, NoSwap, Swaps}
+use Rattle.kc_machine_traces.proofs.Swapping.{swap_of, stand_swap, seat_behind}
+use Rattle.kc_machine_traces.specs.Swaps.{SwapOf}
+use Rattle.kc_machine_resolving.proofs.Resolving.{swap_makes, swap_found}
+use Rattle.kc_machine_ranges.proofs.Callers.{owed_in_swap}
+use Rattle.kc_machine_claims.specs.Claims.{Owes, OwnerWakes, SwapWakes, owed_by_swap}
+use Rattle.kc_machine_claims.specs.Traces.{swap_line}
+use Rattle.kc_machine_steps.specs.declared.swap.SwapStep.TheVariants as swap
 use Rattle.std.proofs.Common.{arith, ◌≡◌, ◌≢◌, ◌<◌, ◌≤◌, ◌^◌, ◌⊎◌, inl, inr, ◌++◌, ◌==◌, ℕ, Bool, true, false, List, [], ◌∷◌, length, Option, None, Some, refl, sym, ap, subst, ◌∙◌}
 use Rattle.std.specs.Prelude.{slice_get, Contains, bit_and, bit_or, ◌-◌}
 use Rattle.std.specs.Int.Count.{count_trailing_zeros}
@@ -60,7 +72,7 @@ use Rattle.kc_machine_traces.proofs.Joins.{run-append}
 use Rattle.kc_machine_traces.proofs.Others.{run_shape, event_else}
 use Rattle.kc_machine_traces.specs.Entries.{own_intent}
 use Rattle.kc_machine_waiting.proofs.Bits.{joins_l, joins_r, cleared_else, signalled_or_owed}
-use Rattle.kc_machine_waiting.proofs.Hearing.{Hearing, still, sets, clears, unsignals, wakes, signals, IsDeaf, event_hears}
+use Rattle.kc_machine_waiting.proofs.Hearing.{Hearing, still, sets, clears, unsignals, wakes, signals, swap_wakes, swap_signals, IsDeaf, event_hears}
 use Rattle.kc_machine_waiting.proofs.Owns.{step_own, stage_own, work_own, own_is, InPass, runs, waits, WakesKept, none, same, goes, ends}
 use Rattle.kc_machine_waiting.proofs.Wakes.{behind, so_puts, finished_owes, wake_owes, no_bit_of_none, next_owed, wake_owed, pass_lines, pass_owes_none, pass_succeeded, succeeded_pass, reads_line}
 use Rattle.kc_machine_waiting.specs.Awaiting.{IsRegistered, version_at, at_version, Hears}
@@ -89,7 +101,7 @@ module _ (o : Opening) (es : List Event) (e : Event) (w : IsSchedule o es) (insi
   callers' : n.callers ≡ o.callers
   callers' = ap (λ (x : State). x.callers) (sym next_is) ∙ (run_shape o es').2
 
-  heard : Hearing m.world (m.seats j).caller (work_own (m.seats j).work) n.world (n.seats j)
+  heard : Hearing m.world (m.seats j).caller (work_own (m.seats j).work) (swap_of (m.seats j).work) n.world (n.seats j)
   heard = event_hears m e (formed_always o es j)
 
   caller_is : (m.seats j).caller ≡ j
@@ -103,6 +115,13 @@ module _ (o : Opening) (es : List Event) (e : Event) (w : IsSchedule o es) (insi
 
   was_is : (stand (m.seats j)).own ≡ was
   was_is = own_is (m.seats j)
+
+  -- what it swapped, and swaps then
+  abbrev swapped : Swapping
+  swapped = swap_of (m.seats j).work
+
+  abbrev swaps : Swapping
+  swaps = swap_of (n.seats j).work
 
   is_is : (stand (n.seats j)).own ≡ is
   is_is = own_is (n.seats j)
@@ -118,20 +137,25 @@ module _ (o : Opening) (es : List Event) (e : Event) (w : IsSchedule o es) (insi
     not_caller d q = listens (q ∙ caller_is) d
 
     by_seat : has_bit (owed_by is) c ≡ true → IsAwake n c
-    by_seat b = inr (j, (let q = callers' in omega arith), subst (λ x. has_bit (owed_by x) c ≡ true) (sym is_is) b)
+    by_seat b = inr (j, (let q = callers' in omega arith), inl (subst (λ x. has_bit (owed_by x) c ≡ true) (sym is_is) b))
+
+    by_swap : has_bit (owed_by_swap swaps) c ≡ true → IsAwake n c
+    by_swap b = inr (j, (let q = callers' in omega arith), inr (subst (λ x. has_bit (owed_by_swap x) c ≡ true) (sym (stand_swap (n.seats j))) b))
 
     -- ---- who is awake stays so
 
     signal_on : m.world.signal c ≡ true → n.world.signal c ≡ true
     signal_on s = by heard
       where
-        by : Hearing m.world (m.seats j).caller was n.world (n.seats j) → n.world.signal c ≡ true
-        by (still a q k) = ap (λ f. f c) q ∙ s
-        by (sets x a q u) = ap (λ f. f c) q ∙ s
-        by (clears x a q u d) = ap (λ f. f c) q ∙ s
-        by (unsignals a q u d) = ap (λ f. f c) q ∙ put_else m.world.signal (m.seats j).caller false c (not_caller d) ∙ s
-        by (wakes h i k owed x u g a q y) = ap (λ f. f c) q ∙ s
-        by (signals h i owed u a q y) = ap (λ f. f c) q ∙ put_cases (λ b. b ≡ true) m.world.signal _ true c (λ z. refl) (λ ne. s)
+        by : Hearing m.world (m.seats j).caller was swapped n.world (n.seats j) → n.world.signal c ≡ true
+        by (still a q k t) = ap (λ f. f c) q ∙ s
+        by (sets x a q u t) = ap (λ f. f c) q ∙ s
+        by (clears x a q u t d) = ap (λ f. f c) q ∙ s
+        by (unsignals a q u t d) = ap (λ f. f c) q ∙ put_else m.world.signal (m.seats j).caller false c (not_caller d) ∙ s
+        by (wakes h i k owed x u g a q y t) = ap (λ f. f c) q ∙ s
+        by (signals h i owed u a q y t) = ap (λ f. f c) q ∙ put_cases (λ b. b ≡ true) m.world.signal _ true c (λ z. refl) (λ ne. s)
+        by (swap_wakes x v u t a q y) = ap (λ f. f c) q ∙ s
+        by (swap_signals x v owed u t a q y) = ap (λ f. f c) q ∙ put_cases (λ b. b ≡ true) m.world.signal _ true c (λ z. refl) (λ ne. s)
 
     nobody : {a : Own} → a ≡ NoOwn → has_bit (owed_by a) c ≡ true → ⊥
     nobody u b = no_bit_of_none c (subst (λ x. has_bit (owed_by x) c ≡ true) u b)
@@ -153,15 +177,17 @@ module _ (o : Opening) (es : List Event) (e : Event) (w : IsSchedule o es) (insi
     owed_on : has_bit (owed_by was) c ≡ true → IsAwake n c
     owed_on b = by heard
       where
-        by : Hearing m.world (m.seats j).caller was n.world (n.seats j) → IsAwake n c
-        by (still a q k) = by_seat (kept_owes k b)
-        by (sets x a q u) = absurd (nobody u b)
-        by (clears x a q u d) = absurd (nobody u b)
-        by (unsignals a q u d) = absurd (nobody u b)
-        by (wakes h i k owed x u g a q y) =
+        by : Hearing m.world (m.seats j).caller was swapped n.world (n.seats j) → IsAwake n c
+        by (still a q k t) = by_seat (kept_owes k b)
+        by (sets x a q u t) = absurd (nobody u b)
+        by (clears x a q u t d) = absurd (nobody u b)
+        by (unsignals a q u t d) = absurd (nobody u b)
+        by (swap_wakes x v u t a q y) = absurd (nobody u b)
+        by (swap_signals x v owed u t a q y) = absurd (nobody u b)
+        by (wakes h i k owed x u g a q y t) =
             let z : has_bit owed c ≡ true = subst (λ x. has_bit (owed_by x) c ≡ true) u b in
             by_seat (subst (λ x. has_bit (owed_by x) c ≡ true) (sym y) (wake_owed h i c _ _ (joins_l c small owed _ z)))
-        by (signals h i owed u a q y) =
+        by (signals h i owed u a q y t) =
             let z : has_bit owed c ≡ true = subst (λ x. has_bit (owed_by x) c ≡ true) u b in
             go (signalled_or_owed c small owed (subst (λ x. owed_by x < 2 ^ 64) u fits) z)
           where
@@ -169,13 +195,54 @@ module _ (o : Opening) (es : List Event) (e : Event) (w : IsSchedule o es) (insi
             go (inl z) = inl (ap (λ f. f c) q ∙ ap (put m.world.signal _ true) z ∙ put_here m.world.signal _ true)
             go (inr z) = by_seat (subst (λ x. has_bit (owed_by x) c ≡ true) (sym y) (next_owed h i c _ z))
 
+    -- likewise by a swap
+
+    mute_owes : (a : Swapping) → IsMute a → has_bit (owed_by_swap a) c ≡ true → ⊥
+    mute_owes NoSwap i b = no_bit_of_none c b
+    mute_owes (Swaps x v swap.Exchange) i b = no_bit_of_none c b
+    mute_owes (Swaps x v swap.Wake) i b = absurd i
+    mute_owes (Swaps x v (swap.Signal owed)) i b = absurd i
+
+    nobody_swaps : {a : Swapping} → a ≡ NoSwap → has_bit (owed_by_swap a) c ≡ true → ⊥
+    nobody_swaps u b = no_bit_of_none c (subst (λ x. has_bit (owed_by_swap x) c ≡ true) u b)
+
+    fits_swap : owed_by_swap swapped < 2 ^ 64
+    fits_swap =
+        let f = owed_in_swap o (m.seats j) (seats_in o es w j inside) in
+        let l = w.0.callers in
+        let p : 2 ^ o.callers ≤ 2 ^ 64 = pow_mono l in
+        let q = ap owed_by_swap (stand_swap (m.seats j)) in
+        omega arith
+
+    swap_owed_on : has_bit (owed_by_swap swapped) c ≡ true → IsAwake n c
+    swap_owed_on b = by heard
+      where
+        kept_owed : {a t : Swapping} → SwapKept a t → has_bit (owed_by_swap a) c ≡ true → has_bit (owed_by_swap t) c ≡ true
+        kept_owed {a} (mute i) b = absurd (mute_owes a i b)
+        kept_owed stays b = b
+
+        by : Hearing m.world (m.seats j).caller was swapped n.world (n.seats j) → IsAwake n c
+        by (still a q k t) = by_swap (kept_owed t b)
+        by (sets x a q u t) = absurd (nobody_swaps t b)
+        by (clears x a q u t d) = absurd (nobody_swaps t b)
+        by (unsignals a q u t d) = absurd (nobody_swaps t b)
+        by (wakes h i k owed x u g a q y t) = absurd (nobody_swaps t b)
+        by (signals h i owed u a q y t) = absurd (nobody_swaps t b)
+        by (swap_wakes x v u t a q y) = absurd (no_bit_of_none c (subst (λ x. has_bit (owed_by_swap x) c ≡ true) t b))
+        by (swap_signals x v owed u t a q y) = go (signalled_or_owed c small owed (subst (λ x. owed_by_swap x < 2 ^ 64) t fits_swap) (subst (λ x. has_bit (owed_by_swap x) c ≡ true) t b))
+          where
+            go : (c ≡ count_trailing_zeros 64 owed) ⊎ (has_bit (bit_and owed (owed - 1)) c ≡ true) → IsAwake n c
+            go (inl z) = inl (ap (λ f. f c) q ∙ ap (put m.world.signal _ true) z ∙ put_here m.world.signal _ true)
+            go (inr z) = by_swap (subst (λ n. has_bit n c ≡ true) (sym y) z)
+
     pub awake_on : IsAwake m c → IsAwake n c
     awake_on (inl s) = inl (signal_on s)
-    awake_on (inr (k, l, b)) = go (k == j) refl
+    awake_on (inr (k, l, b)) = go (k == j) refl b
       where
-        go : (t : Bool) → (k == j) ≡ t → IsAwake n c
-        go true q = owed_on (subst (λ x. has_bit (owed_by x) c ≡ true) was_is (subst (λ k. has_bit (owed_by (stand (m.seats k)).own) c ≡ true) (eqb-true k j q) b))
-        go false q = inr (k, (let a = callers in let a' = callers' in omega arith), subst (λ s. has_bit (owed_by (stand s).own) c ≡ true) (sym (else_same k (eqb-false k j q))) b)
+        go : (t : Bool) → (k == j) ≡ t → Owes (stand (m.seats k)) c → IsAwake n c
+        go true q (inl b) = owed_on (subst (λ x. has_bit (owed_by x) c ≡ true) was_is (subst (λ k. has_bit (owed_by (stand (m.seats k)).own) c ≡ true) (eqb-true k j q) b))
+        go true q (inr b) = swap_owed_on (subst (λ x. has_bit (owed_by_swap x) c ≡ true) (stand_swap (m.seats j)) (subst (λ k. has_bit (owed_by_swap (stand (m.seats k)).swap) c ≡ true) (eqb-true k j q) b))
+        go false q b = inr (k, (let a = callers in let a' = callers' in omega arith), subst (λ s. Owes (stand s) c) (sym (else_same k (eqb-false k j q))) b)
 
     -- ---- a bit stays, or is taken by who owes a wake then
 
@@ -185,28 +252,34 @@ module _ (o : Opening) (es : List Event) (e : Event) (w : IsSchedule o es) (insi
         Still : (ℕ → ℕ) → Type 0
         Still f = has_bit (f l) c ≡ true
 
-        stays : n.world.awaiters ≡ m.world.awaiters → (has_bit (n.world.awaiters l) c ≡ true) ⊎ IsAwake n c
-        stays a = inl (subst Still (sym a) b)
+        stands : n.world.awaiters ≡ m.world.awaiters → (has_bit (n.world.awaiters l) c ≡ true) ⊎ IsAwake n c
+        stands a = inl (subst Still (sym a) b)
 
-        by : Hearing m.world (m.seats j).caller was n.world (n.seats j) → (has_bit (n.world.awaiters l) c ≡ true) ⊎ IsAwake n c
-        by (still a q k) = stays a
-        by (sets x a q u) = inl (subst Still (sym a) (put_cases (λ y. has_bit y c ≡ true) m.world.awaiters x.loc.0 _ l (λ z. joins_l c small _ _ (subst (λ i. has_bit (m.world.awaiters i) c ≡ true) z b)) (λ ne. b)))
-        by (clears x a q u d) = inl (subst Still (sym a) (put_cases (λ y. has_bit y c ≡ true) m.world.awaiters x.loc.0 _ l
+        by : Hearing m.world (m.seats j).caller was swapped n.world (n.seats j) → (has_bit (n.world.awaiters l) c ≡ true) ⊎ IsAwake n c
+        by (still a q k t) = stands a
+        by (sets x a q u t) = inl (subst Still (sym a) (put_cases (λ y. has_bit y c ≡ true) m.world.awaiters x.loc.0 _ l (λ z. joins_l c small _ _ (subst (λ i. has_bit (m.world.awaiters i) c ≡ true) z b)) (λ ne. b)))
+        by (clears x a q u t d) = inl (subst Still (sym a) (put_cases (λ y. has_bit y c ≡ true) m.world.awaiters x.loc.0 _ l
             (λ z. cleared_else c small (m.seats j).caller _ (let i = caller_is in let r = w.0.callers in omega arith) (not_caller d) (subst (λ i. has_bit (m.world.awaiters i) c ≡ true) z b)) (λ ne. b)))
-        by (unsignals a q u d) = stays a
-        by (wakes h i k owed x u g a q y) = go (l == x.seen.loc.0) refl
+        by (unsignals a q u t d) = stands a
+        by (swap_signals x v owed u t a q y) = stands a
+        by (swap_wakes x v u t a q y) = go (l == x.loc.0) refl
+          where
+            go : (t : Bool) → (l == x.loc.0) ≡ t → (has_bit (n.world.awaiters l) c ≡ true) ⊎ IsAwake n c
+            go true z = inr (by_swap (subst (λ n. has_bit n c ≡ true) (sym y) (subst (λ i. has_bit (m.world.awaiters i) c ≡ true) (eqb-true l x.loc.0 z) b)))
+            go false z = inl (subst Still (sym a) (subst (λ y. has_bit y c ≡ true) (sym (put_else m.world.awaiters x.loc.0 0 l (eqb-false l x.loc.0 z))) b))
+        by (wakes h i k owed x u g a q y t) = go (l == x.seen.loc.0) refl
           where
             go : (t : Bool) → (l == x.seen.loc.0) ≡ t → (has_bit (n.world.awaiters l) c ≡ true) ⊎ IsAwake n c
             go true z =
                 let s = subst (λ i. has_bit (m.world.awaiters i) c ≡ true) (eqb-true l x.seen.loc.0 z) b in
                 inr (by_seat (subst (λ x. has_bit (owed_by x) c ≡ true) (sym y) (wake_owed h i c _ _ (joins_r c small owed _ s))))
             go false z = inl (subst Still (sym a) (subst (λ y. has_bit y c ≡ true) (sym (put_else m.world.awaiters x.seen.loc.0 0 l (eqb-false l x.seen.loc.0 z))) b))
-        by (signals h i owed u a q y) = stays a
+        by (signals h i owed u a q y t) = stands a
 
   -- ---- a wake that is to come stays so, where its location's bits weren't taken
 
   succeeded_stays : (d g : ℕ) → (m.world.control d).generation ≡ g → m.world.status d ≡ status g Succeeded → n.world.status d ≡ status g Succeeded
-  succeeded_stays d g life a = by n.world (event_changes m e)
+  succeeded_stays d g life a = ⊎_elim (by n.world) (λ y. ap (λ (x : State). x.world.status d) y.1.goes ∙ a) (event_changes m e)
     where
       by : (v : World) → Changes m.world (stand (m.seats j)) v → v.status d ≡ status g Succeeded
       by v (other q r t y z) = sym (ap (λ f. f d) (sym r)) ∙ a
@@ -250,6 +323,7 @@ module _ (o : Opening) (es : List Event) (e : Event) (w : IsSchedule o es) (insi
       go (work.Look l) f q = absurd (cc)
       go (work.Hang h) f q = absurd (cc)
       go (work.Leave l) f q = absurd (cc)
+      go (work.Swap x) f q = absurd (cc)
 
   intent_of : (h : Handle) (i : Intent) {a : Own} → InPass h i a → own_intent a ≡ Some i
   intent_of h i runs = refl
@@ -295,13 +369,15 @@ module _ (o : Opening) (es : List Event) (e : Event) (w : IsSchedule o es) (insi
     wakes_on : Contains (still_wakes was) x → OwnsSucceeded n.world was → Goal is
     wakes_on a s = by heard
       where
-        by : Hearing m.world (m.seats j).caller was n.world (n.seats j) → Goal is
-        by (still b q k) = kept_wakes refl refl k a s
-        by (sets y b q u) = nowhere (still_wakes was) (ap still_wakes u) a
-        by (clears y b q u d) = nowhere (still_wakes was) (ap still_wakes u) a
-        by (unsignals b q u d) = nowhere (still_wakes was) (ap still_wakes u) a
-        by (signals h i owed u b q y) = nowhere (still_wakes was) (ap still_wakes u) a
-        by (wakes h i k owed y u g b q z) =
+        by : Hearing m.world (m.seats j).caller was swapped n.world (n.seats j) → Goal is
+        by (still b q k t) = kept_wakes refl refl k a s
+        by (sets y b q u t) = nowhere (still_wakes was) (ap still_wakes u) a
+        by (clears y b q u t d) = nowhere (still_wakes was) (ap still_wakes u) a
+        by (unsignals b q u t d) = nowhere (still_wakes was) (ap still_wakes u) a
+        by (signals h i owed u b q y t) = nowhere (still_wakes was) (ap still_wakes u) a
+        by (swap_wakes y v u t b q z) = nowhere (still_wakes was) (ap still_wakes u) a
+        by (swap_signals y v owed u t b q z) = nowhere (still_wakes was) (ap still_wakes u) a
+        by (wakes h i k owed y u g b q z t) =
             let p = behind i.lines.items k x (subst (λ xs. Contains xs x) (ap still_wakes u) a) in
             let t : n.world.status h.descriptor ≡ status h.generation Succeeded = subst (OwnsSucceeded n.world) u s in
             subst Goal (sym z) (go p.0 p.1 p.2 (p.0 == k) refl, step_succeeded n.world h i _ t)
@@ -314,13 +390,13 @@ module _ (o : Opening) (es : List Event) (e : Event) (w : IsSchedule o es) (insi
                 absurd (no_bit_of_none c none)
             go l le f false r = let ne = eqb-false l k r in wake_owes h i (few i (ap own_intent u)) x puts (bit_or owed (m.world.awaiters y.seen.loc.0)) k l (omega arith) f
 
-  coming_on : (c : ℕ) (r : Seen) → has_bit (n.world.awaiters r.loc.0) c ≡ true → WakeIsToCome m r → WakeIsToCome n r
-  coming_on c r bit (k, x, l, s, a, loc, version, puts) = go (k == j) refl
+  owner_comes : (c : ℕ) (r : Seen) → has_bit (n.world.awaiters r.loc.0) c ≡ true → OwnerWakes m r → OwnerWakes n r
+  owner_comes c r bit (k, x, l, s, a, loc, version, puts) = go (k == j) refl
     where
       l' : k < n.callers
       l' = let p = callers in let q = callers' in omega arith
 
-      go : (t : Bool) → (k == j) ≡ t → WakeIsToCome n r
+      go : (t : Bool) → (k == j) ≡ t → OwnerWakes n r
       go false q =
           let z = sym (else_same k (eqb-false k j q)) in
           (k, x, l', subst (λ s. OwnsSucceeded n.world (stand s).own) z (owns_on k l (stand (m.seats k)).own refl s), subst (λ s. Contains (still_wakes (stand s).own) x) z a, loc, version, puts)
@@ -331,6 +407,75 @@ module _ (o : Opening) (es : List Event) (e : Event) (w : IsSchedule o es) (insi
           (subst (OwnsSucceeded n.world) own (owns_on k l (stand (m.seats k)).own refl s)) in
           let out : is ≡ (stand (n.seats k)).own = sym is_is ∙ ap (λ k. (stand (n.seats k)).own) (sym z) in
           (k, x, l', subst (OwnsSucceeded n.world) out g.1, subst (λ x'. Contains (still_wakes x') x) out g.0, loc, version, puts)
+
+  swap_comes : (c : ℕ) (r : Seen) → has_bit (n.world.awaiters r.loc.0) c ≡ true → SwapWakes m r → SwapWakes n r
+  swap_comes c r bit (k, x, v, l, u, loc, version) = go (k == j) refl
+    where
+      l' : k < n.callers
+      l' = let p = callers in let q = callers' in omega arith
+
+      go : (t : Bool) → (k == j) ≡ t → SwapWakes n r
+      go false q = (k, x, v, l', ap (λ s. (stand s).swap) (else_same k (eqb-false k j q)) ∙ u, loc, version)
+      go true q = by heard
+        where
+          z : k ≡ j
+          z = eqb-true k j q
+
+          was_swap : swapped ≡ Swaps x v swap.Wake
+          was_swap = sym (ap (λ k. (stand (m.seats k)).swap) z ∙ stand_swap (m.seats j)) ∙ u
+
+          not_now : {a : Swapping} → swapped ≡ a → a ≡ NoSwap → ⊥
+          not_now p t = let y : Swaps x v swap.Wake ≡ NoSwap = sym was_swap ∙ p ∙ t in absurd (cc)
+
+          kept_so : {a t : Swapping} → a ≡ Swaps x v swap.Wake → t ≡ swaps → SwapKept a t → SwapWakes n r
+          kept_so {a} p y (mute i) = absurd (subst IsMute p i)
+          kept_so p y stays = (k, x, v, l', ap (λ k. (stand (n.seats k)).swap) z ∙ stand_swap (n.seats j) ∙ sym y ∙ p, loc, version)
+
+          by : Hearing m.world (m.seats j).caller was swapped n.world (n.seats j) → SwapWakes n r
+          by (still b q k t) = kept_so was_swap refl t
+          by (sets y b q u t) = absurd (not_now refl t)
+          by (clears y b q u t d) = absurd (not_now refl t)
+          by (unsignals b q u t d) = absurd (not_now refl t)
+          by (signals h i owed u b q y t) = absurd (not_now refl t)
+          by (wakes h i k owed y u g b q w t) = absurd (not_now refl t)
+          by (swap_signals y b owed u t d q w) = absurd (let i : Swaps x v swap.Wake ≡ Swaps y b (swap.Signal owed) = sym was_swap ∙ t in cc)
+          by (swap_wakes y b u t d q w) =
+              let i : Swaps x v swap.Wake ≡ Swaps y b swap.Wake = sym was_swap ∙ t in
+              let same : x ≡ y = cc in
+              let there : y.loc.0 ≡ r.loc.0 = ap (λ (s : Seen). s.loc.0) (sym same) ∙ ap (λ (l : Loc). l.0) loc in
+              let none : n.world.awaiters r.loc.0 ≡ 0 = ap (λ f. f r.loc.0) d ∙ ap (put m.world.awaiters y.loc.0 0) (sym there) ∙ put_here m.world.awaiters y.loc.0 0 in
+              absurd (no_bit_of_none c (subst (λ n. has_bit n c ≡ true) none bit))
+
+  coming_on : (c : ℕ) (r : Seen) → has_bit (n.world.awaiters r.loc.0) c ≡ true → WakeIsToCome m r → WakeIsToCome n r
+  coming_on c r bit (inl f) = inl (owner_comes c r bit f)
+  coming_on c r bit (inr f) = inr (swap_comes c r bit f)
+
+  -- a swap's wake is to come
+  module _ (x : Placed) (d : SwapOf m e (length es) x) where
+    swap_put_comes : (r : Seen) → is_some (put_by x r.loc.0) ≡ true → WakeIsToCome n (at_version r (ending (first_store o) (trace o es).history r.loc.0).version)
+    swap_put_comes r puts = inr (j, d.seen, d.after, (let q = callers' in omega arith), wakes_then, loc, version)
+      where
+        wakes_then : (stand (n.seats j)).swap ≡ Swaps d.seen d.after swap.Wake
+        wakes_then = ap (λ (s : Seat). (stand s).swap) (seat_behind m e (length es) x d)
+
+        y : LineThatPuts (swap_line d.seen d.after ∷ []) r.loc.0
+        y = line_that_puts (swap_line d.seen d.after ∷ []) r.loc.0 (sym (ap (λ (t : Placed). is_some (put_by t r.loc.0)) d.is) ∙ puts)
+
+        line : y.line ≡ swap_line d.seen d.after
+        line = sole y.among
+          where
+            sole : {t : Line} → Contains (swap_line d.seen d.after ∷ []) t → t ≡ swap_line d.seen d.after
+            sole (zero, i, q) = sym q
+            sole (suc k, i, q) = absurd (omega arith)
+
+        at : d.seen.loc.0 ≡ r.loc.0
+        at = ap (λ (t : Line). t.seen.loc.0) (sym line) ∙ y.at
+
+        loc : d.seen.loc ≡ r.loc
+        loc = λ i. record { 0 = at i }
+
+        version : d.seen.version ≡ (ending (first_store o) (trace o es).history r.loc.0).version
+        version = ap (λ (z : Cell). z.version) (sym (swap_found o es e w x d)) ∙ ap (λ l. (ending (first_store o) (trace o es).history l).version) at
 
   -- ---- what is put has its wake to come
 
@@ -367,7 +512,7 @@ module _ (o : Opening) (es : List Event) (e : Event) (w : IsSchedule o es) (insi
     installed_put Light f l q = q
 
     put_comes : (c : ℕ) (r : Seen) → has_bit (n.world.awaiters r.loc.0) c ≡ true → is_some (put_by x r.loc.0) ≡ true → WakeIsToCome n (at_version r (ending (first_store o) (trace o es).history r.loc.0).version)
-    put_comes c r bit puts = go (owner == j) refl
+    put_comes c r bit puts = inl (go (owner == j) refl)
       where
         v : ℕ
         v = (ending (first_store o) (trace o es).history r.loc.0).version
@@ -397,7 +542,7 @@ module _ (o : Opening) (es : List Event) (e : Event) (w : IsSchedule o es) (insi
         within : owner < n.callers
         within = let l = d.caller in let q = callers' in omega arith
 
-        go : (t : Bool) → (owner == j) ≡ t → WakeIsToCome n (at_version r v)
+        go : (t : Bool) → (owner == j) ≡ t → OwnerWakes n (at_version r v)
         go false q =
             let z = sym (else_same owner (eqb-false owner j q)) in
             (owner, y.line, within, subst (λ s. OwnsSucceeded n.world (stand s).own) z done, subst (λ s. Contains (still_wakes (stand s).own) y.line) z wakes_it, loc, version, so_puts y.line y.puts)
@@ -415,8 +560,21 @@ module _ (o : Opening) (es : List Event) (e : Event) (w : IsSchedule o es) (insi
     PutsCome h = (v : ℕ) → version_at o since r ≤ v → v < (ending (first_store o) h r.loc.0).version → WakeIsToCome n (at_version r v)
 
     come : has_bit (n.world.awaiters r.loc.0) c ≡ true → ((v : ℕ) → version_at o since r ≤ v → v < version_at o (now (trace o es)) r → WakeIsToCome m (at_version r v)) → PutsCome (trace o es').history
-    come bit f = history_moves o es e PutsCome (λ v a b. coming_on c (at_version r v) bit (f v a b)) (λ x d v a b. more x d (put_by x r.loc.0) refl v a b)
+    come bit f = history_moves o es e PutsCome (λ v a b. coming_on c (at_version r v) bit (f v a b)) (λ x d v a b. more x d (put_by x r.loc.0) refl v a b) (λ x d v a b. swap_more x d (put_by x r.loc.0) refl v a b)
       where
+        swap_more : (x : Placed) → SwapOf m e (length es) x → (p : Option footprint.Put) → put_by x r.loc.0 ≡ p → PutsCome (inserted x (trace o es).history)
+        swap_more x d None q v a b =
+            let z = ap (λ (y : Cell). y.version) (swap_makes o es e w x d r.loc.0 ∙ ap (λ p. cell_after p (ending (first_store o) (trace o es).history r.loc.0)) q) in
+            coming_on c (at_version r v) bit (f v a (omega arith))
+        swap_more x d (Some p) q v a b = go (v == (ending (first_store o) (trace o es).history r.loc.0).version) refl
+          where
+            go : (t : Bool) → (v == (ending (first_store o) (trace o es).history r.loc.0).version) ≡ t → WakeIsToCome n (at_version r v)
+            go true y = subst (λ v. WakeIsToCome n (at_version r v)) (sym (eqb-true v _ y)) (swap_put_comes x d r (ap is_some q))
+            go false y =
+                let ne = eqb-false v (ending (first_store o) (trace o es).history r.loc.0).version y in
+                let z = ap (λ (y : Cell). y.version) (swap_makes o es e w x d r.loc.0 ∙ ap (λ p. cell_after p (ending (first_store o) (trace o es).history r.loc.0)) q) in
+                coming_on c (at_version r v) bit (f v a (omega arith))
+
         more : (x : Placed) → Decision o es e x → (p : Option footprint.Put) → put_by x r.loc.0 ≡ p → PutsCome (inserted x (trace o es).history)
         more x d None q v a b =
             let z = ap (λ (y : Cell). y.version) (decision_makes o es e w x d r.loc.0 ∙ ap (λ p. cell_after p (ending (first_store o) (trace o es).history r.loc.0)) q) in

@@ -1,4 +1,5 @@
 -- A seat that was told Free isn't blocked.
+use Rattle.kc_machine_steps.specs.Swaps.{ends_at_once}
 use Rattle.std.proofs.Common.{◌≡◌, ℕ, Bool, true, false, List, Some, refl, ap, if◌then◌else◌}
 use Rattle.kc_machine_steps.specs.declared.task.Task.{Task}
 use Rattle.kc_machine_words.specs.declared.access.Found.{Found}
@@ -35,6 +36,7 @@ module _ (s : Seat) (old : Unblocked s) where
       go (work.Commit c) = goes _ _
       go (work.Hang h) = goes _ _
       go (work.Leave l) = goes _ _
+      go (work.Swap x) = goes _ _
 
   begins : (t : Task) → Unblocked (begun s t)
   begins t = go (is_idle s.work)
@@ -43,6 +45,7 @@ module _ (s : Seat) (old : Unblocked s) where
       starts (task.Look l) = λ q. absurd (cc)
       starts (task.Commit f mode) = λ q. absurd (cc)
       starts (task.Leave xs) = λ q. absurd (cc)
+      starts (task.Swap r after) = λ q. absurd (cc)
       starts (task.Hang xs) = at s.blocked
         where
           at : (b : Bool) → Unblocked (if b then s else working s (hanging xs.items))
@@ -60,12 +63,17 @@ module _ (s : Seat) (old : Unblocked s) where
       at y true = λ q. absurd (cc)
       at y false = old
 
+      swap_or : (b : Bool) → Unblocked (if b then ended s else s)
+      swap_or true = λ q. absurd (cc)
+      swap_or false = old
+
       go : (y : Work) → Unblocked (halted_by s y)
       go work.Idle = old
       go (work.Look l) = at (work.Look (look_halted l)) (halts_at_once l.step)
       go (work.Commit c) = at (work.Commit (commit_halted c)) (unowned c.stage)
       go (work.Hang h) = old
       go (work.Leave l) = old
+      go (work.Swap x) = swap_or (ends_at_once x.step)
 
 pub unblocked : (o : Opening) (es : List Event) (k : ℕ) → ((run o es).seats k).told ≡ Some told.Free → ((run o es).seats k).blocked ≡ false
 unblocked o es k = always o (λ k. Unblocked) any_event (λ k q. absurd (cc)) (λ k s f y. answers s y f) (λ k s t e y. begins s y t) (λ k s y. halts s y) es (all_any es) k

@@ -1,4 +1,18 @@
 -- What an event makes of signals, of awaiters' bits, and of whom its seat owes.
+use Rattle.std.proofs.Common.{◌==◌, eqb-true}
+use Rattle.kc_machine_claims.specs.Claims.{owed_by_swap}
+use Rattle.kc_machine_effects.specs.Stands.{Swapping, NoSwap, Swaps}
+use Rattle.kc_machine_traces.proofs.Swapping.{swap_of}
+use Rattle.kc_machine_waiting.proofs.Owns.{IsMute, SwapKept, mute, stays}
+use Rattle.kc_machine_steps.specs.Swaps.{swap_access_at, swap_next_at, swaps_on, ends_at_once}
+use Rattle.kc_machine_steps.specs.Swaps.{owed_next as owed_by_it}
+use Rattle.kc_machine_steps.specs.Swaps.{onward_of as onward_of_swap}
+use Rattle.kc_machine_steps.specs.declared.swap.Swap.{Swap}
+use Rattle.kc_machine_steps.specs.declared.swap.SwapNext.{SwapNext}
+use Rattle.kc_machine_steps.specs.declared.swap.SwapNext.TheVariants as swapping
+use Rattle.kc_machine_steps.specs.declared.task.Told.TheVariants as told
+use Rattle.kc_machine_steps.specs.declared.swap.SwapStep.{SwapStep}
+use Rattle.kc_machine_steps.specs.declared.swap.SwapStep.TheVariants as swap
 use Rattle.std.proofs.Common.{◌≡◌, ℕ, ◌-◌, Bool, true, false, List, [], Option, None, Some, refl, sym, subst, if◌then◌else◌}
 use Rattle.std.specs.Prelude.{slice_get, bit_or, bit_and, nat_lt}
 use Rattle.std.specs.Int.Count.{count_trailing_zeros}
@@ -67,16 +81,19 @@ IsDeaf r = (r.blocked ≡ false) × (listens_by r.work ≡ false)
 
 -- ---- one event
 
--- the words w become v; the seat is caller c, owned a, and becomes r
-pub data Hearing (w : World) (c : ℕ) (a : Own) (v : World) (r : Seat) : Type 0 where
-  still : v.awaiters ≡ w.awaiters → v.signal ≡ w.signal → WakesKept a (work_own r.work) → Hearing w c a v r
-  sets : (x : Seen) → v.awaiters ≡ put w.awaiters x.loc.0 (bits_after (bits.Set c) (w.awaiters x.loc.0)) → v.signal ≡ w.signal → a ≡ NoOwn → Hearing w c a v r
-  clears : (x : Seen) → v.awaiters ≡ put w.awaiters x.loc.0 (bits_after (bits.Clear c) (w.awaiters x.loc.0)) → v.signal ≡ w.signal → a ≡ NoOwn → IsDeaf r → Hearing w c a v r
-  unsignals : v.awaiters ≡ w.awaiters → v.signal ≡ put w.signal c false → a ≡ NoOwn → IsDeaf r → Hearing w c a v r
+-- the words w become v; the seat is caller c, owned a, swapped u, and becomes r
+pub data Hearing (w : World) (c : ℕ) (a : Own) (u : Swapping) (v : World) (r : Seat) : Type 0 where
+  still : v.awaiters ≡ w.awaiters → v.signal ≡ w.signal → WakesKept a (work_own r.work) → SwapKept u (swap_of r.work) → Hearing w c a u v r
+  sets : (x : Seen) → v.awaiters ≡ put w.awaiters x.loc.0 (bits_after (bits.Set c) (w.awaiters x.loc.0)) → v.signal ≡ w.signal → a ≡ NoOwn → u ≡ NoSwap → Hearing w c a u v r
+  clears : (x : Seen) → v.awaiters ≡ put w.awaiters x.loc.0 (bits_after (bits.Clear c) (w.awaiters x.loc.0)) → v.signal ≡ w.signal → a ≡ NoOwn → u ≡ NoSwap → IsDeaf r → Hearing w c a u v r
+  unsignals : v.awaiters ≡ w.awaiters → v.signal ≡ put w.signal c false → a ≡ NoOwn → u ≡ NoSwap → IsDeaf r → Hearing w c a u v r
   wakes : (h : Handle) (i : Intent) (j owed : ℕ) (x : Line) → a ≡ Owns h i (own.Wake j owed) → slice_get i.lines.items j ≡ Some x → v.awaiters ≡ put w.awaiters x.seen.loc.0 0 → v.signal ≡ w.signal
-      → work_own r.work ≡ step_own i h (wake_or_signal (bit_or owed (w.awaiters x.seen.loc.0)) (next_line Put i.mode i.lines.items (after_line j))) → Hearing w c a v r
+      → work_own r.work ≡ step_own i h (wake_or_signal (bit_or owed (w.awaiters x.seen.loc.0)) (next_line Put i.mode i.lines.items (after_line j))) → u ≡ NoSwap → Hearing w c a u v r
   signals : (h : Handle) (i : Intent) (owed : ℕ) → a ≡ Owns h i (own.Signal owed) → v.awaiters ≡ w.awaiters → v.signal ≡ put w.signal (count_trailing_zeros 64 owed) true
-      → work_own r.work ≡ step_own i h (owed_next (bit_and owed (owed - 1))) → Hearing w c a v r
+      → work_own r.work ≡ step_own i h (owed_next (bit_and owed (owed - 1))) → u ≡ NoSwap → Hearing w c a u v r
+  swap_wakes : (x : Seen) (after : ℕ) → a ≡ NoOwn → u ≡ Swaps x after swap.Wake → v.awaiters ≡ put w.awaiters x.loc.0 0 → v.signal ≡ w.signal → owed_by_swap (swap_of r.work) ≡ w.awaiters x.loc.0 → Hearing w c a u v r
+  swap_signals : (x : Seen) (after owed : ℕ) → a ≡ NoOwn → u ≡ Swaps x after (swap.Signal owed) → v.awaiters ≡ w.awaiters → v.signal ≡ put w.signal (count_trailing_zeros 64 owed) true
+      → owed_by_swap (swap_of r.work) ≡ bit_and owed (owed - 1) → Hearing w c a u v r
 
 -- ---- accesses that touch neither
 
@@ -163,25 +180,25 @@ own_quiet caller calls c h (own.Drop p) e = tt
 
 module _ (w : World) (s : Seat) where
   abbrev By : Own → Access → Seat → Type 0
-  By a x r = Hearing w s.caller a (touched w x) r
+  By a x r = Hearing w s.caller a NoSwap (touched w x) r
 
   -- nothing is heard, and nothing was owed
   quiet_none : (a : Own) (x : Access) (r : Seat) → Quiet x → still_wakes a ≡ [] → owed_by a ≡ 0 → By a x r
-  quiet_none a x r q e f = let t = quietly w x q in still t.0 t.1 (none e f)
+  quiet_none a x r q e f = let t = quietly w x q in still t.0 t.1 (none e f) (mute tt)
 
   owned : (c : Commit) (h : Handle) (step : OwnStep) → is_waking step ≡ false → (r : Seat) → work_own r.work ≡ step_own c.intent h (own_next (loaded c (found_at w (own_access s.caller s.calls c h step))) h step (found_at w (own_access s.caller s.calls c h step)))
       → By (step_own c.intent h step) (own_access s.caller s.calls c h step) r
   owned c h step e r q =
       let x = own_access s.caller s.calls c h step in
       let t = quietly w x (own_quiet s.caller s.calls c h step e) in
-      still t.0 t.1 (subst (WakesKept (step_own c.intent h step)) (sym q) (own_keeps (loaded c (found_at w x)) h step (found_at w x) e))
+      still t.0 t.1 (subst (WakesKept (step_own c.intent h step)) (sym q) (own_keeps (loaded c (found_at w x)) h step (found_at w x) e)) (mute tt)
 
   abbrev Stepped : Commit → Stage → Found → Seat
   Stepped c x f = let n = stage_next s.descriptors s.calls (loaded c f) x f in after (record s { work = work.Commit (gone_on (loaded c f) n) }) (onward_by n)
 
   woken : (c : Commit) (h : Handle) (j owed : ℕ) (o : Option Line) → slice_get c.intent.lines.items j ≡ o → By (Owns h c.intent (own.Wake j owed)) (wake_access o) (Stepped c (stage.Own h (own.Wake j owed)) (found_at w (wake_access o)))
-  woken c h j owed None e = still refl refl same
-  woken c h j owed (Some x) e = wakes h c.intent j owed x refl e refl refl refl
+  woken c h j owed None e = still refl refl same (mute tt)
+  woken c h j owed (Some x) e = wakes h c.intent j owed x refl e refl refl refl refl
 
   commits : (c : Commit) (x : Stage) → By (stage_own c.intent x) (stage_access s.caller s.calls c x) (Stepped c x (found_at w (stage_access s.caller s.calls c x)))
   commits c (stage.Scan d worn) = quiet_none NoOwn (stage_access s.caller s.calls c (stage.Scan d worn)) _ tt refl refl
@@ -194,7 +211,7 @@ module _ (w : World) (s : Seat) where
   commits c (stage.Own h (own.Pass p)) = owned c h (own.Pass p) refl _ refl
   commits c (stage.Own h (own.Aid k r a)) = owned c h (own.Aid k r a) refl _ refl
   commits c (stage.Own h (own.Wake k owed)) = woken c h k owed (slice_get c.intent.lines.items k) refl
-  commits c (stage.Own h (own.Signal owed)) = signals h c.intent owed refl refl refl refl
+  commits c (stage.Own h (own.Signal owed)) = signals h c.intent owed refl refl refl refl refl
   commits c (stage.Own h (own.Drop p)) = quiet_none _ (stage_access s.caller s.calls c (stage.Own h (own.Drop p))) _ tt refl refl
 
   cleared : (h : Hang) (changed k : ℕ) (o : Option Seen) → s.blocked ≡ false → IsDeaf (after (record s { work = work.Hang (hangs_on h (clear_or_changed changed k o)) }) (onward_of (clear_or_changed changed k o)))
@@ -204,47 +221,69 @@ module _ (w : World) (s : Seat) where
   hangs : (h : Hang) (step : HangStep) (o : Option Seen) → s.blocked ≡ false
       → By NoOwn (hang_access_of s.caller step o) (let n = hang_next h.reads.items step (found_at w (hang_access_of s.caller step o)) in after (record s { work = work.Hang (hangs_on h n) }) (onward_of n))
   hangs h step None b = quiet_none NoOwn access.Nothing _ tt refl refl
-  hangs h (hang.Set j) (Some x) b = sets x refl refl refl
+  hangs h (hang.Set j) (Some x) b = sets x refl refl refl refl
   hangs h (hang.Look j step) (Some x) b = quiet_none NoOwn (look_access x.loc step) _ (look_quiet x.loc step) refl refl
-  hangs h (hang.Clear j changed) (Some x) b = clears x refl refl refl (cleared h changed (after_line j) (slice_get h.reads.items (after_line j)) b)
+  hangs h (hang.Clear j changed) (Some x) b = clears x refl refl refl refl (cleared h changed (after_line j) (slice_get h.reads.items (after_line j)) b)
 
   left : (l : Leave) (k : ℕ) (o : Option Seen) → IsDeaf (after (record s { work = work.Leave (leaves_on l k o) }) (unblocks_or_tells o))
   left l k None = (refl, refl)
   left l k (Some x) = (refl, refl)
 
   leaves : (l : Leave) (step : LeaveStep) → l.step ≡ step → By NoOwn (leave_access_at s.caller l.reads.items step) (answer_by s (found_at w (leave_access_at s.caller l.reads.items step)) (work.Leave l))
-  leaves l leave.Unsignal e = unsignals refl refl refl (left l (next_read l.step) (slice_get l.reads.items (next_read l.step)))
+  leaves l leave.Unsignal e = unsignals refl refl refl refl (left l (next_read l.step) (slice_get l.reads.items (next_read l.step)))
   leaves l (leave.Clear k) e = go (slice_get l.reads.items k)
     where
       go : (o : Option Seen) → By NoOwn (clear_access s.caller o) (answer_by s (found_at w (clear_access s.caller o)) (work.Leave l))
       go None = quiet_none NoOwn access.Nothing _ tt refl refl
-      go (Some x) = clears x refl refl refl (left l (next_read l.step) (slice_get l.reads.items (next_read l.step)))
+      go (Some x) = clears x refl refl refl refl (left l (next_read l.step) (slice_get l.reads.items (next_read l.step)))
 
-  works : (x : Work) → WorkIsFormed s.calls s.blocked x → By (work_own x) (work_access s.caller s.calls x) (answer_by s (found_at w (work_access s.caller s.calls x)) x)
+  -- a swap
+  module _ (r : Seen) (value : ℕ) where
+    abbrev at : SwapStep → Swap
+    at step = record { seen = r; after = value; step = step }
+
+    abbrev Swapped : SwapStep → Access → SwapNext → Type 0
+    Swapped step x n = Hearing w s.caller NoOwn (Swaps r value step) (touched w x) (after (record s { work = work.Swap (swaps_on (at step) n) }) (onward_of_swap n))
+
+    owes : (step : SwapStep) (n : ℕ) → owed_by_swap (swap_of (after (record s { work = work.Swap (swaps_on (at step) (owed_by_it s.calls n)) }) (onward_of_swap (owed_by_it s.calls n))).work) ≡ n
+    owes step n = go (n == 0) refl
+      where
+        go : (b : Bool) → (n == 0) ≡ b → (let m = if b then swapping.Tells (told.Succeeded s.calls) else swapping.Goes (swap.Signal n) in owed_by_swap (swap_of (after (record s { work = work.Swap (swaps_on (at step) m) }) (onward_of_swap m)).work)) ≡ n
+        go true q = sym (eqb-true n 0 q)
+        go false q = refl
+
+    swaps : (step : SwapStep) → Swapped step (swap_access_at r value s.calls step) (swap_next_at r s.calls step (found_at w (swap_access_at r value s.calls step)))
+    swaps swap.Exchange = still refl refl (none refl refl) (mute tt)
+    swaps swap.Wake = swap_wakes r value refl refl refl refl (owes swap.Wake (w.awaiters r.loc.0))
+    swaps (swap.Signal owed) = swap_signals r value owed refl refl refl refl (owes (swap.Signal owed) (bit_and owed (owed - 1)))
+
+  works : (x : Work) → WorkIsFormed s.calls s.blocked x → Hearing w s.caller (work_own x) (swap_of x) (touched w (work_access s.caller s.calls x)) (answer_by s (found_at w (work_access s.caller s.calls x)) x)
   works work.Idle f = quiet_none NoOwn access.Nothing _ tt refl refl
   works (work.Look l) f = quiet_none NoOwn (look_access l.loc l.step) _ (look_quiet l.loc l.step) refl refl
   works (work.Commit c) f = commits c c.stage
   works (work.Hang h) f = hangs h h.step (slice_get h.reads.items (read_of h.step)) f.0
   works (work.Leave l) f = leaves l l.step refl
+  works (work.Swap x) f = swaps x.seen x.after x.step
 
   -- ---- a beginning and a halt
 
   abbrev Calm : Seat → Type 0
-  Calm r = Hearing w s.caller (work_own s.work) w r
+  Calm r = Hearing w s.caller (work_own s.work) (swap_of s.work) w r
 
   begins : (t : Task) → Calm (begun s t)
   begins t = go (is_idle s.work) refl
     where
-      idle_none : (x : Work) → is_idle x ≡ true → (still_wakes (work_own x) ≡ []) × (owed_by (work_own x) ≡ 0)
-      idle_none work.Idle e = (refl, refl)
+      idle_none : (x : Work) → is_idle x ≡ true → (still_wakes (work_own x) ≡ []) × (owed_by (work_own x) ≡ 0) × IsMute (swap_of x)
+      idle_none work.Idle e = (refl, refl, tt)
       idle_none (work.Look l) e = absurd (cc)
       idle_none (work.Commit c) e = absurd (cc)
       idle_none (work.Hang h) e = absurd (cc)
       idle_none (work.Leave l) e = absurd (cc)
+      idle_none (work.Swap x) e = absurd (cc)
 
       go : (b : Bool) → is_idle s.work ≡ b → Calm (if b then begun_idle s t else s)
-      go true e = let n = idle_none s.work e in still refl refl (none n.0 n.1)
-      go false e = still refl refl same
+      go true e = let n = idle_none s.work e in still refl refl (none n.0 n.1) (mute n.2)
+      go false e = still refl refl same stays
 
   halts : Calm (halted s)
   halts = go s.work refl
@@ -254,26 +293,32 @@ module _ (w : World) (s : Seat) where
       stages c (stage.Take d g) = none refl refl
       stages c (stage.Own h step) = halt_keeps c.intent h step
 
+      ends_or : (x : Swap) (step : SwapStep) → s.work ≡ work.Swap (record { seen = x.seen; after = x.after; step = step }) → Calm (if ends_at_once step then ended s else s)
+      ends_or x swap.Exchange e = still refl refl (subst (λ y. WakesKept (work_own y) NoOwn) (sym e) (none refl refl)) (subst (λ y. SwapKept (swap_of y) NoSwap) (sym e) (mute tt))
+      ends_or x swap.Wake e = still refl refl same stays
+      ends_or x (swap.Signal owed) e = still refl refl same stays
+
       go : (x : Work) → s.work ≡ x → Calm (halted_by s x)
-      go work.Idle e = still refl refl same
-      go (work.Look l) e = still refl refl (subst (λ x. WakesKept (work_own x) (work_own (halted_by s (work.Look l)).work)) (sym e) (none refl refl))
-      go (work.Commit c) e = still refl refl (subst (λ x. WakesKept (work_own x) (work_own (halted_by s (work.Commit c)).work)) (sym e) (stages c c.stage))
-      go (work.Hang h) e = still refl refl same
-      go (work.Leave l) e = still refl refl same
+      go work.Idle e = still refl refl same stays
+      go (work.Look l) e = still refl refl (subst (λ x. WakesKept (work_own x) (work_own (halted_by s (work.Look l)).work)) (sym e) (none refl refl)) (subst (λ x. SwapKept (swap_of x) (swap_of (halted_by s (work.Look l)).work)) (sym e) (mute tt))
+      go (work.Commit c) e = still refl refl (subst (λ x. WakesKept (work_own x) (work_own (halted_by s (work.Commit c)).work)) (sym e) (stages c c.stage)) (subst (λ x. SwapKept (swap_of x) (swap_of (halted_by s (work.Commit c)).work)) (sym e) (mute tt))
+      go (work.Hang h) e = still refl refl same stays
+      go (work.Leave l) e = still refl refl same stays
+      go (work.Swap x) e = ends_or x x.step e
 
 -- ---- any event
 
 abbrev At : State → ℕ → State → Type 0
-At m k n = Hearing m.world (m.seats k).caller (work_own (m.seats k).work) n.world (n.seats k)
+At m k n = Hearing m.world (m.seats k).caller (work_own (m.seats k).work) (swap_of (m.seats k).work) n.world (n.seats k)
 
-pub event_hears : (m : State) (e : Event) → IsWellFormed (m.seats (seat_of e)) → Hearing m.world (m.seats (seat_of e)).caller (work_own (m.seats (seat_of e)).work) (event_of m e).world ((event_of m e).seats (seat_of e))
+pub event_hears : (m : State) (e : Event) → IsWellFormed (m.seats (seat_of e)) → Hearing m.world (m.seats (seat_of e)).caller (work_own (m.seats (seat_of e)).work) (swap_of (m.seats (seat_of e)).work) (event_of m e).world ((event_of m e).seats (seat_of e))
 event_hears m e f = go (nat_lt (seat_of e) m.callers)
   where
     unmoved : (k : ℕ) → At m k m
-    unmoved k = still refl refl same
+    unmoved k = still refl refl same stays
 
-    here : (k : ℕ) (v : World) (r : Seat) → Hearing m.world (m.seats k).caller (work_own (m.seats k).work) v r → At m k (record m { world = v; seats = put m.seats k r })
-    here k v r h = subst (Hearing m.world (m.seats k).caller (work_own (m.seats k).work) v) (sym (put_here m.seats k r)) h
+    here : (k : ℕ) (v : World) (r : Seat) → Hearing m.world (m.seats k).caller (work_own (m.seats k).work) (swap_of (m.seats k).work) v r → At m k (record m { world = v; seats = put m.seats k r })
+    here k v r h = subst (Hearing m.world (m.seats k).caller (work_own (m.seats k).work) (swap_of (m.seats k).work) v) (sym (put_here m.seats k r)) h
 
     step : (k : ℕ) → IsWellFormed (m.seats k) → (b : Bool) → At m k (if b then record m { world = touched m.world (access_of (m.seats k)); seats = put m.seats k (answer_of (m.seats k) (found_at m.world (access_of (m.seats k)))) } else m)
     step k f true = here k _ _ (works m.world (m.seats k) (m.seats k).work f)

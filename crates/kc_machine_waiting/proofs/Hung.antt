@@ -1,4 +1,9 @@
 -- Who was told Hung is blocked, by the reads of its hang.
+use Rattle.kc_machine_steps.specs.Swaps.{swap_after, swap_next, ends_at_once}
+use Rattle.kc_machine_steps.specs.Swaps.{onward_of as onward_of_swap}
+use Rattle.kc_machine_steps.specs.declared.swap.SwapNext.{SwapNext}
+use Rattle.kc_machine_steps.specs.declared.swap.SwapNext.TheVariants as swapping
+use Rattle.kc_machine_waiting.proofs.Listening.{SwapTellsSo, swap_tells}
 use Rattle.std.proofs.Common.{◌≡◌, ◌≢◌, ◌<◌, ◌++◌, ◌==◌, ◌∙◌, ◌&&◌, not, ℕ, Bool, true, false, List, [], ◌∷◌, Option, None, Some, refl, sym, ap, subst, if◌then◌else◌}
 use Rattle.std.specs.Prelude.{slice_get}
 use borrow.Author.Tests.{eqb-false, eqb-true}
@@ -85,6 +90,11 @@ module _ (s : Seat) (quiet : is_idle s.work ≡ false → s.told ≡ None) where
     leaves x i None q = absurd (cc)
     leaves x i (Some seen) q = busy i q
 
+    swaps : (x : Work) → is_idle s.work ≡ false → (n : SwapNext) → SwapTellsSo (λ t. t ≢ told.Hung) n → Comes (after (record s { work = x }) (onward_of_swap n))
+    swaps x i (swapping.Goes step) y q = busy i q
+    swaps x i (swapping.Takes step) y q = busy i q
+    swaps x i (swapping.Tells t) y q = let z : t ≡ told.Hung = cc in absurd (y z)
+
     answered : (f : Found) → Comes (answer_of s f)
     answered f = go s.work refl
       where
@@ -96,6 +106,7 @@ module _ (s : Seat) (quiet : is_idle s.work ≡ false → s.told ≡ None) where
             (commit_tells (λ t. t ≢ told.Hung) s.descriptors s.calls (λ q. absurd (cc)) (λ q. absurd (cc)) (λ p. not_hung p s.calls) (loaded c f) c.stage f)
         go (work.Hang h) w = hangs h w (ap is_idle w) (hang_step h f)
         go (work.Leave l) w = leaves (work.Leave (leave_after l)) (ap is_idle w) (slice_get l.reads.items (next_read l.step))
+        go (work.Swap x) w = swaps (work.Swap (swap_after s.calls x f)) (ap is_idle w) (swap_next s.calls x f) (swap_tells (λ t. t ≢ told.Hung) s.calls (λ q. absurd (cc)) (λ q. absurd (cc)) (λ q. absurd (cc)) x.seen x.step f)
 
   begun_came : (k : ℕ) (t : Task) → IsHung (begun s t) → Came s (Begin k t) (begun s t)
   begun_came k t = go (is_idle s.work)
@@ -112,6 +123,7 @@ module _ (s : Seat) (quiet : is_idle s.work ≡ false → s.told ≡ None) where
       starts (task.Commit f m) q = fresh (begun_idle s (task.Commit f m)).work q
       starts (task.Hang reads) q = hangs_so (hanging reads.items) s.blocked q
       starts (task.Leave reads) q = fresh (begun_idle s (task.Leave reads)).work q
+      starts (task.Swap r value) q = fresh (begun_idle s (task.Swap r value)).work q
 
       go : (b : Bool) → IsHung (if b then begun_idle s t else s) → Came s (Begin k t) (if b then begun_idle s t else s)
       go true q = starts t q
@@ -124,12 +136,17 @@ module _ (s : Seat) (quiet : is_idle s.work ≡ false → s.told ≡ None) where
       ends_or x true i q = absurd (cc)
       ends_or x false i q = busy i q
 
+      swap_or : (b : Bool) → IsHung (if b then ended s else s) → Came s (Halt k) (if b then ended s else s)
+      swap_or true q = absurd (cc)
+      swap_or false q = stood
+
       go : (x : Work) → s.work ≡ x → IsHung (halted_by s x) → Came s (Halt k) (halted_by s x)
       go work.Idle w q = stood
       go (work.Look l) w q = ends_or (work.Look (look_halted l)) (halts_at_once l.step) (ap is_idle w) q
       go (work.Commit c) w q = ends_or (work.Commit (commit_halted c)) (unowned c.stage) (ap is_idle w) q
       go (work.Hang h) w q = stood
       go (work.Leave l) w q = stood
+      go (work.Swap x) w q = swap_or (ends_at_once x.step) q
 
 came : (m : State) (e : Event) → (is_idle (m.seats (seat_of e)).work ≡ false → (m.seats (seat_of e)).told ≡ None) → IsHung ((event_of m e).seats (seat_of e)) → Came (m.seats (seat_of e)) e ((event_of m e).seats (seat_of e))
 came m e quiet = seat_cases (λ r. IsHung r → Came (m.seats (seat_of e)) e r) m e (λ q. stood) (new e quiet)

@@ -1,4 +1,15 @@
 -- Who hangs or is blocked goes on hearing, after every schedule of well-made tasks.
+use Rattle.std.proofs.Common.{if◌then◌else◌, ◌-◌, ◌==◌, ◌&&◌}
+use Rattle.std.specs.Prelude.{bit_and}
+use Rattle.kc_machine.specs.Seats.{blocked_by}
+use Rattle.kc_machine_steps.specs.Swaps.{may_swap, swap_next_at}
+use Rattle.kc_machine_steps.specs.Swaps.{owed_next as owed_by_it}
+use Rattle.kc_machine_steps.specs.declared.swap.SwapNext.{SwapNext}
+use Rattle.kc_machine_steps.specs.declared.swap.SwapNext.TheVariants as swapping
+use Rattle.kc_model.specs.declared.word.Word.TheVariants.{Plain, Ref}
+use Rattle.kc_machine_words.specs.declared.access.Found.TheVariants as found
+use Rattle.kc_machine_steps.specs.declared.swap.SwapStep.{SwapStep}
+use Rattle.kc_machine_steps.specs.declared.swap.SwapStep.TheVariants as swap
 use Rattle.kc_machine_steps.specs.Lines.{after_line}
 use borrow.Author.Tests.{ltb-false}
 use Rattle.std.proofs.lemmas.Option.{slice_get_within, slice_get_cases}
@@ -90,6 +101,7 @@ wait_is s = go s.work
     go (work.Commit c) = staged (record (resting s) { halted = c.halted }) c.intent c.copy c.stage
     go (work.Hang h) = waits h.reads.items h.step
     go (work.Leave l) = refl
+    go (work.Swap x) = refl
 
 -- ---- reads by their index
 
@@ -113,6 +125,38 @@ listens_itself NoWait = refl
 listens_itself (Hangs xs step) = refl
 listens_itself (HangLooks xs j) = refl
 listens_itself (Leaving xs step) = refl
+
+-- ---- what a swap tells
+
+abbrev pub SwapTellsSo : (Told → Type 0) → SwapNext → Type 0
+SwapTellsSo P (swapping.Tells t) = P t
+SwapTellsSo P _ = Unit {0}
+
+pub swap_tells : (P : Told → Type 0) (calls : ℕ) → P (told.Failed 0) → P (told.Crossed 0) → P (told.Succeeded calls) → (r : Seen) (step : SwapStep) (f : Found) → SwapTellsSo P (swap_next_at r calls step f)
+swap_tells P calls fails crosses succeeds r = go
+  where
+    owed : (n : ℕ) → SwapTellsSo P (owed_by_it calls n)
+    owed n = at (n == 0)
+      where
+        at : (b : Bool) → SwapTellsSo P (if b then swapping.Tells (told.Succeeded calls) else swapping.Goes (swap.Signal n))
+        at true = succeeds
+        at false = tt
+
+    go : (step : SwapStep) (f : Found) → SwapTellsSo P (swap_next_at r calls step f)
+    go swap.Exchange (found.Word (Plain v y)) = at ((v == r.version) && (y == r.value)) (may_swap calls)
+      where
+        at : (a b : Bool) → SwapTellsSo P (if a then (if b then swapping.Takes swap.Wake else swapping.Tells (told.Crossed 0)) else swapping.Tells (told.Failed 0))
+        at true true = tt
+        at true false = crosses
+        at false b = fails
+    go swap.Exchange (found.Word (Ref g d i)) = crosses
+    go swap.Exchange _ = tt
+    go swap.Wake (found.Callers c) = owed c
+    go swap.Wake _ = tt
+    go (swap.Signal n) f = owed (bit_and n (n - 1))
+
+pub swap_calm : (calls : ℕ) (r : Seen) (step : SwapStep) (f : Found) → SwapTellsSo (λ t. (b : Bool) → blocked_by b t ≡ b) (swap_next_at r calls step f)
+swap_calm calls = swap_tells (λ t. (b : Bool) → blocked_by b t ≡ b) calls (λ b. refl) (λ b. refl) (λ b. refl)
 
 -- ---- what a commit tells
 

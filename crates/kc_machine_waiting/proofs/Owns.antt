@@ -1,4 +1,6 @@
 -- What an event makes of what a seat owes by its own descriptor.
+use Rattle.kc_machine_effects.specs.Stands.{Swapping, Swaps}
+use Rattle.kc_machine_steps.specs.declared.swap.SwapStep.TheVariants as swap
 use Rattle.std.proofs.Common.{◌≡◌, ℕ, Bool, true, false, List, [], Option, None, Some, refl}
 use Rattle.kc_machine_steps.specs.declared.line.Intent.{Intent}
 use Rattle.kc_machine_steps.specs.declared.pass.PassNext.{PassNext}
@@ -81,6 +83,7 @@ own_is s = go s.work
     go (work.Commit c) = staged (record (resting s) { halted = c.halted }) c.intent c.copy c.stage refl
     go (work.Hang h) = waits h.reads.items h.step
     go (work.Leave l) = refl
+    go (work.Swap x) = refl
 
 -- ---- from one to the next, where no wake is made
 
@@ -88,6 +91,16 @@ own_is s = go s.work
 pub data InPass (h : Handle) (i : Intent) : Own → Type 0 where
   runs : InPass h i (Runs h i)
   waits : (k : ℕ) → InPass h i (Waits h i k)
+
+-- a swap that has changed nothing
+abbrev pub IsMute : Swapping → Type 0
+IsMute (Swaps r after swap.Wake) = ⊥
+IsMute (Swaps r after (swap.Signal owed)) = ⊥
+IsMute _ = Unit {0}
+
+pub data SwapKept : Swapping → Swapping → Type 0 where
+  mute : {a b : Swapping} → IsMute a → SwapKept a b
+  stays : {a : Swapping} → SwapKept a a
 
 pub data WakesKept : Own → Own → Type 0 where
   none : {a b : Own} → still_wakes a ≡ [] → owed_by a ≡ 0 → WakesKept a b

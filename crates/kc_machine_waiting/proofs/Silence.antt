@@ -1,4 +1,5 @@
 -- Bits that don't stand, and stay so.
+use Rattle.kc_machine_traces.proofs.Swapping.{swap_of}
 use Rattle.std.proofs.Common.{arith, ◌≡◌, ◌≢◌, ◌<◌, ◌++◌, ℕ, Bool, true, false, List, [], ◌∷◌, Option, None, Some, refl, sym, ap, subst, ◌∙◌, if◌then◌else◌}
 use Rattle.std.specs.Prelude.{slice_get, nat_lt}
 use borrow.Author.Tests.{ltb-true}
@@ -26,7 +27,7 @@ use Rattle.kc_machine_seats.proofs.SeatedSteps.{seats_stay}
 use Rattle.kc_machine_traces.proofs.Joins.{run-append}
 use Rattle.kc_machine_traces.proofs.Others.{run_shape, event_out, step_world}
 use Rattle.kc_machine_waiting.proofs.Bits.{set_else, was_set, is_cleared}
-use Rattle.kc_machine_waiting.proofs.Hearing.{Hearing, still, sets, clears, unsignals, wakes, signals, event_hears}
+use Rattle.kc_machine_waiting.proofs.Hearing.{Hearing, still, sets, clears, unsignals, wakes, signals, swap_wakes, swap_signals, event_hears}
 use Rattle.kc_machine_waiting.proofs.Owns.{work_own}
 use Rattle.kc_machine_waiting.proofs.Wakes.{no_bit_of_none}
 
@@ -60,6 +61,7 @@ module _ (c : ℕ) (small : c < 64) where
       go : (step : LeaveStep) → Fewer (touched w (leave_access_at caller a.reads.items step)) w
       go leave.Unsignal = λ l b. b
       go (leave.Clear j) = cleared (slice_get a.reads.items j)
+  work_fewer w caller calls (work.Swap a) q = absurd (cc)
 
   event_fewer : (m : State) (e : Event) → rests (m.seats (seat_of e)).work ≡ true → Fewer (event_of m e).world m.world
   event_fewer m e q = go (nat_lt (seat_of e) m.callers)
@@ -78,15 +80,18 @@ module _ (c : ℕ) (small : c < 64) where
       go false = λ l b. b
 
   -- a bit of another is set
-  else_fewer : (m : State) (j : ℕ) (n : State) (r : Seat) → j < 64 → c ≢ j → (a : _) → Hearing m.world j a n.world r → Fewer n.world m.world
-  else_fewer m j n r low ne a (still q s k) l b = subst (λ f. has_bit (f l) c ≡ true) q b
-  else_fewer m j n r low ne a (unsignals q s u d) l b = subst (λ f. has_bit (f l) c ≡ true) q b
-  else_fewer m j n r low ne a (signals h i owed u q s y) l b = subst (λ f. has_bit (f l) c ≡ true) q b
-  else_fewer m j n r low ne a (sets x q s u) l b = put_cases (λ y. has_bit y c ≡ true → has_bit (m.world.awaiters l) c ≡ true) m.world.awaiters x.loc.0 (bits_after (bits.Set j) (m.world.awaiters x.loc.0)) l
+  else_fewer : (m : State) (j : ℕ) (n : State) (r : Seat) → j < 64 → c ≢ j → (a : _) (u : _) → Hearing m.world j a u n.world r → Fewer n.world m.world
+  else_fewer m j n r low ne a u (still q s k t) l b = subst (λ f. has_bit (f l) c ≡ true) q b
+  else_fewer m j n r low ne a u (unsignals q s p t d) l b = subst (λ f. has_bit (f l) c ≡ true) q b
+  else_fewer m j n r low ne a u (signals h i owed p q s y t) l b = subst (λ f. has_bit (f l) c ≡ true) q b
+  else_fewer m j n r low ne a u (sets x q s p t) l b = put_cases (λ y. has_bit y c ≡ true → has_bit (m.world.awaiters l) c ≡ true) m.world.awaiters x.loc.0 (bits_after (bits.Set j) (m.world.awaiters x.loc.0)) l
       (λ z y. subst (λ i. has_bit (m.world.awaiters i) c ≡ true) (sym z) (set_else c small j (m.world.awaiters x.loc.0) low ne y)) (λ ne y. y) (subst (λ f. has_bit (f l) c ≡ true) q b)
-  else_fewer m j n r low ne a (clears x q s u d) l b = put_cases (λ y. has_bit y c ≡ true → has_bit (m.world.awaiters l) c ≡ true) m.world.awaiters x.loc.0 (bits_after (bits.Clear j) (m.world.awaiters x.loc.0)) l
+  else_fewer m j n r low ne a u (clears x q s p t d) l b = put_cases (λ y. has_bit y c ≡ true → has_bit (m.world.awaiters l) c ≡ true) m.world.awaiters x.loc.0 (bits_after (bits.Clear j) (m.world.awaiters x.loc.0)) l
       (λ z y. subst (λ i. has_bit (m.world.awaiters i) c ≡ true) (sym z) (was_set c small j (m.world.awaiters x.loc.0) y)) (λ ne y. y) (subst (λ f. has_bit (f l) c ≡ true) q b)
-  else_fewer m j n r low ne a (wakes h i k owed x u g q s y) l b = put_cases (λ y. has_bit y c ≡ true → has_bit (m.world.awaiters l) c ≡ true) m.world.awaiters x.seen.loc.0 0 l
+  else_fewer m j n r low ne a u (wakes h i k owed x p g q s y t) l b = put_cases (λ y. has_bit y c ≡ true → has_bit (m.world.awaiters l) c ≡ true) m.world.awaiters x.seen.loc.0 0 l
+      (λ z y. absurd (no_bit_of_none c y)) (λ ne y. y) (subst (λ f. has_bit (f l) c ≡ true) q b)
+  else_fewer m j n r low ne a u (swap_signals x v owed p t q s y) l b = subst (λ f. has_bit (f l) c ≡ true) q b
+  else_fewer m j n r low ne a u (swap_wakes x v p t q s y) l b = put_cases (λ y. has_bit y c ≡ true → has_bit (m.world.awaiters l) c ≡ true) m.world.awaiters x.loc.0 0 l
       (λ z y. absurd (no_bit_of_none c y)) (λ ne y. y) (subst (λ f. has_bit (f l) c ≡ true) q b)
 
 module _ (o : Opening) (es : List Event) (e : Event) (w : IsSchedule o es) (k : ℕ) (within : k < o.callers) where
@@ -113,8 +118,8 @@ module _ (o : Opening) (es : List Event) (e : Event) (w : IsSchedule o es) (k : 
           let c = (run_shape o es).2 in
           let d = w.0.callers in
           let h = event_hears m e (formed_always o es j) in
-          else_fewer k small m j (event_of m e) ((event_of m e).seats j) (omega arith) ne (work_own (m.seats j).work)
-          (subst (λ i. Hearing m.world i (work_own (m.seats j).work) (event_of m e).world ((event_of m e).seats j)) (seats_stay o es j).0 h) r.loc.0 b'
+          else_fewer k small m j (event_of m e) ((event_of m e).seats j) (omega arith) ne (work_own (m.seats j).work) (swap_of (m.seats j).work)
+          (subst (λ i. Hearing m.world i (work_own (m.seats j).work) (swap_of (m.seats j).work) (event_of m e).world ((event_of m e).seats j)) (seats_stay o es j).0 h) r.loc.0 b'
       go false q = subst (λ (m : State). has_bit (m.world.awaiters r.loc.0) k ≡ true) (event_out (run o es) e q) b'
 
 -- a leave's step clears its bit

@@ -1,4 +1,11 @@
 -- What a hang that found a change and a leave know, and so what they are told.
+use Rattle.kc_machine_traces.proofs.Swapping.{swap_of, stand_swap}
+use Rattle.kc_machine_waiting.proofs.Listening.{SwapTellsSo, swap_tells}
+use Rattle.kc_machine_steps.specs.Swaps.{swaps_on, ends_at_once}
+use Rattle.kc_machine_steps.specs.Swaps.{onward_of as onward_of_swap}
+use Rattle.kc_machine_steps.specs.declared.swap.Swap.{Swap}
+use Rattle.kc_machine_steps.specs.declared.swap.SwapNext.{SwapNext}
+use Rattle.kc_machine_steps.specs.declared.swap.SwapNext.TheVariants as swapping
 use Rattle.std.proofs.Common.{arith, ◌≡◌, ◌≢◌, ◌<◌, ◌≤◌, ◌+◌, ◌++◌, ◌==◌, ◌&&◌, not, ℕ, Bool, true, false, List, [], ◌∷◌, Option, None, Some, refl, sym, ap, subst, ◌∙◌, if◌then◌else◌}
 use Rattle.std.specs.Prelude.{slice_get, Contains}
 use Rattle.std.proofs.lemmas.List.{take-append-le, length-append}
@@ -120,6 +127,7 @@ module _ (o : Opening) (es : List Event) (e : Event) where
     work_gives t since (work.Look l) q f = tt
     work_gives t since (work.Commit c) q f = tt
     work_gives t since (work.Leave l) q f = (f.0, leave_gives (ap rests q) l.reads.items l.step f.1)
+    work_gives t since (work.Swap x) q f = tt
 
     told_gives : (t : Option Task) (since : Moment) (u : Told) → rests s.work ≡ true → ToldGives o es k t since u → ToldGives o es' k t since u
     told_gives t since (told.Changed c) a f = (f.0, f.1, moved_on since f.0 c f.2)
@@ -145,6 +153,7 @@ spoke_rests o es k u q = go ((run o es).seats k).work refl
     go : (y : Work) → ((run o es).seats k).work ≡ y → rests y ≡ true
     go work.Idle z = refl
     go (work.Leave l) z = refl
+    go (work.Swap x) z = absurd (busy (ap is_idle z))
     go (work.Look l) z = absurd (busy (ap is_idle z))
     go (work.Commit c) z = absurd (busy (ap is_idle z))
     go (work.Hang h) z = absurd (busy (ap is_idle z))
@@ -188,6 +197,7 @@ module _ (o : Opening) (es : List Event) (w : IsSchedule o es) (k : ℕ) (within
         starts (task.Look l) q = fresh _ _ tt
         starts (task.Commit f mode) q = fresh _ _ tt
         starts (task.Leave xs) q = fresh _ _ (refl, tt)
+        starts (task.Swap r value) q = fresh _ _ tt
         starts (task.Hang xs) q = at s.blocked
           where
             at : (b : Bool) → Goal (Begin k u) (with_task (if not (is_idle (if b then s else working s (hanging xs.items)).work) then Some (task.Hang xs) else None) (now (trace o es)) x).task (if b then s else working s (hanging xs.items))
@@ -207,12 +217,17 @@ module _ (o : Opening) (es : List Event) (w : IsSchedule o es) (k : ℕ) (within
         at y i f true = record { works = tt; said = λ u q. said_one (Halt k) x.task (since (ended s)) told.Halted u tt q }
         at y i f false = record { works = f x.task (since (record s { work = y })); said = λ u q. no_answer u i q }
 
+        swap_or : is_idle s.work ≡ false → (b : Bool) → Goal (Halt k) x.task (if b then ended s else s)
+        swap_or i true = record { works = tt; said = λ u q. said_one (Halt k) x.task (since (ended s)) told.Halted u tt q }
+        swap_or i false = unmoved (Halt k) refl x.task refl
+
         go : (y : Work) → s.work ≡ y → Goal (Halt k) x.task (halted_by s y)
         go work.Idle q = unmoved (Halt k) refl x.task refl
         go (work.Look l) q = at (work.Look (look_halted l)) (ap is_idle q) (λ t m. tt) (halts_at_once l.step)
         go (work.Commit c) q = at (work.Commit (commit_halted c)) (ap is_idle q) (λ t m. tt) (unowned c.stage)
         go (work.Hang h) q = unmoved (Halt k) refl x.task refl
         go (work.Leave l) q = unmoved (Halt k) refl x.task refl
+        go (work.Swap y) q = swap_or (ap is_idle q) (ends_at_once y.step)
 
     -- ---- a step
 
@@ -240,6 +255,11 @@ module _ (o : Opening) (es : List Event) (w : IsSchedule o es) (k : ℕ) (within
     committed_gives i c (next.Goes y) f = goes_by i _ refl tt
     committed_gives i c (next.Takes y) f = goes_by i _ refl tt
     committed_gives i c (next.Tells t) f = let r = after (record s { work = work.Commit (gone_on c (next.Tells t)) }) (onward_by (next.Tells t)) in tells_by r t refl refl (f (since r))
+
+    swapped_gives : is_idle s.work ≡ false → (y : Swap) (n : SwapNext) → SwapTellsSo Unchanging n → Steps (after (record s { work = work.Swap (swaps_on y n) }) (onward_of_swap n))
+    swapped_gives i y (swapping.Goes z) f = goes_by i _ refl tt
+    swapped_gives i y (swapping.Takes z) f = goes_by i _ refl tt
+    swapped_gives i y (swapping.Tells t) f = let r = after (record s { work = work.Swap (swaps_on y (swapping.Tells t)) }) (onward_of_swap (swapping.Tells t)) in tells_by r t refl refl (f (since r))
 
     phases : (p : Phase) → Unchanging (told_of p s.calls)
     phases Active m = tt
@@ -305,7 +325,7 @@ module _ (o : Opening) (es : List Event) (w : IsSchedule o es) (k : ℕ) (within
         sets_gives j z None =
             let r = Gone (Goes (hang.Look 0 look.Load)) in
             let at : since r ≡ now (trace o es) = ap (λ (b : Bool). if b then now (trace o es) else x.listening) (ap (λ v. listens v (stand r).wait) (wait (hang.Set j) z) ∙ ap (listens (Hangs reads (hang.Set j))) (wait_is r)) in
-            hang_goes (hang.Look 0 look.Load) (subst (IsBehind o more) (sym at) (behind_now o es (Step k) (history_still o es (Step k) (pass_is s ∙ ap work_pass is))))
+            hang_goes (hang.Look 0 look.Load) (subst (IsBehind o more) (sym at) (behind_now o es (Step k) (history_still o es (Step k) (pass_is s ∙ ap work_pass is) (stand_swap s ∙ ap swap_of is))))
 
         clears_gives : (j c : ℕ) → h.step ≡ hang.Clear j c → (v : Option Seen) → Steps (Gone (clear_or_changed c (after_line j) v))
         clears_gives j c z v = go v
@@ -387,6 +407,7 @@ module _ (o : Opening) (es : List Event) (w : IsSchedule o es) (k : ℕ) (within
           go (work.Commit c) q = let d = loaded c (found_at (run o es).world (access_of s)) in committed_gives (ap is_idle q) d _ (commit_tells Unchanging s.descriptors s.calls (λ m. tt) (λ m. tt) phases d c.stage (found_at (run o es).world (access_of s)))
           go (work.Hang h) q = hang_gives h q h.step refl
           go (work.Leave l) q = left_gives l q (slice_get l.reads.items (next_read l.step)) refl
+          go (work.Swap y) q = swapped_gives (ap is_idle q) y _ (swap_tells Unchanging s.calls (λ m. tt) (λ m. tt) (λ m. tt) y.seen y.step (found_at (run o es).world (access_of s)))
 
 -- ---- every schedule
 
