@@ -6,3 +6,4 @@ pub mod Waits
 pub mod Read
 pub mod Closing
 mod Wholes
+mod Swapping

@@ -5,6 +5,7 @@ mod calls;
 mod end;
 mod open;
 mod seat;
+mod swaps;
 mod table;
 
 pub use end::{CloseRefused, Closed, HoldsSeat, Past};

@@ -6,7 +6,7 @@ ghost use Rattle.kc_machine.specs.Seats.{access_of, is_idle};
 ghost use Rattle.kc_table_layout.specs.Changes.{change_of, changed};
 ghost use Rattle.kc_table_layout.specs.declared.change.Change.TheVariants as change;
 ghost use Rattle.kc_table_moves.specs.Rule.{Moved, Ready};
-ghost use Rattle.kc_table_moves.specs.Atoms.{Aims, Here, On, Peeked, Went, found_of, is_plain, point_of, seat_in, stage_of};
+ghost use Rattle.kc_table_moves.specs.Atoms.{Aims, Here, On, Peeked, Went, found_of, is_plain, leaves, point_of, seat_in, stage_of};
 
 use crate::rule::{Moves, Now};
 use crate::touch::{Token, Words};
@@ -164,6 +164,20 @@ pub fn loads<C: Chain>(run: &Run, token: &mut Token, began: bool, at: Point, wor
     load_at::<Brand>(run, token, began, at, word)
 }
 
+// The seat that B names puts this number, whatever stands there.
+#[inline(always)]
+fn swap_in<B: Now>(words: &Words, token: &mut Token, base: usize, word: usize, new: u64) -> u64
+    requires here { Here words.now.key words.now.table_id base token.old.table_id token.old.me }
+    requires seat { (is_idle B.now.work ≡ false) × Ready token.old.me B.began B.now }
+    requires aim { Aims words.now.key B.now word (change.Swap new) }
+    ensures table { token.new.table_id ≡ token.old.table_id }
+    ensures moved { Moved B.now B.began token.old.me result token.new.me }
+{
+    touches_agree();
+    let _base = base;
+    words.swap::<Moves<B>>(token, word, new)
+}
+
 // Only the proof reads the point.
 #[inline(always)]
 fn swap_at<B: Now>(run: &Run, token: &mut Token, _at: Point, word: usize, new: u64) -> u64
@@ -173,8 +187,7 @@ fn swap_at<B: Now>(run: &Run, token: &mut Token, _at: Point, word: usize, new: u
     ensures table { token.new.table_id ≡ token.old.table_id }
     ensures moved { Moved B.now B.began token.old.me result token.new.me }
 {
-    touches_agree();
-    run.words.swap::<Moves<B>>(token, word, new)
+    swap_in::<B>(run.words, token, run.base, word, new)
 }
 
 // The seat at a point makes an exchange whatever stands there.
@@ -249,18 +262,44 @@ fn peek_at<B: Asks>(run: &Run, token: &mut Token, _at: Point, word: usize) -> u6
     peek::<B>(run.words, token, run.base, word)
 }
 
-// The seat at a point exchanges what stands there for 0. Where 0 stands already, a load is that exchange, and locks nothing.
+/// The seat that B names exchanges what stands there for 0. Where 0 stands already, a load is that exchange, and locks nothing.
+#[inline(always)]
+pub fn clear<B: Asks>(words: &Words, token: &mut Token, base: usize, word: usize) -> u64
+    requires here { Here words.now.key words.now.table_id base token.old.table_id token.old.me }
+    requires seat { (is_idle B.now.work ≡ false) × Ready token.old.me B.began B.now }
+    requires aim { Aims words.now.key B.now word (change.Swap 0) }
+    requires takes { (n : ℕ) → B.takes n ≡ leaves B.now n }
+    ensures table { token.new.table_id ≡ token.old.table_id }
+    ensures moved { Moved B.now B.began token.old.me result token.new.me }
+{
+    let number = peek::<B>(words, token, base, word);
+    if number == 0 {
+        return number;
+    }
+    swap_in::<Brand>(words, token, base, word, 0)
+}
+
+// Only the proof reads the point.
+#[inline(always)]
+fn clear_at<B: Asks>(run: &Run, token: &mut Token, _at: Point, word: usize) -> u64
+    requires here { Here run.now.words.now.key run.now.words.now.table_id run.now.base token.old.table_id token.old.me }
+    requires seat { (is_idle B.now.work ≡ false) × Ready token.old.me B.began B.now }
+    requires aim { Aims run.now.words.now.key B.now word (change.Swap 0) }
+    requires takes { (n : ℕ) → B.takes n ≡ leaves B.now n }
+    ensures table { token.new.table_id ≡ token.old.table_id }
+    ensures moved { Moved B.now B.began token.old.me result token.new.me }
+{
+    clear::<B>(run.words, token, run.base, word)
+}
+
+// The seat at a point exchanges what stands there for 0.
 #[inline(always)]
 pub fn clears<C: Chain>(run: &Run, token: &mut Token, at: Point, word: usize) -> u64
     requires on { On C.start run.now token.old.table_id token.old.me false (seat_in run.now at) }
     requires aim { Aims run.now.words.now.key (seat_in run.now at) word (change.Swap 0) }
     ensures { Went C.start run.now token.new.table_id token.new.me (seat_in run.now at) result }
 {
-    let number = peek_at::<Brand>(run, token, at, word);
-    if number == 0 {
-        return number;
-    }
-    swaps::<C>(run, token, at, word, 0)
+    clear_at::<Brand>(run, token, at, word)
 }
 
 // A load at a point that is no step.
@@ -271,6 +310,27 @@ fn glances<C: Chain>(run: &Run, token: &mut Token, at: Point, word: usize) -> u6
     ensures { On C.start run.now token.new.table_id token.new.me false (seat_in run.now at) }
 {
     peek_at::<Brand>(run, token, at, word)
+}
+
+/// The seat that B names makes an exchange where `old` stands.
+#[inline(always)]
+pub fn exchange<B: Now>(
+    words: &Words,
+    token: &mut Token,
+    base: usize,
+    word: usize,
+    old: u64,
+    new: u64,
+) -> u64
+    requires here { Here words.now.key words.now.table_id base token.old.table_id token.old.me }
+    requires seat { (is_idle B.now.work ≡ false) × Ready token.old.me B.began B.now }
+    requires aim { Aims words.now.key B.now word (change.CompareExchange old new) }
+    ensures table { token.new.table_id ≡ token.old.table_id }
+    ensures moved { Moved B.now B.began token.old.me result token.new.me }
+{
+    touches_agree();
+    let _base = base;
+    words.compare_exchange::<Moves<B>>(token, word, old, new)
 }
 
 // Only the proof reads the point.
@@ -289,9 +349,7 @@ fn exchange_at<B: Now>(
     ensures table { token.new.table_id ≡ token.old.table_id }
     ensures moved { Moved B.now B.began token.old.me result token.new.me }
 {
-    touches_agree();
-    run.words
-        .compare_exchange::<Moves<B>>(token, word, old, new)
+    exchange::<B>(run.words, token, run.base, word, old, new)
 }
 
 // The seat at a point makes an exchange where `old` stands.

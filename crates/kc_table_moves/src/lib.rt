@@ -8,8 +8,8 @@ mod touch;
 mod view;
 
 pub use atoms::{
-    Asks, Chain, Held, MOST_LOADS, Run, Stop, StopAt, clears, exchanges, exchanges_late, is_plain,
-    load, loads, peek, replaces, subtracts, swaps,
+    Asks, Chain, Held, MOST_LOADS, Run, Stop, StopAt, clear, clears, exchange, exchanges,
+    exchanges_late, is_plain, load, loads, peek, replaces, subtracts, swaps,
 };
 pub use rule::{Deals, Empty, Gathers, Hears, Merges, Moves, Notes, Now, Rule, Shows};
 pub use touch::{Token, Words, touch_seat};

@@ -1,5 +1,5 @@
 -- A task that was halted ends: each step leaves fewer.
-use Rattle.std.proofs.Common.{arith, ◌≡◌, ◌≢◌, ◌<◌, ◌≤◌, ◌⊎◌, inl, inr, ◌∙◌, ◌+◌, ◌-◌, ◌==◌, ◌&&◌, ◌^◌, ℕ, Bool, true, false, List, length, Option, None, Some, refl, ap, subst, if◌then◌else◌}
+use Rattle.std.proofs.Common.{arith, ◌≡◌, ◌≢◌, ◌<◌, ◌≤◌, ◌⊎◌, inl, inr, ◌∙◌, ◌+◌, ◌-◌, ◌==◌, ◌&&◌, ◌^◌, ℕ, Bool, true, false, not, List, length, Option, None, Some, refl, sym, ap, subst, if◌then◌else◌}
 use Rattle.std.specs.Prelude.{bit_and, bit_or, slice_get}
 use Rattle.std.specs.Int.Count.{count_trailing_zeros}
 use Rattle.std.proofs.Math.Nat.{pow-le-pow_right}
@@ -21,9 +21,9 @@ use Rattle.kc_machine_commits.specs.declared.commit.OwnStep.{OwnStep}
 use Rattle.kc_machine_commits.specs.declared.commit.OwnStep.TheVariants as own
 use Rattle.kc_machine_commits.specs.declared.commit.Stage.{Stage}
 use Rattle.kc_machine_commits.specs.declared.commit.Stage.TheVariants.{Scan, Take, Own}
-use Rattle.kc_machine_ranges.specs.Seats.{OwnIn, StageIn, WorkIn}
+use Rattle.kc_machine_ranges.specs.Seats.{OwnIn, StageIn, SwapIn, WorkIn}
 use Rattle.kc_machine_seats.specs.Fits.{AidFits, OwnFits, StageFits, StepFits, WorkFits}
-use Rattle.kc_machine_seats.specs.Formed.{IsWellFormed, OwnIsFormed, PutsAt, StageIsFormed, WorkIsFormed}
+use Rattle.kc_machine_seats.specs.Formed.{IsWellFormed, OwnIsFormed, PutsAt, StageIsFormed, SwapIsFormed, WorkIsFormed}
 use Rattle.kc_machine_seats.specs.Made.{IntentIsMade}
 use Rattle.kc_machine_steps.specs.Aids.{after_pass, aid_access, aid_copy, aid_next, drop_or_release}
 use Rattle.kc_machine_steps.specs.Lines.{after_line, next_line}
@@ -36,6 +36,13 @@ use Rattle.kc_machine_steps.specs.declared.aid.AidStep.TheVariants as aid
 use Rattle.kc_machine_steps.specs.declared.aid.Aided.{Aided}
 use Rattle.kc_model.specs.declared.footprint.Line.{Line}
 use Rattle.kc_machine_steps.specs.declared.line.Pick.TheVariants.{Installed, Put}
+use Rattle.kc_machine_steps.specs.Swaps as swaps
+use Rattle.kc_machine_steps.specs.Swaps.{ends_at_once, onward_of, swap_access, swaps_on}
+use Rattle.kc_machine_steps.specs.declared.swap.Swap.{Swap}
+use Rattle.kc_machine_steps.specs.declared.swap.SwapNext.TheVariants as swapping
+use Rattle.kc_machine_steps.specs.declared.swap.SwapStep.{SwapStep}
+use Rattle.kc_machine_steps.specs.declared.swap.SwapStep.TheVariants as swap
+use Rattle.kc_machine_steps.specs.declared.task.Told.TheVariants as told
 use Rattle.kc_machine_steps.specs.declared.look.Look.{Look}
 use Rattle.kc_machine_steps.specs.declared.look.LookNext.{LookNext}
 use Rattle.kc_machine_steps.specs.declared.look.LookStep.{LookStep}
@@ -52,7 +59,7 @@ use Rattle.kc_machine_words.specs.declared.words.Mode.{Mode}
 use Rattle.kc_machine_words.specs.declared.words.Phase.{Phase}
 use Rattle.kc_machine_words.specs.declared.words.Phase.TheVariants.{Active, Crossed, Failed, Halted, Succeeded}
 use Rattle.kc_machine_words.specs.declared.words.Reference.{Reference}
-use Rattle.kc_table_seats.specs.Halts.{aid_ends, aid_left, is_halted, may_halt, own_ends, own_left, pass_ends, pass_left, stage_ends, stage_left, steps_left, work_ends, work_left}
+use Rattle.kc_table_seats.specs.Halts.{aid_ends, aid_left, is_halted, may_halt, own_ends, own_left, pass_ends, pass_left, stage_ends, stage_left, steps_left, swap_left, work_ends, work_left}
 
 -- ---- a halt sends what runs straight to its end
 
@@ -105,7 +112,7 @@ abbrev IsSent : Seat → Type 0
 IsSent s = (is_idle s.work ≡ true) ⊎ (is_halted s ≡ true)
 
 pub halt_sends : (s : Seat) → may_halt s.work ≡ true → IsSent (halted s)
-halt_sends s = go s.work
+halt_sends s = go s.work refl
   where
     looks : (l : Look) (step : LookStep) → IsSent (if halts_at_once step then ended s else record s { work = work.Look (look_halted_at l step) })
     looks l look.Load = inl refl
@@ -120,12 +127,17 @@ halt_sends s = go s.work
     commits c (Take d g) = inl refl
     commits c (Own h step) = inr (own_sent step)
 
-    go : (x : Work) → may_halt x ≡ true → IsSent (halted_by s x)
-    go work.Idle m = absurd (cc)
-    go (work.Look l) m = looks l l.step
-    go (work.Commit c) m = commits c c.stage
-    go (work.Hang h) m = absurd (cc)
-    go (work.Leave l) m = absurd (cc)
+    swaps : (b : Bool) → not b ≡ work_ends s.work → IsSent (if b then ended s else s)
+    swaps true q = inl refl
+    swaps false q = inr (sym q)
+
+    go : (x : Work) → s.work ≡ x → may_halt x ≡ true → IsSent (halted_by s x)
+    go work.Idle q m = absurd (cc)
+    go (work.Look l) q m = looks l l.step
+    go (work.Commit c) q m = commits c c.stage
+    go (work.Hang h) q m = absurd (cc)
+    go (work.Leave l) q m = absurd (cc)
+    go (work.Swap x) q m = swaps (ends_at_once x.step) (ap work_ends (sym q))
 
 -- ---- the most
 
@@ -172,12 +184,18 @@ few_left s = go s.work
     stages (Take d g) = omega arith
     stages (Own h step) = own_few step
 
+    swaps : (x : SwapStep) → swap_left x ≤ 262
+    swaps swap.Exchange = omega arith
+    swaps swap.Wake = omega arith
+    swaps (swap.Signal owed) = omega arith
+
     go : (x : Work) → work_left x ≤ 262
     go work.Idle = omega arith
     go (work.Look l) = omega arith
     go (work.Commit c) = stages c.stage
     go (work.Hang h) = omega arith
     go (work.Leave l) = omega arith
+    go (work.Swap x) = swaps x.step
 
 -- ---- a step of a pass
 
@@ -360,6 +378,9 @@ abbrev pub Ends : ℕ → Seat → Type 0
 Ends old s = (is_idle s.work ≡ true) ⊎ ((is_halted s ≡ true) × (steps_left s < old))
 
 module _ (o : Opening) (w : World) (s : Seat) (stands : Stands o s) where
+  callers_few : 2 ^ o.callers ≤ 2 ^ 64
+  callers_few = pow-le-pow_right (omega arith) stands.callers
+
   look_ends : (l : Look) (x : Work) (n : LookNext) → l.halted ≡ true → Ends 1 (after (record s { work = x }) (told_by l.halted n))
   look_ends l x n e = go l.halted e
     where
@@ -373,9 +394,6 @@ module _ (o : Opening) (w : World) (s : Seat) (stands : Stands o s) where
     where
       there : Found
       there = found_at w (commit_access s.caller s.calls c)
-
-      callers_few : 2 ^ o.callers ≤ 2 ^ 64
-      callers_few = pow-le-pow_right (omega arith) stands.callers
 
       signals_in : (step : OwnStep) → OwnIn o c.copy step → (owed : ℕ) → step ≡ own.Signal owed → owed < 2 ^ 64
       signals_in step y owed q = let z : owed < 2 ^ o.callers = subst (OwnIn o c.copy) q y in let p = callers_few in omega (arith, p, z)
@@ -391,6 +409,23 @@ module _ (o : Opening) (w : World) (s : Seat) (stands : Stands o s) where
       go (next.Takes x) y = absurd y
       go (next.Tells t) y = inl refl
 
+  -- a swap is told where it owes none, and goes on where it owes fewer
+  swap_owes : (x : Swap) (owed old : ℕ) → (owed ≢ 0 → 64 - count_trailing_zeros 64 owed + 1 < old) → let n = swaps.owed_next s.calls owed in Ends old (after (record s { work = work.Swap (swaps_on x n) }) (onward_of n))
+  swap_owes x owed old few = go (owed == 0) refl
+    where
+      go : (b : Bool) → (owed == 0) ≡ b → let n = if b then swapping.Tells (told.Succeeded s.calls) else swapping.Goes (swap.Signal owed) in Ends old (after (record s { work = work.Swap (swaps_on x n) }) (onward_of n))
+      go true e = inl refl
+      go false e = inr (refl, few (eqb-false owed 0 e))
+
+  swap_ends : (x : Swap) (step : SwapStep) → SwapIsFormed step → SwapIn o step → not (ends_at_once step) ≡ true
+      → let y = record x { step = step } in Ends (swap_left step) (answer_by s (found_at w (swap_access s.calls y)) (work.Swap y))
+  swap_ends x swap.Exchange g r e = absurd (cc)
+  swap_ends x swap.Wake g r e = swap_owes (record x { step = swap.Wake }) (w.awaiters x.seen.loc.0) 66 (λ ne. omega arith)
+  swap_ends x (swap.Signal owed) g r e =
+      let l : owed < 2 ^ 64 = let p = callers_few in omega (arith, p, r) in
+      let low = lowest_low owed l g in
+      swap_owes (record x { step = swap.Signal owed }) (bit_and owed (owed - 1)) (64 - count_trailing_zeros 64 owed + 1) (λ ne. let u = lowest_rises owed l ne in let a = u.1 in omega (arith, a, low))
+
   pub seat_ends : is_halted s ≡ true → Ends (steps_left s) (answer_of s (found_at w (access_of s)))
   seat_ends = go s.work stands.fits stands.formed stands.intents stands.ranges
     where
@@ -400,3 +435,4 @@ module _ (o : Opening) (w : World) (s : Seat) (stands : Stands o s) where
       go (work.Commit c) f g i r e = commit_ends c f g.0 i.most r.1 e
       go (work.Hang h) f g i r e = absurd (cc)
       go (work.Leave l) f g i r e = absurd (cc)
+      go (work.Swap x) f g i r e = swap_ends x x.step g r e

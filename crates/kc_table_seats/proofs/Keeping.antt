@@ -5,6 +5,7 @@ use Rattle.kc_machine_steps.specs.declared.task.Event.TheVariants.{Begin, Step}
 use Rattle.kc_machine_steps.specs.declared.task.Task.{Task}
 use Rattle.std.proofs.lemmas.List.Elements.{All-cons, All-head, All-nil, All-tail}
 use Rattle.kc_machine_words.specs.declared.words.Mode.{Mode}
+use Rattle.kc_machine_words.specs.declared.words.Mode.TheVariants as mode
 use Rattle.kc_model.specs.declared.footprint.Footprint.{Footprint}
 use Rattle.kc_model.specs.declared.footprint.Loc.{Loc}
 use Rattle.kc_model.specs.declared.footprint.Seen.{Seen}
@@ -26,9 +27,9 @@ use Rattle.kc_table_moves.specs.Origins.{opening_of}
 use Rattle.kc_table_moves.specs.Views.{SeatView, Learns, Stepped, knows, opening_at_seat}
 use Rattle.kc_table_views.proofs.Knowing.{grows_on, known_on, versions_on, gains_none}
 use Rattle.kc_table_views.proofs.Pendings.{waits_no_step}
-use Rattle.kc_table_views.proofs.Taught.{failure_taught, look_taught, own_as_told, success_taught}
+use Rattle.kc_table_views.proofs.Taught.{failure_taught, look_taught, own_as_told, success_taught, swap_failure_taught, swap_success_taught}
 use Rattle.kc_table_views.specs.Known.{IsMeant, known}
-use Rattle.kc_table_views.specs.Tasks.{FailureTaught, SuccessTaught, ran}
+use Rattle.kc_table_views.specs.Tasks.{FailureTaught, SuccessTaught, put_of, ran}
 
 -- a seat whose schedule goes on
 goes_on : (v w : SeatView) (more : List Event) → w.of ≡ v.of → w.number ≡ v.number → w.past ≡ v.past ++ more → IsMeant (opening_at_seat v) w.past → Keeps v w
@@ -134,6 +135,18 @@ pub failure_known : (v w : SeatView) (i : ℕ) (f : Footprint) (m : Mode) → Do
 failure_known v w i f m d said =
     let t = task.Commit f m in
     subst (FailureTaught f i) (list_is v w t d) (failure_taught (o v w t d) v.number i f m (before v w t d) d.rest d.runs (ap (λ (s : Seat). s.told) (seat_is v w t d) ∙ said))
+
+pub swap_success_known : (v w : SeatView) (n : ℕ) (r : Seen) (after : ℕ) → Does v (task.Swap r after) w → w.seat.told ≡ Some (told.Succeeded n) → SuccessTaught v.number n (put_of r after) mode.All (knows v) (knows w)
+swap_success_known v w n r after d said =
+    let t = task.Swap r after in
+    let x = swap_success_taught (o v w t d) v.number n r after (before v w t d) d.rest d.runs (ap (λ (s : Seat). s.told) (seat_is v w t d) ∙ said) in
+    let y : SuccessTaught v.number n (put_of r after) mode.All (known (o v w t d) (before v w t d)) (knows w) = subst (SuccessTaught v.number n (put_of r after) mode.All (known (o v w t d) (before v w t d))) (list_is v w t d) x in
+    record { place = y.place; entry = y.entry; behind = all_among (λ z. z.place < y.place) (grows_before v w t d).0 y.behind }
+
+pub swap_failure_known : (v w : SeatView) (i : ℕ) (r : Seen) (after : ℕ) → Does v (task.Swap r after) w → w.seat.told ≡ Some (told.Failed i) → HasPut (knows w) r
+swap_failure_known v w i r after d said =
+    let t = task.Swap r after in
+    subst (λ h. HasPut h r) (list_is v w t d) (swap_failure_taught (o v w t d) v.number i r after (before v w t d) d.rest d.runs (ap (λ (s : Seat). s.told) (seat_is v w t d) ∙ said))
 
 pub put_past : (v w : SeatView) (t : Task) (r : Seen) → Does v t w → HasPut (knows v) r → r.version < (ending (first_store (opening_at_seat v)) (knows v) r.loc.0).version
 put_past v w t r d p = let m = meant_past v w t d in puts_past (opening_at_seat v) v.past m.0 m.1 r p

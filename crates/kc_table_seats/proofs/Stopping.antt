@@ -118,6 +118,7 @@ begins_free s t idle busy = subst IsFree (sym is) (at t (ap (λ (r : Seat). is_i
         go true q = absurd (cc)
         go false q = fresh (hanging reads.items) refl
     at (task.Leave reads) b = fresh (begun_idle s (task.Leave reads)).work refl
+    at (task.Swap reads after) b = fresh (begun_idle s (task.Swap reads after)).work refl
 
 pub free_ran : (v w : SeatView) (t : Task) → Starts v t → Ran v t w → IsFree w.seat
 free_ran v w t st r = free_steps (begun_at v t) w r.steps (begins_free v.seat t st.0 st.1)

@@ -11,6 +11,7 @@ use Rattle.kc_machine.specs.declared.seat.Seat.{Seat}
 use Rattle.kc_machine_commits.specs.Commits.{commit_after, commit_onward}
 use Rattle.kc_machine_commits.specs.Halts.{commit_halted, unowned}
 use Rattle.kc_machine_steps.specs.Looks.{halts_at_once, look_after, look_halted, look_tells}
+use Rattle.kc_machine_steps.specs.Swaps.{ends_at_once, swap_after, swap_onward}
 use Rattle.kc_machine_steps.specs.declared.task.Event.{Event}
 use Rattle.kc_machine_steps.specs.declared.task.Event.TheVariants.{Begin, Halt, Step}
 use Rattle.kc_machine_steps.specs.declared.task.Onward.{Onward}
@@ -46,6 +47,7 @@ module _ (b : Bool) where
       go (work.Commit c) z = ⊎_elim (λ e. absurd (cc)) (λ e. goes_on s (work.Commit (commit_after s.descriptors s.calls c f)) e (commit_onward s.descriptors s.calls c f)) z
       go (work.Hang h) z = ⊎_elim (λ e. absurd (cc)) (λ e. goes_on s (work.Hang (hang_after h f)) e (hang_onward h f)) z
       go (work.Leave l) z = ⊎_elim (λ e. absurd (cc)) (λ e. goes_on s (work.Leave (leave_after l)) e (leave_onward l)) z
+      go (work.Swap l) z = ⊎_elim (λ e. absurd (cc)) (λ e. goes_on s (work.Swap (swap_after s.calls l f)) e (swap_onward s.calls l f)) z
 
   stopped : (s : Seat) → IsOf s → IsOf (halted s)
   stopped s y = go s.work y
@@ -54,12 +56,17 @@ module _ (b : Bool) where
       ends_or x true e = inl refl
       ends_or x false e = inr e
 
+      ends_or_stays : (c : Bool) → IsOf (if c then ended s else s)
+      ends_or_stays true = inl refl
+      ends_or_stays false = y
+
       go : (x : Work) → (is_idle x ≡ true) ⊎ (may_halt x ≡ b) → IsOf (halted_by s x)
       go work.Idle z = y
       go (work.Look l) z = ⊎_elim (λ e. absurd (cc)) (ends_or (work.Look (look_halted l)) (halts_at_once l.step)) z
       go (work.Commit c) z = ⊎_elim (λ e. absurd (cc)) (ends_or (work.Commit (commit_halted c)) (unowned c.stage)) z
       go (work.Hang h) z = y
       go (work.Leave l) z = y
+      go (work.Swap x) z = ends_or_stays (ends_at_once x.step)
 
   -- no event but a beginning makes it another
   event_keeps : (m : State) (k : ℕ) (e : Event) → BeginsNothing k (e ∷ []) → IsOf (m.seats k) → IsOf ((event_of m e).seats k)
@@ -95,6 +102,7 @@ begins_so s t idle busy = subst (IsOf (task_may_halt t)) (sym is) (at t (ap (λ 
         go true q = absurd (cc)
         go false q = inr refl
     at (task.Leave reads) e = inr refl
+    at (task.Swap reads after) e = inr refl
 
 settled : (b : Bool) (s : Seat) → IsOf b s → is_idle s.work ≡ false → may_halt s.work ≡ b
 settled b s (inl i) busy = absurd (cc)

@@ -161,6 +161,7 @@ module _ (s : Seat) where
           same c (Own h step) e = absurd (cc)
       go (work.Hang h) r e = absurd (cc)
       go (work.Leave l) r e = absurd (cc)
+      go (work.Swap l) r e = absurd (cc)
 
   stopped : Searches s → Searches (halted s)
   stopped y = go s.work y.1
@@ -176,6 +177,7 @@ module _ (s : Seat) where
       go (work.Commit c) e = stages c c.stage e
       go (work.Hang h) e = absurd (cc)
       go (work.Leave l) e = absurd (cc)
+      go (work.Swap l) e = absurd (cc)
 
 module _ (o : Opening) (k : ℕ) (within : k < o.callers) where
   event_on : (es : List Event) (e : Event) → IsWornOut o es → BeginsNothing k (e ∷ []) → Searches ((run o es).seats k) → Searches ((run o (es ++ e ∷ [])).seats k)

@@ -1,5 +1,5 @@
 -- Tasks that were halted, and how they come to their end.
-use Rattle.std.specs.Prelude.{ℕ, ◌+◌, ◌*◌, ◌-◌, ◌&&◌, Bool, true, false}
+use Rattle.std.specs.Prelude.{ℕ, ◌+◌, ◌*◌, ◌-◌, ◌&&◌, Bool, true, false, not}
 use Rattle.std.specs.Int.Count.{count_trailing_zeros}
 use Rattle.kc_machine.specs.Works.{Work}
 use Rattle.kc_machine.specs.Works as work
@@ -15,6 +15,9 @@ use Rattle.kc_machine_steps.specs.declared.pass.AfterCheck.{AfterCheck}
 use Rattle.kc_machine_steps.specs.declared.pass.AfterCheck.TheVariants as checked
 use Rattle.kc_machine_steps.specs.declared.pass.PassStep.{PassStep}
 use Rattle.kc_machine_steps.specs.declared.pass.PassStep.TheVariants.{CheckDrop, Decide, Release}
+use Rattle.kc_machine_steps.specs.Swaps.{ends_at_once}
+use Rattle.kc_machine_steps.specs.declared.swap.SwapStep.{SwapStep}
+use Rattle.kc_machine_steps.specs.declared.swap.SwapStep.TheVariants as swap
 use Rattle.kc_machine_steps.specs.declared.task.Task.{Task}
 use Rattle.kc_machine_steps.specs.declared.task.Task.TheVariants as task
 use Rattle.kc_model.specs.declared.footprint.TheConstants.{MOST}
@@ -25,15 +28,17 @@ use Rattle.kc_model.specs.declared.footprint.TheConstants.{MOST}
 abbrev pub was_halted : Seat → Bool
 was_halted s = is_marked s.work
 
--- what a halt stops: looks and commits
+-- what a halt stops: looks, commits and swaps
 abbrev pub may_halt : Work → Bool
 may_halt (work.Look l) = true
 may_halt (work.Commit c) = true
+may_halt (work.Swap x) = true
 may_halt _ = false
 
 abbrev pub task_may_halt : Task → Bool
 task_may_halt (task.Look l) = true
 task_may_halt (task.Commit f m) = true
+task_may_halt (task.Swap r after) = true
 task_may_halt _ = false
 
 -- ---- straight to the end: nothing is installed, checked or aided any more
@@ -74,9 +79,10 @@ stage_ends marked _ = false
 abbrev pub work_ends : Work → Bool
 work_ends (work.Look l) = l.halted
 work_ends (work.Commit c) = stage_ends c.halted c.stage
+work_ends (work.Swap x) = not (ends_at_once x.step)
 work_ends _ = false
 
--- the look or commit that runs goes straight to its end, as one does that was halted
+-- the look, commit or swap that runs goes straight to its end, as one does that was halted
 abbrev pub is_halted : Seat → Bool
 is_halted s = work_ends s.work
 
@@ -107,8 +113,14 @@ abbrev pub stage_left : Stage → ℕ
 stage_left (Own h step) = own_left step
 stage_left _ = 0
 
+-- of a swap: its wake and the signals of 64 callers
+abbrev pub swap_left : SwapStep → ℕ
+swap_left (swap.Signal owed) = 64 - count_trailing_zeros 64 owed + 1
+swap_left _ = 66
+
 abbrev pub work_left : Work → ℕ
 work_left (work.Commit c) = stage_left c.stage
+work_left (work.Swap x) = swap_left x.step
 work_left _ = 1
 
 abbrev pub steps_left : Seat → ℕ

@@ -7,6 +7,7 @@ ghost use Rattle.kc_model.specs.declared.footprint.Seen.{Seen};
 ghost use Rattle.kc_model.specs.declared.footprint.TheConstants.{MOST};
 ghost use Rattle.kc_machine_words.specs.declared.words.Mode.{Mode};
 ghost use Rattle.kc_machine_words.specs.declared.words.Mode.TheVariants.{Light};
+ghost use Rattle.kc_machine_words.specs.declared.words.Mode.TheVariants as mode;
 ghost use Rattle.kc_machine_steps.specs.Lines.{lines_of};
 ghost use Rattle.kc_machine_steps.specs.declared.task.Task.{Task};
 ghost use Rattle.kc_machine_steps.specs.declared.task.Task.TheVariants as task;
@@ -22,7 +23,7 @@ ghost use Rattle.kc_machine_claims.specs.Histories.{ending};
 ghost use Rattle.kc_machine_claims.specs.Traces.{first_store};
 ghost use Rattle.kc_machine_traces.specs.Entries.{by};
 ghost use Rattle.kc_machine_traces.specs.Outcomes.{GainsAsTold};
-ghost use Rattle.kc_table_views.specs.Tasks.{FailureTaught, SuccessTaught};
+ghost use Rattle.kc_table_views.specs.Tasks.{FailureTaught, SuccessTaught, put_of};
 ghost use Rattle.kc_table_seats.specs.Tasks.{Does, Keeps, Saw};
 ghost use Rattle.kc_table_moves.specs.Views.{Learns, Ran, SeatView, Starts, Stepped, StepsTo, knows, opening_at_seat};
 ghost use Rattle.kc_table_seats.specs.Halts.{is_halted, may_halt, steps_left, task_may_halt, was_halted};
@@ -70,18 +71,25 @@ pub fn failures_teach_their_seat()
     ensures { (v w : SeatView) (i : ℕ) (f : Footprint) (m : Mode) → Does v (task.Commit f m) w → w.seat.told ≡ Some (told.Failed i) → FailureTaught f i (knows w) }
 {}
 
+/// A swap that was told it succeeded knows its entry, behind all that its seat knew before; one that was told it failed knows an entry
+/// that put its location from its read's version.
+pub fn swaps_teach_their_seat()
+    ensures succeeded { (v w : SeatView) (n : ℕ) (r : Seen) (after : ℕ) → Does v (task.Swap r after) w → w.seat.told ≡ Some (told.Succeeded n) → SuccessTaught v.number n (put_of r after) mode.All (knows v) (knows w) }
+    ensures failed { (v w : SeatView) (i : ℕ) (r : Seen) (after : ℕ) → Does v (task.Swap r after) w → w.seat.told ≡ Some (told.Failed i) → HasPut (knows w) r }
+{}
+
 /// The version from which a known entry put a location is past. So an entry that put from the version that a later look saw was not
 /// known before the look.
 pub fn what_was_put_has_passed()
     ensures { (v w : SeatView) (t : Task) (r : Seen) → Does v t w → HasPut (knows v) r → r.version < (ending (first_store (opening_at_seat v)) (knows v) r.loc.0).version }
 {}
 
-/// While a task runs, the seat does what the task asks: a look or a commit, which may be halted, or a hang or a leave.
+/// While a task runs, the seat does what the task asks: a look, a commit or a swap, which may be halted, or a hang or a leave.
 pub fn tasks_keep_their_kind()
     ensures { (v w : SeatView) (t : Task) → Does v t w → is_idle w.seat.work ≡ false → may_halt w.seat.work ≡ task_may_halt t }
 {}
 
-/// A halt ends the look or commit that runs, or sends it straight to its end.
+/// A halt ends the look, commit or swap that runs, or sends it straight to its end.
 pub fn halts_are_marked()
     ensures { (s : Seat) → may_halt s.work ≡ true → (is_idle (halted s).work ≡ true) ⊎ (is_halted (halted s) ≡ true) }
 {}

@@ -45,6 +45,7 @@ idle_is (work.Look l) e = absurd (cc)
 idle_is (work.Commit c) e = absurd (cc)
 idle_is (work.Hang h) e = absurd (cc)
 idle_is (work.Leave l) e = absurd (cc)
+idle_is (work.Swap l) e = absurd (cc)
 
 -- who begins no aid
 unbegun : (x : Stage) → aids x ≡ false → stage_begins x ≡ false

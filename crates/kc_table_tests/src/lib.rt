@@ -6,4 +6,6 @@ mod contending;
 #[cfg(test)]
 mod stopped;
 #[cfg(test)]
+mod swaps;
+#[cfg(test)]
 mod tests;

@@ -136,7 +136,7 @@ pub(crate) fn run(
 }
 
 // What a look in one call tells; None where a reference stands, or a task runs.
-fn see(table: &KcTable, seat: &mut KcSeat, loc: Loc) -> Option<Seen>
+pub(crate) fn see(table: &KcTable, seat: &mut KcSeat, loc: Loc) -> Option<Seen>
     requires table { seat.old.of ≡ table.now }
     requires location { loc.0 < seat.old.of.origin.locations }
     ensures same { IsSameSeat seat.old seat.new }
@@ -162,7 +162,7 @@ fn take(table: &KcTable, seat: &mut KcSeat) -> Option<(u32, u64)>
 }
 
 // Begins to hang on a read; false where a task runs.
-fn hang(seat: &mut KcSeat, read: Seen) -> bool
+pub(crate) fn hang(seat: &mut KcSeat, read: Seen) -> bool
     requires free { seat.old.seat.blocked ≡ false }
     requires location { read.loc.0 < seat.old.of.origin.locations }
     ensures same { IsSameSeat seat.old seat.new }

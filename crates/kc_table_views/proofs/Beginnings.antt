@@ -1,6 +1,8 @@
 -- What a seat begins says the task; and a task that was halted before its first step gives way to the next.
 use Rattle.std.proofs.Common.{◌≡◌, Bool, true, false, ℕ, List, [], ◌∷◌, None, refl, sym, ap, ◌∙◌, if◌then◌else◌}
 use Rattle.kc_machine_steps.specs.Looks.{halts_at_once}
+use Rattle.kc_machine_steps.specs.Swaps.{ends_at_once}
+use Rattle.kc_machine_steps.specs.declared.swap.SwapStep.TheVariants as swap
 use Rattle.kc_machine_words.specs.declared.words.Mode.{Mode}
 use Rattle.kc_machine_words.specs.declared.words.Mode.TheVariants.{All}
 use Rattle.kc_model.specs.declared.footprint.Loc.{Loc}
@@ -40,6 +42,7 @@ halted_bare s = go s.work
     go (work.Commit c) = either _ _ (unowned c.stage) refl refl
     go (work.Hang h) = refl
     go (work.Leave l) = refl
+    go (work.Swap x) = either _ _ (ends_at_once x.step) refl refl
 
 -- halts alone leave it
 halts_bare : (k : ℕ) (s : Seat) (es : List Event) → AllWait k es → BeginsNothing k es → bare (applied s es) ≡ bare s
@@ -60,6 +63,7 @@ begun_bare s t = go (is_idle s.work)
     at (task.Commit f m) = refl
     at (task.Hang reads) = hang s (hanging reads.items) s.blocked
     at (task.Leave reads) = refl
+    at (task.Swap r after) = refl
 
     go : (b : Bool) → bare (if b then begun_idle s t else s) ≡ bare s
     go true = at t
@@ -71,6 +75,7 @@ starts_as d (task.Look l) = work.Look (record { loc = l; halted = false; step = 
 starts_as d (task.Commit f m) = committing d m (lines_of f)
 starts_as d (task.Hang reads) = hanging reads.items
 starts_as d (task.Leave reads) = leaving reads.items
+starts_as d (task.Swap r after) = work.Swap (record { seen = r; after = after; step = swap.Exchange })
 
 -- all else of it is as it was
 abbrev started : Seat → Task → Seat
@@ -90,6 +95,7 @@ begun_is s t idle starts =
     at (task.Commit f m) q = refl
     at (task.Hang reads) q = hang reads.items s.blocked q
     at (task.Leave reads) q = refl
+    at (task.Swap r after) q = refl
 
 -- ---- halts behind a beginning
 
@@ -102,6 +108,7 @@ idle_halted s = go s.work
     go (work.Commit c) i = absurd (cc)
     go (work.Hang h) i = absurd (cc)
     go (work.Leave l) i = absurd (cc)
+    go (work.Swap l) i = absurd (cc)
 
 idle_stays : (k : ℕ) (s : Seat) (es : List Event) → AllWait k es → BeginsNothing k es → is_idle s.work ≡ true → is_idle (applied s es).work ≡ true
 idle_stays k s [] w n i = i
@@ -118,6 +125,7 @@ halts_nothing k s (task.Look l) (Halt j ∷ es) w n b = let i = idle_stays k (ha
 halts_nothing k s (task.Commit f m) (Halt j ∷ es) w n b = let i = idle_stays k (halted (started s (task.Commit f m))) es w.1 n refl in absurd (cc)
 halts_nothing k s (task.Hang reads) (Halt j ∷ es) w n b = halts_nothing k s (task.Hang reads) es w.1 n b
 halts_nothing k s (task.Leave reads) (Halt j ∷ es) w n b = halts_nothing k s (task.Leave reads) es w.1 n b
+halts_nothing k s (task.Swap r after) (Halt j ∷ es) w n b = let i = idle_stays k (halted (started s (task.Swap r after))) es w.1 n refl in absurd (cc)
 
 -- ---- a task that was halted at once gives way to the next
 
@@ -144,6 +152,7 @@ begun_again k s s' t u behind w n idle e idle' starts =
         let r : begun s' (task.Hang reads) ≡ begun_idle s' (task.Hang reads) = rw i refl in
         ap (λ (x : Seat). is_idle x.work) q ∙ free s'.blocked s.blocked reads.items b (ap (λ (x : Seat). is_idle x.work) (sym r) ∙ st) i
     go (task.Leave reads) q b st i = ap (λ (x : Seat). is_idle x.work) q
+    go (task.Swap r after) q b st i = ap (λ (x : Seat). is_idle x.work) q
 
 -- ---- what is begun says the task
 
@@ -164,11 +173,16 @@ reads_in (work.Hang h) = h.reads.items
 reads_in (work.Leave l) = l.reads.items
 reads_in _ = []
 
+abbrev swap_in : Work → Task
+swap_in (work.Swap x) = task.Swap x.seen x.after
+swap_in _ = task.Look (record { 0 = 0 })
+
 same_task : (a b n : ℕ) (t u : Task) → starts_as a t ≡ starts_as b u → IsWellMadeTask n t → IsWellMadeTask n u → t ≡ u
 same_task a b n (task.Look l) (task.Look j) e v w = ap task.Look (ap loc_in e)
 same_task a b n (task.Look l) (task.Commit f m) e v w = absurd (cc)
 same_task a b n (task.Look l) (task.Hang reads) e v w = absurd (cc)
 same_task a b n (task.Look l) (task.Leave reads) e v w = absurd (cc)
+same_task a b n (task.Look l) (task.Swap r after) e v w = absurd (cc)
 same_task a b n (task.Commit g p) (task.Look j) e v w = absurd (cc)
 same_task a b n (task.Commit g p) (task.Commit f m) e v w =
     let q : g ≡ f = sym (lines_say g v.0) ∙ ap footprint_of (ap lines_in e) ∙ lines_say f w.0 in
@@ -176,14 +190,22 @@ same_task a b n (task.Commit g p) (task.Commit f m) e v w =
     λ i. task.Commit (q i) (r i)
 same_task a b n (task.Commit g p) (task.Hang reads) e v w = absurd (cc)
 same_task a b n (task.Commit g p) (task.Leave reads) e v w = absurd (cc)
+same_task a b n (task.Commit g p) (task.Swap r after) e v w = absurd (cc)
 same_task a b n (task.Hang xs) (task.Look j) e v w = absurd (cc)
 same_task a b n (task.Hang xs) (task.Commit f m) e v w = absurd (cc)
 same_task a b n (task.Hang xs) (task.Hang reads) e v w = let q : xs.items ≡ reads.items = ap reads_in e in λ i. task.Hang (record { items = q i })
 same_task a b n (task.Hang xs) (task.Leave reads) e v w = absurd (cc)
+same_task a b n (task.Hang xs) (task.Swap r after) e v w = absurd (cc)
 same_task a b n (task.Leave xs) (task.Look j) e v w = absurd (cc)
 same_task a b n (task.Leave xs) (task.Commit f m) e v w = absurd (cc)
 same_task a b n (task.Leave xs) (task.Hang reads) e v w = absurd (cc)
 same_task a b n (task.Leave xs) (task.Leave reads) e v w = let q : xs.items ≡ reads.items = ap reads_in e in λ i. task.Leave (record { items = q i })
+same_task a b n (task.Leave xs) (task.Swap r after) e v w = absurd (cc)
+same_task a b n (task.Swap x y) (task.Look j) e v w = absurd (cc)
+same_task a b n (task.Swap x y) (task.Commit f m) e v w = absurd (cc)
+same_task a b n (task.Swap x y) (task.Hang reads) e v w = absurd (cc)
+same_task a b n (task.Swap x y) (task.Leave reads) e v w = absurd (cc)
+same_task a b n (task.Swap x y) (task.Swap r after) e v w = ap swap_in e
 
 -- so a seat that stands as if it had begun t has begun t
 pub begun_says : (k n : ℕ) (s s' : Seat) (t u : Task) (behind : List Event) → AllWait k behind → BeginsNothing k behind → IsWellMadeTask n t → IsWellMadeTask n u
@@ -200,3 +222,4 @@ begun_says k n s s' t u behind w m v x idle starts idle' starts' e =
     busy (task.Commit f m) = refl
     busy (task.Hang reads) = refl
     busy (task.Leave reads) = refl
+    busy (task.Swap r after) = refl

@@ -27,7 +27,7 @@ use Rattle.kc_machine_honest.proofs.Legal.{legal}
 use Rattle.kc_machine_passes.proofs.Always.{references_held}
 use Rattle.kc_machine_resolving.proofs.Growing.{grow}
 use Rattle.kc_machine_resolving.proofs.Resolving.{words_resolve}
-use Rattle.kc_machine_traces.proofs.Entries.{history_grows, by_inserted, entries_of_callers}
+use Rattle.kc_machine_traces.proofs.Entries.{history_grows, by_inserted, entries_of_callers, swapper}
 use Rattle.kc_machine_traces.proofs.Known.{known_stays, versions_rise}
 use Rattle.kc_machine_traces.proofs.Others.{others_leave, run_shape}
 use Rattle.kc_machine_traces.specs.Entries.{by}
@@ -53,6 +53,7 @@ begins_later o past more m (Begin k (task.Commit f mode)) b = λ r c. known_on o
 begins_later o past more m (Begin k (task.Look l)) b = b
 begins_later o past more m (Begin k (task.Hang reads)) b = b
 begins_later o past more m (Begin k (task.Leave reads)) b = b
+begins_later o past more m (Begin k (task.Swap r after)) b = known_on o past more m r b
 begins_later o past more m (Step k) b = b
 begins_later o past more m (Halt k) b = b
 
@@ -70,6 +71,7 @@ owns_on s work.Idle e o = absurd (cc)
 owns_on s (work.Look l) e o = absurd (cc)
 owns_on s (work.Hang h) e o = absurd (cc)
 owns_on s (work.Leave l) e o = absurd (cc)
+owns_on s (work.Swap l) e o = absurd (cc)
 owns_on s (work.Commit c) (Begin j t) o = o
 owns_on s (work.Commit c) (Step j) o = o
 owns_on s (work.Commit c) (Halt j) o = go c.stage o
@@ -93,6 +95,7 @@ owned_none s es i = go (is_some (own_of s)) refl
     idle_owns (work.Commit c) i = absurd (cc)
     idle_owns (work.Hang h) i = absurd (cc)
     idle_owns (work.Leave l) i = absurd (cc)
+    idle_owns (work.Swap l) i = absurd (cc)
 
     go : (b : Bool) → is_some (own_of s) ≡ b → is_some (own_of s) ≡ false
     go true e = let a = owns_through s es e in let b = idle_owns (applied s es).work i in absurd (cc)
@@ -117,6 +120,7 @@ no_hold s d g = go s.work
     go (work.Commit c) o q = stages c c.stage o q
     go (work.Hang h) o q = hang_steps h.reads.items h.step q
     go (work.Leave l) o q = absurd (cc)
+    go (work.Swap l) o q = absurd (cc)
 
 -- a seat that owns none gains no entry by what others do
 pub gains_none : (o : Opening) (es more : List Event) (k : ℕ) → is_some (own_of ((run o es).seats k)) ≡ false → NoneOf k more → by k (known o (es ++ more)) ≡ by k (known o es)
@@ -125,7 +129,8 @@ gains_none o es (e ∷ more) k i n =
     let at = others_leave o es (e ∷ []) k (n.0, tt) in
     let r = gains_none o (es ++ e ∷ []) more k (ap (λ (s : Seat). is_some (own_of s)) at ∙ i) n.1 in
     let one = history_grows o es (λ h. by k h ≡ by k (known o es)) e refl
-    (λ x n. by_inserted k x _ (λ q. no_hold ((run o es).seats k) n.descriptor n.generation i (subst (λ c. own_hold (stand ((run o es).seats c)).own ≡ Proper n.descriptor n.generation) q n.owns))) in
+    (λ x n. by_inserted k x _ (λ q. no_hold ((run o es).seats k) n.descriptor n.generation i (subst (λ c. own_hold (stand ((run o es).seats c)).own ≡ Proper n.descriptor n.generation) q n.owns)))
+    (λ x d. by_inserted k x _ (λ q. n.0 (sym (swapper o es e x d) ∙ q))) in
     ap (λ x. by k (known o x)) (sym (append_assoc es (e ∷ []) more)) ∙ r ∙ one
 
 pub knows_a_part : (o : Opening) (es past : List Event) (k : ℕ) → IsMeant o es → OwnsNone o k past → GoesOn k past es → KnowsAPart k (known o es) (known o past)
@@ -159,6 +164,7 @@ owes_none s h j = go s.work
     go (work.Commit c) o q = stages c c.stage o q
     go (work.Hang g) o q = hang_steps g.reads.items g.step q
     go (work.Leave l) o q = ⊎_elim (λ x. x) (⊎_elim (λ x. x) (λ x. x)) q
+    go (work.Swap l) o q = ⊎_elim (λ x. x) (⊎_elim (λ x. x) (λ x. x)) q
 
 pub plain_words : (o : Opening) (es : List Event) → IsMeant o es → ((k : ℕ) → k < o.callers → OwnsNone o k es) → (l : ℕ) → l < o.locations
     → (run o es).world.word l ≡ Plain (ending (first_store o) (known o es) l).version (ending (first_store o) (known o es) l).value

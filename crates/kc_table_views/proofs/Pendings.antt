@@ -11,6 +11,7 @@ use Rattle.kc_machine_steps.specs.declared.task.Event.{Event}
 use Rattle.kc_machine_steps.specs.declared.task.Event.TheVariants.{Begin, Step, Halt}
 use Rattle.kc_machine_traces.proofs.Joins.{run-append}
 use Rattle.kc_machine_traces.proofs.Others.{run_shape, event_in, words_stay, history_stays, words_kept}
+use Rattle.kc_machine_traces.proofs.Swapping.{takes_no_other}
 use Rattle.kc_machine_traces.specs.Moments.{BeginsNothing}
 use Rattle.kc_machine_traces.specs.Parts.{NoneOf, IsNoStep}
 use Rattle.kc_model.specs.Store.{Store}
@@ -114,11 +115,11 @@ waits_seat o es pending k l w = ap (λ (x : State). x.seats k) (run-append o es 
 pub honest_waits : (s : Store) (t : Trace) (k : ℕ) (es : List Event) → AllWait k es → HonestAt s t.history es → IsHonestFrom s t es
 honest_waits s t k [] w h = tt
 honest_waits s t k (Begin j u ∷ es) w h =
-    let same = history_stays t (Begin j u) (words_stay t.machine (Begin j u) tt) in
+    let same = history_stays t (Begin j u) (words_stay t.machine (Begin j u) tt) (takes_no_other t.machine (Begin j u) tt) in
     (h.0, honest_waits s (traced t (Begin j u)) k es w.1 (subst (λ x. HonestAt s x es) (sym same) h.1))
 honest_waits s t k (Step j ∷ es) w h = absurd w
 honest_waits s t k (Halt j ∷ es) w h =
-    let same = history_stays t (Halt j) (words_stay t.machine (Halt j) tt) in
+    let same = history_stays t (Halt j) (words_stay t.machine (Halt j) tt) (takes_no_other t.machine (Halt j) tt) in
     (h.0, honest_waits s (traced t (Halt j)) k es w.1 (subst (λ x. HonestAt s x es) (sym same) h.1))
 
 pub honest_later : (s : Store) (a b : History) (es : List Event) → ((e : Event) → BeginsHonestly s a e → BeginsHonestly s b e) → HonestAt s a es → HonestAt s b es

@@ -3,6 +3,7 @@ use Rattle.std.proofs.Common.{◌≡◌, ◌<◌, ◌≤◌, ℕ, List, Some, tr
 use Rattle.kc_machine_steps.specs.declared.task.Event.{Event}
 use Rattle.kc_machine_steps.specs.declared.task.Task.{Task}
 use Rattle.kc_machine_words.specs.declared.words.Mode.{Mode}
+use Rattle.kc_machine_words.specs.declared.words.Mode.TheVariants as mode
 use Rattle.kc_model.specs.declared.footprint.Footprint.{Footprint}
 use Rattle.kc_model.specs.declared.footprint.Loc.{Loc}
 use Rattle.kc_model.specs.declared.footprint.Seen.{Seen}
@@ -10,17 +11,18 @@ use Rattle.kc_machine_steps.specs.declared.task.Task.TheVariants as task
 use Rattle.kc_machine_steps.specs.declared.task.Told.TheVariants as told
 use Rattle.kc_machine.specs.Machine.{Opening, run}
 use Rattle.kc_machine.specs.Seats.{is_idle}
+use Rattle.kc_machine_claims.specs.Claims.{HasPut}
 use Rattle.kc_machine_claims.specs.Histories.{Placed, ending}
 use Rattle.kc_machine_claims.specs.Traces.{Moment, trace, first_store}
-use Rattle.kc_machine_histories.proofs.Successes.{successes_have_entries}
-use Rattle.kc_machine_honest.proofs.Put.{causes}
+use Rattle.kc_machine_histories.proofs.Successes.{successes_have_entries, swaps_have_entries}
+use Rattle.kc_machine_honest.proofs.Put.{causes, swap_causes}
 use Rattle.kc_machine_looks.proofs.Stood.{answers_promised}
 use Rattle.kc_machine_traces.proofs.Answers.{task_stands}
 use Rattle.kc_machine_traces.proofs.Outcomes.{gains_as_told}
 use Rattle.kc_machine_traces.specs.Entries.{by}
 use Rattle.kc_machine_traces.specs.Outcomes.{GainsAsTold}
 use Rattle.kc_table_views.specs.Known.{known}
-use Rattle.kc_table_views.specs.Tasks.{ran, Runs, LookTaught, FailureTaught, SuccessTaught}
+use Rattle.kc_table_views.specs.Tasks.{ran, Runs, LookTaught, FailureTaught, SuccessTaught, put_of}
 
 -- the shadow names the task and what was known as it began
 begun_is : (o : Opening) (k : ℕ) (t : Task) (before rest : List Event) → Runs o k t before rest → ((trace o (ran k t before rest)).shadows k).begun ≡ record { clock = length before; history = known o before }
@@ -49,3 +51,14 @@ success_taught o k n f m before rest x said =
 pub own_as_told : (o : Opening) (k : ℕ) (t : Task) (before rest : List Event) → Runs o k t before rest → is_idle ((run o (ran k t before rest)).seats k).work ≡ true
     → GainsAsTold k t ((run o (ran k t before rest)).seats k).told (by k (known o before)) (by k (known o (ran k t before rest)))
 own_as_told o k t before rest x i = gains_as_told o k x.within before rest t x.idle x.starts x.nothing_else i
+
+pub swap_failure_taught : (o : Opening) (k i : ℕ) (r : Seen) (after : ℕ) (before rest : List Event) → Runs o k (task.Swap r after) before rest
+    → ((run o (ran k (task.Swap r after) before rest)).seats k).told ≡ Some (told.Failed i) → HasPut (known o (ran k (task.Swap r after) before rest)) r
+swap_failure_taught o k i r after before rest x said = swap_causes o (ran k (task.Swap r after) before rest) x.meant.0 x.meant.1 k i r after x.within (task_is o k (task.Swap r after) before rest x) said
+
+pub swap_success_taught : (o : Opening) (k n : ℕ) (r : Seen) (after : ℕ) (before rest : List Event) → Runs o k (task.Swap r after) before rest
+    → ((run o (ran k (task.Swap r after) before rest)).seats k).told ≡ Some (told.Succeeded n)
+    → SuccessTaught k n (put_of r after) mode.All (known o before) (known o (ran k (task.Swap r after) before rest))
+swap_success_taught o k n r after before rest x said =
+    let s = swaps_have_entries o (ran k (task.Swap r after) before rest) x.meant.0 k n r after x.within (task_is o k (task.Swap r after) before rest x) said in
+    record { place = s.0; entry = s.1; behind = subst (λ (y : Moment). All (λ (z : Placed). z.place < s.0) y.history) (begun_is o k (task.Swap r after) before rest x) s.2 }

@@ -1,10 +1,10 @@
 -- What a seat that has run a task knows by it.
-use Rattle.std.specs.Prelude.{◌≡◌, ℕ, ◌<◌, ◌≤◌, List, ◌∷◌, ◌++◌, true, false, Some, All, Contains, slice_get}
+use Rattle.std.specs.Prelude.{◌≡◌, ℕ, ◌<◌, ◌≤◌, List, [], ◌∷◌, ◌++◌, true, false, Some, All, Contains, slice_get}
 use Rattle.kc_machine.specs.Machine.{Opening, run}
 use Rattle.kc_machine.specs.Seats.{is_idle, begun}
 use Rattle.kc_machine_claims.specs.Claims.{HasPut}
-use Rattle.kc_machine_claims.specs.Histories.{History, Placed, IsKnown, ending}
-use Rattle.kc_machine_claims.specs.Traces.{first_store}
+use Rattle.kc_machine_claims.specs.Histories.{History, Placed, IsKnown, ending, footprint_of}
+use Rattle.kc_machine_claims.specs.Traces.{first_store, swap_line}
 use Rattle.kc_machine_steps.specs.declared.task.Event.{Event}
 use Rattle.kc_machine_steps.specs.declared.task.Event.TheVariants.{Begin}
 use Rattle.kc_machine_steps.specs.declared.task.Task.{Task}
@@ -42,3 +42,7 @@ pub record SuccessTaught (k n : ℕ) (f : Footprint) (m : Mode) (before past : H
   pub place : ℕ
   pub entry : Contains past (record { place = place; mode = m; entry = record { caller = k; number = n; footprint = f } })
   pub behind : All (λ (x : Placed). x.place < place) before
+
+-- what a swap reads and puts
+abbrev pub put_of : Seen → ℕ → Footprint
+put_of r after = footprint_of (swap_line r after ∷ [])

@@ -5,6 +5,8 @@ ghost use Rattle.kc_model.specs.declared.footprint.Footprint.{Footprint};
 ghost use Rattle.kc_model.specs.declared.footprint.Loc.{Loc};
 ghost use Rattle.kc_model.specs.declared.footprint.Seen.{Seen};
 ghost use Rattle.kc_machine_words.specs.declared.words.Mode.{Mode};
+ghost use Rattle.kc_machine_words.specs.declared.words.Mode.TheVariants as mode;
+ghost use Rattle.kc_machine_claims.specs.Claims.{HasPut};
 ghost use Rattle.kc_machine_steps.specs.declared.task.Event.{Event};
 ghost use Rattle.kc_machine_steps.specs.declared.task.Task.{Task};
 ghost use Rattle.kc_machine_steps.specs.declared.task.Task.TheVariants as task;
@@ -20,7 +22,7 @@ ghost use Rattle.kc_machine_traces.specs.Outcomes.{GainsAsTold};
 ghost use Rattle.kc_table_views.specs.Pending.{BeginsOne, Pends};
 ghost use Rattle.kc_table_views.specs.Known.{GoesOn, IsMeant, IsWhole, KnowsAPart, OwnsNone, known};
 ghost use Rattle.kc_model.specs.declared.word.Word.TheVariants.{Plain};
-ghost use Rattle.kc_table_views.specs.Tasks.{FailureTaught, LookTaught, Runs, SuccessTaught, ran};
+ghost use Rattle.kc_table_views.specs.Tasks.{FailureTaught, LookTaught, Runs, SuccessTaught, put_of, ran};
 ghost use Rattle.std.specs.Prelude.{Bool};
 
 /// What is known stays known as a schedule goes on: the list grows, each known read stays known, and no version falls.
@@ -51,6 +53,15 @@ pub fn commits_that_fail_know_why()
 pub fn commits_that_succeed_know_their_entry()
     ensures { (o : Opening) (k n : ℕ) (f : Footprint) (m : Mode) (before rest : List Event) → Runs o k (task.Commit f m) before rest
         → ((run o (ran k (task.Commit f m) before rest)).seats k).told ≡ Some (told.Succeeded n) → SuccessTaught k n f m (known o before) (known o (ran k (task.Commit f m) before rest)) }
+{}
+
+/// A swap that was told it failed knows an entry that put its location from its read's version; one that was told it succeeded knows its
+/// entry, behind all that was known as it began.
+pub fn swaps_know_why()
+    ensures failed { (o : Opening) (k i : ℕ) (r : Seen) (after : ℕ) (before rest : List Event) → Runs o k (task.Swap r after) before rest
+        → ((run o (ran k (task.Swap r after) before rest)).seats k).told ≡ Some (told.Failed i) → HasPut (known o (ran k (task.Swap r after) before rest)) r }
+    ensures succeeded { (o : Opening) (k n : ℕ) (r : Seen) (after : ℕ) (before rest : List Event) → Runs o k (task.Swap r after) before rest
+        → ((run o (ran k (task.Swap r after) before rest)).seats k).told ≡ Some (told.Succeeded n) → SuccessTaught k n (put_of r after) mode.All (known o before) (known o (ran k (task.Swap r after) before rest)) }
 {}
 
 /// Of its own entries a seat that has run a task to its end knows that of the task's call more, where it was told that it succeeded,

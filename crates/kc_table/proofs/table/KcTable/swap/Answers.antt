@@ -1,0 +1,42 @@
+use Rattle.std.proofs.Common.{◌∙◌, ap, sym}
+use Rattle.kc_machine.specs.Seats.{answer_of, is_idle}
+use Rattle.kc_machine_steps.specs.Swaps.{may_swap}
+use Rattle.kc_machine_steps.specs.declared.task.Task.TheVariants as task
+use Rattle.kc_machine_words.specs.declared.access.Found.TheVariants as found
+use Rattle.kc_table.proofs.Begins.{ready_begun}
+use Rattle.kc_table.proofs.Swapping.{puts_seen, second, swap_busy, told_at_once, told_behind}
+use Rattle.kc_table_moves.specs.Views.{SeatView, Starts}
+use Rattle.kc_table.proofs.table.KcTable.swap.Goals as goal
+
+pub try_word-number-requires-clause-ready : goal.try_word-number-requires-clause-ready
+try_word-number-requires-clause-ready c =
+    let s = c.seat.inside.machine in
+    let t = task.Swap c.args.seen c.args.after in
+    let idle = ap (λ (v : SeatView). is_idle v.seat.work) c.seat.view_is ∙ c.requires.idle in
+    let starts : Starts c.args.seat.now t = (c.requires.idle, swap_busy c.args.seat.now.seat c.args.seen c.args.after c.requires.idle) in
+    (swap_busy s c.args.seen c.args.after idle, ready_begun c.seat.inside.token.me c.seat.inside.began s c.seat.inside.token.table_id c.args.seat.now t c.seat.invariant c.seat.view_is starts c.requires.made c.requires.known)
+
+pub returns-then-not-puts-clause-ran : goal.returns-then-not-puts-clause-ran
+returns-then-not-puts-clause-ran c =
+    let s = c.seat.inside.machine in
+    let idle = ap (λ (v : SeatView). is_idle v.seat.work) c.seat.view_is ∙ c.requires.idle in
+    told_at_once s c.args.seen c.args.after idle c.seat.inside.token.me c.try_word-number.new.token.me c.try_word-number.result c.unpack-now.result c.try_word-number.ensures.moved c.unpack-now.ensures.back
+    c.seat.inside.token.table_id c.try_word-number.new.token.table_id c.try_word-number.ensures.table c.seat.inside.began c.args.seat.now c.tell.new.seat c.seat.view_is c.tell.ensures
+
+pub returns-then-owed-eq0-clause-ran : goal.returns-then-owed-eq0-clause-ran
+returns-then-owed-eq0-clause-ran c =
+    let s = c.seat.inside.machine in
+    let idle = ap (λ (v : SeatView). is_idle v.seat.work) c.seat.view_is ∙ c.requires.idle in
+    let put = puts_seen c.calls.result c.args.seen c.unpack-now.result (sym c.puts.ensures ∙ c.if-not-puts.false) in
+    told_behind s c.args.seen c.args.after idle (ap may_swap (sym c.calls.ensures) ∙ put.1) c.try_word-number.new.token.me c.wake-owed.new.token.me c.wake-owed.result c.wake-owed.ensures.moved
+    c.seat.inside.token.table_id c.try_word-number.new.token.table_id c.wake-owed.new.token.table_id c.seat.inside.token.me c.try_word-number.result c.seat.inside.began c.args.seat.now c.end_swap.new.seat
+    c.try_word-number.ensures.table c.wake-owed.ensures.table c.try_word-number.ensures.moved (λ w p e. sym put.0 ∙ c.unpack-now.ensures.back w p e) c.seat.view_is (c.end_swap.ensures ∙ ap (λ n. answer_of (second s c.args.seen c.args.after idle) (found.Callers n)) (sym c.if-owed-eq0.true))
+
+pub returns-else-owed-eq0-clause-ran : goal.returns-else-owed-eq0-clause-ran
+returns-else-owed-eq0-clause-ran c =
+    let s = c.seat.inside.machine in
+    let idle = ap (λ (v : SeatView). is_idle v.seat.work) c.seat.view_is ∙ c.requires.idle in
+    let put = puts_seen c.calls.result c.args.seen c.unpack-now.result (sym c.puts.ensures ∙ c.if-not-puts.false) in
+    told_behind s c.args.seen c.args.after idle (ap may_swap (sym c.calls.ensures) ∙ put.1) c.try_word-number.new.token.me c.wake-owed.new.token.me c.wake-owed.result c.wake-owed.ensures.moved
+    c.seat.inside.token.table_id c.try_word-number.new.token.table_id c.wake-owed.new.token.table_id c.seat.inside.token.me c.try_word-number.result c.seat.inside.began c.args.seat.now c.owe.new.seat
+    c.try_word-number.ensures.table c.wake-owed.ensures.table c.try_word-number.ensures.moved (λ w p e. sym put.0 ∙ c.unpack-now.ensures.back w p e) c.seat.view_is c.owe.ensures

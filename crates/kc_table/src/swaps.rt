@@ -1,0 +1,208 @@
+//! A swap in one call: one exchange, and a wake. The seat is written once.
+
+ghost use Rattle.std.specs.Prelude.{◌≡◌, ◌⊎◌, ◌<◌, ℕ, false, true};
+ghost use Rattle.kc_model.specs.Word.{packed};
+ghost use Rattle.kc_model.specs.declared.footprint.TheConstants.{LAST_VERSION};
+ghost use Rattle.kc_model.specs.declared.word.Word.TheVariants.{Plain};
+ghost use Rattle.kc_machine_words.specs.declared.access.Found.TheVariants as found;
+ghost use Rattle.kc_machine_steps.specs.Swaps.{may_swap, seen_word, word_after};
+ghost use Rattle.kc_machine_steps.specs.declared.task.Task.TheVariants as task;
+ghost use Rattle.kc_machine.specs.Schedules.{IsWellMadeTask};
+ghost use Rattle.kc_machine.specs.Seats.{answer_of, begun, is_idle};
+ghost use Rattle.kc_table_layout.specs.Cells.{place};
+ghost use Rattle.kc_table_layout.specs.Cells.Cell.{word};
+ghost use Rattle.kc_table_layout.specs.declared.change.Change.TheVariants as change;
+ghost use Rattle.kc_table_moves.specs.Atoms.{Aims, Here, leaves};
+ghost use Rattle.kc_table_moves.specs.Rule.{Moved, Ready};
+ghost use Rattle.kc_table_moves.specs.Views.{KnowsReads, Ran};
+ghost use Rattle.kc_table.specs.Swaps.{OwesSignals, puts};
+
+use crate::seat::KcSeat;
+use crate::table::KcTable;
+use kc_machine::Seat;
+use kc_machine_steps::{MOST_SWAPS, Task, Told, one_more};
+use kc_machine_words::Found;
+use kc_model::{Seen, Word};
+use kc_table_layout::{awaiters_at, base_at, location_at};
+use kc_table_moves::{Asks, Now, Token, Words, clear, exchange, load};
+use std::marker::Brand;
+
+impl KcTable {
+    /// Puts a value at a location by one exchange, where the word that was seen stands there, and wakes who awaits it. The
+    /// seat is told that it succeeded; or Failed, where another value stands there; or Crossed, where a reference does.
+    /// From `MOST_SWAPS` calls on it only looks, and is told Crossed where it would have put. It stops short only where it
+    /// has to signal somebody; from there it goes on by `step` until the seat is told.
+    pub fn swap(&self, seat: &mut KcSeat, seen: Seen, after: u32)
+        requires table { seat.old.of ≡ self.now }
+        requires idle { is_idle seat.old.seat.work ≡ true }
+        requires made { IsWellMadeTask seat.old.of.origin.locations (task.Swap seen after) }
+        requires known { KnowsReads seat.old (task.Swap seen after) }
+        ensures ran { Ran seat.old (task.Swap seen after) seat.new }
+        ensures onward { (is_idle seat.new.seat.work ≡ true) ⊎ OwesSignals seat.new.seat }
+    {
+        let words = &self.table.shared;
+        let base = base_at(self.locations);
+        let at = location_at(seen.loc);
+        let number = try_word::<Brand>(
+            words,
+            &mut seat.token,
+            &seat.machine,
+            seen,
+            after,
+            base,
+            at,
+        );
+        let now = Word::unpack(number);
+        seat.began = false;
+        if !puts(seat.machine.calls(), seen, now) {
+            tell(&mut seat.machine, seen, after, now);
+            return;
+        }
+        let at = awaiters_at(seen.loc);
+        let owed = wake::<Brand>(words, &mut seat.token, &seat.machine, seen, after, base, at);
+        if owed == 0 {
+            end_swap(&mut seat.machine, seen, after);
+        } else {
+            owe(&mut seat.machine, seen, after, owed);
+        }
+    }
+}
+
+// The values have the 32 bits of their type. It does nothing.
+#[inline(always)]
+fn ranged(seen: Seen, after: u32)
+    ensures value { seen.value < 4294967296 }
+    ensures after { after < 4294967296 }
+{}
+
+#[inline(always)]
+fn may_swap(calls: u64) -> bool
+    ensures { result ≡ may_swap calls }
+{
+    calls < MOST_SWAPS
+}
+
+// Whether a swap that finds this word puts its own.
+#[inline(always)]
+fn puts(calls: u64, seen: Seen, now: Word) -> bool
+    ensures { result ≡ puts calls seen now }
+{
+    match now {
+        Word::Plain { version, value } => {
+            version == seen.version && value == seen.value && may_swap(calls)
+        }
+        Word::Ref { .. } => false,
+    }
+}
+
+// What was seen, as bits.
+#[inline(always)]
+fn bits_before(seen: Seen) -> u64
+    requires { seen.version < LAST_VERSION }
+    ensures { result ≡ packed (seen_word seen) }
+{
+    Word::Plain {
+        version: seen.version,
+        value: seen.value,
+    }
+    .pack()
+}
+
+// What is put, as bits.
+#[inline(always)]
+fn bits_after(seen: Seen, after: u32) -> u64
+    requires { seen.version < LAST_VERSION }
+    ensures { result ≡ packed (word_after seen after) }
+{
+    Word::Plain {
+        version: seen.version + 1,
+        value: after,
+    }
+    .pack()
+}
+
+// The exchange, or the look of who may swap no more. Of the seat only its calls are read.
+#[inline(always)]
+fn try_word<B: Now>(
+    words: &Words,
+    token: &mut Token,
+    seat: &Seat,
+    seen: Seen,
+    after: u32,
+    base: usize,
+    at: usize,
+) -> u64
+    requires here { Here words.now.key words.now.table_id base token.old.table_id token.old.me }
+    requires ready { (is_idle B.now.work ≡ false) × Ready token.old.me B.began B.now }
+    requires idle { is_idle seat.now.work ≡ true }
+    requires now { B.now ≡ begun seat.now (task.Swap seen after) }
+    requires below { seen.version < LAST_VERSION }
+    requires at { at ≡ place 0 (word seen.loc.0) }
+    ensures table { token.new.table_id ≡ token.old.table_id }
+    ensures moved { Moved B.now B.began token.old.me result token.new.me }
+{
+    ranged(seen, after);
+    if !may_swap(seat.calls()) {
+        return load::<B>(words, token, base, at);
+    }
+    let old = bits_before(seen);
+    let new = bits_after(seen, after);
+    exchange::<B>(words, token, base, at, old, new)
+}
+
+// Takes who awaits the location. What names the seat is not read.
+#[inline(always)]
+fn wake<B: Asks>(
+    words: &Words,
+    token: &mut Token,
+    _seat: &Seat,
+    _seen: Seen,
+    _after: u32,
+    base: usize,
+    at: usize,
+) -> u64
+    requires here { Here words.now.key words.now.table_id base token.old.table_id token.old.me }
+    requires ready { (is_idle B.now.work ≡ false) × Ready token.old.me B.began B.now }
+    requires aim { Aims words.now.key B.now at (change.Swap 0) }
+    requires takes { (n : ℕ) → B.takes n ≡ leaves B.now n }
+    ensures table { token.new.table_id ≡ token.old.table_id }
+    ensures moved { Moved B.now B.began token.old.me result token.new.me }
+{
+    clear::<B>(words, token, base, at)
+}
+
+// A swap that put nothing is told why.
+#[cold]
+#[inline(never)]
+fn tell(seat: &mut Seat, seen: Seen, after: u32, now: Word)
+    ensures { seat.new ≡ answer_of (begun seat.old (task.Swap seen after)) (found.Word now) }
+{
+    seat.begin(&Task::Swap { seen, after });
+    seat.answer(&Found::Word(now));
+}
+
+#[inline(always)]
+fn end_swap(seat: &mut Seat, seen: Seen, after: u32)
+    requires idle { is_idle seat.old.work ≡ true }
+    requires low { may_swap seat.old.calls ≡ true }
+    ensures { seat.new ≡ answer_of (answer_of (begun seat.old (task.Swap seen after)) (found.Word (seen_word seen))) (found.Callers 0) }
+{
+    let _ = after;
+    let made = one_more(one_more(seat.steps()));
+    let calls = one_more(seat.calls());
+    seat.end_with(made, calls, Told::Succeeded { number: calls });
+}
+
+// A swap that owes signals. Its task is large, and so stays out of the caller.
+#[cold]
+#[inline(never)]
+fn owe(seat: &mut Seat, seen: Seen, after: u32, owed: u64)
+    ensures { seat.new ≡ answer_of (answer_of (begun seat.old (task.Swap seen after)) (found.Word (seen_word seen))) (found.Callers owed) }
+{
+    seat.begin(&Task::Swap { seen, after });
+    seat.answer(&Found::Word(Word::Plain {
+        version: seen.version,
+        value: seen.value,
+    }));
+    seat.answer(&Found::Callers(owed));
+}

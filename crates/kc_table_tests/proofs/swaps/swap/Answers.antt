@@ -1,0 +1,6 @@
+use Rattle.kc_machine_steps.specs.declared.task.Task.TheVariants as task
+use Rattle.kc_table_seats.proofs.Running.{ran_same}
+use Rattle.kc_table_tests.proofs.swaps.swap.Goals as goal
+
+pub returns : goal.returns
+returns c = record { same = ran_same c.args.seat.now c.swap.new.seat (task.Swap c.args.seen c.args.after) c.swap.ensures.ran }
