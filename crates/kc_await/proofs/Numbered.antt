@@ -15,7 +15,7 @@ use Rattle.kc_store.proofs.Among.{in_filtered}
 use Rattle.kc_store.proofs.Gaining.{all_from, does_meant}
 use Rattle.kc_store.proofs.Within.{known_lie}
 use Rattle.kc_store.specs.Answers.{own_entries}
-use Rattle.kc_store.specs.Tries.{Commits, once, again, CommitsAfter, Did, Sees, Tries, look_of}
+use Rattle.kc_store.specs.Tries.{Commits, CommitsAfter, Did, Installs, Sees, Tries, again, behind_swap, by_install, by_swap, look_of, once}
 use Rattle.kc_store.specs.declared.verdict.Answered.{Answered}
 use Rattle.kc_store.specs.Within.{LiesIn}
 use Rattle.kc_table_moves.specs.Views.{SeatView, knows, opening_at_seat}
@@ -33,9 +33,14 @@ did_meant : (v w : SeatView) (t : Task) → Did v t w → MeansIt w
 did_meant v w t (inl d) = does_meant v w t d
 did_meant v w t (inr (u, d, e)) = subst MeansIt (sym e) (does_meant v u t d)
 
+installs_meant : (start v : SeatView) (f : Footprint) (a : Told) (w : SeatView) → Installs start f v a w → MeansIt w
+installs_meant start v f a w (once b x was e) = did_meant v w (task.Commit f mode.Light) was.did
+installs_meant start v f a w (again i u b x first was) = did_meant u w (task.Commit f mode.All) was.did
+
 commits_meant : (start v : SeatView) (f : Footprint) (a : Told) (w : SeatView) → Commits start f v a w → MeansIt w
-commits_meant start v f a w (once b x was e) = did_meant v w (task.Commit f mode.Light) was.did
-commits_meant start v f a w (again i u b x first was) = did_meant u w (task.Commit f mode.All) was.did
+commits_meant start v f a w (by_install b x was) = installs_meant start v f a w was
+commits_meant start v f a w (behind_swap r after i u b x is first was) = installs_meant start u f a w was
+commits_meant start v f a w (by_swap r after b x is was ends) = did_meant v w (task.Swap r after) was.did
 
 tries_meant : (m : Meaning) (f : Footprint) (v w : SeatView) → Tries m f v w → MeansIt w
 tries_meant m f v w t = go t.tried t.looked.made t.commits

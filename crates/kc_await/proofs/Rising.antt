@@ -1,5 +1,5 @@
 -- The numbers of a caller's own entries rise.
-use Rattle.std.proofs.Common.{arith, ◌≡◌, ◌≢◌, ◌<◌, ◌≤◌, ◌⊎◌, inl, inr, ℕ, ◌++◌, ◌==◌, ◌&&◌, Bool, true, false, not, List, [], ◌∷◌, Option, None, Some, refl, sym, ap, subst, ◌∙◌, if◌then◌else◌, cond}
+use Rattle.std.proofs.Common.{arith, ◌≡◌, ◌≢◌, ◌<◌, ◌≤◌, ◌⊎◌, inl, inr, ℕ, ◌++◌, ◌==◌, ◌&&◌, Bool, true, false, not, List, [], ◌∷◌, length, Option, None, Some, refl, sym, ap, subst, ◌∙◌, if◌then◌else◌, cond}
 use Rattle.std.specs.Prelude.{Contains, nat_lt}
 use Rattle.std.specs.List.{filter}
 use Rattle.std.specs.Option.{is_some}
@@ -7,7 +7,7 @@ use Rattle.std.proofs.lemmas.Bool.Decides.{nat_tests}
 use Rattle.std.proofs.lemmas.List.Elements.{All-contains}
 use borrow.Author.Tests.{eqb-true, eqb-false}
 use Rattle.kc_await.specs.Looks.{numbers}
-use Rattle.kc_machine.specs.Machine.{Opening, World, run}
+use Rattle.kc_machine.specs.Machine.{Opening, World, run, seat_of}
 use Rattle.kc_machine.specs.Schedules.{IsSchedule}
 use Rattle.kc_machine.specs.Seats.{is_idle}
 use Rattle.kc_machine.specs.Works.{Work}
@@ -29,7 +29,7 @@ use Rattle.kc_machine_histories.proofs.Begun.{entry_behind}
 use Rattle.kc_machine_histories.proofs.Decisions.{moves_by_decision}
 use Rattle.kc_machine_histories.proofs.Differ.{AreApart, SameCall, entries_apart}
 use Rattle.kc_machine_histories.proofs.Insertions.{filter_last}
-use Rattle.kc_machine_histories.proofs.Places.{begun_below, rises}
+use Rattle.kc_machine_histories.proofs.Places.{begun_below, below, rises}
 use Rattle.kc_machine_histories.proofs.Successes.{kept}
 use Rattle.kc_machine_histories.specs.Decisions.{Decision, MovesByDecision}
 use Rattle.kc_machine_histories.specs.Places.{began}
@@ -41,11 +41,14 @@ use Rattle.kc_machine_steps.specs.declared.line.Intent.{Intent}
 use Rattle.kc_machine_steps.specs.declared.task.Event.{Event}
 use Rattle.kc_machine_steps.specs.declared.task.Task.{Task}
 use Rattle.kc_machine_traces.proofs.Answers.{answers_when_done}
-use Rattle.kc_machine_traces.proofs.Entries.{by_inserted}
+use Rattle.kc_machine_traces.proofs.Entries.{by_inserted, swap_caller}
 use Rattle.kc_machine_traces.proofs.Joins.{every, made_parts}
 use Rattle.kc_machine_traces.proofs.Numbers.{numbers_fit}
 use Rattle.kc_machine_traces.proofs.Onward.{IfDone, SeatLeft, succeeded}
 use Rattle.kc_machine_traces.specs.Entries.{by}
+use Rattle.kc_machine_traces.specs.Swaps.{SwapOf}
+use Rattle.kc_machine_steps.specs.Lines.{one_more}
+use Rattle.kc_machine_steps.specs.declared.swap.TheConstants.{MOST_SWAPS}
 use Rattle.kc_machine_words.specs.declared.words.Handle.{Handle}
 use Rattle.kc_machine_words.specs.declared.words.Reference.{Reference}
 use Rattle.kc_machine_words.specs.declared.words.Status.{Status}
@@ -156,6 +159,7 @@ undone w k u s a b d g owns_it unsuccessful left = go s.work owns_it left
     go (work.Commit c) q l = staged c c.stage q l
     go (work.Hang y) q l = l
     go (work.Leave y) q l = l
+    go (work.Swap y) q l = unheld d g q
 
 -- ---- one event
 
@@ -172,6 +176,7 @@ busy_owner s d g q = go s.work q
     go (work.Commit c) q = refl
     go (work.Hang y) q = refl
     go (work.Leave y) q = refl
+    go (work.Swap y) q = refl
 
 module _ (o : Opening) (k : ℕ) (es : List Event) (e : Event) (w : IsSchedule o es) (x : Placed) (d : Decision o es e x) (mine : x.entry.caller ≡ k) where
   abbrev h : History
@@ -222,6 +227,33 @@ module _ (o : Opening) (k : ℕ) (es : List Event) (e : Event) (w : IsSchedule o
       let other : y.entry.number ≢ x.entry.number = λ q. new_call x h apart y c (mine ∙ sym of, sym q) in
       omega (arith, fits, same, other)
 
+-- a swap's entry stands behind all, and is of a new call
+module _ (o : Opening) (k : ℕ) (es : List Event) (e : Event) (x : Placed) (d : SwapOf (run o es) e (length es) x) (mine : x.entry.caller ≡ k) where
+  abbrev list : History
+  list = (trace o es).history
+
+  at_the_back : by k (inserted x list) ≡ by k list ++ x ∷ []
+  at_the_back = filter_last (λ (y : Placed). y.entry.caller == k) x list (rises o es) (grind (arith, nat_tests)) none_behind
+    where
+      none_behind : (y : Placed) → Contains list y → x.place < y.place → (y.entry.caller == k) ≡ false
+      none_behind y c above =
+          let low : y.place < length es = below o es y c in
+          let at : x.place ≡ length es = ap (λ (z : Placed). z.place) d.is in
+          absurd (omega (arith, low, at, above))
+
+  above : (y : Placed) → Contains (by k list) y → y.entry.number < x.entry.number
+  above y i =
+      let c = in_filtered (λ (z : Placed). z.entry.caller == k) list y i in
+      let of : y.entry.caller ≡ k = eqb-true y.entry.caller k (of_filtered (λ (z : Placed). z.entry.caller == k) list y i) in
+      let fits : y.entry.number ≤ ((run o es).seats y.entry.caller).calls = All-contains (λ z. z.entry.number ≤ ((run o es).seats z.entry.caller).calls) list y (numbers_fit o es) c in
+      let same : ((run o es).seats y.entry.caller).calls ≡ ((run o es).seats (seat_of e)).calls = ap (λ j. ((run o es).seats j).calls) (of ∙ sym mine ∙ swap_caller o es e (length es) x d) in
+      let next : x.entry.number ≡ one_more ((run o es).seats (seat_of e)).calls = ap (λ (z : Placed). z.entry.number) d.is in
+      let more = counts_up ((run o es).seats (seat_of e)).calls d.low in
+      omega (arith, fits, same, next, more)
+    where
+      counts_up : (n : ℕ) → n < MOST_SWAPS → n < one_more n
+      counts_up n l = let t : nat_lt n 18446744073709551615 ≡ true = grind (arith, nat_tests) in rw t (omega arith)
+
 -- ---- every schedule
 
 abbrev pub NumbersRise : Opening → ℕ → List Event → Type 0
@@ -245,6 +277,15 @@ numbers_rise o k = every (λ es. IsSchedule o es → NumbersRise o k es) step (�
             subst (λ h. IsRising (numbers (by k h))) (sym is) (subst (λ h. IsRising (numbers h)) (sym (at_the_end o k es e before x d mine))
             (rises_last (by k (trace o es).history) x (newer o k es e before x d mine apart) (f before)))
 
+        swapped : (x : Placed) → SwapOf (run o es) e (length es) x → (trace o (es ++ e ∷ [])).history ≡ inserted x (trace o es).history → (b : Bool) → (x.entry.caller == k) ≡ b → NumbersRise o k (es ++ e ∷ [])
+        swapped x d is false q =
+            subst (λ h. IsRising (numbers (by k h))) (sym is) (subst (λ h. IsRising (numbers h)) (sym (by_inserted k x (trace o es).history (eqb-false x.entry.caller k q))) (f before))
+        swapped x d is true q =
+            let mine = eqb-true x.entry.caller k q in
+            subst (λ h. IsRising (numbers (by k h))) (sym is) (subst (λ h. IsRising (numbers h)) (sym (at_the_back o k es e x d mine))
+            (rises_last (by k (trace o es).history) x (above o k es e x d mine) (f before)))
+
         go : MovesByDecision o es e → NumbersRise o k (es ++ e ∷ [])
         go (inl same) = subst (λ h. IsRising (numbers (by k h))) (sym same) (f before)
-        go (inr (x, d, is)) = entered x d is (x.entry.caller == k) refl
+        go (inr (inl (x, d, is))) = entered x d is (x.entry.caller == k) refl
+        go (inr (inr (x, d, is))) = swapped x d is (x.entry.caller == k) refl

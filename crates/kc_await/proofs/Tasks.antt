@@ -91,9 +91,11 @@ module _ (s : Seat) (reads : ArrayVec Seen) (w : SeatView) (shown : w.began ≡ 
   going f (work.Look l) same free = elim same [ ]
   going f (work.Commit c) same free = elim same [ ]
   going f (work.Leave l) same free = elim same [ ]
+  going f (work.Swap l) same free = elim same [ ]
 
   leaving : (f : Found) (x : Work) → RunsTask (task.Leave reads) x → Behind Leaving (answer_by s f x)
   leaving f (work.Leave l) same = leave_shows l (next_read l.step) (slice_get l.reads.items (next_read l.step)) same
+  leaving f (work.Swap l) same = elim same [ ]
   leaving f work.Idle same = elim same [ ]
   leaving f (work.Look l) same = elim same [ ]
   leaving f (work.Commit c) same = elim same [ ]

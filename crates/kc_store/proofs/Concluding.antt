@@ -23,6 +23,7 @@ use Rattle.kc_model.specs.declared.reply.Reply.{Reply}
 use Rattle.kc_store.proofs.Doing.{did_keeps}
 use Rattle.kc_store.proofs.Ending.{runs, tried_starts}
 use Rattle.kc_store.proofs.Gaining.{gains}
+use Rattle.kc_table_seats.proofs.Keeping.{success_known}
 use Rattle.kc_store.proofs.Seeing.{keeps_then}
 use Rattle.kc_store.specs.Alone.{EndsAlone}
 use Rattle.kc_store.specs.Answers.{Gains, own_entries, placed_entry}
@@ -168,7 +169,7 @@ module _ (m : Meaning) (a : Reply) (before : Footprint) (v : SeatView) (f : Foot
         none = (λ i. by (x.passes.keeps.number i) (x.passes.rests.knows i))
 
         gained : Gains v f w
-        gained = gains v u w z.0.0 f All x.passes.keeps none does y.idle z.0.1
+        gained = gains v u w z.0.0 f All (task.Commit f All) x.passes.keeps none does y.idle z.0.1 (success_known u w z.0.0 f All does z.0.1)
 
         entry : Placed
         entry = placed_entry gained.taught.place gained.mode v.number gained.number f

@@ -23,7 +23,7 @@ use Rattle.kc_store.proofs.Fitting.{known_fits}
 use Rattle.kc_store.proofs.Gaining.{does_meant}
 use Rattle.kc_store.proofs.Standing.{halts, is_tried, ran_stands}
 use Rattle.kc_store.specs.Steps.{steps_made}
-use Rattle.kc_store.specs.Works.{Ends, LooksAt, MayRun, Runs, Stands, commits, is_told_committing, is_told_looking, looks}
+use Rattle.kc_store.specs.Works.{Ends, LooksAt, MayRun, Runs, Stands, commits, is_told_committing, is_told_looking, is_told_swapping, looks, swaps}
 use Rattle.kc_table_moves.specs.Views.{SeatView, Starts, Stepped, opening_at_seat, Ran}
 use Rattle.kc_table_seats.proofs.Halting.{halt_sends}
 use Rattle.kc_table_seats.proofs.Keeping.{looks_saw}
@@ -74,6 +74,7 @@ tried_starts v t e idle = (idle, rw idle (busy t e))
     busy : (t : Task) → is_tried t ≡ true → is_idle (begun_idle v.seat t).work ≡ false
     busy (task.Look l) e = refl
     busy (task.Commit f m) e = refl
+    busy (task.Swap r y) e = refl
     busy (task.Hang reads) e = absurd (cc)
     busy (task.Leave reads) e = absurd (cc)
 
@@ -122,6 +123,7 @@ looking_told v w l r idle = go w.seat.work idle r.stands.in_task
     go (work.Commit y) i e = absurd (cc)
     go (work.Hang y) i e = absurd (cc)
     go (work.Leave y) i e = absurd (cc)
+    go (work.Swap y) i e = absurd (cc)
 
 pub committing_told : (v w : SeatView) (f : Footprint) (m : Mode) → Stands v (task.Commit f m) w → is_idle w.seat.work ≡ true → is_told_committing w.seat.told ≡ true
 committing_told v w f m s idle = go w.seat.work idle s.in_task
@@ -132,6 +134,18 @@ committing_told v w f m s idle = go w.seat.work idle s.in_task
     go (work.Commit y) i e = absurd (cc)
     go (work.Hang y) i e = absurd (cc)
     go (work.Leave y) i e = absurd (cc)
+    go (work.Swap y) i e = absurd (cc)
+
+pub swapping_told : (v w : SeatView) (r : Seen) (after : ℕ) → Stands v (task.Swap r after) w → is_idle w.seat.work ≡ true → is_told_swapping w.seat.told ≡ true
+swapping_told v w r after s idle = go w.seat.work idle s.in_task
+  where
+    go : (x : Work) → is_idle x ≡ true → swaps x w.seat.told ≡ true → is_told_swapping w.seat.told ≡ true
+    go work.Idle i e = e
+    go (work.Look y) i e = absurd (cc)
+    go (work.Commit y) i e = absurd (cc)
+    go (work.Hang y) i e = absurd (cc)
+    go (work.Leave y) i e = absurd (cc)
+    go (work.Swap y) i e = absurd (cc)
 
 -- what a look was told has its location, and a version that has room
 pub is_look : (v w : SeatView) (l : Loc) (r : Seen) → l.0 < v.of.origin.locations → Does v (task.Look l) w → w.seat.told ≡ Some (told.Seen r) → IsLook l.0 r

@@ -7,10 +7,11 @@ use Rattle.kc_machine_claims.specs.Claims.{HasPut}
 use Rattle.kc_machine_claims.specs.Histories.{History, Placed, RisesByPlace}
 use Rattle.kc_machine_histories.proofs.Filters.{found, got}
 use Rattle.kc_machine_histories.proofs.Places.{rises}
+use Rattle.kc_machine_steps.specs.declared.task.Task.{Task}
 use Rattle.kc_machine_steps.specs.declared.task.Task.TheVariants as task
 use Rattle.kc_machine_steps.specs.declared.task.Told.TheVariants as told
 use Rattle.kc_machine_traces.specs.Entries.{by}
-use Rattle.kc_machine_traces.specs.Outcomes.{GainsAsTold, GainsTheCall}
+use Rattle.kc_machine_traces.specs.Outcomes.{GainsAsTold, GainsTheCall, IsEntryOf}
 use Rattle.kc_machine_words.specs.declared.words.Mode.{Mode}
 use Rattle.kc_model.proofs.Stores.{Contains-first}
 use Rattle.kc_model.specs.Footprint.{IsWellMade, Reads}
@@ -22,11 +23,11 @@ use Rattle.kc_store.proofs.Among.{filtered_in, grows_in, in_filtered, place_befo
 use Rattle.kc_store.specs.Answers.{Gains, GainsNothing, WasOvertaken, own_entries, placed_entry}
 use Rattle.kc_table_moves.specs.Origins.{opening_of}
 use Rattle.kc_table_moves.specs.Views.{SeatView, knows, opening_at_seat}
-use Rattle.kc_table_seats.proofs.Keeping.{failure_known, own_known, success_known}
+use Rattle.kc_table_seats.proofs.Keeping.{own_known}
 use Rattle.kc_table_seats.specs.Tasks.{Does, Keeps}
 use Rattle.kc_table_views.proofs.Knowing.{whole}
 use Rattle.kc_table_views.specs.Known.{IsMeant, IsWhole, known}
-use Rattle.kc_table_views.specs.Tasks.{SuccessTaught}
+use Rattle.kc_table_views.specs.Tasks.{FailureTaught, SuccessTaught}
 
 -- what holds of the whole list that a seat knows
 pub does_meant : (v w : SeatView) (t : _) → Does v t w → IsMeant (opening_at_seat w) w.past
@@ -53,19 +54,24 @@ last_one k n t a b p m f g same r below = go g.back refl
         let at : g.entry.place ≡ p = ap (λ (x : Placed). x.place) same in
         absurd (omega (arith, low, high, at))
 
--- a commit that succeeded
-module _ (v c w : SeatView) (n : ℕ) (f : Footprint) (m : Mode) (keeps : Keeps v c) (none : own_entries c ≡ own_entries v) (d : Does c (task.Commit f m) w) (idle : is_idle w.seat.work ≡ true) (says : w.seat.told ≡ Some (told.Succeeded n)) where
+entry_is : (k n : ℕ) (t : Task) (x : Placed) → IsEntryOf k n t x → (x.entry.caller ≡ k) × (x.entry.number ≡ n)
+entry_is k n (task.Commit f m) x is = (ap (λ e. e.caller) is.1, ap (λ e. e.number) is.1)
+entry_is k n (task.Swap r after) x is = (ap (λ e. e.caller) is.1, ap (λ e. e.number) is.1)
+entry_is k n (task.Look l) x is = absurd is
+entry_is k n (task.Hang reads) x is = absurd is
+entry_is k n (task.Leave reads) x is = absurd is
+
+-- a task that was told it succeeded, and has its entry
+module _ (v c w : SeatView) (n : ℕ) (f : Footprint) (m : Mode) (t : Task) (keeps : Keeps v c) (none : own_entries c ≡ own_entries v) (d : Does c t w) (idle : is_idle w.seat.work ≡ true) (says : w.seat.told ≡ Some (told.Succeeded n))
+    (taught : SuccessTaught c.number n f m (knows c) (knows w)) where
   abbrev k : ℕ
   k = c.number
 
-  taught : SuccessTaught k n f m (knows c) (knows w)
-  taught = success_known c w n f m d says
-
-  gained : GainsTheCall k n (task.Commit f m) (own_entries c) (by k (knows w))
-  gained = subst (λ a. GainsAsTold k (task.Commit f m) a (own_entries c) (by k (knows w))) says (own_known c w (task.Commit f m) d idle)
+  gained : GainsTheCall k n t (own_entries c) (by k (knows w))
+  gained = subst (λ a. GainsAsTold k t a (own_entries c) (by k (knows w))) says (own_known c w t d idle)
 
   meant : IsMeant (opening_at_seat w) w.past
-  meant = does_meant c w (task.Commit f m) d
+  meant = does_meant c w t d
 
   all : IsWhole (opening_at_seat w) (knows w)
   all = whole (opening_at_seat w) w.past meant
@@ -80,12 +86,12 @@ module _ (v c w : SeatView) (n : ℕ) (f : Footprint) (m : Mode) (keeps : Keeps 
   one =
       let x = got (knows w) gained.entry (in_filtered (λ (x : Placed). x.entry.caller == k) (knows w) gained.entry in_own) in
       let y = got (knows w) mine taught.entry in
-      let e : x.0 ≡ y.0 = all.once x.0 y.0 gained.entry mine x.2 y.2 (ap (λ e. e.caller) gained.is.1) (ap (λ e. e.number) gained.is.1) in
+      let e : x.0 ≡ y.0 = all.once x.0 y.0 gained.entry mine x.2 y.2 (entry_is k n t gained.entry gained.is).0 (entry_is k n t gained.entry gained.is).1 in
       let s : Some gained.entry ≡ Some mine = sym x.2 ∙ ap (slice_get (knows w)) e ∙ y.2 in
       cc
 
   last : by k (knows w) ≡ own_entries c ++ mine ∷ []
-  last = last_one k n (task.Commit f m) (own_entries c) (by k (knows w)) taught.place m f gained one
+  last = last_one k n t (own_entries c) (by k (knows w)) taught.place m f gained one
       (rises_filtered (λ (x : Placed). x.entry.caller == k) (knows w) (rises (opening_at_seat w) w.past))
       (all_from (λ (x : Placed). x.place < taught.place) (own_entries c) (knows c) (λ x i. in_filtered (λ (y : Placed). y.entry.caller == k) (knows c) x i) taught.behind)
 
@@ -101,11 +107,11 @@ module _ (v c w : SeatView) (n : ℕ) (f : Footprint) (m : Mode) (keeps : Keeps 
     own = ap (λ j. by j (knows w)) d.number ∙ last ∙ (λ i. none i ++ placed_entry taught.place m (keeps.number i) n f ∷ []);
   }
 
--- a commit that failed at a read
-pub overtaken : (v c w : SeatView) (i : ℕ) (f : Footprint) (m : Mode) → ((r : Seen) → Reads f r → ¬ HasPut (knows v) r) → w.number ≡ v.number → GainsNothing v w → Does c (task.Commit f m) w → w.seat.told ≡ Some (told.Failed i)
+-- a task that was told it failed at a read
+pub overtaken : (v w : SeatView) (i : ℕ) (f : Footprint) → ((r : Seen) → Reads f r → ¬ HasPut (knows v) r) → w.number ≡ v.number → GainsNothing v w → FailureTaught f i (knows w)
     → (r : Seen) × (slice_get f.reads.items i ≡ Some r) × WasOvertaken v f r.loc.0 (r.version + 1) w
-overtaken v c w i f m unput same none d says =
-    let (r, at, (x, p, known, puts, there, ends)) = failure_known c w i f m d says in
+overtaken v w i f unput same none taught =
+    let (r, at, (x, p, known, puts, there, ends)) = taught in
     let reads : Reads f r = found f.reads.items i r at in
     let unknown : ¬ Contains (knows v) x = λ k. unput r reads (x, p, k, puts, there, ends) in (
       r,

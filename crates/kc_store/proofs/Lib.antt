@@ -17,3 +17,4 @@ pub mod LoneLooking
 pub mod LoneCommits
 pub mod Concluding
 pub mod Within
+mod Swapping

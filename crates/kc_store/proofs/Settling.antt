@@ -1,10 +1,12 @@
 -- From what came of looks and commits to what a try answers.
 use Rattle.std.proofs.Common.{◌≡◌, ◌≢◌, ◌<◌, ◌≤◌, true, false, ℕ, ◌+◌, ◌-◌, List, [], ◌∷◌, ◌++◌, Some, refl, sym, ap, ◌∙◌, arith, subst}
-use Rattle.std.specs.Prelude.{Contains, Err}
+use Rattle.std.specs.Prelude.{Contains, Err, slice_get}
+use borrow.Author.Tests.{eqb-true}
 use Rattle.kc_machine.specs.Seats.{is_idle}
 use Rattle.kc_machine_claims.specs.Claims.{HasPut}
 use Rattle.kc_machine_claims.specs.Histories.{IsKnown}
 use Rattle.kc_machine_claims.specs.Traces.{first_store}
+use Rattle.kc_machine_steps.specs.declared.task.Task.{Task}
 use Rattle.kc_machine_steps.specs.declared.task.Task.TheVariants as task
 use Rattle.kc_machine_steps.specs.declared.task.Told.{Told}
 use Rattle.kc_machine_steps.specs.declared.task.Told.TheVariants as told
@@ -21,7 +23,7 @@ use Rattle.kc_store.proofs.ReadLooks.{was_looked_at}
 use Rattle.kc_store.proofs.Seeing.{Fresh, keeps_then, look_gains_none, look_keeps, looks_fresh, looks_gain_none, looks_keep}
 use Rattle.kc_store.specs.Answers.{Gains, GainsNothing, IsBusy, Settles, own_entries, placed_entry}
 use Rattle.kc_store.specs.Steps.{HasLeft, busy_bound}
-use Rattle.kc_store.specs.Tries.{Commits, CommitsAfter, once, again, Sees, WasTold, is_crossed}
+use Rattle.kc_store.specs.Tries.{Commits, CommitsAfter, Installs, once, again, behind_swap, by_install, by_swap, Sees, WasTold, is_crossed, swap_ends}
 use Rattle.kc_store.specs.Verdicts.{entered, fate_by, is_final, lost_at, verdict_as, verdict_of}
 use Rattle.kc_store.specs.Works.{AllLooked, is_told_committing}
 use Rattle.kc_store.specs.declared.verdict.Answered.{Answered}
@@ -30,6 +32,8 @@ use Rattle.kc_store.specs.declared.verdict.Verdict.{Verdict}
 use Rattle.kc_store.specs.declared.verdict.Verdict.TheVariants as verdict
 use Rattle.kc_table_moves.specs.Views.{SeatView, TableView, knows, opening_at_seat}
 use Rattle.kc_table_seats.proofs.Causing.{worn_found}
+use Rattle.kc_table_seats.proofs.Keeping.{failure_known, success_known, swap_failure_known, swap_success_known}
+use Rattle.kc_table_views.specs.Tasks.{FailureTaught, SuccessTaught}
 use Rattle.kc_table_seats.specs.Tasks.{Does, Keeps}
 use Rattle.kc_xt.specs.Commit.{Came, Looked, LooksIn, PutsWhereDone, tried_of}
 use Rattle.kc_xt.specs.Meaning.{Meaning}
@@ -82,27 +86,62 @@ came_well m tried.Busy before f n x = absurd (n refl)
 
 -- ---- behind the commits
 
--- the last commit of a try
+-- the last task of a try, and what is known by its answer
 record Last (v : SeatView) (f : Footprint) (a : Told) (w : SeatView) : Type 0 where
   from : SeatView
+  made : Task
   mode : Mode
   keeps : Keeps v from
   none : own_entries from ≡ own_entries v
-  was : WasTold v from (task.Commit f mode) a w
+  was : WasTold v from made a w
+  enters : (n : ℕ) → a ≡ told.Succeeded n → Does from made w → w.seat.told ≡ Some (told.Succeeded n) → SuccessTaught from.number n f mode (knows from) (knows w)
+  fails : (i : ℕ) → a ≡ told.Failed i → Does from made w → w.seat.told ≡ Some (told.Failed i) → FailureTaught f i (knows w)
 
-last_of : (v c : SeatView) (f : Footprint) (a : Told) (w : SeatView) → Keeps v c → own_entries c ≡ own_entries v → Commits v f c a w → Last v f a w
-last_of v c f a w k e (once b x was o) = record { from = c; mode = Light; keeps = k; none = e; was = was }
-last_of v c f a w k e (again i u b x first was) = record {
+last_commit : (v u : SeatView) (f : Footprint) (m : Mode) (a : Told) (w : SeatView) → Keeps v u → own_entries u ≡ own_entries v → WasTold v u (task.Commit f m) a w → Last v f a w
+last_commit v u f m a w k e was = record {
   from = u;
-  mode = All;
-  keeps = keeps_then v c u k (did_keeps c u (task.Commit f Light) first.did);
-  none = subst (λ y. GainsAsTold c.number (task.Commit f Light) y (own_entries c) (own_entries u)) first.says (did_gains c u (task.Commit f Light) first.did first.idle) ∙ e;
+  made = task.Commit f m;
+  mode = m;
+  keeps = k;
+  none = e;
   was = was;
+  enters = λ n _ d s. success_known u w n f m d s;
+  fails = λ i _ d s. failure_known u w i f m d s;
 }
 
+-- behind a task that was crossed
+crossed_keeps : (v c u : SeatView) (t : Task) (i : ℕ) → Keeps v c → own_entries c ≡ own_entries v → WasTold v c t (told.Crossed i) u → Keeps v u × (own_entries u ≡ own_entries v)
+crossed_keeps v c u t i k e first =
+    (keeps_then v c u k (did_keeps c u t first.did), subst (λ y. GainsAsTold c.number t y (own_entries c) (own_entries u)) first.says (did_gains c u t first.did first.idle) ∙ e)
+
+last_install : (v c : SeatView) (f : Footprint) (a : Told) (w : SeatView) → Keeps v c → own_entries c ≡ own_entries v → Installs v f c a w → Last v f a w
+last_install v c f a w k e (once b x was o) = last_commit v c f Light a w k e was
+last_install v c f a w k e (again i u b x first was) = let y = crossed_keeps v c u (task.Commit f Light) i k e first in last_commit v u f All a w y.0 y.1 was
+
+last_of : (v c : SeatView) (f : Footprint) (a : Told) (w : SeatView) → Keeps v c → own_entries c ≡ own_entries v → Commits v f c a w → Last v f a w
+last_of v c f a w k e (by_install b x was) = last_install v c f a w k e was
+last_of v c f a w k e (behind_swap r after i u b x is first was) = let y = crossed_keeps v c u (task.Swap r after) i k e first in last_install v u f a w y.0 y.1 was
+last_of v c f a w k e (by_swap r after b x is was ends) = record {
+  from = c;
+  made = task.Swap r after;
+  mode = All;
+  keeps = k;
+  none = e;
+  was = was;
+  enters = λ n _ d s. subst (λ g. SuccessTaught c.number n g All (knows c) (knows w)) (sym is) (swap_success_known c w n r after d s);
+  fails = λ i q d s.
+      let zero : i ≡ 0 = eqb-true i 0 (subst (λ y. swap_ends y ≡ true) q ends) in
+      subst (λ g. FailureTaught g i (knows w)) (sym is) (r, ap (slice_get (r ∷ [])) zero, swap_failure_known c w i r after d s);
+}
+
+installs_keep : (v c : SeatView) (f : Footprint) (a : Told) (w : SeatView) → Installs v f c a w → Keeps c w
+installs_keep v c f a w (once b x was o) = did_keeps c w (task.Commit f Light) was.did
+installs_keep v c f a w (again i u b x first was) = keeps_then c u w (did_keeps c u (task.Commit f Light) first.did) (did_keeps u w (task.Commit f All) was.did)
+
 pub commits_keep : (v c : SeatView) (f : Footprint) (a : Told) (w : SeatView) → Commits v f c a w → Keeps c w
-commits_keep v c f a w (once b x was o) = did_keeps c w (task.Commit f Light) was.did
-commits_keep v c f a w (again i u b x first was) = keeps_then c u w (did_keeps c u (task.Commit f Light) first.did) (did_keeps u w (task.Commit f All) was.did)
+commits_keep v c f a w (by_install b x was) = installs_keep v c f a w was
+commits_keep v c f a w (behind_swap r after i u b x is first was) = keeps_then c u w (did_keeps c u (task.Swap r after) first.did) (installs_keep v u f a w was)
+commits_keep v c f a w (by_swap r after b x is was ends) = did_keeps c w (task.Swap r after) was.did
 
 -- ---- the answer
 
@@ -126,23 +165,23 @@ pub settled : (m : Meaning) (t : Tried) (before : Footprint) (v c : SeatView) (f
 settled m t before v c f a w steps n came puts looked commits committing crossed counts =
     go a (last_of v c f a w (looked_keeps m t v f c looked) (looked_none m t v f c looked) commits) committing crossed
   where
-    does : (a : Told) (l : Last v f a w) → a ≢ told.Halted → Does l.from (task.Commit f l.mode) w
-    does a l other = did_does l.from w (task.Commit f l.mode) a l.was.did l.was.idle l.was.says other
+    does : (a : Told) (l : Last v f a w) → a ≢ told.Halted → Does l.from l.made w
+    does a l other = did_does l.from w l.made a l.was.did l.was.idle l.was.says other
 
-    gained : (a : Told) (l : Last v f a w) → GainsAsTold l.from.number (task.Commit f l.mode) (Some a) (own_entries l.from) (own_entries w)
-    gained a l = subst (λ y. GainsAsTold l.from.number (task.Commit f l.mode) y (own_entries l.from) (own_entries w)) l.was.says (did_gains l.from w (task.Commit f l.mode) l.was.did l.was.idle)
+    gained : (a : Told) (l : Last v f a w) → GainsAsTold l.from.number l.made (Some a) (own_entries l.from) (own_entries w)
+    gained a l = subst (λ y. GainsAsTold l.from.number l.made y (own_entries l.from) (own_entries w)) l.was.says (did_gains l.from w l.made l.was.did l.was.idle)
 
     same : (a : Told) (l : Last v f a w) → w.number ≡ v.number
-    same a l = (did_keeps l.from w (task.Commit f l.mode) l.was.did).number ∙ l.keeps.number
+    same a l = (did_keeps l.from w l.made l.was.did).number ∙ l.keeps.number
 
     go : (a : Told) → Last v f a w → is_told_committing (Some a) ≡ true → is_crossed a ≡ false → Settles m (verdict_as (fate_by a f steps) t) v f w
-    go (told.Succeeded k) l e x = entered_settles m t before v f w steps n came puts (gains v l.from w k f l.mode l.keeps l.none (does (told.Succeeded k) l (λ e. absurd (cc))) l.was.idle l.was.says)
+    go (told.Succeeded k) l e x = entered_settles m t before v f w steps n came puts (let d = does (told.Succeeded k) l (λ e. absurd (cc)) in gains v l.from w k f l.mode l.made l.keeps l.none d l.was.idle l.was.says (l.enters k refl d l.was.says))
     go (told.Failed i) l e x =
         let none : GainsNothing v w = gained (told.Failed i) l ∙ l.none in
         let unput : (r : Seen) → Reads f r → ¬ HasPut (knows v) r = λ r y. (looked_fresh m t v f c looked n r y).unput in
-        let o = overtaken v l.from w i f l.mode unput (same (told.Failed i) l) none (does (told.Failed i) l (λ e. absurd (cc))) l.was.says in
+        let o = overtaken v w i f unput (same (told.Failed i) l) none (l.fails i refl (does (told.Failed i) l (λ e. absurd (cc))) l.was.says) in
         subst (λ y. Settles m (verdict_as (lost_at y steps) t) v f w) (sym o.1) (o.2, none)
-    go told.Worn l e x = (worn_found l.from w (task.Commit f l.mode) (does told.Worn l (λ e. absurd (cc))) l.was.says, gained told.Worn l ∙ l.none)
+    go told.Worn l e x = (worn_found l.from w l.made (does told.Worn l (λ e. absurd (cc))) l.was.says, gained told.Worn l ∙ l.none)
     go told.Halted l e x = ((counts, l.was.spent refl), gained told.Halted l ∙ l.none)
     go (told.Crossed i) l e x = absurd (cc)
     go (told.Seen r) l e x = absurd (cc)

@@ -1,6 +1,6 @@
 -- A seat that runs a look or a commit: how it stands, behind each step.
-use Rattle.std.proofs.Common.{◌≡◌, ◌≤◌, Bool, true, false, ℕ, ◌+◌, ◌-◌, ◌&&◌, ◌==◌, [], Option, Some, refl, sym, ◌∙◌, arith, subst, if◌then◌else◌}
-use Rattle.std.specs.Prelude.{nat_lt}
+use Rattle.std.proofs.Common.{◌≡◌, ◌≤◌, Bool, true, false, ℕ, ◌+◌, ◌-◌, ◌&&◌, ◌==◌, [], Option, None, Some, refl, sym, ◌∙◌, arith, subst, if◌then◌else◌}
+use Rattle.std.specs.Prelude.{bit_and, nat_lt}
 use Rattle.kc_machine.specs.Seats.{after, answer_by, answer_of, begun, begun_idle, blocked_by, ended, halted, halted_by, is_idle}
 use Rattle.kc_machine.specs.Works.{Work}
 use Rattle.kc_machine.specs.Works as work
@@ -18,6 +18,12 @@ use Rattle.kc_machine_steps.specs.Looks.{halts_at_once, look_after, look_halted,
 use Rattle.kc_machine_steps.specs.declared.look.Look.{Look}
 use Rattle.kc_machine_steps.specs.declared.look.LookNext.{LookNext}
 use Rattle.kc_machine_steps.specs.declared.look.LookNext.TheVariants as looking
+use Rattle.kc_machine_steps.specs.Swaps.{ends_at_once, exchange_next, may_swap, onward_of, owed_next, swap_after, swap_next, swap_next_at, wake_next}
+use Rattle.kc_machine_steps.specs.declared.swap.Swap.{Swap}
+use Rattle.kc_machine_steps.specs.declared.swap.SwapNext.{SwapNext}
+use Rattle.kc_machine_steps.specs.declared.swap.SwapNext.TheVariants as swapping
+use Rattle.kc_machine_steps.specs.declared.swap.SwapStep.{SwapStep}
+use Rattle.kc_machine_steps.specs.declared.swap.SwapStep.TheVariants as swap
 use Rattle.kc_machine_steps.specs.declared.task.Task.{Task}
 use Rattle.kc_machine_steps.specs.declared.task.Task.TheVariants as task
 use Rattle.kc_machine_steps.specs.declared.task.Told.{Told}
@@ -31,7 +37,9 @@ use Rattle.kc_machine_words.specs.declared.words.Mode.{Mode}
 use Rattle.kc_machine_words.specs.declared.words.TheConstants.{LAST_GENERATION}
 use Rattle.kc_model.specs.declared.footprint.Footprint.{Footprint}
 use Rattle.kc_model.specs.declared.footprint.Loc.{Loc}
-use Rattle.kc_store.specs.Works.{Stands, is_told_committing, stands_in}
+use Rattle.kc_model.specs.declared.footprint.Seen.{Seen}
+use Rattle.kc_model.specs.declared.word.Word.TheVariants.{Plain, Ref}
+use Rattle.kc_store.specs.Works.{Stands, is_told_committing, is_told_swapping, stands_in}
 use Rattle.kc_table_moves.specs.Views.{SeatView, Stepped, StepsTo, here, further, Ran, begun_at}
 use Rattle.kc_table_seats.specs.Halts.{may_halt}
 
@@ -113,6 +121,56 @@ commit_goes s f m c' (Goes st) e = record { in_task = refl; blocked = refl; coun
 commit_goes s f m c' (Takes st) e = record { in_task = refl; blocked = refl; counts = more s.made }
 commit_goes s f m c' (Tells t) e = record { in_task = e; blocked = unblocked s.blocked t e; counts = more s.made }
 
+-- ---- swaps
+
+abbrev swap_said : SwapNext → Bool
+swap_said (swapping.Goes st) = true
+swap_said (swapping.Takes st) = true
+swap_said (swapping.Tells t) = is_told_swapping (Some t)
+
+two_said : (b : Bool) (x y : SwapNext) → swap_said x ≡ true → swap_said y ≡ true → swap_said (if b then x else y) ≡ true
+two_said true x y p q = p
+two_said false x y p q = q
+
+owes_said : (calls owed : ℕ) → swap_said (owed_next calls owed) ≡ true
+owes_said calls owed = two_said (owed == 0) (swapping.Tells (told.Succeeded calls)) (swapping.Goes (swap.Signal owed)) refl refl
+
+exchange_said : (r : Seen) (calls : ℕ) (f : Found) → swap_said (exchange_next r calls f) ≡ true
+exchange_said r calls (found.Word (Plain v x)) =
+    two_said ((v == r.version) && (x == r.value)) (if may_swap calls then swapping.Takes swap.Wake else swapping.Tells (told.Crossed 0)) (swapping.Tells (told.Failed 0))
+    (two_said (may_swap calls) (swapping.Takes swap.Wake) (swapping.Tells (told.Crossed 0)) refl refl) refl
+exchange_said r calls (found.Word (Ref g d k)) = refl
+exchange_said r calls f = refl
+
+wake_said : (calls : ℕ) (f : Found) → swap_said (wake_next calls f) ≡ true
+wake_said calls (found.Callers callers) = owes_said calls callers
+wake_said calls f = refl
+
+next_said : (r : Seen) (calls : ℕ) (step : SwapStep) (f : Found) → swap_said (swap_next_at r calls step f) ≡ true
+next_said r calls swap.Exchange f = exchange_said r calls f
+next_said r calls swap.Wake f = wake_said calls f
+next_said r calls (swap.Signal owed) f = owes_said calls (bit_and owed (owed - 1))
+
+pub swapping_commits : (t : Told) → is_told_swapping (Some t) ≡ true → is_told_committing (Some t) ≡ true
+swapping_commits (told.Succeeded n) e = refl
+swapping_commits (told.Failed k) e = refl
+swapping_commits (told.Crossed k) e = refl
+swapping_commits told.Halted e = refl
+swapping_commits told.Worn e = absurd (cc)
+swapping_commits (told.Seen r) e = absurd (cc)
+swapping_commits told.Hung e = absurd (cc)
+swapping_commits (told.Changed k) e = absurd (cc)
+swapping_commits told.Free e = absurd (cc)
+
+pub told_commits : (o : Option Told) → is_told_swapping o ≡ true → is_told_committing o ≡ true
+told_commits None e = absurd (cc)
+told_commits (Some t) e = swapping_commits t e
+
+swap_goes : (s : Seat) (r : Seen) (y : ℕ) (x : Swap) (n : SwapNext) → swap_said n ≡ true → GoesOn (task.Swap r y) s (after (record s { work = work.Swap x }) (onward_of n))
+swap_goes s r y x (swapping.Goes st) e = record { in_task = refl; blocked = refl; counts = more s.made }
+swap_goes s r y x (swapping.Takes st) e = record { in_task = refl; blocked = refl; counts = more s.made }
+swap_goes s r y x (swapping.Tells t) e = record { in_task = e; blocked = unblocked s.blocked t (swapping_commits t e); counts = more s.made }
+
 -- ---- a step, a halt, a beginning
 
 by_work : (t : Task) (s : Seat) (f : Found) (w : Work) (a : Option Told) → stands_in t (record s { work = w; told = a }) ≡ true → is_idle w ≡ false → GoesOn t s (answer_by s f w)
@@ -121,11 +179,18 @@ by_work (task.Look l) s f (work.Look x) a e busy = look_goes s l (look_after x f
 by_work (task.Look l) s f (work.Commit c) a e busy = absurd (cc)
 by_work (task.Look l) s f (work.Hang h) a e busy = absurd (cc)
 by_work (task.Look l) s f (work.Leave h) a e busy = absurd (cc)
+by_work (task.Look l) s f (work.Swap x) a e busy = absurd (cc)
 by_work (task.Commit g m) s f (work.Commit c) a e busy =
     commit_goes s g m (commit_after s.descriptors s.calls c f) _ (stage_said s.descriptors s.calls (loaded c f) (loaded c f).stage f)
 by_work (task.Commit g m) s f (work.Look x) a e busy = absurd (cc)
 by_work (task.Commit g m) s f (work.Hang h) a e busy = absurd (cc)
 by_work (task.Commit g m) s f (work.Leave h) a e busy = absurd (cc)
+by_work (task.Commit g m) s f (work.Swap x) a e busy = absurd (cc)
+by_work (task.Swap r y) s f (work.Swap x) a e busy = swap_goes s r y (swap_after s.calls x f) (swap_next s.calls x f) (next_said x.seen s.calls x.step f)
+by_work (task.Swap r y) s f (work.Look x) a e busy = absurd (cc)
+by_work (task.Swap r y) s f (work.Commit c) a e busy = absurd (cc)
+by_work (task.Swap r y) s f (work.Hang h) a e busy = absurd (cc)
+by_work (task.Swap r y) s f (work.Leave h) a e busy = absurd (cc)
 by_work (task.Hang reads) s f w a e busy = absurd (cc)
 by_work (task.Leave reads) s f w a e busy = absurd (cc)
 
@@ -144,6 +209,7 @@ goes_then t a b c x y =
 ended_goes : (t : Task) (s : Seat) → stands_in t s ≡ true → GoesOn t s (ended s)
 ended_goes (task.Look l) s e = record { in_task = refl; blocked = refl; counts = omega arith }
 ended_goes (task.Commit f m) s e = record { in_task = refl; blocked = refl; counts = omega arith }
+ended_goes (task.Swap r y) s e = record { in_task = refl; blocked = refl; counts = omega arith }
 ended_goes (task.Hang reads) s e = absurd (cc)
 ended_goes (task.Leave reads) s e = absurd (cc)
 
@@ -160,6 +226,11 @@ by_halt (task.Look l) s (work.Look x) e = halt_two (task.Look l) _ _ (halts_at_o
 by_halt (task.Commit f m) s (work.Commit c) e = halt_two (task.Commit f m) _ _ (unowned c.stage) (ended_goes (task.Commit f m) _ e) (same_goes (task.Commit f m) _ _ refl refl refl)
 by_halt (task.Look l) s (work.Commit c) e = absurd (cc)
 by_halt (task.Commit f m) s (work.Look x) e = absurd (cc)
+by_halt (task.Swap r y) s (work.Swap x) e = halt_two (task.Swap r y) _ _ (ends_at_once x.step) (ended_goes (task.Swap r y) _ e) (same_goes (task.Swap r y) _ _ refl refl refl)
+by_halt (task.Swap r y) s (work.Look x) e = absurd (cc)
+by_halt (task.Swap r y) s (work.Commit c) e = absurd (cc)
+by_halt (task.Look l) s (work.Swap x) e = absurd (cc)
+by_halt (task.Commit f m) s (work.Swap x) e = absurd (cc)
 by_halt t s (work.Hang h) e = same_goes t _ _ e refl refl
 by_halt t s (work.Leave h) e = same_goes t _ _ e refl refl
 by_halt (task.Hang reads) s w e = absurd (cc)
@@ -174,10 +245,12 @@ is_tried (task.Look l) = true
 is_tried (task.Commit f m) = true
 is_tried (task.Hang reads) = false
 is_tried (task.Leave reads) = false
+is_tried (task.Swap r y) = true
 
 idle_goes : (t : Task) (s : Seat) → is_tried t ≡ true → GoesOn t s (begun_idle s t)
 idle_goes (task.Look l) s e = record { in_task = refl; blocked = refl; counts = omega arith }
 idle_goes (task.Commit f m) s e = record { in_task = refl; blocked = refl; counts = omega arith }
+idle_goes (task.Swap r y) s e = record { in_task = refl; blocked = refl; counts = omega arith }
 idle_goes (task.Hang reads) s e = absurd (cc)
 idle_goes (task.Leave reads) s e = absurd (cc)
 
@@ -218,6 +291,9 @@ halts t s e busy = go t s s.work e busy
     go t s work.Idle e busy = absurd (cc)
     go t s (work.Look x) e busy = refl
     go t s (work.Commit c) e busy = refl
+    go t s (work.Swap x) e busy = refl
+    go (task.Swap r y) s (work.Hang h) e busy = absurd (cc)
+    go (task.Swap r y) s (work.Leave h) e busy = absurd (cc)
     go (task.Look l) s (work.Hang h) e busy = absurd (cc)
     go (task.Look l) s (work.Leave h) e busy = absurd (cc)
     go (task.Commit f m) s (work.Hang h) e busy = absurd (cc)
@@ -232,6 +308,7 @@ kind_kept v w st busy may on = go (some v.seat v.seat.work may)
     some : (s : Seat) (x : Work) → may_halt x ≡ true → (t : Task) × (stands_in t (record s { work = x }) ≡ true)
     some s (work.Look y) e = (task.Look y.loc, refl)
     some s (work.Commit y) e = (task.Commit (record { reads = record { items = [] }; puts = record { items = [] } }) y.intent.mode, refl)
+    some s (work.Swap y) e = (task.Swap y.seen y.after, refl)
     some s work.Idle e = absurd (cc)
     some s (work.Hang y) e = absurd (cc)
     some s (work.Leave y) e = absurd (cc)
@@ -251,6 +328,7 @@ halt_told s busy idle = go s s.work busy idle
     go s work.Idle b i = absurd (cc)
     go s (work.Look x) b i = two_ends (record s { work = work.Look x }) (record s { work = work.Look (look_halted x) }) (halts_at_once x.step) refl i
     go s (work.Commit c) b i = two_ends (record s { work = work.Commit c }) (record s { work = work.Commit (commit_halted c) }) (unowned c.stage) refl i
+    go s (work.Swap x) b i = two_ends (record s { work = work.Swap x }) (record s { work = work.Swap x }) (ends_at_once x.step) refl i
     go s (work.Hang h) b i = absurd (cc)
     go s (work.Leave h) b i = absurd (cc)
 
@@ -263,3 +341,4 @@ idle_halted s idle = go s.work idle
     go (work.Commit c) e = absurd (cc)
     go (work.Hang h) e = absurd (cc)
     go (work.Leave h) e = absurd (cc)
+    go (work.Swap x) e = absurd (cc)

@@ -1,12 +1,14 @@
 -- The entries of a store lie in it.
-use Rattle.std.proofs.Common.{◌≡◌, ◌<◌, ◌⊎◌, inl, inr, ℕ, ◌++◌, List, [], ◌∷◌, Option, None, Some, get_or, sym, subst, map}
+use Rattle.std.proofs.Common.{◌≡◌, ◌<◌, ◌⊎◌, inl, inr, ℕ, ◌++◌, List, [], ◌∷◌, Option, None, Some, get_or, sym, ap, arith, length, subst, map}
 use Rattle.std.specs.Prelude.{All, Contains}
 use Rattle.std.specs.List.{filter_map}
-use Rattle.std.proofs.lemmas.List.Elements.{All-contains, All-head, All-map, All-tail, Contains-get_or}
-use Rattle.kc_machine.specs.Machine.{Opening, seat_of}
+use Rattle.std.proofs.lemmas.List.Elements.{All-cons, All-contains, All-head, All-map, All-nil, All-tail, Contains-get_or}
+use Rattle.kc_machine.specs.Machine.{Opening, run, seat_of}
 use Rattle.kc_machine.specs.Schedules.{IsSchedule}
 use Rattle.kc_machine_claims.specs.Histories.{History, Placed, footprint_of, inserted, put_of_line}
-use Rattle.kc_machine_claims.specs.Traces.{trace}
+use Rattle.kc_machine_claims.specs.Traces.{swap_line, trace}
+use Rattle.kc_machine_traces.proofs.Others.{run_shape}
+use Rattle.kc_machine_traces.specs.Swaps.{SwapOf}
 use Rattle.kc_machine_histories.proofs.Decisions.{history_moves}
 use Rattle.kc_machine_histories.proofs.Insertions.{inserted_contains}
 use Rattle.kc_machine_histories.specs.Decisions.{Decision}
@@ -28,6 +30,9 @@ use Rattle.kc_table_views.specs.Known.{known}
 module _ (n : ℕ) where
   abbrev AreBelow : List Line → Type 0
   AreBelow xs = All (λ (x : Line). x.seen.loc.0 < n) xs
+
+  one_below : (x : Line) → x.seen.loc.0 < n → AreBelow (x ∷ [])
+  one_below x l = All-cons (λ (y : Line). y.seen.loc.0 < n) x [] l (All-nil (λ (y : Line). y.seen.loc.0 < n))
 
   puts_below : (xs : List Line) → AreBelow xs → (p : Put) → Contains (filter_map put_of_line xs) p → p.loc.0 < n
   puts_below [] a p c = nothing_in p c
@@ -65,7 +70,7 @@ all_lie : (o : Opening) (es : List Event) → IsSchedule o es → AllLie o es
 all_lie o = every (λ es. IsSchedule o es → AllLie o es) step (λ w x c. nothing_in x c)
   where
     step : (es : List Event) (e : Event) → (IsSchedule o es → AllLie o es) → IsSchedule o (es ++ e ∷ []) → AllLie o (es ++ e ∷ [])
-    step es e f w = history_moves o es e (λ h. (x : Placed) → Contains h x → LiesIn o.locations x) (f before) entered
+    step es e f w = history_moves o es e (λ h. (x : Placed) → Contains h x → LiesIn o.locations x) (f before) entered swaps
       where
         before : IsSchedule o es
         before = (made_parts o es (e ∷ []) w).0
@@ -74,6 +79,9 @@ all_lie o = every (λ es. IsSchedule o es → AllLie o es) step (λ w x c. nothi
         entered x d =
             let made = made_lines o es before (seat_of e) d.handle x.mode d.lines _ d.seat d.pass in
             lies_inserted o.locations x (trace o es).history (lies o.locations x d.lines d.footprint (λ k a lt. (made.lines k a lt).0)) (f before)
+
+        swaps : (x : Placed) → SwapOf (run o es) e (length es) x → (y : Placed) → Contains (inserted x (trace o es).history) y → LiesIn o.locations y
+        swaps x d = lies_inserted o.locations x (trace o es).history (lies o.locations x (swap_line d.seen d.after ∷ []) (ap (λ (z : Placed). z.entry.footprint) d.is) (one_below o.locations (swap_line d.seen d.after) (let l = d.there in let n = (run_shape o es).0 in omega (arith, l, n)))) (f before)
 
 pub known_lie : (o : Opening) (es : List Event) → IsSchedule o es → All (LiesIn o.locations) (known o es)
 known_lie o es w = λ k x lt. all_lie o es w (get_or (known o es) k x) (Contains-get_or (known o es) k x lt)

@@ -1,5 +1,5 @@
--- The tasks of one try: its looks, and then one commit or two.
-use Rattle.std.specs.Prelude.{◌≡◌, ℕ, Bool, true, false, ◌⊎◌, Some, Ok, Err}
+-- The tasks of one try: its looks, and then a swap, or one commit or two.
+use Rattle.std.specs.Prelude.{◌≡◌, ◌==◌, ℕ, Bool, true, false, ◌⊎◌, Some, Ok, Err}
 use Rattle.kc_machine.specs.Seats.{halted, is_idle}
 use Rattle.kc_machine_steps.specs.declared.task.Task.{Task}
 use Rattle.kc_machine_steps.specs.declared.task.Task.TheVariants as task
@@ -7,9 +7,11 @@ use Rattle.kc_machine_steps.specs.declared.task.Told.{Told}
 use Rattle.kc_machine_steps.specs.declared.task.Told.TheVariants as told
 use Rattle.kc_machine_words.specs.declared.words.Mode.TheVariants.{All, Light}
 use Rattle.kc_model.specs.declared.footprint.Footprint.{Footprint}
+use Rattle.kc_model.specs.declared.footprint.Seen.{Seen}
 use Rattle.kc_store.specs.Steps.{IsSpent}
 use Rattle.kc_table_moves.specs.Views.{SeatView}
 use Rattle.kc_table_seats.specs.Tasks.{Does}
+use Rattle.kc_table_views.specs.Tasks.{put_of}
 use Rattle.kc_xt.specs.Commit.{Looked}
 use Rattle.kc_xt.specs.Meaning.{Meaning}
 use Rattle.kc_xt.specs.Peeks.{Gives}
@@ -39,10 +41,23 @@ abbrev pub is_crossed : Told → Bool
 is_crossed (told.Crossed i) = true
 is_crossed _ = false
 
+-- what a swap may be told that was not crossed: it has one read to fail at
+abbrev pub swap_ends : Told → Bool
+swap_ends (told.Succeeded n) = true
+swap_ends (told.Failed i) = i == 0
+swap_ends told.Halted = true
+swap_ends _ = false
+
 -- one commit in mode Light, and exactly where it was told Crossed one more in mode All
+pub data Installs (start : SeatView) (f : Footprint) (v : SeatView) : Told → SeatView → Type 0 where
+  once : (a : Told) (w : SeatView) → WasTold start v (task.Commit f Light) a w → is_crossed a ≡ false → Installs start f v a w
+  again : (i : ℕ) (u : SeatView) (a : Told) (w : SeatView) → WasTold start v (task.Commit f Light) (told.Crossed i) u → WasTold start u (task.Commit f All) a w → Installs start f v a w
+
+-- a footprint that reads one location and puts it may be swapped first, and exactly where that was told Crossed it is installed
 pub data Commits (start : SeatView) (f : Footprint) (v : SeatView) : Told → SeatView → Type 0 where
-  once : (a : Told) (w : SeatView) → WasTold start v (task.Commit f Light) a w → is_crossed a ≡ false → Commits start f v a w
-  again : (i : ℕ) (u : SeatView) (a : Told) (w : SeatView) → WasTold start v (task.Commit f Light) (told.Crossed i) u → WasTold start u (task.Commit f All) a w → Commits start f v a w
+  by_swap : (r : Seen) (after : ℕ) (a : Told) (w : SeatView) → f ≡ put_of r after → WasTold start v (task.Swap r after) a w → swap_ends a ≡ true → Commits start f v a w
+  behind_swap : (r : Seen) (after i : ℕ) (u : SeatView) (a : Told) (w : SeatView) → f ≡ put_of r after → WasTold start v (task.Swap r after) (told.Crossed i) u → Installs start f u a w → Commits start f v a w
+  by_install : (a : Told) (w : SeatView) → Installs start f v a w → Commits start f v a w
 
 -- behind a look that was halted nothing more is begun
 abbrev pub CommitsAfter : Tried → SeatView → Footprint → SeatView → SeatView → Type 0

@@ -1,6 +1,6 @@
 //! Tasks of a call: each ends, by steps that are left to the call, or by a halt.
 
-ghost use Rattle.std.specs.Prelude.{◌≡◌, ◌≢◌, ◌+◌, ◌≤◌, true, false, Some, length};
+ghost use Rattle.std.specs.Prelude.{◌≡◌, ◌≢◌, ◌+◌, ◌≤◌, true, false, Some, IfSome, [], ◌∷◌, length};
 ghost use Rattle.kc_model.specs.declared.footprint.TheConstants.{MOST};
 ghost use Rattle.kc_model.specs.Footprint.{IsBelow, IsWellMade};
 ghost use Rattle.kc_machine_steps.specs.Lines.{lines_of};
@@ -8,16 +8,18 @@ ghost use Rattle.kc_machine_steps.specs.declared.task.Task.{Task};
 ghost use Rattle.kc_machine_steps.specs.declared.task.Task.TheVariants as task;
 ghost use Rattle.kc_machine_steps.specs.declared.task.Told.TheVariants as told;
 ghost use Rattle.kc_machine_words.specs.declared.words.Mode.TheVariants as mode;
+ghost use Rattle.kc_machine.specs.Schedules.{IsWellMadeTask};
 ghost use Rattle.kc_machine.specs.Seats.{is_idle};
+ghost use Rattle.kc_machine_claims.specs.Traces.{swap_line};
 ghost use Rattle.kc_table_moves.specs.Views.{KnowsReads, SeatView};
 ghost use Rattle.kc_table_seats.specs.Halts.{is_halted, may_halt, was_halted};
 ghost use Rattle.kc_store.specs.Steps.{steps_made};
 ghost use Rattle.kc_store.specs.Tries.{is_crossed};
-ghost use Rattle.kc_store.specs.Works.{AllCommitted, Ends, MayRun, Runs, is_told_committing};
+ghost use Rattle.kc_store.specs.Works.{AllCommitted, AllInstalled, Ends, MayRun, Runs, is_told_committing, is_told_swapping};
 
 use kc_machine_steps::Told;
 use kc_machine_words::Mode;
-use kc_model::{Footprint, Line};
+use kc_model::{Footprint, Line, Seen};
 use kc_table::{KcSeat, KcTable};
 
 /// Ends the task that runs: by as many steps as are left, and then by a halt.
@@ -76,7 +78,9 @@ fn step_to_the_end(table: &KcTable, seat: &mut KcSeat)
     }
 }
 
-/// Commits the footprint, whose lines these are: in mode Light, and where that was crossed once more in mode All.
+/// Commits the footprint, whose lines these are: where it reads one location and puts it, by a swap; where it doesn't, or the
+/// swap was crossed, in mode Light, and where that was crossed once more in mode All.
+#[inline(always)]
 pub(crate) fn commit(
     table: &KcTable,
     seat: &mut KcSeat,
@@ -91,6 +95,61 @@ pub(crate) fn commit(
     requires made { IsWellMade footprint.now × IsBelow seat.old.of.origin.locations footprint.now }
     requires known { KnowsReads seat.old (task.Commit footprint.now mode.Light) }
     ensures { AllCommitted footprint.now result seat.old left.old seat.new left.new }
+{
+    if let Some((seen, after)) = only_put(lines) {
+        let told = swap(table, seat, seen, after, left);
+        if !is_crossed(told) {
+            return told;
+        }
+    }
+    install(table, seat, footprint, lines, left)
+}
+
+// The read and the value of the only line, where it puts.
+#[inline(always)]
+fn only_put(lines: &[Line]) -> Option<(Seen, u32)>
+    ensures { IfSome result (λ x. lines.now ≡ swap_line x.0 x.1 ∷ []) }
+{
+    if lines.len() != 1 {
+        return None;
+    }
+    let line = lines[0];
+    line.put.map(|after| (line.seen, after))
+}
+
+// One swap.
+#[inline(always)]
+fn swap(table: &KcTable, seat: &mut KcSeat, seen: Seen, after: u32, left: &mut u32) -> Told
+    requires table { seat.old.of ≡ table.now }
+    requires idle { is_idle seat.old.seat.work ≡ true }
+    requires made { IsWellMadeTask seat.old.of.origin.locations (task.Swap seen after) }
+    requires known { KnowsReads seat.old (task.Swap seen after) }
+    ensures ends { Ends (task.Swap seen after) seat.old left.old result seat.new left.new }
+    ensures swapping { is_told_swapping (Some result) ≡ true }
+{
+    table.swap(seat, seen, after);
+    if seat.busy() {
+        end_task(table, seat, left);
+        return answer_of(seat);
+    }
+    answer_of(seat)
+}
+
+// In mode Light, and where that was crossed once more in mode All.
+fn install(
+    table: &KcTable,
+    seat: &mut KcSeat,
+    footprint: &Footprint,
+    lines: &[Line],
+    left: &mut u32,
+) -> Told
+    requires table { seat.old.of ≡ table.now }
+    requires idle { is_idle seat.old.seat.work ≡ true }
+    requires lines { lines_of footprint.now ≡ lines.now }
+    requires few { length lines.now ≤ MOST }
+    requires made { IsWellMade footprint.now × IsBelow seat.old.of.origin.locations footprint.now }
+    requires known { KnowsReads seat.old (task.Commit footprint.now mode.Light) }
+    ensures { AllInstalled footprint.now result seat.old left.old seat.new left.new }
 {
     let told = commit_in(table, seat, footprint, Mode::Light, lines, left);
     if is_crossed(told) {

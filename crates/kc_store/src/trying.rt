@@ -22,9 +22,10 @@ use kc_table::{KcSeat, KcTable};
 use kc_xt::{Room, Transact, Trial, Went};
 
 impl Store {
-    /// Tries a transaction once: runs it on looks, commits what it read and wrote in mode Light, and where that was crossed
-    /// once more in mode All. The footprint is filled with what it read, and at Done with what it put; if a look was given
-    /// up it stays. It takes no memory and never waits.
+    /// Tries a transaction once: runs it on looks, and commits what it read and wrote. Where it read one location and puts
+    /// it, that is one exchange of a word; else, or where a reference stood there, it commits in mode Light, and where that
+    /// was crossed once more in mode All. The footprint is filled with what it read, and at Done with what it put; if a look
+    /// was given up it stays. It takes no memory and never waits.
     pub fn try_commit_into<T: Transact>(
         &self,
         caller: &mut Caller,

@@ -17,6 +17,8 @@ use std::thread::Threads;
 
 const ADD: LocOp = LocOp::FetchAdd(Loc(0), 1);
 
+const GET: LocOp = LocOp::Get(Loc(0));
+
 // A store of these values, and two callers.
 fn open_two(rt: &HostRuntime, values: &[u32]) -> Option<(Store, Caller, Caller)>
     ensures of { IfSome result (λ t. (t.1.of ≡ t.0) × (t.2.of ≡ t.0)) }
@@ -189,12 +191,34 @@ fn a_pool_at_its_last_generation_is_worn(rt: HostRuntime) -> Result<(), Fail> {
     };
     let mut footprint = Footprint::new();
     assert_eq!(rt;
-        tried(&store, &mut a, &ADD, &mut footprint),
+        tried(&store, &mut a, &GET, &mut footprint),
         Verdict::WornPool
     );
     assert_eq!(rt;
-        store.commit_into(&rt, &mut a, &ADD, &mut footprint),
+        store.commit_into(&rt, &mut a, &GET, &mut footprint),
         Answered::WornPool
+    );
+    Ok(())
+}
+
+#[test]
+fn one_put_needs_no_descriptor(rt: HostRuntime) -> Result<(), Fail> {
+    let Ok((store, mut callers)) = Store::open_at(rt.alloc(), &[5], &[0], 1, LAST_GENERATION) else {
+        return Err(Fail::from("not opened"));
+    };
+    let Some(mut a) = callers.pop() else {
+        return Err(Fail::from("no caller"));
+    };
+    let mut footprint = Footprint::new();
+    assert_eq!(rt;
+        tried(&store, &mut a, &ADD, &mut footprint),
+        Verdict::Done(Reply::Value(5))
+    );
+    // A look, an exchange and a wake.
+    assert_eq!(rt; a.steps(), 3);
+    assert_eq!(rt;
+        store.commit_into(&rt, &mut a, &ADD, &mut footprint),
+        Answered::Done(Reply::Value(6))
     );
     Ok(())
 }
