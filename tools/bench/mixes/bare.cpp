@@ -1,6 +1,6 @@
 // The mixes by the atomic operations alone that a commit of the lock-free store makes, in their order, on words that lie as its own do:
 // no log, no footprint, no history, and no help. Who meets a reference waits until it is gone. What a commit costs with nothing around
-// it; crates/kc_table_straight/src/straight.rt makes the same.
+// it; crates/kc_table/src/swaps.rt makes the same for a commit of one put, crates/kc_table_straight/src/straight.rt for the others.
 // With -DRELEASE the stores that fill a descriptor are release stores, which need no lock; Rattle has none.
 #include "rounds.hpp"
 #include <atomic>
@@ -68,6 +68,15 @@ private:
         return word;
     }
 
+    // A commit of one line that puts takes no descriptor.
+    bool swap(const Line &line) {
+        uint64_t stood = line.seen;
+        if (!location(line.place).compare_exchange_strong(stood, line.after)) return false;
+        Word &awaiters = (&location(line.place))[1];
+        if (awaiters) awaiters.exchange(0);
+        return true;
+    }
+
     // A commit of so many lines, of which those from the first put on add their amount and what those before it hold in sum. Whether it
     // was made: a line that isn't put is compared.
     bool commit(Line *lines, unsigned first_put, unsigned count) {
@@ -77,6 +86,7 @@ private:
             if (k < first_put) sum += uint32_t(lines[k].seen);
             lines[k].after = (((lines[k].seen >> 32 << 32) + first_version) & ~reference) | uint32_t(lines[k].seen + lines[k].amount + sum);
         }
+        if (count == 1) return swap(lines[0]);
         uint64_t own = 3 * caller();
         Word *d = words + line_words * cells + descriptor_words * own;
         uint64_t control = d[0], generation = (control >> 24) + 1;
