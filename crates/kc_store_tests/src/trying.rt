@@ -90,12 +90,13 @@ fn two_callers_put_in_turn(rt: HostRuntime) -> Result<(), Fail> {
     let mut footprint = Footprint::new();
     let first = tried(&store, &mut a, &ADD, &mut footprint);
     assert_eq!(rt; first, Verdict::Done(Reply::Value(5)));
-    assert_eq!(rt; a.steps(), 12);
+    // A look, an exchange and a wake.
+    assert_eq!(rt; a.steps(), 3);
     assert_eq!(rt; (footprint.reads.len(), footprint.puts.len()), (1, 1));
     let second = tried(&store, &mut b, &ADD, &mut footprint);
     assert_eq!(rt; second, Verdict::Done(Reply::Value(6)));
     assert_eq!(rt; first_read(&footprint), Some((1, 6)));
-    let third = tried(&store, &mut a, &LocOp::Get(Loc(0)), &mut footprint);
+    let third = tried(&store, &mut a, &GET, &mut footprint);
     assert_eq!(rt; third, Verdict::Done(Reply::Value(7)));
     assert_eq!(rt;
         (first_read(&footprint), footprint.puts.len()),
@@ -214,8 +215,6 @@ fn one_put_needs_no_descriptor(rt: HostRuntime) -> Result<(), Fail> {
         tried(&store, &mut a, &ADD, &mut footprint),
         Verdict::Done(Reply::Value(5))
     );
-    // A look, an exchange and a wake.
-    assert_eq!(rt; a.steps(), 3);
     assert_eq!(rt;
         store.commit_into(&rt, &mut a, &ADD, &mut footprint),
         Answered::Done(Reply::Value(6))
