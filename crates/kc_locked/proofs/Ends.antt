@@ -1,5 +1,5 @@
 -- What changes no history: the opening, passes that go out and come back, and the look at the end.
-use Rattle.std.proofs.Common.{◌≡◌, ◌≢◌, ℕ, zero, suc, ◌+◌, ◌<◌, ◌≤◌, ◌==◌, Bool, true, false, true≢false, List, [], ◌∷◌, ◌++◌, length, set, Option, Some, refl, sym, ap, ◌∙◌, ⊎_elim, arith, subst, get_or, if◌then◌else◌, drop, append_assoc}
+use Rattle.std.proofs.Common.{◌≡◌, ◌≢◌, ℕ, zero, suc, ◌+◌, ◌<◌, ◌≤◌, ◌==◌, Bool, true, false, true≢false, List, [], ◌∷◌, ◌++◌, length, set, refl, sym, ap, ◌∙◌, ⊎_elim, arith, subst, get_or, if◌then◌else◌, drop, append_assoc}
 use Rattle.std.specs.Prelude.{slice_index, All, sum}
 use Rattle.std.proofs.lemmas.List.{set-get_or, drop_more}
 use Rattle.std.proofs.lemmas.List.Elements.{All-head, All-tail}
@@ -50,13 +50,13 @@ left_first : (j : ℕ) (ns : List ℕ) → left_of (shared_out j ns) ≡ sum ns
 left_first j [] = refl
 left_first j (x ∷ ns) = let h = left_first (j + 1) ns in let s = sum_by-cons (λ (n : ℕ). n) x ns in omega arith
 
-pub opens : (o : Origin) (h : HeldView) → sum o.shares ≤ MOST_COMMITS → h ≡ held o.values [] (opened o.values) (sum o.shares) → Kept o (table.opening (0 ∷ []) (Some h ∷ []) (first_view o))
+pub opens : (o : Origin) (h : HeldView) → sum o.shares ≤ MOST_COMMITS → h ≡ held o.values [] (opened o.values) (sum o.shares) → Kept o (table.opening (0 ∷ 0 ∷ []) (h ∷ []) (first_view o))
 opens o h most is = record {
   now = held o.values [] (opened o.values) (sum o.shares);
   holder = 0;
   one_slot = refl;
-  one_word = refl;
-  free = λ _. ap (λ (x : HeldView). some (some (Some x))) is;
+  two_words = refl;
+  free = λ _. ap (λ (x : HeldView). some (some x)) is;
   sound = sound_first o.values (sum o.shares) most;
   opening = refl;
   callers = λ i d lt. absurd (omega arith);
@@ -78,7 +78,7 @@ arrives o slots i s kept count small = (
     now = kept.now;
     holder = kept.holder;
     one_slot = kept.one_slot;
-    one_word = kept.one_word;
+    two_words = kept.two_words;
     free = kept.free;
     sound = kept.sound;
     opening = kept.opening;
@@ -99,7 +99,7 @@ deals o id v s kept at =
       now = kept.now;
       holder = kept.holder;
       one_slot = kept.one_slot;
-      one_word = kept.one_word;
+      two_words = kept.two_words;
       free = kept.free;
       sound = kept.sound;
       opening = kept.opening;
@@ -149,7 +149,7 @@ gathers o id v other w s kept at apart there =
       now = kept.now;
       holder = kept.holder;
       one_slot = kept.one_slot;
-      one_word = kept.one_word;
+      two_words = kept.two_words;
       free = kept.free;
       sound = kept.sound;
       opening = kept.opening;
@@ -175,7 +175,7 @@ gathers o id v other w s kept at apart there =
 
 -- ---- the look at the end
 
-pub ends : (o : Origin) (slots id : ℕ) (me : Me (Option HeldView) View) → Allows (Kept o) slots id me 0 (λ x. x) (λ found after. Ended o me after)
+pub ends : (o : Origin) (slots id : ℕ) (me : Me HeldView View) → Allows (Kept o) slots id me 0 (λ x. x) (λ found after. Ended o me after)
 ends o slots id me s kept count at small =
     let w : View = record { parts = me.0.parts; holds = false; found = kept.now } in
     let f = kept.views id me.0 at in
@@ -188,7 +188,7 @@ ends o slots id me s kept count at small =
             now = kept.now;
             holder = kept.holder;
             one_slot = kept.one_slot;
-            one_word = kept.one_word;
+            two_words = kept.two_words;
             free = kept.free;
             sound = kept.sound;
             opening = kept.opening;
@@ -211,9 +211,9 @@ Matches-more [] (x ∷ ss) p s m e f = absurd m
 Matches-more (q ∷ ps) [] p s m e f = absurd m
 Matches-more (q ∷ ps) (x ∷ ss) p s m e f = (m.0, m.1, Matches-more ps ss p s m.2 e f)
 
-pub pass_part : (me : Me (Option HeldView) View) (caller left : ℕ) (own : List Entry) (ps : List Part) (ss : List PassView) (v : PassView) → me ≡ (free_view (part caller left own ∷ []), []) → v.caller ≡ caller → v.own ≡ own → Matches ps ss → Matches (ps ++ me.0.parts) (ss ++ v ∷ [])
+pub pass_part : (me : Me HeldView View) (caller left : ℕ) (own : List Entry) (ps : List Part) (ss : List PassView) (v : PassView) → me ≡ (free_view (part caller left own ∷ []), []) → v.caller ≡ caller → v.own ≡ own → Matches ps ss → Matches (ps ++ me.0.parts) (ss ++ v ∷ [])
 pass_part me caller left own ps ss v is n o m =
-    subst (λ l. Matches (ps ++ l) (ss ++ v ∷ [])) (sym (ap (λ (x : Me (Option HeldView) View). x.0.parts) is)) (Matches-more ps ss (part caller left own) v m (sym n) (sym o))
+    subst (λ l. Matches (ps ++ l) (ss ++ v ∷ [])) (sym (ap (λ (x : Me HeldView View). x.0.parts) is)) (Matches-more ps ss (part caller left own) v m (sym n) (sym o))
 
 pub owns_all : (n : ℕ) (h : List Entry) (ps : List Part) (ss : List PassView) → AllFit n h ps → Matches ps ss → All (λ (p : PassView). of_caller p.caller h ≡ p.own) ss
 owns_all n h ps ss e m = λ k d lt. go ps ss e m k d lt
@@ -233,16 +233,16 @@ pub none_left : {A : Type 0} (xs : List A) (n : ℕ) → n ≡ length xs → n �
 none_left [] n e z = refl
 none_left (x ∷ xs) n e z = absurd (omega arith)
 
-pub opens_on : (values shares vs ss : List ℕ) (spare : ℕ) (h : HeldView) (slots : List (Option HeldView)) → sum shares ≤ MOST_COMMITS → vs ≡ values → ss ≡ shares → spare ≡ sum shares → h ≡ held values [] (opened values) spare → slots ≡ Some h ∷ []
-    → Kept (origin vs ss) (table.opening (0 ∷ []) slots (first_view (origin vs ss)))
+pub opens_on : (values shares vs ss : List ℕ) (spare : ℕ) (h : HeldView) (slots : List HeldView) → sum shares ≤ MOST_COMMITS → vs ≡ values → ss ≡ shares → spare ≡ sum shares → h ≡ held values [] (opened values) spare → slots ≡ h ∷ []
+    → Kept (origin vs ss) (table.opening (0 ∷ 0 ∷ []) slots (first_view (origin vs ss)))
 opens_on values shares vs ss spare h slots most v s sp is one =
-    subst (λ l. Kept (origin vs ss) (table.opening (0 ∷ []) l (first_view (origin vs ss)))) (sym one)
+    subst (λ l. Kept (origin vs ss) (table.opening (0 ∷ 0 ∷ []) l (first_view (origin vs ss)))) (sym one)
     (opens (origin vs ss) h (rw s most) (is ∙ (λ i. held (sym v i) [] (opened (sym v i)) ((sp ∙ ap sum (sym s)) i))))
 
 -- ---- the first pass goes out
 
 abbrev Mine : Type 0
-Mine = Me (Option HeldView) View
+Mine = Me HeldView View
 
 pub dealt_is : (me token : Mine) (i : ℕ) (shares : List ℕ) → me ≡ (free_view (shared_out i (drop i shares)), []) → token ≡ (dealt me.0, []) → i < length shares → token ≡ (free_view (part i (get_or shares i 0) [] ∷ []), [])
 dealt_is me token i shares is to lt = to ∙ ap (λ (m : Mine). (dealt m.0, [])) is ∙ ap (λ ns. (dealt (free_view (shared_out i ns)), [])) (drop_more shares i 0 lt)

@@ -1,5 +1,5 @@
 -- The commit on what was taken, as plain data.
-use Rattle.std.proofs.Common.{◌≡◌, ℕ, List, [], ◌∷◌, Option, Some, None, Result, Ok, Err, refl, sym, ap, subst, ◌∙◌, arith, append-nil}
+use Rattle.std.proofs.Common.{◌≡◌, ℕ, List, [], ◌∷◌, Result, Ok, Err, refl, sym, ap, subst, ◌∙◌, arith, append-nil, get_or}
 use Rattle.std.specs.Prelude.{IfOk, OnErr}
 use Rattle.atomic_table.specs.Table.{Me, rest}
 use Rattle.kc_locked.proofs.Sound.{sound_more}
@@ -12,15 +12,9 @@ use Rattle.kc_model.specs.declared.footprint.Entry.{Entry}
 use Rattle.kc_model.specs.declared.reply.Answer.{Answer}
 use Rattle.kc_xt.specs.Meaning.{Meaning}
 
-head_is : (x y : ℕ × Option HeldView) (xs ys : List (ℕ × Option HeldView)) → x ∷ xs ≡ y ∷ ys → x ≡ y
-head_is x y xs ys e = cc
-
-some_is : (x y : HeldView) → Some x ≡ Some y → x ≡ y
-some_is x y e = cc
-
 -- what lies in the slot is what was found
-pub found_is : (h now : HeldView) (x : Option HeldView) (l rest : List (ℕ × Option HeldView)) → l ≡ (0, Some h) ∷ [] → l ≡ (0, x) ∷ rest → x ≡ Some now → now ≡ h
-found_is h now x l rest is slot some = some_is now h (sym some ∙ ap (λ (p : ℕ × Option HeldView). p.1) (head_is _ _ _ _ (sym slot ∙ is)))
+pub found_is : (h now : HeldView) (l rest : List (ℕ × HeldView)) → l ≡ (0, h) ∷ [] → l ≡ (0, now) ∷ rest → now ≡ h
+found_is h now l rest is slot = ap (λ (m : List (ℕ × HeldView)). (get_or m 0 (0, h)).1) (sym slot ∙ is)
 
 pub grown_one : (h now : HeldView) (e : Entry) → IsSound h → Adds e h now → Grown e.caller (e ∷ []) h now
 grown_one h now e sound adds = record {
@@ -40,11 +34,11 @@ entered m a h now e (Ok u) sound done waits = grown_one h now e sound done.adds
 entered m a h now e (Err w) sound done waits = subst (Grown e.caller [] h) (sym waits) (grown_none e.caller h sound)
 
 abbrev Mine : Type 0
-Mine = Me (Option HeldView) View
+Mine = Me HeldView View
 
--- the slot is back, with what the commit made
-pub back : (me mid after : Mine) (h now : HeldView) → me.1 ≡ (0, Some h) ∷ [] → mid ≡ (me.0, (0, None) ∷ rest me.1) → after ≡ (mid.0, (0, Some now) ∷ rest mid.1) → after ≡ (me.0, (0, Some now) ∷ [])
-back me mid after h now holds to is = is ∙ ap (λ (m : Mine). (m.0, (0, Some now) ∷ rest m.1)) to ∙ ap (λ (l : List (ℕ × Option HeldView)). (me.0, (0, Some now) ∷ rest l)) holds
+-- the slot is one's only one, with what the commit made
+pub back : (me after : Mine) (h now : HeldView) → me.1 ≡ (0, h) ∷ [] → after ≡ (me.0, (0, now) ∷ rest me.1) → after ≡ (me.0, (0, now) ∷ [])
+back me after h now holds is = is ∙ ap (λ (l : List (ℕ × HeldView)). (me.0, (0, now) ∷ rest l)) holds
 
 -- a free pass is its number, what is left and its own list
 pub pass_is : (me : Mine) (k left : ℕ) (own : List Entry) → me ≡ (free_view (part k left own ∷ []), []) → me ≡ (free_view (part k left (own_first me.0.parts) ∷ []), [])

@@ -1,7 +1,6 @@
 -- Taking the lock, and letting it go with what was entered.
-use Rattle.std.proofs.Common.{◌≡◌, ◌≢◌, ℕ, ◌-◌, ◌<◌, ◌≤◌, Bool, true, false, true≢false, List, [], ◌∷◌, ◌++◌, length, set, Option, Some, refl, sym, ap, ◌∙◌, ⊎_elim, arith, subst, ◌==◌, length-set, get_or-set_same}
+use Rattle.std.proofs.Common.{◌≡◌, ◌≢◌, ℕ, ◌-◌, ◌<◌, ◌≤◌, Bool, true, false, true≢false, List, [], ◌∷◌, ◌++◌, length, set, refl, sym, ap, ◌∙◌, ◌⊎◌, inl, inr, ⊎_elim, arith, subst, ◌==◌, length-set, get_or-set_same, get_or-set_other}
 use Rattle.std.specs.Prelude.{slice_index}
-use Rattle.std.proofs.lemmas.List.{set-get_or}
 use Rattle.std.proofs.lemmas.List.Elements.{All-append}
 use mathlib.Core.Option.{some}
 use lib.ListN.{get_elem?}
@@ -19,65 +18,99 @@ use Rattle.kc_locked.specs.declared.rule.View.{View}
 use Rattle.kc_model.specs.declared.footprint.Entry.{Entry}
 
 abbrev Mine : Type 0
-Mine = Me (Option HeldView) View
+Mine = Me HeldView View
 
-module _ (o : Origin) (s : table.State (Option HeldView) View) (id : ℕ) (me : Mine) (kept : Kept o s) (at : get_elem? s.views id ≡ some me.0) where
+module _ (o : Origin) (s : table.State HeldView View) (id : ℕ) (me : Mine) (kept : Kept o s) (at : get_elem? s.views id ≡ some me.0) where
   long : 0 < length s.words
-  long = let w = kept.one_word in omega arith
+  long = let w = kept.two_words in omega arith
 
-  -- the lock was free
-  module _ (zero_there : slice_index s.words 0 ≡ 0) where
+  -- the lock was free, and has another word now
+  module _ (zero_there : slice_index s.words 0 ≡ 0) (n : ℕ) (taken : 0 < n) where
     nobody_holds : (j : ℕ) (u : View) → get_elem? s.views j ≡ some u → u.holds ≡ true → ⊥
     nobody_holds j u there h = let l = ((kept.views j u there).lock h).2 in omega arith
 
-    kept_taken : Kept o (stepped s 0 1 id me.1 (lock_view me.0.parts kept.now) (takes 0 (Some kept.now)))
+    kept_taken : Kept o (stepped s 0 n id me.1 (lock_view me.0.parts kept.now) (takes 0 kept.now))
     kept_taken =
         let w = lock_view me.0.parts kept.now in
-        let word : slice_index (set s.words 0 1) 0 ≡ 1 = get_or-set_same s.words 0 1 0 long in
+        let word : slice_index (set s.words 0 n) 0 ≡ n = get_or-set_same s.words 0 n 0 long in
         record {
           now = kept.now;
           holder = id;
           one_slot = length-set s.homes 0 _ ∙ kept.one_slot;
-          one_word = length-set s.words 0 _ ∙ kept.one_word;
+          two_words = length-set s.words 0 _ ∙ kept.two_words;
           free = λ z. absurd (omega arith);
           sound = kept.sound;
           opening = kept.opening;
           callers = kept.callers;
           views = λ j u e. ⊎_elim
-              (λ (x : (j ≡ id) × (w ≡ u)). subst (FitsView o kept.now (slice_index (set s.words 0 1) 0) id j) x.1 (record { parts = (kept.views id me.0 at).parts; lock = λ h. (x.0, refl, word) }))
+              (λ (x : (j ≡ id) × (w ≡ u)). subst (FitsView o kept.now (slice_index (set s.words 0 n) 0) id j) x.1 (record { parts = (kept.views id me.0 at).parts; lock = λ h. (x.0, refl, omega arith) }))
               (λ (x : (j ≢ id) × (get_elem? s.views j ≡ some u)). record { parts = (kept.views j u x.1).parts; lock = λ h. absurd (nobody_holds j u x.1 h) })
               (at_set s.views id j w u e);
           once = λ k. let one = kept.once k in let t = total_set (λ u. times k u.parts) s.views id me.0 w at in omega arith;
           space = (let sp = kept.space in let t = total_set (λ u. left_of u.parts) s.views id me.0 w at in omega arith);
         }
 
-  kept_same : Kept o (stepped s 0 (slice_index s.words 0) id me.1 me.0 keeps)
-  kept_same =
-      let ws : set s.words 0 (slice_index s.words 0) ≡ s.words = set-get_or s.words 0 0 in
+  -- A word changed, and nobody's view: where it is the lock's, it was taken and is.
+  kept_beside : (i n : ℕ) → (slice_index (set s.words i n) 0 ≡ slice_index s.words 0) ⊎ ((0 < slice_index s.words 0) × (0 < slice_index (set s.words i n) 0)) → Kept o (stepped s i n id me.1 me.0 keeps)
+  kept_beside i n word =
       let vs : set s.views id me.0 ≡ s.views = set_again s.views id me.0 at in
-      subst (Kept o) (λ i. record { words = sym ws i; homes = s.homes; views = sym vs i }) kept
+      subst (λ views. Kept o (record { words = set s.words i n; homes = s.homes; views = views })) (sym vs) (record {
+        now = kept.now;
+        holder = kept.holder;
+        one_slot = kept.one_slot;
+        two_words = length-set s.words i _ ∙ kept.two_words;
+        free = λ z. ⊎_elim (λ same. kept.free (sym same ∙ z)) (λ (x : (0 < slice_index s.words 0) × (0 < slice_index (set s.words i n) 0)). absurd (let y = x.1 in omega arith)) word;
+        sound = kept.sound;
+        opening = kept.opening;
+        callers = kept.callers;
+        views = λ j u e. let f = kept.views j u e in record {
+          parts = f.parts;
+          lock = λ h. let l = f.lock h in (l.0, l.1, ⊎_elim (λ same. rw same l.2) (λ (x : (0 < slice_index s.words 0) × (0 < slice_index (set s.words i n) 0)). x.1) word);
+        };
+        once = kept.once;
+        space = kept.space;
+      })
 
-pub takes_lock : (o : Origin) (slots id : ℕ) (me : Mine) → Allows (Kept o) slots id me 0 (λ n. either (n == 0) 1 n) (Took o me)
-takes_lock o slots id me s kept count at small = by_test (slice_index s.words 0 == 0) refl
+-- what the exchange leaves that finds the lock free, or doesn't
+pub above : (word : ℕ) → 0 < word → (n : ℕ) → 0 < either (n == 0) word n
+above word lt n = by_test (n == 0) refl
   where
-    by_test : (b : Bool) → (slice_index s.words 0 == 0) ≡ b
-        → (w : View) × (a : table.Act (Option HeldView)) × table.Valid s.homes me.1 a × Kept o (stepped s 0 (either b 1 (slice_index s.words 0)) id me.1 w a) × Took o me (slice_index s.words 0) (w, table.carried_after me.1 a)
+    by_test : (b : Bool) → (n == 0) ≡ b → 0 < either b word n
+    by_test true e = omega arith
+    by_test false e = let ne = eqb-false n 0 e in omega arith
+
+-- The lock is taken by a step that leaves a number above 0, whatever it finds.
+pub takes_lock : (o : Origin) (slots id : ℕ) (me : Mine) (f : ℕ → ℕ) → ((n : ℕ) → 0 < f n) → Allows (Kept o) slots id me 0 f (Took o me)
+takes_lock o slots id me f above s kept count at small = by_test (slice_index s.words 0 == 0) refl
+  where
+    n : ℕ
+    n = slice_index s.words 0
+
+    by_test : (b : Bool) → (n == 0) ≡ b → (w : View) × (a : table.Act HeldView) × table.Valid s.homes me.1 a × Kept o (stepped s 0 (f n) id me.1 w a) × Took o me n (w, table.carried_after me.1 a)
     by_test true e =
-        let z : slice_index s.words 0 ≡ 0 = eqb-true _ 0 e in
+        let z : n ≡ 0 = eqb-true _ 0 e in
         let left : left_of me.0.parts ≤ total (λ u. left_of u.parts) s.views = total_one (λ u. left_of u.parts) s.views id me.0 at in
         let sp = kept.space in (
           lock_view me.0.parts kept.now,
-          takes 0 (Some kept.now),
+          takes 0 kept.now,
           kept.free z,
-          kept_taken o s id me kept at z,
+          kept_taken o s id me kept at z (f n) (above n),
           ((λ _. (kept.now, refl, kept.sound, kept.opening, omega arith)), (λ ne. absurd (ne z))),
         )
-    by_test false e = let ne = eqb-false _ 0 e in (me.0, keeps, tt, kept_same o s id me kept at, ((λ z. absurd (ne z)), (λ _. refl)))
+    by_test false e =
+        let ne = eqb-false _ 0 e in
+        let word : slice_index (set s.words 0 (f n)) 0 ≡ f n = get_or-set_same s.words 0 (f n) 0 (long o s id me kept at) in
+        let now = above n in
+        (me.0, keeps, tt, kept_beside o s id me kept at 0 (f n) (inr (omega arith, omega arith)), ((λ z. absurd (ne z)), (λ _. refl)))
+
+-- a step on the other word changes nothing that is known
+pub notes : (o : Origin) (slots id : ℕ) (me : Mine) (n : ℕ) → Allows (Kept o) slots id me 1 (λ _. n) (λ _ after. after ≡ me)
+notes o slots id me n s kept count at small = (me.0, keeps, tt, kept_beside o s id me kept at 1 n (inl (get_or-set_other s.words 1 0 n 0 (λ e. omega arith))), refl)
 
 -- one with the lock lets it go, with the entries of its own
-module _ (o : Origin) (s : table.State (Option HeldView) View) (id : ℕ) (k left : ℕ) (own es : List Entry) (found now : HeldView) (kept : Kept o s)
+module _ (o : Origin) (s : table.State HeldView View) (id : ℕ) (k left : ℕ) (own es : List Entry) (found now : HeldView) (kept : Kept o s)
     (at : get_elem? s.views id ≡ some (lock_view (part k left own ∷ []) found)) (room : length es ≤ left) (grown : Grown k es found now) where
-  lock_facts : (id ≡ kept.holder) × (found ≡ kept.now) × (slice_index s.words 0 ≡ 1)
+  lock_facts : (id ≡ kept.holder) × (found ≡ kept.now) × (0 < slice_index s.words 0)
   lock_facts = (kept.views id _ at).lock refl
 
   history_after : now.history ≡ kept.now.history ++ es
@@ -86,17 +119,17 @@ module _ (o : Origin) (s : table.State (Option HeldView) View) (id : ℕ) (k lef
   fits_here : (k < length o.shares) × (own ++ es ≡ of_caller k (kept.now.history ++ es))
   fits_here = let f = (kept.views id _ at).parts in (f.0, own_more k kept.now.history own es grown.mine f.1)
 
-  kept_free : Kept o (stepped s 0 0 id ((0, Some now) ∷ []) (free_view (part k (left - length es) (own ++ es) ∷ [])) gives)
+  kept_free : Kept o (stepped s 0 0 id ((0, now) ∷ []) (free_view (part k (left - length es) (own ++ es) ∷ [])) gives)
   kept_free =
       let v = lock_view (part k left own ∷ []) found in
       let w = free_view (part k (left - length es) (own ++ es) ∷ []) in
-      let word : slice_index (set s.words 0 0) 0 ≡ 0 = get_or-set_same s.words 0 0 0 (let c = kept.one_word in omega arith) in
+      let word : slice_index (set s.words 0 0) 0 ≡ 0 = get_or-set_same s.words 0 0 0 (let c = kept.two_words in omega arith) in
       record {
         now = now;
         holder = id;
         one_slot = length-set s.homes 0 _ ∙ kept.one_slot;
-        one_word = length-set s.words 0 _ ∙ kept.one_word;
-        free = λ _. set_here s.homes 0 (some (Some now)) (let c = kept.one_slot in omega arith);
+        two_words = length-set s.words 0 _ ∙ kept.two_words;
+        free = λ _. set_here s.homes 0 (some now) (let c = kept.one_slot in omega arith);
         sound = grown.sound;
         opening = grown.opening ∙ ap (λ (h : HeldView). h.opening) lock_facts.1 ∙ kept.opening;
         callers = subst (IsBelowCallers (length o.shares)) (sym history_after) (All-append (λ (e : Entry). e.caller < length o.shares) kept.now.history es kept.callers (all_below (length o.shares) k es fits_here.0 grown.mine));

@@ -1,5 +1,5 @@
 -- The rule of the table: what the slot holds while the lock is free, and what the passes know of it.
-use Rattle.std.specs.Prelude.{◌≡◌, ◌≢◌, ℕ, ◌+◌, ◌-◌, ◌<◌, ◌≤◌, List, [], ◌∷◌, ◌++◌, true, false, Option, Some, Result, Ok, Err, length, slice_index, if◌then◌else◌, ◌==◌}
+use Rattle.std.specs.Prelude.{◌≡◌, ◌≢◌, ℕ, ◌+◌, ◌-◌, ◌<◌, ◌≤◌, List, [], ◌∷◌, ◌++◌, true, false, Result, Ok, Err, length, slice_index, if◌then◌else◌, ◌==◌}
 use mathlib.Core.Option.{some}
 use lib.ListN.{get_elem?}
 use Rattle.atomic_table.specs.Table as table
@@ -59,15 +59,15 @@ AllFit callers history (p ∷ ps) = (p.caller < callers) × (p.own ≡ of_caller
 -- who has the lock knows what is in the slot
 pub record FitsView (o : Origin) (now : HeldView) (word holder i : ℕ) (v : View) : Type 0 where
   pub parts : AllFit (length o.shares) now.history v.parts
-  pub lock : v.holds ≡ true → (i ≡ holder) × (v.found ≡ now) × (word ≡ 1)
+  pub lock : v.holds ≡ true → (i ≡ holder) × (v.found ≡ now) × (0 < word)
 
 -- What the slot held when the lock was last let go is what all views speak of.
-pub record Kept (o : Origin) (s : table.State (Option HeldView) View) : Type 0 where
+pub record Kept (o : Origin) (s : table.State HeldView View) : Type 0 where
   pub now : HeldView
   pub holder : ℕ
   pub one_slot : length s.homes ≡ 1
-  pub one_word : length s.words ≡ 1
-  pub free : slice_index s.words 0 ≡ 0 → get_elem? s.homes 0 ≡ some (some (Some now))
+  pub two_words : length s.words ≡ 2
+  pub free : slice_index s.words 0 ≡ 0 → get_elem? s.homes 0 ≡ some (some now)
   pub sound : IsSound now
   pub opening : now.opening ≡ o.values
   pub callers : IsBelowCallers (length o.shares) now.history
@@ -76,9 +76,9 @@ pub record Kept (o : Origin) (s : table.State (Option HeldView) View) : Type 0 w
   pub space : total (λ v. left_of v.parts) s.views ≤ now.spare
 
 -- The lock was free, and one has it, with what was in the slot; or nothing changed.
-abbrev pub Took : Origin → Me (Option HeldView) View → ℕ → Me (Option HeldView) View → Type 0
+abbrev pub Took : Origin → Me HeldView View → ℕ → Me HeldView View → Type 0
 Took o me found after =
-    (found ≡ 0 → (h : HeldView) × (after ≡ (lock_view me.0.parts h, (0, Some h) ∷ me.1)) × IsSound h × (h.opening ≡ o.values) × (left_of me.0.parts ≤ h.spare))
+    (found ≡ 0 → (h : HeldView) × (after ≡ (lock_view me.0.parts h, (0, h) ∷ me.1)) × IsSound h × (h.opening ≡ o.values) × (left_of me.0.parts ≤ h.spare))
     × (found ≢ 0 → after ≡ me)
 
 -- these entries of the caller were added, and room was used for them
@@ -95,17 +95,17 @@ committed [] es = []
 committed (p ∷ ps) es = part p.caller (p.left - length es) (p.own ++ es) ∷ ps
 
 -- the lock is free again, with these commits of the pass
-abbrev pub Gave : List Entry → Me (Option HeldView) View → ℕ → Me (Option HeldView) View → Type 0
+abbrev pub Gave : List Entry → Me HeldView View → ℕ → Me HeldView View → Type 0
 Gave es me found after = after ≡ (free_view (committed me.0.parts es), [])
 
 -- a pass has the lock, and in the slot, beside what was found, these entries of its own
-pub record Holds (es : List Entry) (me : Me (Option HeldView) View) : Type 0 where
+pub record Holds (es : List Entry) (me : Me HeldView View) : Type 0 where
   pub caller : ℕ
   pub left : ℕ
   pub own : List Entry
   pub found : HeldView
   pub now : HeldView
-  pub is : me ≡ (lock_view (part caller left own ∷ []) found, (0, Some now) ∷ [])
+  pub is : me ≡ (lock_view (part caller left own ∷ []) found, (0, now) ∷ [])
   pub room : length es ≤ left
   pub grown : Grown caller es found now
 
@@ -131,7 +131,7 @@ abbrev pub spent : View
 spent = free_view []
 
 -- what the slot held when the lock was last let go was seen: the passes' own lists are parts of that history
-pub record Ended (o : Origin) (me after : Me (Option HeldView) View) : Type 0 where
+pub record Ended (o : Origin) (me after : Me HeldView View) : Type 0 where
   pub now : HeldView
   pub is : after ≡ (record { parts = me.0.parts; holds = false; found = now }, me.1)
   pub opening : now.opening ≡ o.values
@@ -145,8 +145,8 @@ made_by (Ok a) e = e ∷ []
 made_by (Err w) e = []
 
 -- one has the lock now, with what was in the slot
-abbrev pub Taken : Origin → Me (Option HeldView) View → Me (Option HeldView) View → Type 0
-Taken o me after = (h : HeldView) × (after ≡ (lock_view me.0.parts h, (0, Some h) ∷ me.1)) × IsSound h × (h.opening ≡ o.values) × (left_of me.0.parts ≤ h.spare)
+abbrev pub Taken : Origin → Me HeldView View → Me HeldView View → Type 0
+Taken o me after = (h : HeldView) × (after ≡ (lock_view me.0.parts h, (0, h) ∷ me.1)) × IsSound h × (h.opening ≡ o.values) × (left_of me.0.parts ≤ h.spare)
 
 -- the parts of a view
 abbrev pub own_first : List Part → List Entry

@@ -3,6 +3,7 @@
 
 mod held;
 mod history;
+mod lock;
 mod rule;
 mod store;
 #[cfg(test)]

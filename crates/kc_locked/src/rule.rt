@@ -2,7 +2,7 @@
 ghost use Rattle.kc_locked.specs.Locked.{Kept, first_view};
 
 use crate::held::Held;
-use atomic_table::{Join, Play, Split, TableRule};
+use atomic_table::{Join, Play, Seat, Shared, Split, TableRule};
 use kc_model::Entry;
 use std::collections::LinkedList;
 use std::marker::{Brand, Model, PhantomData};
@@ -38,7 +38,11 @@ impl Model for Origin {
 
 pub struct Rule;
 
-impl TableRule<Option<Held>, View, Origin> for Rule {
+pub type Token = Seat<Held, View>;
+
+pub(crate) type Memory = Shared<Held, View, Origin, Rule>;
+
+impl TableRule<Held, View, Origin> for Rule {
     ghost holds = { Kept };
 
     ghost first = { first_view };
@@ -60,7 +64,7 @@ impl Knows for Brand {
 /// Takes the lock.
 pub struct Takes<K: Knows>(PhantomData<K>);
 
-impl<K: Knows> Play<Option<Held>, View> for Takes<K> {
+impl<K: Knows> Play<Held, View> for Takes<K> {
     ghost use Rattle.kc_locked.specs.Locked.{Took};
 
     ghost then = { λ step me found after. Took K.origin me found after };
@@ -83,10 +87,19 @@ impl Commits for Brand {
 /// Lets it go, with these commits.
 pub struct Gives<C: Commits>(PhantomData<C>);
 
-impl<C: Commits> Play<Option<Held>, View> for Gives<C> {
+impl<C: Commits> Play<Held, View> for Gives<C> {
     ghost use Rattle.kc_locked.specs.Locked.{Gave};
 
     ghost then = { λ step me found after. Gave C.made me found after };
+}
+
+/// While one has the lock, a word that says nothing of the slot changes.
+pub struct Notes;
+
+impl Play<Held, View> for Notes {
+    ghost use Rattle.std.specs.Prelude.{◌≡◌};
+
+    ghost then = { λ step me found after. after ≡ me };
 }
 
 /// The first pass goes out.
@@ -114,7 +127,7 @@ impl Join<View> for Gathers {
 /// A new seat that has no pass.
 pub struct Empty;
 
-impl Play<Option<Held>, View> for Empty {
+impl Play<Held, View> for Empty {
     ghost use Rattle.std.specs.Prelude.{◌≡◌};
     ghost use Rattle.kc_locked.specs.Locked.{spent};
 
@@ -124,7 +137,7 @@ impl Play<Option<Held>, View> for Empty {
 /// A load that shows the one history.
 pub struct Ends<K: Knows>(PhantomData<K>);
 
-impl<K: Knows> Play<Option<Held>, View> for Ends<K> {
+impl<K: Knows> Play<Held, View> for Ends<K> {
     ghost use Rattle.kc_locked.specs.Locked.{Ended};
 
     ghost then = { λ step me found after. Ended K.origin me after };

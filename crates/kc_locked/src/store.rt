@@ -1,41 +1,36 @@
 //! The store, and the passes of its threads.
-ghost use Rattle.std.specs.Prelude.{◌≡◌, ◌↔◌, ◌+◌, ◌<◌, ◌≤◌, ◌⊎◌, [], ◌∷◌, Some, length, sum, All, Err, IfOk, OnErr};
+ghost use Rattle.std.specs.Prelude.{◌≡◌, ◌↔◌, ◌+◌, ◌<◌, ◌≤◌, ◌⊎◌, [], ◌∷◌, length, sum, All, Err, IfOk, OnErr};
 ghost use Rattle.kc_model.specs.Footprint.{IsBelow};
 ghost use Rattle.kc_xt.specs.Commit.{Answers, Waits as WaitsFor};
 ghost use Rattle.kc_xt.specs.Ended.{answer_of_ended, print_of};
 ghost use Rattle.kc_history.specs.Callers.{entry_of};
 ghost use Rattle.kc_locked.specs.Held.{HeldView, IsSound, answer_in};
-ghost use Rattle.kc_locked.specs.Locked.{free_view, shared_out, committed, Ended as Shown, Grown, Holds};
+ghost use Rattle.kc_locked.specs.Locked.{free_view, shared_out, Ended as Shown, Grown};
 ghost use Rattle.kc_locked.specs.Origin.{origin};
 ghost use Rattle.kc_locked.specs.Passes.{IsPast, Made, Opened, passes_of};
-ghost use Rattle.kc_locked.specs.Locked.{Matches, Taken, made_by};
+ghost use Rattle.kc_locked.specs.Locked.{Matches, made_by};
 
 use crate::held::{Held, MOST_COMMITS, Waits, answer_of};
-use crate::rule::{Commits, Deals, Empty, Ends, Gathers, Gives, Knows, Origin, Rule, Takes, View};
-use atomic_table::{Seat, Shared, Table};
+use crate::lock::{CHANGES, give, note_change, note_wait, take};
+use crate::rule::{Deals, Empty, Ends, Gathers, Knows, Memory, Origin, Rule, Token, View};
+use atomic_table::Table;
 use crossbeam_utils::CachePadded;
 use kc_model::{Answer, Footprint, MOST_LOCATIONS, OpenError};
-use kc_xt::{Ended, Room, Transact, Trial, rest};
+use kc_xt::{Ended, Room, Transact, Trial};
 use std::alloc::{AllocError, Global};
 use std::marker::{Brand, Model};
-use std::sync::{Condvar, Mutex, MutexGuard, Wait};
-use std::thread;
+use std::sync::Wait;
 
 /// How many passes a store may have.
 pub const MOST_CALLERS: usize = 64;
 
-pub type Token = Seat<Option<Held>, View>;
-
-type Memory = Shared<Option<Held>, View, Origin, Rule>;
+// What the word of changes is while a transaction has to wait.
+struct Until(u32);
 
 /// A store behind one lock.
 #[derive(Drop)]
 pub struct LockedStore {
-    // The lock, and how many wait: who has it takes what lies in the slot, and gives it back.
-    gate: Mutex<u32>,
-    // Another commit put something.
-    changed: Condvar,
-    table: Table<Option<Held>, View, Origin, Rule, Global>,
+    table: Table<Held, View, Origin, Rule, Global>,
 }
 
 impl Model for LockedStore {
@@ -46,7 +41,7 @@ impl Model for LockedStore {
 
     ghost view = { λ s. record { table = s.table.shared.table_id; opening = s.table.shared.key.values; callers = length s.table.shared.key.shares } };
 
-    ghost invariant = { λ s. (s.table.shared.table_id.words ≡ 1) × (s.table.shared.table_id.slots ≡ 1) };
+    ghost invariant = { λ s. (s.table.shared.table_id.words ≡ 2) × (s.table.shared.table_id.slots ≡ 1) };
 }
 
 /// A thread's right to use the store. Contracts see of which store it is, its number, how many commits it may still
@@ -128,12 +123,7 @@ impl LockedStore {
         }
         let (table, token) = open_table(alloc, values, shares)?;
         let passes = deal(alloc, &table.shared, token, shares)?;
-        let store = LockedStore {
-            gate: Mutex::new(0),
-            changed: Condvar::new(),
-            table,
-        };
-        Ok((store, passes))
+        Ok((LockedStore { table }, passes))
     }
 
     /// Makes one commit of the pass. Where the transaction's meaning is retry, it waits for another commit that puts
@@ -169,17 +159,11 @@ impl LockedStore {
         ensures made { Made (T.meaning transaction.now) result footprint.new pass.old pass.new }
         ensures bound { IsBelow (T.end transaction.now) footprint.new }
     {
-        let mut gate = shut(rt, &self.gate);
         for _ in rt.forever() {
-            if let Ok(answer) = self.attempt(rt, pass, transaction, footprint) {
-                if *gate > 0 && !footprint.puts.is_empty() {
-                    self.changed.notify_all();
-                }
-                return answer;
+            match self.attempt(rt, pass, transaction, footprint) {
+                Ok(answer) => return answer,
+                Err(Until(change)) => self.table.shared.park(rt, CHANGES, change),
             }
-            *gate = gate.saturating_add(1);
-            gate = self.changed.wait(rt, gate);
-            *gate = gate.saturating_sub(1);
         }
         unreachable!()
     }
@@ -189,24 +173,20 @@ impl LockedStore {
         requires { All (λ p. p.table ≡ self.table) passes.items }
         ensures { IsPast self passes.items result }
     {
-        let LockedStore {
-            gate: _,
-            changed: _,
-            table,
-        } = self;
+        let LockedStore { table } = self;
         let mut keeper = gather(&table.shared, passes);
         show::<Brand>(&table.shared, &mut keeper);
         LockPast { token: keeper }
     }
 
-    // One try of a pass, while the gate is held.
+    // One try of a pass, with the lock. Where it waits, it says what the word of changes is until there is one.
     fn attempt<R: Wait, T: Transact>(
         &self,
         rt: &R,
         pass: &mut LockPass,
         transaction: &T,
         footprint: &mut Footprint,
-    ) -> Result<Answer, Waits>
+    ) -> Result<Answer, Until>
         requires pass { (pass.old.table ≡ self.now.table) × (0 < pass.old.left) }
         requires fit { T.is_fit transaction.now }
         requires within { T.end transaction.now ≤ length self.now.opening }
@@ -229,42 +209,20 @@ impl LockedStore {
             transaction,
             footprint,
         );
+        if entered.is_err() {
+            let change = note_wait(memory, &mut pass.token);
+            give::<Brand>(memory, &mut pass.token, caller, number, footprint, entered);
+            return Err(Until(change));
+        }
+        let is_awaited = !footprint.puts.is_empty() && note_change(memory, &mut pass.token);
         give::<Brand>(memory, &mut pass.token, caller, number, footprint, entered);
-        entered?;
+        if is_awaited {
+            memory.wake_all(CHANGES);
+        }
         pass.made += 1;
         pass.left -= 1;
         Ok(answer_of(&trial))
     }
-}
-
-// How often the processor pauses before it looks again whether the gate is open.
-const PAUSES: [u32; 4] = [64, 128, 256, 512];
-
-// Takes the gate. Who finds it taken pauses, so that who has it goes on with the store at hand, and waits for it at last.
-fn shut<'a, R: Wait>(rt: &R, gate: &'a Mutex<u32>) -> MutexGuard<'a, u32> {
-    for pauses in PAUSES {
-        if let Some(guard) = gate.try_lock() {
-            return guard;
-        }
-        rest(pauses);
-    }
-    gate.lock(rt)
-}
-
-// Takes what lies in the slot.
-fn take<K: Knows, R: Wait>(rt: &R, memory: &Memory, token: &mut Token)
-    requires table { (token.old.table_id ≡ memory.now.table_id) × (memory.now.table_id.words ≡ 1) }
-    requires key { memory.now.key ≡ K.origin }
-    ensures table { token.new.table_id ≡ token.old.table_id }
-    ensures taken { Taken K.origin token.old.me token.new.me }
-{
-    for _ in rt.forever() {
-        if memory.compare_exchange::<Takes<K>>(token, 0, 0, 1) == 0 {
-            return;
-        }
-        thread::yield_now();
-    }
-    unreachable!()
 }
 
 // The commit, on what was taken.
@@ -279,43 +237,20 @@ fn enter<T: Transact>(
     footprint: &mut Footprint,
 ) -> Result<(), Waits>
     requires table { token.old.table_id ≡ memory.now.table_id }
-    requires holds { token.old.me.1 ≡ (0, Some token.old.me.0.found) ∷ [] }
+    requires holds { token.old.me.1 ≡ (0, token.old.me.0.found) ∷ [] }
     requires sound { IsSound token.old.me.0.found }
     requires spare { 0 < token.old.me.0.found.spare }
     requires fit { T.is_fit transaction.now }
     requires within { T.end transaction.now ≤ length token.old.me.0.found.opening }
     ensures table { token.new.table_id ≡ token.old.table_id }
-    ensures entered { (h : HeldView) × (token.new.me ≡ (token.old.me.0, (0, Some h) ∷ [])) × Grown caller (made_by result (entry_of caller number footprint.new)) token.old.me.0.found h }
+    ensures entered { (h : HeldView) × (token.new.me ≡ (token.old.me.0, (0, h) ∷ [])) × Grown caller (made_by result (entry_of caller number footprint.new)) token.old.me.0.found h }
     ensures answers { IfOk result (λ _. Answers (T.meaning transaction.now) (answer_in trial.new.went trial.new.reply) footprint.new) }
     ensures waits { OnErr result (WaitsFor (T.meaning transaction.now) footprint.new) }
     ensures bound { IsBelow (T.end transaction.now) footprint.new }
 {
-    match memory.exchange(token, 0, None) {
-        Some(mut held) => {
-            let entered = held.commit_into(caller, number, room, trial, transaction, footprint);
-            memory.exchange(token, 0, Some(held));
-            entered
-        }
-        None => unreachable!(),
-    }
-}
-
-// Gives it back, with the commit if one was made.
-fn give<C: Commits>(
-    memory: &Memory,
-    token: &mut Token,
-    caller: u32,
-    number: u64,
-    _footprint: &Footprint,
-    _entered: Result<(), Waits>,
-)
-    requires table { (token.old.table_id ≡ memory.now.table_id) × (memory.now.table_id.words ≡ 1) }
-    requires made { C.made ≡ made_by _entered (entry_of caller number _footprint.now) }
-    requires holds { Holds C.made token.old.me }
-    ensures table { token.new.table_id ≡ token.old.table_id }
-    ensures gave { token.new.me ≡ (free_view (committed token.old.me.0.parts C.made), []) }
-{
-    memory.store::<Gives<C>>(token, 0, 0);
+    token
+        .slot_mut(memory, 0)
+        .commit_into(caller, number, room, trial, transaction, footprint)
 }
 
 // The table, with the store in its slot, and a seat that has all passes.
@@ -323,9 +258,9 @@ fn open_table(
     alloc: Global,
     values: &[u32],
     shares: &[u32],
-) -> Result<(Table<Option<Held>, View, Origin, Rule, Global>, Token), AllocError>
+) -> Result<(Table<Held, View, Origin, Rule, Global>, Token), AllocError>
     requires { sum shares.now ≤ MOST_COMMITS }
-    ensures table { IfOk result (λ r. (r.0.shared.table_id.words ≡ 1) × (r.0.shared.table_id.slots ≡ 1) × (r.1.table_id ≡ r.0.shared.table_id)) }
+    ensures table { IfOk result (λ r. (r.0.shared.table_id.words ≡ 2) × (r.0.shared.table_id.slots ≡ 1) × (r.1.table_id ≡ r.0.shared.table_id)) }
     ensures key { IfOk result (λ r. r.0.shared.key ≡ origin values.now shares.now) }
     ensures seat { IfOk result (λ r. r.1.me ≡ (free_view (shared_out 0 shares.now), [])) }
 {
@@ -338,8 +273,8 @@ fn open_table(
         return Err(AllocError);
     };
     let mut slots = Vec::with_capacity(alloc, 1)?;
-    slots.push_reserved(Some(held));
-    match Table::new(alloc, &[0], slots, &origin) {
+    slots.push_reserved(held);
+    match Table::new(alloc, &[0, 0], slots, &origin) {
         Ok(opened) => Ok(opened),
         Err(_) => Err(AllocError),
     }
@@ -352,7 +287,7 @@ fn deal(
     mut first: Token,
     shares: &[u32],
 ) -> Result<Vec<LockPass>, AllocError>
-    requires table { (first.table_id ≡ memory.now.table_id) × (memory.now.table_id.words ≡ 1) }
+    requires table { (first.table_id ≡ memory.now.table_id) × (memory.now.table_id.words ≡ 2) }
     requires first { first.me ≡ (free_view (shared_out 0 shares.now), []) }
     requires callers { length shares.now ≤ MOST_CALLERS }
     requires most { sum shares.now ≤ MOST_COMMITS }
@@ -375,7 +310,7 @@ fn deal(
 
 // All passes in one.
 fn gather(memory: &Memory, passes: Vec<LockPass>) -> Token
-    requires words { memory.now.table_id.words ≡ 1 }
+    requires words { memory.now.table_id.words ≡ 2 }
     requires table { All (λ p. p.table ≡ memory.now.table_id) passes.items }
     ensures table { result.table_id ≡ memory.now.table_id }
     ensures passes { Matches result.me.0.parts passes.items }
@@ -397,7 +332,7 @@ fn gather(memory: &Memory, passes: Vec<LockPass>) -> Token
 
 // Shows what the slot held when the lock was last let go.
 fn show<K: Knows>(memory: &Memory, keeper: &mut Token)
-    requires table { (keeper.old.table_id ≡ memory.now.table_id) × (memory.now.table_id.words ≡ 1) }
+    requires table { (keeper.old.table_id ≡ memory.now.table_id) × (memory.now.table_id.words ≡ 2) }
     requires key { memory.now.key ≡ K.origin }
     ensures { Shown K.origin keeper.old.me keeper.new.me }
 {

@@ -10,6 +10,7 @@ use std::alloc::Global;
 use std::sync::Wait;
 use std::test::Fail;
 use std::thread;
+use std::thread::Threads;
 
 // Adds one to the first location, as often as the pass may commit.
 fn count<R: Wait>(rt: &R, store: &LockedStore, mut pass: LockPass) -> LockPass
@@ -81,22 +82,49 @@ fn take_turns<R: Wait>(rt: &R, store: &LockedStore, mut pass: LockPass, mine: u3
     turns
 }
 
-// Each of the two waits for the other 200 times, so a wait that isn't woken keeps the test for ever.
+// Two that take turns at once: the first hands on to the second, and this one to `next`.
+fn take_turns_by_two<R: Threads + Wait + Sync>(
+    rt: &R,
+    store: &LockedStore,
+    first: LockPass,
+    second: LockPass,
+    mine: u32,
+    next: u32,
+) -> (u32, u32)
+    requires first { first.table ≡ store.now.table }
+    requires second { second.table ≡ store.now.table }
+    requires location { 0 < length store.now.opening }
+{
+    let between = mine.wrapping_add(1);
+    thread::join(
+        rt,
+        move || take_turns(rt, store, first, mine, between),
+        move || take_turns(rt, store, second, between, next),
+    )
+}
+
+// Each of the four waits for the one before it 200 times, so a wait that isn't woken keeps the test for ever.
 #[test]
-fn two_threads_take_turns(rt: HostRuntime) -> Result<(), Fail> {
-    let Ok((store, mut passes)) = LockedStore::open(rt.alloc(), &[0, 5], &[400, 400]) else {
+fn four_threads_take_turns(rt: HostRuntime) -> Result<(), Fail> {
+    let Ok((store, mut passes)) = LockedStore::open(rt.alloc(), &[0, 5], &[400, 400, 400, 400])
+    else {
         panic!(rt; "the store was not opened");
     };
-    let (Some(second), Some(first)) = (passes.pop(), passes.pop()) else {
-        panic!(rt; "there are two passes");
+    let (Some(fourth), Some(third), Some(second), Some(first)) = (
+        passes.pop(),
+        passes.pop(),
+        passes.pop(),
+        passes.pop(),
+    ) else {
+        panic!(rt; "there are four passes");
     };
-    let shared = &store;
+    let (rt, shared) = (&rt, &store);
     let turns = thread::join(
-        &rt,
-        move || take_turns(&rt, shared, first, 0, 1),
-        move || take_turns(&rt, shared, second, 1, 0),
+        rt,
+        move || take_turns_by_two(rt, shared, first, second, 0, 2),
+        move || take_turns_by_two(rt, shared, third, fourth, 2, 0),
     );
-    assert_eq!(rt; turns, (200, 200));
+    assert_eq!(rt; turns, ((200, 200), (200, 200)));
     Ok(())
 }
 
