@@ -26,4 +26,8 @@ pub mod Spares
 pub mod CleanSteps
 pub mod CleanRuns
 pub mod LookRuns
+pub mod Begun
+pub mod Tasks
 pub mod Attempts
+pub mod SwapRuns
+pub mod Swaps

@@ -1,3 +1,4 @@
 pub mod Stretches
 pub mod Attempts
+pub mod Swaps
 pub mod Worked

@@ -7,6 +7,7 @@ ghost use Rattle.kc_machine.specs.Schedules.{IsSchedule};
 ghost use Rattle.kc_machine_claims.specs.Claims.{AloneItIsTold};
 ghost use Rattle.kc_machine_alone.specs.Attempts.{AttemptsEnd};
 ghost use Rattle.kc_machine_alone.specs.Stretches.{StretchesEnd};
+ghost use Rattle.kc_machine_alone.specs.Swaps.{SwapAttemptsEnd};
 
 /// Where the tasks are well made and a descriptor can be taken, a seat that steps alone is told within (callers + 1)² · 4 · lines²
 /// steps, from whatever state it and the others stand in: where n callers are, of at most 64 lines each, within (n + 1)² · 16,384.
@@ -25,4 +26,11 @@ pub fn stretches_end()
 /// bound of one task: it looks at each location, commits in mode Light, and in mode All exactly where that was crossed.
 pub fn attempts_end()
     ensures { (o : Opening) (es : List Event) → IsSchedule o es → AttemptsEnd o es }
+{}
+
+/// Where the tasks are well made and two descriptors can be taken, an attempt of an idle seat that steps alone at one location ends
+/// within the bound of one task, whatever it puts there: it looks, then swaps what it saw, and exactly where the swap was crossed it
+/// commits, in mode Light, and in mode All where that was crossed too. What stands at its last version is not swapped.
+pub fn swap_attempts_end()
+    ensures { (o : Opening) (es : List Event) → IsSchedule o es → SwapAttemptsEnd o es }
 {}

@@ -4,4 +4,4 @@
 mod laws;
 pub mod worked;
 
-pub use laws::{alone_it_is_told, attempts_end, stretches_end};
+pub use laws::{alone_it_is_told, attempts_end, stretches_end, swap_attempts_end};
