@@ -21,6 +21,8 @@ pub enum Reply {
     Full,
     /// The command would wait, and no other thread is live.
     Stranded,
+    /// The command would wait, and another thread had cancelled that.
+    Cancelled,
     Many(Items),
 }
 
