@@ -24,6 +24,7 @@ use Rattle.kc_machine_words.specs.declared.words.Owner.{Owner}
 use Rattle.kc_machine_words.specs.declared.words.Second.{Second}
 use Rattle.kc_machine_words.specs.declared.words.Status.{Status}
 use Rattle.kc_model.specs.declared.word.Word.{Word}
+use Rattle.kc_model.specs.declared.footprint.TheConstants.{MOST}
 
 -- the state, with the words w
 abbrev with : State → World → State
@@ -90,15 +91,15 @@ module _ (ls : List Location) (xs : List LineWords) (bs : List Bool) (ss : List 
 lt_true : (a b : ℕ) → a < b → nat_lt a b ≡ true
 lt_true a b l = grind (arith, nat_tests)
 
--- 64 lines to a descriptor: the places of two lines differ
+-- MOST lines to a descriptor: the places of two lines differ
 module _ {A : Type 0} (blank : A) where
   abbrev rows : (ℕ → A) → ℕ → ℕ → A
-  rows f d k = if nat_lt k 64 then f (d * 64 + k) else blank
+  rows f d k = if nat_lt k MOST then f (d * MOST + k) else blank
 
-  row_in : (f : ℕ → A) (e j : ℕ) → nat_lt j 64 ≡ true → rows f e j ≡ f (e * 64 + j)
+  row_in : (f : ℕ → A) (e j : ℕ) → nat_lt j MOST ≡ true → rows f e j ≡ f (e * MOST + j)
   row_in f e j q = rw q refl
 
-  row_out : (f : ℕ → A) (e j : ℕ) → nat_lt j 64 ≡ false → rows f e j ≡ blank
+  row_out : (f : ℕ → A) (e j : ℕ) → nat_lt j MOST ≡ false → rows f e j ≡ blank
   row_out f e j q = rw q refl
 
   -- the row of another descriptor, and of this one
@@ -111,29 +112,29 @@ module _ {A : Type 0} (blank : A) where
   put_at : (f : ℕ → A) (i : ℕ) (a : A) (j : ℕ) → j ≡ i → put f i a j ≡ a
   put_at f i a j q = ap (put f i a) q ∙ put_here f i a
 
-  row_kept : (f : ℕ → A) (d k : ℕ) (a : A) (e j : ℕ) → (nat_lt j 64 ≡ true → e * 64 + j ≢ d * 64 + k) → (x : Bool) → nat_lt j 64 ≡ x → rows (put f (d * 64 + k) a) e j ≡ rows f e j
-  row_kept f d k a e j ne true q = row_in (put f (d * 64 + k) a) e j q ∙ put_else f (d * 64 + k) a (e * 64 + j) (ne q) ∙ sym (row_in f e j q)
-  row_kept f d k a e j ne false q = row_out (put f (d * 64 + k) a) e j q ∙ sym (row_out f e j q)
+  row_kept : (f : ℕ → A) (d k : ℕ) (a : A) (e j : ℕ) → (nat_lt j MOST ≡ true → e * MOST + j ≢ d * MOST + k) → (x : Bool) → nat_lt j MOST ≡ x → rows (put f (d * MOST + k) a) e j ≡ rows f e j
+  row_kept f d k a e j ne true q = row_in (put f (d * MOST + k) a) e j q ∙ put_else f (d * MOST + k) a (e * MOST + j) (ne q) ∙ sym (row_in f e j q)
+  row_kept f d k a e j ne false q = row_out (put f (d * MOST + k) a) e j q ∙ sym (row_out f e j q)
 
-  pub rows_put : (f : ℕ → A) (d k : ℕ) (a : A) → k < 64 → (e j : ℕ) → rows (put f (d * 64 + k) a) e j ≡ put (rows f) d (put (rows f d) k a) e j
+  pub rows_put : (f : ℕ → A) (d k : ℕ) (a : A) → k < MOST → (e j : ℕ) → rows (put f (d * MOST + k) a) e j ≡ put (rows f) d (put (rows f d) k a) e j
   rows_put f d k a l e j = go (e == d) refl (j == k) refl
     where
-      go : (y : Bool) → (e == d) ≡ y → (z : Bool) → (j == k) ≡ z → rows (put f (d * 64 + k) a) e j ≡ put (rows f) d (put (rows f d) k a) e j
+      go : (y : Bool) → (e == d) ≡ y → (z : Bool) → (j == k) ≡ z → rows (put f (d * MOST + k) a) e j ≡ put (rows f) d (put (rows f d) k a) e j
       go false p z r =
           let ne = eqb-false e d p in
-          row_kept f d k a e j (λ q. let b = ltb-true j 64 q in let n : e * 64 + j ≢ d * 64 + k = (λ s. ne (omega arith)) in n) (nat_lt j 64) refl
+          row_kept f d k a e j (λ q. let b = ltb-true j MOST q in let n : e * MOST + j ≢ d * MOST + k = (λ s. ne (omega arith)) in n) (nat_lt j MOST) refl
           ∙ sym (row_else f d (put (rows f d) k a) e j ne)
       go true p true r =
           let q = eqb-true e d p in let s = eqb-true j k r in
-          row_in (put f (d * 64 + k) a) e j (lt_true j 64 (omega arith)) ∙ put_at f (d * 64 + k) a (e * 64 + j) (omega arith)
+          row_in (put f (d * MOST + k) a) e j (lt_true j MOST (omega arith)) ∙ put_at f (d * MOST + k) a (e * MOST + j) (omega arith)
           ∙ sym (row_here f d (put (rows f d) k a) e j q ∙ put_at (rows f d) k a j s)
       go true p false r =
           let q = eqb-true e d p in let ne = eqb-false j k r in
-          row_kept f d k a e j (λ t s. ne (omega arith)) (nat_lt j 64) refl
+          row_kept f d k a e j (λ t s. ne (omega arith)) (nat_lt j MOST) refl
           ∙ sym (row_here f d (put (rows f d) k a) e j q ∙ put_else (rows f d) k a j ne ∙ ap (λ n. rows f n j) (sym q))
 
 -- a place in the list of lines
-pub place_in : (n d k m : ℕ) → n ≡ m * 64 → d < m → k < 64 → d * 64 + k < n
+pub place_in : (n d k m : ℕ) → n ≡ m * MOST → d < m → k < MOST → d * MOST + k < n
 place_in n d k m e l b = omega arith
 
 module _ (ls : List Location) (ds : List Descriptor) (bs : List Bool) (ss : List Seat) where
@@ -149,19 +150,19 @@ module _ (ls : List Location) (ds : List Descriptor) (bs : List Bool) (ss : List
   seconds_are : (xs ys : List LineWords) (f : ℕ → Second) → ((i : ℕ) → second_at ys i ≡ f i) → second_of_line ys ≡ rows blank_line.second f
   seconds_are xs ys f h = ap (rows blank_line.second) (fun_ext h)
 
-  pub first_view : (xs ys : List LineWords) (d k : ℕ) (o : Option First) → d * 64 + k < length xs → k < 64 → ys ≡ with_first_at xs (d * 64 + k) o → lined ys ≡ with (lined xs) (record (lined xs).world { first = put_line (first_of_line xs) d k o })
+  pub first_view : (xs ys : List LineWords) (d k : ℕ) (o : Option First) → d * MOST + k < length xs → k < MOST → ys ≡ with_first_at xs (d * MOST + k) o → lined ys ≡ with (lined xs) (record (lined xs).world { first = put_line (first_of_line xs) d k o })
   first_view xs ys d k None b l e = ap lined e
   first_view xs ys d k (Some x) b l e =
-      let i = d * 64 + k in
+      let i = d * MOST + k in
       let a : LineWords = record { first = x; second = second_at xs i } in
       ap lined e ∙ lines_same xs (set xs i a) (put (first_of_line xs) d (put (first_of_line xs d) k x)) (second_of_line xs)
       (firsts_are xs (set xs i a) (put (first_at xs) i x) (set_seen (λ (p : LineWords). p.first) xs i a blank_line b) ∙ fun_ext (λ e'. fun_ext (rows_put blank_line.first (first_at xs) d k x l e')))
       (seconds_are xs (set xs i a) (second_at xs) (set_left (λ (p : LineWords). p.second) xs i a blank_line b refl))
 
-  pub second_view : (xs ys : List LineWords) (d k : ℕ) (o : Option Second) → d * 64 + k < length xs → k < 64 → ys ≡ with_second_at xs (d * 64 + k) o → lined ys ≡ with (lined xs) (record (lined xs).world { second = put_line (second_of_line xs) d k o })
+  pub second_view : (xs ys : List LineWords) (d k : ℕ) (o : Option Second) → d * MOST + k < length xs → k < MOST → ys ≡ with_second_at xs (d * MOST + k) o → lined ys ≡ with (lined xs) (record (lined xs).world { second = put_line (second_of_line xs) d k o })
   second_view xs ys d k None b l e = ap lined e
   second_view xs ys d k (Some x) b l e =
-      let i = d * 64 + k in
+      let i = d * MOST + k in
       let a : LineWords = record { first = first_at xs i; second = x } in
       ap lined e ∙ lines_same xs (set xs i a) (first_of_line xs) (put (second_of_line xs) d (put (second_of_line xs d) k x))
       (firsts_are xs (set xs i a) (first_at xs) (set_left (λ (p : LineWords). p.first) xs i a blank_line b refl))
@@ -234,21 +235,21 @@ opened_at (v ∷ values) zero = refl
 opened_at (v ∷ values) (suc l) = opened_at values l
 
 row_blank : {A : Type 0} (a : A) (f : ℕ → A) → ((i : ℕ) → f i ≡ a) → (d k : ℕ) → rows a f d k ≡ a
-row_blank a f h d k = go (nat_lt k 64)
+row_blank a f h d k = go (nat_lt k MOST)
   where
-    go : (x : Bool) → (if x then f (d * 64 + k) else a) ≡ a
-    go true = h (d * 64 + k)
+    go : (x : Bool) → (if x then f (d * MOST + k) else a) ≡ a
+    go true = h (d * MOST + k)
     go false = refl
 
 pub opened_view : (values : List ℕ) (callers n : ℕ) (ls : List Location) (ds : List Descriptor) (xs : List LineWords) (bs : List Bool) (ss : List Seat) → n ≡ pool_size callers
-    → ls ≡ opened_locations values → ds ≡ replicate n blank_descriptor → xs ≡ replicate (n * 64) blank_line → bs ≡ replicate callers false
+    → ls ≡ opened_locations values → ds ≡ replicate n blank_descriptor → xs ≡ replicate (n * MOST) blank_line → bs ≡ replicate callers false
     → length ss ≡ callers → ((k : ℕ) → seat_at ss n k ≡ fresh k n (3 * k)) → state_of ls ds xs bs ss ≡ opened (opening values callers)
 opened_view values callers n ls ds xs bs ss en el ed ex eb es h =
     let l = ap length el ∙ length-map values opened_location in
     let d = ap length ed ∙ length-replicate n blank_descriptor in
     let locs : (i : ℕ) → get_or ls i blank_location ≡ opened_location (get_or values i 0) = (λ i. ap (λ z. get_or z i blank_location) el ∙ opened_at values i) in
     let desc : (i : ℕ) → get_or ds i blank_descriptor ≡ blank_descriptor = (λ i. ap (λ z. get_or z i blank_descriptor) ed ∙ get_or_replicate n i blank_descriptor) in
-    let line : (i : ℕ) → get_or xs i blank_line ≡ blank_line = (λ i. ap (λ z. get_or z i blank_line) ex ∙ get_or_replicate (n * 64) i blank_line) in
+    let line : (i : ℕ) → get_or xs i blank_line ≡ blank_line = (λ i. ap (λ z. get_or z i blank_line) ex ∙ get_or_replicate (n * MOST) i blank_line) in
     let word = fun_ext (λ i. ap (λ (p : Location). p.word) (locs i)) in
     let bits = fun_ext (λ i. ap (λ (p : Location). p.awaiters) (locs i)) in
     let control = fun_ext (λ i. ap (λ (p : Descriptor). p.control) (desc i)) in

@@ -10,6 +10,7 @@ use Rattle.kc_machine_words.specs.declared.words.Second.{Second}
 use Rattle.kc_machine_words.specs.declared.words.Status.{Status}
 use Rattle.kc_model.specs.declared.word.Word.{Word}
 use Rattle.kc_model.specs.declared.word.Word.TheVariants.{Plain}
+use Rattle.kc_model.specs.declared.footprint.TheConstants.{MOST}
 use Rattle.kc_machine_words.specs.declared.access.Grip.TheVariants as grip
 use Rattle.kc_machine_words.specs.declared.access.Access.{Access}
 use Rattle.kc_machine_words.specs.declared.access.Access.TheVariants as access
@@ -92,8 +93,8 @@ possible m (access.Location l t) = nat_lt l.0 m.locations
 possible m (access.Control d g) = nat_lt d m.descriptors && room g (m.world.control d)
 possible m (access.Status d t) = nat_lt d m.descriptors
 possible m (access.Owner d t) = nat_lt d m.descriptors
-possible m (access.First d k t) = nat_lt d m.descriptors && nat_lt k 64
-possible m (access.Second d k t) = nat_lt d m.descriptors && nat_lt k 64
+possible m (access.First d k t) = nat_lt d m.descriptors && nat_lt k MOST
+possible m (access.Second d k t) = nat_lt d m.descriptors && nat_lt k MOST
 possible m (access.Awaiters l b) = nat_lt l.0 m.locations
 possible m (access.Signal c s) = nat_lt c m.callers
 

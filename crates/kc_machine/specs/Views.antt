@@ -10,13 +10,14 @@ use Rattle.kc_machine.specs.declared.words.LineWords.{LineWords}
 use Rattle.kc_machine.specs.declared.words.Location.{Location}
 use Rattle.kc_machine_words.specs.declared.words.First.{First}
 use Rattle.kc_machine_words.specs.declared.words.Second.{Second}
+use Rattle.kc_model.specs.declared.footprint.TheConstants.{MOST}
 
--- 64 lines to a descriptor
+-- MOST lines to a descriptor
 abbrev pub first_of_line : List LineWords → ℕ → ℕ → First
-first_of_line xs d k = if nat_lt k 64 then first_at xs (d * 64 + k) else blank_line.first
+first_of_line xs d k = if nat_lt k MOST then first_at xs (d * MOST + k) else blank_line.first
 
 abbrev pub second_of_line : List LineWords → ℕ → ℕ → Second
-second_of_line xs d k = if nat_lt k 64 then second_at xs (d * 64 + k) else blank_line.second
+second_of_line xs d k = if nat_lt k MOST then second_at xs (d * MOST + k) else blank_line.second
 
 abbrev pub state_of : List Location → List Descriptor → List LineWords → List Bool → List Seat → State
 state_of ls ds xs bs ss = record {

@@ -6,6 +6,7 @@ ghost use Rattle.kc_machine.specs.Seats.{fresh, answer_of, begun, halted};
 ghost use Rattle.kc_machine.specs.Lists.{seat_at, opened_locations};
 ghost use Rattle.kc_machine.specs.Words.{blank_descriptor, blank_line};
 ghost use Rattle.kc_machine.specs.declared.seat.Seat.{Seat};
+ghost use Rattle.kc_model.specs.declared.footprint.TheConstants.{MOST};
 
 use crate::seat::Seat;
 use crate::words::{
@@ -14,13 +15,11 @@ use crate::words::{
 };
 use kc_machine_steps::{Event, Task};
 use kc_machine_words::{Access, Control, First, Found, Grip, Mode, Owner, Phase, Second, Status};
-use kc_model::{MOST_LOCATIONS, OpenError, Word};
+use kc_model::{MOST, MOST_LOCATIONS, OpenError, Word};
 use std::alloc::{AllocError, Global};
 
 /// The most callers of a machine.
 pub const MOST_CALLERS: u32 = 64;
-
-const LINES: u32 = 64;
 
 /// A machine. Contracts name its state: the words and the seats, each by number.
 #[derive(Drop)]
@@ -30,7 +29,7 @@ pub struct Machine {
     lines: Vec<LineWords>,
     signals: Vec<bool>,
     seats: Vec<Seat>,
-    ghost lines_fit: { length lines.items ≡ length descriptors.items * 64 },
+    ghost lines_fit: { length lines.items ≡ length descriptors.items * MOST },
     ghost signals_fit: { length signals.items ≡ length seats.items },
     ghost callers_fit: { length seats.items ≤ 64 },
 }
@@ -64,8 +63,8 @@ impl Machine {
             }
             Access::Status(d, _) => (d as usize) < descriptors,
             Access::Owner(d, _) => (d as usize) < descriptors,
-            Access::First(d, line, _) => (d as usize) < descriptors && line < LINES,
-            Access::Second(d, line, _) => (d as usize) < descriptors && line < LINES,
+            Access::First(d, line, _) => (d as usize) < descriptors && (line as usize) < MOST,
+            Access::Second(d, line, _) => (d as usize) < descriptors && (line as usize) < MOST,
             Access::Signal(caller, _) => (caller as usize) < self.seats.len(),
         }
     }
@@ -100,11 +99,11 @@ impl Machine {
             )),
             Access::Owner(d, touch) => Found::Owner(touch_owner(&mut self.descriptors, d, touch)),
             Access::First(d, line, touch) => {
-                let place = d as usize * 64 + line as usize;
+                let place = d as usize * MOST + line as usize;
                 Found::First(touch_first(&mut self.lines, place, touch))
             }
             Access::Second(d, line, touch) => {
-                let place = d as usize * 64 + line as usize;
+                let place = d as usize * MOST + line as usize;
                 Found::Second(touch_second(&mut self.lines, place, touch))
             }
             Access::Signal(caller, signal) => {
@@ -126,7 +125,7 @@ impl Machine {
         }
     }
 
-    /// The same as `event`, of one that stays with the caller: an event is 1,600 bytes long.
+    /// The same as `event`, of one that stays with the caller: an event has the room of a whole footprint.
     pub fn perform(&mut self, event: &Event)
         ensures { machine_state self.new ≡ event_of (machine_state self.old) event.now }
     {
@@ -197,7 +196,7 @@ impl Machine {
         let pool = 3 * callers + 1;
         let locations = open_locations(alloc, values)?;
         let descriptors = vec![in alloc; blank_descriptor(); pool as usize]?;
-        let lines = vec![in alloc; blank_line(); pool as usize * 64]?;
+        let lines = vec![in alloc; blank_line(); pool as usize * MOST]?;
         let signals = vec![in alloc; false; callers as usize]?;
         let seats = open_seats(alloc, callers, pool)?;
         Ok(Machine {

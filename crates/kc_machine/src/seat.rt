@@ -1,6 +1,7 @@
 //! A seat: which word it touches next and how, and what it makes of what it finds.
 
 ghost use Rattle.std.specs.Prelude.{◌≡◌, ◌≤◌, length};
+ghost use Rattle.kc_machine_steps.specs.declared.task.Task.TheVariants as task;
 ghost use Rattle.kc_machine.specs.Seats.{fresh, access_of, answer_of, begun, halted, told_of, own_of, steps_of, is_idle, after};
 
 use crate::hang::{HangStep, LeaveStep};
@@ -9,7 +10,7 @@ use arrayvec::ArrayVec;
 use kc_machine_commits::Commit;
 use kc_machine_steps::{Look, LookStep, Onward, Swap, SwapStep, Task, Told, copy_reads, one_more};
 use kc_machine_words::{Access, Found, Mode};
-use kc_model::{Line, Loc, MOST, Seen};
+use kc_model::{Footprint, Line, Loc, MOST, Seen};
 use std::marker::Model;
 
 /// Which task runs.
@@ -210,44 +211,80 @@ impl Seat {
     pub fn begin(&mut self, task: &Task)
         ensures { self.new ≡ begun self.old task.now }
     {
+        match task {
+            Task::Look(loc) => self.begin_look(*loc),
+            Task::Commit { footprint, mode } => self.begin_commit(footprint, *mode),
+            Task::Hang { reads } => self.begin_hang(reads),
+            Task::Leave { reads } => self.begin_leave(reads),
+            Task::Swap { seen, after } => self.begin_swap(*seen, *after),
+        }
+    }
+
+    fn begin_commit(&mut self, footprint: &Footprint, mode: Mode)
+        ensures { self.new ≡ begun self.old (task.Commit footprint.now mode) }
+    {
         if !self.is_idle() {
             return;
         }
-        match task {
-            Task::Look(loc) => {
-                self.look = Look {
-                    loc: *loc,
-                    halted: false,
-                    step: LookStep::Load,
-                };
-                self.kind = Kind::Look;
-            }
-            Task::Commit { footprint, mode } => {
-                self.commit.begin(footprint, *mode, self.first);
-                self.kind = Kind::Commit;
-            }
-            Task::Hang { reads } => {
-                if self.blocked {
-                    return;
-                }
-                copy_reads(&mut self.reads, reads);
-                self.hang = HangStep::Set { read: 0 };
-                self.kind = Kind::Hang;
-            }
-            Task::Leave { reads } => {
-                copy_reads(&mut self.reads, reads);
-                self.leave = LeaveStep::Unsignal;
-                self.kind = Kind::Leave;
-            }
-            Task::Swap { seen, after } => {
-                self.swap = Swap {
-                    seen: *seen,
-                    after: *after,
-                    step: SwapStep::Exchange,
-                };
-                self.kind = Kind::Swap;
-            }
+        self.commit.begin(footprint, mode, self.first);
+        self.kind = Kind::Commit;
+        self.told = None;
+    }
+
+    fn begin_swap(&mut self, seen: Seen, after: u32)
+        ensures { self.new ≡ begun self.old (task.Swap seen after) }
+    {
+        if !self.is_idle() {
+            return;
         }
+        self.swap = Swap {
+            seen,
+            after,
+            step: SwapStep::Exchange,
+        };
+        self.kind = Kind::Swap;
+        self.told = None;
+    }
+
+    /// Begins a hang on these reads, as `begin` does. A task would have to be made with all its room for reads.
+    pub fn begin_hang(&mut self, reads: &ArrayVec<Seen, MOST>)
+        ensures { self.new ≡ begun self.old (task.Hang reads.now) }
+    {
+        if !self.is_idle() || self.blocked {
+            return;
+        }
+        copy_reads(&mut self.reads, reads);
+        self.hang = HangStep::Set { read: 0 };
+        self.kind = Kind::Hang;
+        self.told = None;
+    }
+
+    /// Begins a leave of these reads, as `begin` does.
+    pub fn begin_leave(&mut self, reads: &ArrayVec<Seen, MOST>)
+        ensures { self.new ≡ begun self.old (task.Leave reads.now) }
+    {
+        if !self.is_idle() {
+            return;
+        }
+        copy_reads(&mut self.reads, reads);
+        self.leave = LeaveStep::Unsignal;
+        self.kind = Kind::Leave;
+        self.told = None;
+    }
+
+    /// Begins a look, as `begin` does.
+    pub fn begin_look(&mut self, loc: Loc)
+        ensures { self.new ≡ begun self.old (task.Look loc) }
+    {
+        if !self.is_idle() {
+            return;
+        }
+        self.look = Look {
+            loc,
+            halted: false,
+            step: LookStep::Load,
+        };
+        self.kind = Kind::Look;
         self.told = None;
     }
 

@@ -265,7 +265,7 @@ pub fn touch_owner(descriptors: &mut [Descriptor], d: u32, touch: Touch<Owner>) 
     descriptor.owner
 }
 
-/// Touches the first word of a line, and answers what stood there. `place`: 64 times the descriptor and the line.
+/// Touches the first word of a line, and answers what stood there. `place`: `MOST` times the descriptor and the line.
 pub fn touch_first(lines: &mut [LineWords], place: usize, touch: Touch<First>) -> First
     requires { place < length lines.old }
     ensures found { result ≡ first_at lines.old place }
@@ -281,7 +281,7 @@ pub fn touch_first(lines: &mut [LineWords], place: usize, touch: Touch<First>) -
     words.first
 }
 
-/// Touches the second word of a line, and answers what stood there. `place`: 64 times the descriptor and the line.
+/// Touches the second word of a line, and answers what stood there. `place`: `MOST` times the descriptor and the line.
 pub fn touch_second(lines: &mut [LineWords], place: usize, touch: Touch<Second>) -> Second
     requires { place < length lines.old }
     ensures found { result ≡ second_at lines.old place }

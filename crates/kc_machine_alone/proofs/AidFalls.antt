@@ -19,6 +19,7 @@ use Rattle.kc_machine_words.specs.declared.words.Phase.TheVariants.{Active, Cros
 use Rattle.kc_machine_words.specs.declared.words.Reference.{Reference}
 use Rattle.kc_machine_words.specs.declared.words.Second.{Second}
 use Rattle.kc_model.specs.declared.word.Word.TheVariants.{Ref}
+use Rattle.kc_model.specs.declared.footprint.TheConstants.{MOST}
 use Rattle.std.proofs.Common.{Bool, List, None, Option, Some, [], arith, false, if◌then◌else◌, length, refl, true, ℕ, ◌*◌, ◌++◌, ◌+◌, ◌-◌, ◌<◌, ◌==◌, ◌∷◌, ◌≡◌, ◌≤◌}
 use Rattle.std.proofs.lemmas.List.{length-append}
 use Rattle.std.specs.Prelude.{nat_lt}
@@ -34,11 +35,11 @@ use Rattle.kc_machine_steps.specs.declared.pass.PassNext.TheVariants as pass
 abbrev pub AidGoes : World → Reference → Aided → ℕ → AidNext → Type 0
 AidGoes w r a old (aiding.Goes step) = aid_left w r a step < old
 AidGoes w r a old (aiding.Back None) = 1 ≤ old
-AidGoes w r a old (aiding.Back (Some q)) = 385 ≤ old
+AidGoes w r a old (aiding.Back (Some q)) = 6 * MOST + 1 ≤ old
 
--- a word says what is at most 64 lines long; of an aid before its loads nothing is asked
+-- a word says what is at most MOST lines long; of an aid before its loads nothing is asked
 abbrev pub IsBounded : Aided → Type 0
-IsBounded a = (length a.lines.items ≤ 64) × (a.owner.lines ≤ 64)
+IsBounded a = (length a.lines.items ≤ MOST) × (a.owner.lines ≤ MOST)
 
 length_joined : (xs : List Line) (x : Line) → length (xs ++ x ∷ []) ≡ length xs + 1
 length_joined xs x = length-append xs (x ∷ [])
@@ -56,11 +57,11 @@ module _ (w : World) (fresh : (l g d i : ℕ) → w.word l ≡ Ref g d i → (w.
       v : World
       v = touched w (access.Control r.handle.descriptor grip.Add)
 
-      held_on : (b : Bool) → (if b then 580 else 5) < (if b then 581 else 6)
+      held_on : (b : Bool) → (if b then 9 * MOST + 4 else 5) < (if b then 9 * MOST + 5 else 6)
       held_on true = omega arith
       held_on false = omega arith
 
-      gone : (b : Bool) → 1 < (if b then 581 else 6)
+      gone : (b : Bool) → 1 < (if b then 9 * MOST + 5 else 6)
       gone true = omega arith
       gone false = omega arith
 
@@ -71,7 +72,7 @@ module _ (w : World) (fresh : (l g d i : ℕ) → w.word l ≡ Ref g d i → (w.
   asks : Falls aid.Status
   asks = go (w.status r.handle.descriptor).phase
     where
-      go : (p : Phase) → aid_left w r a (owner_or_first p) < (if is_active p then 580 else 5)
+      go : (p : Phase) → aid_left w r a (owner_or_first p) < (if is_active p then 9 * MOST + 4 else 5)
       go Active = omega arith
       go Succeeded = omega arith
       go (Failed j) = omega arith
@@ -79,7 +80,7 @@ module _ (w : World) (fresh : (l g d i : ℕ) → w.word l ≡ Ref g d i → (w.
       go Halted = omega arith
 
   -- from so many lines on
-  loads : (v : World) (c : Aided) (old : ℕ) → 450 < old → (nat_lt (length c.lines.items) c.owner.lines ≡ true → 450 + 2 * (64 - length c.lines.items) < old) → aid_left v r c (load_next c) < old
+  loads : (v : World) (c : Aided) (old : ℕ) → 7 * MOST + 2 < old → (nat_lt (length c.lines.items) c.owner.lines ≡ true → 7 * MOST + 2 + 2 * (MOST - length c.lines.items) < old) → aid_left v r c (load_next c) < old
   loads v c old l f = go (nat_lt (length c.lines.items) c.owner.lines) refl
     where
       go : (t : Bool) → nat_lt (length c.lines.items) c.owner.lines ≡ t → aid_left v r c (if t then aid.LoadFirst else aid.Pass (from_install c.owner.mode c.lines.items 0)) < old
@@ -87,19 +88,19 @@ module _ (w : World) (fresh : (l g d i : ℕ) → w.word l ≡ Ref g d i → (w.
       go false e = let b = install_below v c.owner.mode c.lines.items 0 in omega arith
 
   seconds : (x : First) → LoadsOn a → Falls (aid.LoadSecond x)
-  seconds x on = go (length a.lines.items == 64) refl
+  seconds x on = go (length a.lines.items == MOST) refl
     where
       s : Second
       s = w.second r.handle.descriptor (length a.lines.items)
 
-      go : (t : Bool) → (length a.lines.items == 64) ≡ t
-          → (let c = if t then a else record a { lines = record { items = a.lines.items ++ joined x s ∷ [] } } in aid_left w r c (load_next c)) < 449 + 2 * (64 - length a.lines.items)
-      go true e = let n = eqb-true (length a.lines.items) 64 e in let b = bounded.1 in absurd (omega arith)
+      go : (t : Bool) → (length a.lines.items == MOST) ≡ t
+          → (let c = if t then a else record a { lines = record { items = a.lines.items ++ joined x s ∷ [] } } in aid_left w r c (load_next c)) < 7 * MOST + 1 + 2 * (MOST - length a.lines.items)
+      go true e = let n = eqb-true (length a.lines.items) MOST e in let b = bounded.1 in absurd (omega arith)
       go false e =
-          let n = eqb-false (length a.lines.items) 64 e in
+          let n = eqb-false (length a.lines.items) MOST e in
           let b = bounded.0 in
           let one = length_joined a.lines.items (joined x s) in
-          loads w (record a { lines = record { items = a.lines.items ++ joined x s ∷ [] } }) (449 + 2 * (64 - length a.lines.items)) (omega arith) (λ f. omega (arith, one, n, b))
+          loads w (record a { lines = record { items = a.lines.items ++ joined x s ∷ [] } }) (7 * MOST + 1 + 2 * (MOST - length a.lines.items)) (omega arith) (λ f. omega (arith, one, n, b))
 
   passes : (p : PassStep) → StepFits halted checked.Leave a.owner.mode a.lines.items p → Falls (aid.Pass p)
   passes p f = go (pass_next r.handle a.owner.mode a.lines.items p (found_at w (pass_access r.handle a.lines.items p))) (pass_falls w fresh halted checked.Leave a.owner.mode a.lines.items bounded.0 r.handle p f)
@@ -123,17 +124,17 @@ module _ (w : World) (fresh : (l g d i : ℕ) → w.word l ≡ Ref g d i → (w.
           by None = omega arith
           by (Some q) = omega arith
 
-      above : 66 ≤ leave_left o
+      above : MOST + 2 ≤ leave_left o
       above = by o
         where
-          by : (o : Option Reference) → 66 ≤ leave_left o
+          by : (o : Option Reference) → MOST + 2 ≤ leave_left o
           by None = omega arith
           by (Some q) = omega arith
 
       releases : (p : Phase) → aid_left w r a (after_pass (from_release a.owner.mode a.lines.items 0 p)) < leave_left o
-      releases p = by (from_release a.owner.mode a.lines.items 0 p) (release_falls w a.owner.mode a.lines.items 0 p 65 (omega arith)) (release_only a.owner.mode a.lines.items 0 p)
+      releases p = by (from_release a.owner.mode a.lines.items 0 p) (release_falls w a.owner.mode a.lines.items 0 p (MOST + 1) (omega arith)) (release_only a.owner.mode a.lines.items 0 p)
         where
-          by : (n : PassNext) → NextFalls w 65 n → IsOut n → aid_left w r a (after_pass n) < leave_left o
+          by : (n : PassNext) → NextFalls w (MOST + 1) n → IsOut n → aid_left w r a (after_pass n) < leave_left o
           by (pass.Goes q) y z = omega (arith, y, above)
           by (pass.Met k q) y z = absurd z
           by (pass.Finished q) y z = omega (arith, above)
@@ -152,7 +153,7 @@ module _ (w : World) (fresh : (l g d i : ℕ) → w.word l ≡ Ref g d i → (w.
   aid_falls (aid.First p) f = omega arith
   aid_falls (aid.Second p x) f = omega arith
   aid_falls (aid.Release p x) f = omega arith
-  aid_falls aid.Owner f = loads w (record a { owner = w.owner r.handle.descriptor; lines = record { items = [] } }) 579 (omega arith) (λ e. omega arith)
+  aid_falls aid.Owner f = loads w (record a { owner = w.owner r.handle.descriptor; lines = record { items = [] } }) (9 * MOST + 3) (omega arith) (λ e. omega arith)
   aid_falls aid.LoadFirst f = let l : length a.lines.items < a.owner.lines = f in let b = bounded.1 in omega arith
   aid_falls (aid.LoadSecond x) f = seconds x f
   aid_falls (aid.Pass p) f = passes p f

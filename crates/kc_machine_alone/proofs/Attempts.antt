@@ -20,8 +20,8 @@ use Rattle.kc_machine_words.specs.declared.words.Mode.{Mode}
 use Rattle.kc_model.specs.declared.footprint.Footprint.{Footprint}
 use Rattle.kc_model.specs.declared.footprint.Loc.{Loc}
 use Rattle.kc_model.specs.declared.footprint.Seen.{Seen}
-use Rattle.kc_model.specs.declared.footprint.TheConstants.{LAST_VERSION}
-use Rattle.std.proofs.Common.{All, List, Some, [], ap, arith, length, map, refl, subst, sym, ℕ, ◌*◌, ◌++◌, ◌+◌, ◌<◌, ◌∙◌, ◌∷◌, ◌≡◌, ◌≢◌, ◌≤◌}
+use Rattle.kc_model.specs.declared.footprint.TheConstants.{LAST_VERSION, MOST}
+use Rattle.std.proofs.Common.{All, List, Some, [], ap, arith, length, map, refl, subst, sym, ℕ, ◌*◌, ◌++◌, ◌+◌, ◌-◌, ◌<◌, ◌∙◌, ◌∷◌, ◌≡◌, ◌≢◌, ◌≤◌}
 use Rattle.std.proofs.lemmas.List.Elements.{All-cons, All-contains, All-head, All-nil, All-tail}
 use Rattle.std.proofs.lemmas.List.{length-map}
 
@@ -82,13 +82,13 @@ module _ (o : Opening) (k : ℕ) (l : k < o.callers) (d e g h : ℕ) (ne : d ≢
 
 -- ---- the bound
 
-pub attempt_below : (n : ℕ) → 1 ≤ n → price (197 * n + 7) (64 * n + 64) n + 384 + 2 * (fee n + (712 + 3 * n)) ≤ bound_alone n 64
+pub attempt_below : (n : ℕ) → 1 ≤ n → price ((3 * MOST + 5) * n + 7) (MOST * n + MOST) n + 6 * MOST + 2 * (fee n + (10 * MOST + 72 + 3 * n)) ≤ bound_alone n MOST
 unfolding price
 attempt_below n l =
     let a = square n l in
-    let x : (197 * n + 7) * (64 * n + 64) ≡ 12608 * (n * n) + 13056 * n + 448 = grind arith in
-    let y : (197 * n + 7 + 378) * n ≡ 197 * (n * n) + 385 * n = grind arith in
-    let z : (n + 1) * (n + 1) * 16384 ≡ 16384 * (n * n) + 32768 * n + 16384 = grind arith in
+    let x : ((3 * MOST + 5) * n + 7) * (MOST * n + MOST) ≡ (3 * MOST + 5) * MOST * (n * n) + ((3 * MOST + 5) * MOST + 7 * MOST) * n + 7 * MOST = grind arith in
+    let y : ((3 * MOST + 5) * n + 7 + (6 * MOST - 6)) * n ≡ (3 * MOST + 5) * (n * n) + (6 * MOST + 1) * n = grind arith in
+    let z : (n + 1) * (n + 1) * (4 * MOST * MOST) ≡ 4 * MOST * MOST * (n * n) + 8 * MOST * MOST * n + 4 * MOST * MOST = grind arith in
     omega (arith, a, x, y, z)
 
 pub all_attempts_end : (o : Opening) (es : List Event) → IsSchedule o es → AttemptsEnd o es
@@ -119,7 +119,7 @@ all_attempts_end o es w k d e ls puts l idle de cd ce low short made = (
     ne q = omega (arith, de, q)
 
     at_first : ℕ
-    at_first = price (197 * n + 7) (64 * n + 64) n
+    at_first = price ((3 * MOST + 5) * n + 7) (MOST * n + MOST) n
 
     start : Idle o k l es at_first
     start = record { schedule = w; idle = idle; rests = paid_few n (owned_at o es) (3 * n + 1) (run o es).world nothing }
@@ -133,7 +133,7 @@ all_attempts_end o es w k d e ls puts l idle de cd ce low short made = (
     well_made : (m : Mode) → IsWellMadeTask o.locations (task.Commit f m)
     well_made m =
         let z = seen.4 in
-        let few : length z.seen ≤ 64 = let a = length-map z.seen (λ (r : Seen). r.loc) in let b = ap length z.at_them in omega (arith, a, b, short) in
+        let few : length z.seen ≤ MOST = let a = length-map z.seen (λ (r : Seen). r.loc) in let b = ap length z.at_them in omega (arith, a, b, short) in
         (made z.seen z.at_them z.versions, λ r c. All-contains (λ (r : Seen). r.loc.0 < o.locations) z.seen r z.below c, few)
 
     ended : (x : ℕ) × (x ≤ seen.2 + 2 * cost o k l) × Commits k (run o seen.0) f x

@@ -32,6 +32,7 @@ use Rattle.kc_machine_words.specs.declared.words.Status.{Status}
 use Rattle.kc_model.specs.declared.footprint.Loc.{Loc}
 use Rattle.kc_model.specs.declared.word.Word.{Word}
 use Rattle.kc_model.specs.declared.word.Word.TheVariants.{Plain, Ref}
+use Rattle.kc_model.specs.declared.footprint.TheConstants.{MOST}
 use Rattle.std.proofs.Common.{Bool, List, None, Option, Some, [], ap, arith, false, if◌then◌else◌, inl, inr, length, not, refl, subst, sym, true, ℕ, ◌&&◌, ◌+◌, ◌<◌, ◌==◌, ◌∙◌, ◌≡◌, ◌≢◌, ◌⊎◌}
 use Rattle.std.specs.Prelude.{nat_lt, slice_get, ◌||◌}
 use borrow.Author.Tests.{eq-eqb, eqb-false, eqb-true, ltb-false, ltb-true}
@@ -151,7 +152,7 @@ module _ (w : World) (fit : (l g d i : ℕ) → w.word l ≡ Ref g d i → IsLas
             (λ a b. or_mono _ _ _ _ (λ z. z) (or_mono _ _ _ _ (λ z. (search_of d m xs 0 q f i z).0) (λ z. z)))
             (λ a b. absurd (eqb-false f d e a)) u
 
-    release_calm : (k : ℕ) (x : Line) (new : ℕ × ℕ) (p : Phase) → k < 64 → slice_get xs k ≡ Some x → Calm w (touched w (access.Location x.seen.loc (touch.CompareExchange (word_of h k) (Plain new.0 new.1)))) (from_on d k) (next_cover d (from_release m xs (after_line k) p)) f
+    release_calm : (k : ℕ) (x : Line) (new : ℕ × ℕ) (p : Phase) → k < MOST → slice_get xs k ≡ Some x → Calm w (touched w (access.Location x.seen.loc (touch.CompareExchange (word_of h k) (Plain new.0 new.1)))) (from_on d k) (next_cover d (from_release m xs (after_line k) p)) f
     release_calm k x new p low is = record {
       owner = refl;
       first = refl;

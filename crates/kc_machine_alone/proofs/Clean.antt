@@ -1,4 +1,5 @@
 -- A commit whose life nobody but its own pass decides: what it has to pay for rounds, its own lines counted as any other Active life's.
+use Rattle.kc_machine_alone.proofs.Tallies.{above_none, none_le}
 use Rattle.kc_machine.specs.Machine.{World, found_at, touched}
 use Rattle.kc_machine_alone.proofs.AidFalls.{AidGoes, IsBounded, aid_falls}
 use Rattle.kc_machine_alone.proofs.Calms.{aid_calm, goes_or_leaves, pass_calm}
@@ -43,6 +44,7 @@ use Rattle.kc_machine_words.specs.declared.words.Phase.TheVariants.{Active, Cros
 use Rattle.kc_machine_words.specs.declared.words.Reference.{Reference}
 use Rattle.kc_machine_words.specs.declared.words.Status.{Status}
 use Rattle.kc_model.specs.declared.word.Word.TheVariants.{Ref}
+use Rattle.kc_model.specs.declared.footprint.TheConstants.{MOST}
 use Rattle.std.proofs.Common.{Bool, List, None, Option, Some, ap, arith, false, inl, inr, refl, subst, suc, sym, true, ℕ, ◌&&◌, ◌*◌, ◌+◌, ◌-◌, ◌<◌, ◌==◌, ◌∙◌, ◌≡◌, ◌≤◌, ◌⊎◌}
 use Rattle.std.proofs.lemmas.Option.{slice_get_within}
 use Rattle.std.specs.Prelude.{nat_lt, slice_get, ◌||◌}
@@ -51,9 +53,9 @@ use borrow.Author.Tests.{eqb-true}
 -- ---- what it has to pay
 
 module _ (n : ℕ) (at : ℕ → Hold) (f : ℕ) where
-  -- f is a descriptor that isn't there, so that the own one counts as any other; 64 lies past all lines
+  -- f is a descriptor that isn't there, so that the own one counts as any other; MOST lies past all lines
   abbrev pub paid_for : World → Cover → ℕ
-  paid_for w x = paid n at f w x 64
+  paid_for w x = paid n at f w x MOST
 
   abbrev pub Rests : World → ℕ → Type 0
   Rests w old = paid_for w nothing ≤ old
@@ -73,7 +75,7 @@ module _ (n : ℕ) (at : ℕ → Hold) (f : ℕ) where
     pub live : IsOpen w h
     pub line : in_line w h.descriptor k ≡ true
     pub shut : IsShut w h.descriptor k
-    pub stance : Stance n at f (suc (place_of w h.descriptor k)) w 64 r s old
+    pub stance : Stance n at f (suc (place_of w h.descriptor k)) w MOST r s old
 
   abbrev pub Pays : World → Handle → OwnStep → ℕ → Type 0
   Pays w h own.FillOwner old = Begins w old
@@ -122,10 +124,10 @@ module _ (n : ℕ) (at : ℕ → Hold) (f : ℕ) where
       other c true q z = let s : true ≡ false = sym e ∙ sym (ap (λ x. is_active (v.status x).phase) (eqb-true c d q)) ∙ z in absurd (cc)
 
   pub all_paid_for : (v : World) (d old : ℕ) → is_active (v.status d).phase ≡ true → paid_for v nothing ≤ old → paid_for v (all_of d) ≤ old
-  all_paid_for v d old e p = let a = paid_calm n at f v v nothing (all_of d) 64 (all_covers v d e) in omega (arith, a, p)
+  all_paid_for v d old e p = let a = paid_calm n at f v v nothing (all_of d) MOST (all_covers v d e) in omega (arith, a, p)
 
   pub none_paid_for : (v : World) (d old : ℕ) → is_active (v.status d).phase ≡ true → paid_for v (all_of d) ≤ old → paid_for v nothing ≤ old
-  none_paid_for v d old e p = let a = paid_calm n at f v v (all_of d) nothing 64 (none_covers v d e) in omega (arith, a, p)
+  none_paid_for v d old e p = let a = paid_calm n at f v v (all_of d) nothing MOST (none_covers v d e) in omega (arith, a, p)
 
   is_open_active : (v : World) (h : Handle) → IsOpen v h → is_active (v.status h.descriptor).phase ≡ true
   is_open_active v h e = ap (λ (s : Status). is_active s.phase) e
@@ -168,16 +170,16 @@ module _ (n : ℕ) (at : ℕ → Hold) (f : ℕ) where
       Fits p = StepFits false (checked.Decide Halted) i.mode xs p
 
       abbrev On : PassStep → ℕ → Type 0
-      On p old = PaysOn (V p) h a old (pass_left w p + 130) (after_own_pass i (N p))
+      On p old = PaysOn (V p) h a old (pass_left w p + (MOST + 66)) (after_own_pass i (N p))
 
       paid_on : (p : PassStep) → Fits p → paid_for (V p) (next_cover d (N p)) ≤ paid_for w (pass_cover d p)
-      paid_on p y = paid_calm n at f w (V p) (pass_cover d p) (next_cover d (N p)) 64 (pass_calm w ground.fit f h i.mode xs t false (checked.Decide Halted) p y)
+      paid_on p y = paid_calm n at f w (V p) (pass_cover d p) (next_cover d (N p)) MOST (pass_calm w ground.fit f h i.mode xs t false (checked.Decide Halted) p y)
 
       goes_on : (p : PassStep) (old : ℕ) → Fits p → PassPays w h p old → is_before p ≡ true → (V p).status d ≡ w.status d → GoesBefore (N p) → On p old
       goes_on p old y x b s (q, e, c) =
           let m = subst (λ z. paid_for (V p) (next_cover d z) ≤ paid_for w (pass_cover d p)) e (paid_on p y) in
           let z = x.pays in
-          subst (λ z. PaysOn (V p) h a old (pass_left w p + 130) (after_own_pass i z)) (sym e) (inl (record { pays = omega (arith, m, z); live = λ u. s ∙ x.live b }, refl))
+          subst (λ z. PaysOn (V p) h a old (pass_left w p + (MOST + 66)) (after_own_pass i z)) (sym e) (inl (record { pays = omega (arith, m, z); live = λ u. s ∙ x.live b }, refl))
 
       -- what it has met
       module _ (k : ℕ) (y : IsInstalledAt i.mode xs k) (q : Reference) (l : Line) (is : slice_get xs k ≡ Some l) (stood : w.word l.seen.loc.0 ≡ word_of q.handle q.line) (other : refers_to h k q ≡ false) (live : IsOpen w h) where
@@ -203,27 +205,26 @@ module _ (n : ℕ) (at : ℕ → Hold) (f : ℕ) where
             in_line_is w d k (omega (arith, b, c), y.3, subst (λ b. is_installed b (line_of_words w d k) ≡ true) (sym t.says) (subst (λ b. is_installed i.mode b ≡ true) (sym (t.line k l is)) mode))
 
         shut : IsShut w d k
-        shut = subst (λ x. refers_line d k (w.word x) ≡ false) (sym place) (met_other n at f 0 w ground 64 mine copy k l.seen.loc.0 q stood live other t.control)
+        shut = subst (λ x. refers_line d k (w.word x) ≡ false) (sym place) (met_other n at f 0 w ground MOST mine copy k l.seen.loc.0 q stood live other t.control)
 
-        frees : is_active (w.status q.handle.descriptor).phase ≡ false → Frees n at f w 64 l.seen.loc.0
-        frees = linked_at n at f 0 w ground 64 mine copy k q l 0 t is y.3 mode stood live
+        frees : is_active (w.status q.handle.descriptor).phase ≡ false → Frees n at f w MOST l.seen.loc.0
+        frees = linked_at n at f 0 w ground MOST mine copy k q l 0 t is y.3 mode stood live
 
-        stops : (old : ℕ) → Rests w old → (u : ℕ) × Stance n at f (suc (place_of w d k)) w 64 q aid.Hold u × (u + aid_left w q a aid.Hold < old)
-        stops old p = goes_to n at f w ground (suc (place_of w d k)) w.control 64 l.seen.loc.0 q a old (omega (arith, place)) stood frees on off
+        stops : (old : ℕ) → Rests w old → (u : ℕ) × Stance n at f (suc (place_of w d k)) w MOST q aid.Hold u × (u + aid_left w q a aid.Hold < old)
+        stops old p = goes_to n at f w ground (suc (place_of w d k)) w.control MOST l.seen.loc.0 q a old (omega (arith, place)) stood frees on off
           where
-            on : IsLive n at f w q → (t : ℕ) × (paid_for w nothing + 197 * chain n at w l.seen.loc.0 ≤ t + (each n at f + 575)) × (t + 581 < old)
+            on : IsLive n at f w q → (t : ℕ) × (paid_for w nothing + (3 * MOST + 5) * chain n at w l.seen.loc.0 ≤ t + (each n at f + (9 * MOST - 1))) × (t + (9 * MOST + 5) < old)
             on alive =
-                let m = lives_paid n at f w ground q nothing 64 alive in
+                let m = lives_paid n at f w ground q nothing MOST alive in
                 let b = chain_most n at w l.seen.loc.0 in
-                (old - 582, omega (arith, m, b, p, some), omega (arith, m, p, some))
+                (old - (9 * MOST + 6), omega (arith, m, b, p, some), omega (arith, m, p, some))
 
             off : is_active (w.status q.handle.descriptor).phase ≡ false → (t : ℕ) × (paid_for w nothing ≤ t + each n at f) × (t + 6 < old)
             off dead =
-                let r = frees dead 0 0 in
-                let b = price_round (each n at f) 0 (rounds n at w nothing f 64) 0 (lives n at w) (omega (arith, r)) (omega arith) in
+                let b = price_round (each n at f) 0 (rounds n at w nothing f MOST) 0 (lives n at w) (above_none _ _ (frees dead 0 0)) (none_le (lives n at w)) in
                 (old - 7, omega (arith, p), omega (arith, b, p))
 
-        pub meets_so : (old : ℕ) → PassPays w h (Install k) old → PaysOn w h a old (385 + (64 - k) + 130) (own.Aid k q aid.Hold)
+        pub meets_so : (old : ℕ) → PassPays w h (Install k) old → PaysOn w h a old (6 * MOST + 1 + (MOST - k) + (MOST + 66)) (own.Aid k q aid.Hold)
         meets_so old x =
             let s = stops old (none_paid_for w d old (is_open_active w h live) x.pays) in
             let b = s.2 in
@@ -238,7 +239,7 @@ module _ (n : ℕ) (at : ℕ → Hold) (f : ℕ) where
 
           go : InstallEnds w (V (Install k)) h xs k (N (Install k)) → On (Install k) old
           go (goes q e b) = goes_on (Install k) old y x refl (still (slice_get xs k)) (q, e, b)
-          go (meets q l e u s g r) = subst (λ z. PaysOn (V (Install k)) h a old (pass_left w (Install k) + 130) (after_own_pass i z)) (sym e) (subst (λ b. PaysOn b h a old (385 + (64 - k) + 130) (own.Aid k q aid.Hold)) (sym u) (meets_so k y q l s g r (x.live refl) old x))
+          go (meets q l e u s g r) = subst (λ z. PaysOn (V (Install k)) h a old (pass_left w (Install k) + (MOST + 66)) (after_own_pass i z)) (sym e) (subst (λ b. PaysOn b h a old (6 * MOST + 1 + (MOST - k) + (MOST + 66)) (own.Aid k q aid.Hold)) (sym u) (meets_so k y q l s g r (x.live refl) old x))
 
       -- a check of a task that isn't halted goes on
       follows : (k : ℕ) (stray : Bool) (c : AfterCheck) → FollowsOr false (checked.Decide Halted) k stray c → FollowsOr false checked.Leave k stray c
@@ -259,15 +260,15 @@ module _ (n : ℕ) (at : ℕ → Hold) (f : ℕ) where
       passes (Decide p) old y x =
           let m = paid_on (Decide p) y in
           let z = x.pays in
-          releases_on (V (Decide p)) 0 (decided_as p (w.status d).phase) old (pass_left w (Decide p) + 130) (omega (arith, m, z))
+          releases_on (V (Decide p)) 0 (decided_as p (w.status d).phase) old (pass_left w (Decide p) + (MOST + 66)) (omega (arith, m, z))
       passes (Release k p) old y x =
           let m = paid_on (Release k p) y in
           let z = x.pays in
-          releases_on (V (Release k p)) (after_line k) p old (pass_left w (Release k p) + 130) (omega (arith, m, z))
+          releases_on (V (Release k p)) (after_line k) p old (pass_left w (Release k p) + (MOST + 66)) (omega (arith, m, z))
 
     -- ---- an aid
 
-    module _ (fresh : (l g d i : ℕ) → w.word l ≡ Ref g d i → (w.control d).generation ≡ g) (bounded : IsBounded a) (k : ℕ) (r : Reference) (s : AidStep) (low : k < 64) (y : AidFits false a s) (b : (goes_or_leaves s ≡ true → Target w r.handle a.owner.mode a.lines.items) × StepKnows w r s) (old : ℕ) (x : AidPays w h k r s old) where
+    module _ (fresh : (l g d i : ℕ) → w.word l ≡ Ref g d i → (w.control d).generation ≡ g) (bounded : IsBounded a) (k : ℕ) (r : Reference) (s : AidStep) (low : k < MOST) (y : AidFits false a s) (b : (goes_or_leaves s ≡ true → Target w r.handle a.owner.mode a.lines.items) × StepKnows w r s) (old : ℕ) (x : AidPays w h k r s old) where
       abbrev v : World
       v = touched w (aid_access r a.lines.items s)
 
@@ -281,7 +282,7 @@ module _ (n : ℕ) (at : ℕ → Hold) (f : ℕ) where
       least = suc (place_of w d k)
 
       keeps : (v.status d ≡ w.status d) × (refers_line d k (v.word (place_of w d k)) ≡ false)
-      keeps = aids_keep n at f w ground d k x.line low x.shut 64 r old a s y x.stance
+      keeps = aids_keep n at f w ground d k x.line low x.shut MOST r old a s y x.stance
 
       calm : (z : Cover) × (u : Cover) × Calm w v z u f
       calm = (_, _, aid_calm w ground.fit f false r a s y b.0)
@@ -295,18 +296,18 @@ module _ (n : ℕ) (at : ℕ → Hold) (f : ℕ) where
       live_on : IsOpen v h
       live_on = keeps.0 ∙ x.live
 
-      pays : (q : Reference) (z : AidStep) (u : ℕ) → Stance n at f least v 64 q z u → AidPays v h k q z u
+      pays : (q : Reference) (z : AidStep) (u : ℕ) → Stance n at f least v MOST q z u → AidPays v h k q z u
       pays q z u e = record {
         live = live_on;
         line = lined;
         shut = subst (λ p. refers_line d k (v.word p) ≡ false) (sym place_on) keeps.1;
-        stance = subst (λ p. Stance n at f (suc p) v 64 q z u) (sym place_on) e;
+        stance = subst (λ p. Stance n at f (suc p) v MOST q z u) (sym place_on) e;
       }
 
-      pub aids : PaysOn v h c old (515 + (64 - k) + aid_left w r a s) (aid_or_back false k r next)
-      aids = go next (aid_falls w fresh false r a bounded s y) (stance_step n at f least w ground 64 r a s old y b.0 b.1 x.stance)
+      pub aids : PaysOn v h c old (7 * MOST + 67 + (MOST - k) + aid_left w r a s) (aid_or_back false k r next)
+      aids = go next (aid_falls w fresh false r a bounded s y) (stance_step n at f least w ground MOST r a s old y b.0 b.1 x.stance)
         where
-          go : (z : AidNext) → AidGoes v r c (aid_left w r a s) z → StanceGoes n at f least v 64 r a old z → PaysOn v h c old (515 + (64 - k) + aid_left w r a s) (aid_or_back false k r z)
+          go : (z : AidNext) → AidGoes v r c (aid_left w r a s) z → StanceGoes n at f least v MOST r a old z → PaysOn v h c old (7 * MOST + 67 + (MOST - k) + aid_left w r a s) (aid_or_back false k r z)
           go (aiding.Goes z) g e = inr (old, pays r z old e, omega (arith, g))
           go (aiding.Back None) g e = inl (record { pays = all_paid_for v d old (is_open_active v h live_on) e; live = λ u. live_on }, refl)
           go (aiding.Back (Some q)) g e = inr (e.0, pays q aid.Hold e.0 e.1, (let u = e.2 in omega (arith, g, u)))

@@ -51,6 +51,7 @@ use Rattle.kc_machine_words.specs.declared.words.Phase.TheVariants.{Active}
 use Rattle.std.proofs.Common.{Bool, List, None, [], ap, append-nil, append_assoc, arith, false, if◌then◌else◌, inl, inr, refl, subst, suc, sym, true, zero, ℕ, ◌*◌, ◌++◌, ◌+◌, ◌<◌, ◌==◌, ◌∙◌, ◌∷◌, ◌≡◌, ◌≢◌, ◌≤◌, ◌⊎◌}
 use Rattle.std.specs.Option.{is_some}
 use borrow.Author.Tests.{eqb-false, eqb-true}
+use Rattle.kc_model.specs.declared.footprint.TheConstants.{MOST}
 
 -- ---- steps alone, to an end
 
@@ -80,7 +81,7 @@ pub stage_moves : (n : ℕ) (at bt : ℕ → Hold) (f : ℕ) (v : World) (x : St
 stage_moves n at bt f v x old e other p = go x e p
   where
     begins_so : Begins n at f v old → Begins n bt f v old
-    begins_so b = let z = paid_moves n at bt v other f nothing 64 in omega (arith, z, b)
+    begins_so b = let z = paid_moves n at bt v other f nothing MOST in omega (arith, z, b)
 
     go : (x : Stage) → stage_free x ≡ true → StagePays n at f v x old → StagePays n bt f v x old
     go (Scan d worn) e p = begins_so p
@@ -187,7 +188,7 @@ stage_some : (m e : ℕ) (w : World) (c : Commit) (x : Stage) → 1 ≤ stage_le
 stage_some m e w c (Scan d worn) = omega arith
 stage_some m e w c (Take d g) = go (takes w d g)
   where
-    go : (b : Bool) → 1 ≤ (if b then 710 else 711 + m)
+    go : (b : Bool) → 1 ≤ (if b then 10 * MOST + 70 else 10 * MOST + 71 + m)
     go true = omega arith
     go false = omega arith
 stage_some m e w c (Own h x) = pass_some w c x
@@ -305,7 +306,7 @@ module _ (o : Opening) (k : ℕ) (l : k < o.callers) (free : ℕ) (there : free 
         none (work.Swap a) i = absurd (cc)
 
         rests : Rests o.callers (owned_at o es') outside (run o es').world x.old
-        rests = let z = paid_moves o.callers (owned_at o es) (owned_at o es') (run o es').world (others_or (none ((run o es').seats k).work i)) outside nothing 64 in omega (arith, z, r)
+        rests = let z = paid_moves o.callers (owned_at o es) (owned_at o es') (run o es').world (others_or (none ((run o es').seats k).work i)) outside nothing MOST in omega (arith, z, r)
 
     -- it goes on
     module _ (b : Commit) (is : ((run o es').seats k).work ≡ work.Commit b) where

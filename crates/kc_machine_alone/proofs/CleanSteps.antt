@@ -41,8 +41,9 @@ use Rattle.kc_machine_words.specs.declared.words.Phase.TheVariants.{Active, Halt
 use Rattle.kc_machine_words.specs.declared.words.Reference.{Reference}
 use Rattle.kc_machine_words.specs.declared.words.Second.{Second}
 use Rattle.kc_model.specs.declared.word.Word.TheVariants.{Ref}
+use Rattle.kc_model.specs.declared.footprint.TheConstants.{MOST}
 use Rattle.std.proofs.Common.{Bool, List, None, Option, Some, arith, false, if◌then◌else◌, inl, inr, refl, subst, sym, true, ℕ, ◌+◌, ◌-◌, ◌<◌, ◌==◌, ◌∙◌, ◌≡◌, ◌≢◌, ◌≤◌, ◌⊎◌}
-use Rattle.std.specs.Prelude.{bit_and, bit_or, nat_lt, slice_get}
+use Rattle.std.specs.Prelude.{bit_and, bit_or, nat_lt, slice_get, ◌*◌}
 
 -- while it fills, its descriptor isn't Active, no other seat owns it, and it is another than descriptor f
 pub record Filling (n : ℕ) (at : ℕ → Hold) (f : ℕ) (w : World) (k : ℕ) (h : Handle) : Type 0 where
@@ -100,18 +101,18 @@ module _ (n : ℕ) (at : ℕ → Hold) (f : ℕ) (some : 1 ≤ n) (w : World) (g
     wakes_on : (j owed old : ℕ) → Rests n at f w old → Pay (own.Wake j owed) old
     wakes_on j owed old r = by (slice_get xs j)
       where
-        by : (o : Option Line) → PaysOn n at f (touched w (wake_access o)) h c.copy old (66 + (64 - j)) (wake_next c.intent j owed (found_at w (wake_access o)))
+        by : (o : Option Line) → PaysOn n at f (touched w (wake_access o)) h c.copy old (66 + (MOST - j)) (wake_next c.intent j owed (found_at w (wake_access o)))
         by None = inl (r, refl)
         by (Some x) = go (next_line Put c.intent.mode xs (after_line j))
           where
-            go : (o : Option ℕ) → PaysOn n at f (touched w (wake_access (Some x))) h c.copy old (66 + (64 - j)) (wake_or_signal (bit_or owed (w.awaiters x.seen.loc.0)) o)
-            go None = owes_on (touched w (wake_access (Some x))) (bit_or owed (w.awaiters x.seen.loc.0)) old (66 + (64 - j)) r
+            go : (o : Option ℕ) → PaysOn n at f (touched w (wake_access (Some x))) h c.copy old (66 + (MOST - j)) (wake_or_signal (bit_or owed (w.awaiters x.seen.loc.0)) o)
+            go None = owes_on (touched w (wake_access (Some x))) (bit_or owed (w.awaiters x.seen.loc.0)) old (66 + (MOST - j)) r
             go (Some i) = inl (r, refl)
 
     -- the words of the own descriptor, which isn't Active
     module _ (ready : Filling n at f w k h) where
       filled : (a : ℕ → Owner) (b : ℕ → ℕ → First) (c : ℕ → ℕ → Second) → ((d : ℕ) → d ≢ h.descriptor → a d ≡ w.owner d) → ((d : ℕ) → d ≢ h.descriptor → b d ≡ w.first d) → ((d : ℕ) → d ≢ h.descriptor → c d ≡ w.second d) → (old : ℕ) → Begins n at f w old → Begins n at f (record w { owner = a; first = b; second = c }) old
-      filled a b c p q r old m = let z = paid_filled n at w h.descriptor f ready.idle ready.apart a b c p q r nothing 64 in omega (arith, z, m)
+      filled a b c p q r old m = let z = paid_filled n at w h.descriptor f ready.idle ready.apart a b c p q r nothing MOST in omega (arith, z, m)
 
       fill_owner : (old : ℕ) → Begins n at f w old → Begins n at f (touched w (acc own.FillOwner)) old
       fill_owner old m = filled (put w.owner h.descriptor _) w.first w.second (λ d q. put_else w.owner h.descriptor _ d q) (λ d q. refl) (λ d q. refl) old m
@@ -133,7 +134,7 @@ module _ (n : ℕ) (at : ℕ → Hold) (f : ℕ) (some : 1 ≤ n) (w : World) (g
       starts : (old : ℕ) → Begins n at f w old → Pay own.Start old
       starts old m =
           let p = paid_started n at w h.descriptor f ready.idle ready.apart h.generation k (λ j g l q. ready.sole j g l q) in
-          let z = price_fee n (rounds n at w nothing f 64) (lives n at w) in
+          let z = price_fee n (rounds n at w nothing f MOST) (lives n at w) in
           inl (
             record {
               pays = subst (λ y. paid_for n at f (touched w (acc own.Start)) y ≤ old) (sym (install_cover h.descriptor c.intent.mode xs 0)) (omega (arith, p, z, m));
@@ -143,7 +144,7 @@ module _ (n : ℕ) (at : ℕ → Hold) (f : ℕ) (some : 1 ≤ n) (w : World) (g
           )
 
     aids_on : (j : ℕ) (r : Reference) (s : AidStep) (old : ℕ) → OwnFits c.halted c.intent c.copy (own.Aid j r s) → Builds w c h (own.Aid j r s) → Pays n at f w h (own.Aid j r s) old → Pay (own.Aid j r s) old
-    aids_on j r s old y b x = subst (λ t. PaysOn n at f v h d old (515 + (64 - j) + aid_left w r c.copy s) (aid_or_back t j r (aid_next r d s found_there))) (sym open_so)
+    aids_on j r s old y b x = subst (λ t. PaysOn n at f v h d old (7 * MOST + 67 + (MOST - j) + aid_left w r c.copy s) (aid_or_back t j r (aid_next r d s found_there))) (sym open_so)
         (aids n at f some w ground h c.intent c.copy fresh bounded j r s y.0.3 (subst (λ t. AidFits t c.copy s) open_so y.1) b old x)
       where
         found_there : Found
@@ -162,7 +163,7 @@ module _ (n : ℕ) (at : ℕ → Hold) (f : ℕ) (some : 1 ≤ n) (w : World) (g
     Tells x old = Pay x old
 
     own_pays : (x : OwnStep) (old : ℕ) → OwnFits c.halted c.intent c.copy x → Builds w c h x → (fills x ≡ true → Filling n at f w k h) → Pays n at f w h x old → Tells x old
-    own_pays own.FillOwner old y b r m = fills_on (touched w (acc own.FillOwner)) 0 old 709 (fill_owner (r refl) old m)
+    own_pays own.FillOwner old y b r m = fills_on (touched w (acc own.FillOwner)) 0 old (10 * MOST + 69) (fill_owner (r refl) old m)
     own_pays (own.FillFirst j) old y b r m = inl (fill_firsts (r refl) j old m, refl)
     own_pays (own.FillSecond j) old y b r m = fills_on (touched w (acc (own.FillSecond j))) (after_line j) old (own_left w c.copy (own.FillSecond j)) (fill_seconds (r refl) j old m)
     own_pays own.Start old y b r m = starts (r refl) old m
@@ -184,7 +185,7 @@ module _ (n : ℕ) (at : ℕ → Hold) (f : ℕ) (some : 1 ≤ n) (w : World) (g
     scan_on : (d worn old : ℕ) → Begins n at f w old → On (Scan d worn) old
     scan_on d worn old b = go (nat_lt (w.control d).generation 1099511627775) ((w.control d).holds == 0) (nat_lt worn (m - 1))
       where
-        go : (x y t : Bool) → NextOn n at f m e w c.copy old (711 + round m e d) (if x then (if y then next.Goes (Take d (w.control d).generation) else next.Goes (Scan (after_scan m d) 0)) else (if t then next.Goes (Scan (after_scan m d) (worn + 1)) else next.Tells told.Worn))
+        go : (x y t : Bool) → NextOn n at f m e w c.copy old (10 * MOST + 71 + round m e d) (if x then (if y then next.Goes (Take d (w.control d).generation) else next.Goes (Scan (after_scan m d) 0)) else (if t then next.Goes (Scan (after_scan m d) (worn + 1)) else next.Tells told.Worn))
         go true true t = inl (b, refl)
         go true false t = inl (b, refl)
         go false y true = inl (b, refl)
@@ -193,7 +194,7 @@ module _ (n : ℕ) (at : ℕ → Hold) (f : ℕ) (some : 1 ≤ n) (w : World) (g
     take_on : (d g old : ℕ) → Begins n at f w old → On (Take d g) old
     take_on d g old b = go (takes w d g)
       where
-        go : (t : Bool) → NextOn n at f m e (touched w (access.Control d (grip.Take g))) c.copy old (if takes w d g then 710 else 711 + m) (if t then next.Takes (Own (record { descriptor = d; generation = g + 1 }) own.FillOwner) else next.Goes (Scan (after_scan m d) 0))
+        go : (t : Bool) → NextOn n at f m e (touched w (access.Control d (grip.Take g))) c.copy old (if takes w d g then 10 * MOST + 70 else 10 * MOST + 71 + m) (if t then next.Takes (Own (record { descriptor = d; generation = g + 1 }) own.FillOwner) else next.Goes (Scan (after_scan m d) 0))
         go true = inl (b, refl)
         go false = inl (b, refl)
 

@@ -24,10 +24,11 @@ use Rattle.kc_machine_seats.specs.Seated.{WorkSearches}
 use Rattle.kc_machine_steps.specs.declared.task.Event.{Event}
 use Rattle.kc_machine_steps.specs.declared.task.Event.TheVariants.{Step}
 use Rattle.kc_machine_traces.proofs.Others.{run_shape}
-use Rattle.std.proofs.Common.{Bool, List, [], ap, arith, false, inl, inr, refl, subst, suc, sym, true, zero, ℕ, ◌*◌, ◌++◌, ◌+◌, ◌<◌, ◌==◌, ◌∙◌, ◌∷◌, ◌≡◌, ◌≢◌, ◌≤◌}
+use Rattle.std.proofs.Common.{Bool, List, [], ap, arith, false, inl, inr, refl, subst, suc, sym, true, zero, ℕ, ◌*◌, ◌++◌, ◌+◌, ◌-◌, ◌<◌, ◌==◌, ◌∙◌, ◌∷◌, ◌≡◌, ◌≢◌, ◌≤◌}
 use Rattle.std.specs.Option.{is_some}
 use borrow.Author.Tests.{eqb-false, eqb-true}
 use Rattle.kc_machine.specs.Works as work
+use Rattle.kc_model.specs.declared.footprint.TheConstants.{MOST}
 
 module _ (o : Opening) (k : ℕ) (l : k < o.callers) (e : ℕ) (there : e < 3 * o.callers + 1) where
   abbrev Told : List Event → ℕ → Type 0
@@ -127,13 +128,13 @@ square zero l = absurd (omega arith)
 square (suc zero) l = omega arith
 square (suc (suc n)) l = let a = square (suc n) (omega arith) in let q : suc (suc n) * suc (suc n) ≡ suc n * suc n + 2 * suc n + 1 = grind arith in omega (arith, a, q)
 
-top_below : (n : ℕ) → 1 ≤ n → top n + (1280 + 3 * n) ≤ bound_alone n 64
+top_below : (n : ℕ) → 1 ≤ n → top n + (20 * MOST + 3 * n) ≤ bound_alone n MOST
 unfolding price
 top_below n l =
     let a = square n l in
-    let x : (197 * n + 7) * (64 * n + 192) ≡ 12608 * (n * n) + 38272 * n + 1344 = grind arith in
-    let y : (197 * n + 7 + 378) * n ≡ 197 * (n * n) + 385 * n = grind arith in
-    let z : (n + 1) * (n + 1) * 16384 ≡ 16384 * (n * n) + 32768 * n + 16384 = grind arith in
+    let x : ((3 * MOST + 5) * n + 7) * (MOST * n + 3 * MOST) ≡ (3 * MOST + 5) * MOST * (n * n) + ((3 * MOST + 5) * (3 * MOST) + 7 * MOST) * n + 21 * MOST = grind arith in
+    let y : ((3 * MOST + 5) * n + 7 + (6 * MOST - 6)) * n ≡ (3 * MOST + 5) * (n * n) + (6 * MOST + 1) * n = grind arith in
+    let z : (n + 1) * (n + 1) * (4 * MOST * MOST) ≡ 4 * MOST * MOST * (n * n) + 8 * MOST * MOST * n + 4 * MOST * MOST = grind arith in
     omega (arith, a, x, y, z)
 
 pub alone_told : (o : Opening) (es : List Event) → IsSchedule o es → AloneItIsTold o es
@@ -144,6 +145,6 @@ alone_told o es w k l i free =
     let e = free.0 in
     let there : e < 3 * o.callers + 1 = let a = free.1 in omega arith in
     let most = work_most (3 * o.callers + 1) e o.callers m.world (m.seats k).work refl there (λ x q. subst (WorkSearches (3 * o.callers + 1)) q (searches_in_range o es k l)) in
-    let r = told_within o k l e there (top o.callers + (1279 + 3 * o.callers)) es (top o.callers) w i (λ u. (free.2, free.3)) (first_rank o.callers (owned_at o es) m.world (m.seats k).work) (omega (arith, most)) in
+    let r = told_within o k l e there (top o.callers + (20 * MOST - 1 + 3 * o.callers)) es (top o.callers) w i (λ u. (free.2, free.3)) (first_rank o.callers (owned_at o es) m.world (m.seats k).work) (omega (arith, most)) in
     let b = top_below o.callers (omega (arith, l)) in
     (r.0, (let q = r.1 in omega (arith, q, b)), r.2)

@@ -5,7 +5,7 @@ use Rattle.kc_machine_alone.proofs.Chains.{live_is, refers_same}
 use Rattle.kc_machine_alone.proofs.Covers.{or_false, or_left, or_right, status_cases}
 use Rattle.kc_machine_alone.proofs.Left.{is_active}
 use Rattle.kc_machine_alone.proofs.Rounds.{Calm, in_line, is_left, is_live, is_pending, life_le, life_left, line_left, lines_le, live_still, lives, nothing, own_le, own_line_left, place_of, refers_line, rounds, weight}
-use Rattle.kc_machine_alone.proofs.Tallies.{cond_le, cond_lt, total_le, total_lt}
+use Rattle.kc_machine_alone.proofs.Tallies.{cond_le, cond_lt, total_le, total_lt, sum_lt_first, sum_lt_second}
 use Rattle.kc_machine_claims.proofs.ByPlace.{low}
 use Rattle.kc_machine_effects.proofs.Tests.{both, status_active}
 use Rattle.kc_machine_effects.specs.Holds.{Hold, Proper, total}
@@ -16,6 +16,7 @@ use Rattle.kc_machine_words.specs.declared.words.Phase.TheVariants.{Active}
 use Rattle.kc_machine_words.specs.declared.words.Status.{Status}
 use Rattle.kc_model.specs.declared.word.Word.{Word}
 use Rattle.kc_model.specs.declared.word.Word.TheVariants.{Plain, Ref}
+use Rattle.kc_model.specs.declared.footprint.TheConstants.{MOST}
 use Rattle.std.proofs.Common.{Bool, ap, arith, cond, false, not, refl, subst, sym, true, ℕ, ◌&&◌, ◌<◌, ◌∙◌, ◌≡◌, ◌≢◌, ◌≤◌}
 use Rattle.std.specs.Prelude.{nat_lt, ◌||◌}
 use borrow.Author.Tests.{ltb-true}
@@ -61,18 +62,18 @@ module _ (n : ℕ) (at : ℕ → Hold) (w : World) (f k l : ℕ) (a b : ℕ) whe
   here_plain : (p : ℕ) → p ≡ l → (freed w l (Plain a b)).word p ≡ Plain a b
   here_plain p e = ap (put w.word l (Plain a b)) e ∙ put_here w.word l (Plain a b)
 
-  own_less : (i : ℕ) → i < 64 → own_line_left (freed w l (Plain a b)) nothing f k i < own_line_left w nothing f k i → Fewer
+  own_less : (i : ℕ) → i < MOST → own_line_left (freed w l (Plain a b)) nothing f k i < own_line_left w nothing f k i → Fewer
   own_less i low e =
-      let x = total_lt (own_line_left (freed w l (Plain a b)) nothing f k) (own_line_left w nothing f k) 64 i low e (λ t z. own_le w (freed w l (Plain a b)) nothing nothing f free_calm k t) in
+      let x = total_lt (own_line_left (freed w l (Plain a b)) nothing f k) (own_line_left w nothing f k) MOST i low e (λ t z. own_le w (freed w l (Plain a b)) nothing nothing f free_calm k t) in
       let y = total_le (λ j. life_left (freed w l (Plain a b)) nothing f (at j)) (λ j. life_left w nothing f (at j)) n (λ j z. life_le w (freed w l (Plain a b)) nothing nothing f free_calm (at j)) in
-      omega (arith, x, y)
+      sum_lt_second _ _ _ _ y x
 
   -- a line of an Active life waits there
-  pub life_frees : (j d g t : ℕ) → j < n → at j ≡ Proper d g → w.status d ≡ status g Active → t < 64 → in_line w d t ≡ true → place_of w d t ≡ l → is_left w nothing f (w.word l) ≡ true → Fewer
+  pub life_frees : (j d g t : ℕ) → j < n → at j ≡ Proper d g → w.status d ≡ status g Active → t < MOST → in_line w d t ≡ true → place_of w d t ≡ l → is_left w nothing f (w.word l) ≡ true → Fewer
   life_frees j d g t bound q s low y p r =
       let x = total_lt (λ j. life_left v nothing f (at j)) (λ j. life_left w nothing f (at j)) n j bound here (λ i c. life_le w v nothing nothing f free_calm (at i)) in
-      let z = total_le (own_line_left v nothing f k) (own_line_left w nothing f k) 64 (λ t c. own_le w v nothing nothing f free_calm k t) in
-      omega (arith, x, z)
+      let z = total_le (own_line_left v nothing f k) (own_line_left w nothing f k) MOST (λ t c. own_le w v nothing nothing f free_calm k t) in
+      sum_lt_first _ _ _ _ x z
     where
       v : World
       v = freed w l (Plain a b)
@@ -86,14 +87,14 @@ module _ (n : ℕ) (at : ℕ → Hold) (w : World) (f k l : ℕ) (a b : ℕ) whe
       line : line_left v nothing f d t < line_left w nothing f d t
       line = rw (y, before, behind) (omega arith)
 
-      lines : total (line_left v nothing f d) 64 < total (line_left w nothing f d) 64
-      lines = total_lt (line_left v nothing f d) (line_left w nothing f d) 64 t low line (λ i c. lines_le w v nothing nothing f free_calm d i)
+      lines : total (line_left v nothing f d) MOST < total (line_left w nothing f d) MOST
+      lines = total_lt (line_left v nothing f d) (line_left w nothing f d) MOST t low line (λ i c. lines_le w v nothing nothing f free_calm d i)
 
       here : life_left v nothing f (at j) < life_left w nothing f (at j)
       here = subst (λ h. life_left v nothing f h < life_left w nothing f h) (sym q) (rw (live_is w d g s) lines)
 
   -- an own line from k on waits there
-  pub own_frees : (t : ℕ) → t < 64 → k ≤ t → in_line w f t ≡ true → place_of w f t ≡ l → is_left w nothing f (w.word l) ≡ true → Fewer
+  pub own_frees : (t : ℕ) → t < MOST → k ≤ t → in_line w f t ≡ true → place_of w f t ≡ l → is_left w nothing f (w.word l) ≡ true → Fewer
   own_frees t low up y p r = own_less t low (rw y (by (is_pending v nothing f t) (is_pending w nothing f t) (λ q. free_calm.pending t y q)))
     where
       v : World
@@ -116,7 +117,7 @@ module _ (n : ℕ) (at : ℕ → Hold) (w : World) (f k l : ℕ) (a b : ℕ) whe
       by c d h = rw (ahead, before, behind) (let z = cond_le c d h in omega (arith, z))
 
   -- it is the own reference, of what is decided
-  pub ref_frees : (g i : ℕ) → i < 64 → in_line w f i ≡ true → place_of w f i ≡ l → w.word l ≡ Ref g f i → is_active (w.status f).phase ≡ false → Fewer
+  pub ref_frees : (g i : ℕ) → i < MOST → in_line w f i ≡ true → place_of w f i ≡ l → w.word l ≡ Ref g f i → is_active (w.status f).phase ≡ false → Fewer
   ref_frees g i low y p q s = own_less i low (rw y (by (is_left v nothing f (v.word (place_of w f i))) (is_left w nothing f (w.word (place_of w f i))) (λ z. free_calm.left (place_of w f i) z)))
     where
       v : World

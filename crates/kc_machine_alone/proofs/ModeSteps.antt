@@ -21,8 +21,9 @@ use Rattle.kc_machine_words.specs.declared.words.Phase.TheVariants.{Active, Cros
 use Rattle.kc_machine_words.specs.declared.words.Reference.{Reference}
 use Rattle.kc_model.specs.declared.word.Word.{Word}
 use Rattle.kc_model.specs.declared.word.Word.TheVariants.{Plain, Ref}
+use Rattle.kc_model.specs.declared.footprint.TheConstants.{MOST}
 use Rattle.std.proofs.Common.{Bool, List, None, Option, Some, false, if◌then◌else◌, inl, inr, refl, true, ℕ, ◌≡◌}
-use Rattle.std.specs.Prelude.{slice_get}
+use Rattle.std.specs.Prelude.{slice_get, ◌*◌}
 use Rattle.kc_machine_steps.specs.declared.pass.AfterCheck.TheVariants as checked
 use Rattle.kc_machine_words.specs.declared.access.Found.TheVariants as found
 use Rattle.kc_machine_steps.specs.declared.pass.PassNext.TheVariants as pass
@@ -35,10 +36,10 @@ release_out m xs k p = go (next_line Installed m xs k)
     go None = refl
     go (Some j) = refl
 
-pub release_spare : (m : Mode) (xs : List Line) (k : ℕ) (p : Phase) → spare (after_pass (from_release m xs k p)) ≡ 600
+pub release_spare : (m : Mode) (xs : List Line) (k : ℕ) (p : Phase) → spare (after_pass (from_release m xs k p)) ≡ 10 * MOST
 release_spare m xs k p = go (next_line Installed m xs k)
   where
-    go : (o : Option ℕ) → spare (after_pass (release_or_finish p o)) ≡ 600
+    go : (o : Option ℕ) → spare (after_pass (release_or_finish p o)) ≡ 10 * MOST
     go None = refl
     go (Some j) = refl
 

@@ -22,7 +22,8 @@ use Rattle.kc_machine_words.specs.declared.words.Phase.TheVariants.{Active, Cros
 use Rattle.kc_machine_words.specs.declared.words.Reference.{Reference}
 use Rattle.kc_machine_words.specs.declared.words.Status.{Status}
 use Rattle.kc_model.specs.declared.word.Word.TheVariants.{Plain, Ref}
-use Rattle.std.proofs.Common.{Bool, None, Some, ap, arith, cond, false, if◌then◌else◌, mul-suc, refl, suc, sym, true, ℕ, ◌*◌, ◌+◌, ◌<◌, ◌∙◌, ◌≡◌, ◌≤◌, ◌⊎◌}
+use Rattle.kc_model.specs.declared.footprint.TheConstants.{MOST}
+use Rattle.std.proofs.Common.{Bool, None, Some, ap, arith, cond, false, if◌then◌else◌, mul-suc, refl, suc, sym, true, ℕ, ◌*◌, ◌+◌, ◌-◌, ◌<◌, ◌∙◌, ◌≡◌, ◌≤◌, ◌⊎◌}
 use Rattle.std.proofs.Math.Nat.{mul-le-mul_left}
 use Rattle.kc_machine_steps.specs.declared.aid.AidStep.TheVariants as aid
 use Rattle.kc_machine_steps.specs.declared.aid.AidNext.TheVariants as aiding
@@ -30,11 +31,11 @@ use Rattle.kc_machine_steps.specs.declared.aid.AidNext.TheVariants as aiding
 -- ---- the price of rounds and lives, each round b
 
 unfoldable pub price : (b r a : ℕ) → ℕ
-price b r a = b * r + (b + 378) * a
+price b r a = b * r + (b + (6 * MOST - 6)) * a
 
 pub price_le : (b r s a c : ℕ) → r ≤ s → a ≤ c → price b r a ≤ price b s c
 unfolding price
-price_le b r s a c p q = let x = mul-le-mul_left b p in let y = mul-le-mul_left (b + 378) q in omega (arith, x, y)
+price_le b r s a c p q = let x = mul-le-mul_left b p in let y = mul-le-mul_left (b + (6 * MOST - 6)) q in omega (arith, x, y)
 
 pub price_round : (b r s a c : ℕ) → r < s → a ≤ c → price b r a + b ≤ price b s c
 unfolding price
@@ -42,16 +43,16 @@ price_round b r s a c p q =
     let up : suc r ≤ s = omega arith in
     let x = mul-le-mul_left b up in
     let z = mul-suc b r in
-    let y = mul-le-mul_left (b + 378) q in
+    let y = mul-le-mul_left (b + (6 * MOST - 6)) q in
     omega (arith, x, y, z)
 
-pub price_life : (b r s a c : ℕ) → r ≤ s → a < c → price b r a + (b + 378) ≤ price b s c
+pub price_life : (b r s a c : ℕ) → r ≤ s → a < c → price b r a + (b + (6 * MOST - 6)) ≤ price b s c
 unfolding price
 price_life b r s a c p q =
     let up : suc a ≤ c = omega arith in
     let x = mul-le-mul_left b p in
-    let y = mul-le-mul_left (b + 378) up in
-    let z = mul-suc (b + 378) a in
+    let y = mul-le-mul_left (b + (6 * MOST - 6)) up in
+    let z = mul-suc (b + (6 * MOST - 6)) a in
     omega (arith, x, y, z)
 
 -- ---- steps of an aid
@@ -91,13 +92,13 @@ is_drop _ = false
 
 -- what it keeps for an aid that may turn out to be of no use
 abbrev pub spare : AidStep → ℕ
-spare (aid.Leave (Some q)) = 800
-spare (aid.Drop stray (Some q)) = 800
-spare _ = 600
+spare (aid.Leave (Some q)) = 14 * MOST
+spare (aid.Drop stray (Some q)) = 14 * MOST
+spare _ = 10 * MOST
 
 module _ (n : ℕ) (at : ℕ → Hold) (f : ℕ) where
   abbrev pub each : ℕ
-  each = 197 * n + 7
+  each = (3 * MOST + 5) * n + 7
 
   abbrev pub paid : World → Cover → ℕ → ℕ
   paid w x k = price each (rounds n at w x f k) (lives n at w)
@@ -121,7 +122,7 @@ module _ (n : ℕ) (at : ℕ → Hold) (f : ℕ) where
     pub place : ℕ
     pub stands : Stands w place r
     pub shorter : chain n at w l < chain n at w place
-    pub pays : all_paid w k r s + 197 * chain n at w place ≤ old + (each + 575)
+    pub pays : all_paid w k r s + (3 * MOST + 5) * chain n at w place ≤ old + (each + (9 * MOST - 1))
 
   -- it is about to go on to q, which stands at a location of the chain
   pub record Linked (least : ℕ) (w : World) (k : ℕ) (r : Reference) (s : AidStep) (q : Reference) (old : ℕ) : Type 0 where
@@ -134,7 +135,7 @@ module _ (n : ℕ) (at : ℕ → Hold) (f : ℕ) where
 
   -- for an own pass that waits at line k, with so much to pay; the aids of the chain are met from a location on, one below the least; of 0 an aid that ran already may come from anywhere
   pub data Stance (least : ℕ) (w : World) (k : ℕ) (r : Reference) (s : AidStep) (old : ℕ) : Type 0 where
-    chained : (l : ℕ) → least ≤ suc l → Stands w l r → IsLive w r → is_early s ≡ true → all_paid w k r s + 197 * chain n at w l ≤ old + (each + 575) → Stance least w k r s old
+    chained : (l : ℕ) → least ≤ suc l → Stands w l r → IsLive w r → is_early s ≡ true → all_paid w k r s + (3 * MOST + 5) * chain n at w l ≤ old + (each + (9 * MOST - 1)) → Stance least w k r s old
     freeing : (l : ℕ) → Stands w l r → is_active (w.status r.handle.descriptor).phase ≡ false → Frees w k l → is_single s ≡ true → all_paid w k r s ≤ old + each → Stance least w k r s old
     leaving : is_out s ≡ true → all_paid w k r s ≤ old → Stance least w k r s old
     leads : (q : Reference) → s ≡ aid.Leave (Some q) → Linked least w k r s q old → Stance least w k r s old
@@ -145,7 +146,7 @@ module _ (n : ℕ) (at : ℕ → Hold) (f : ℕ) where
   abbrev pub StanceGoes : ℕ → World → ℕ → Reference → Aided → ℕ → AidNext → Type 0
   StanceGoes least w k r a old (aiding.Goes s) = Stance least w k r s old
   StanceGoes least w k r a old (aiding.Back None) = paid w nothing k ≤ old
-  StanceGoes least w k r a old (aiding.Back (Some q)) = (t : ℕ) × Stance least w k q aid.Hold t × (t + aid_left w q a aid.Hold < old + 385)
+  StanceGoes least w k r a old (aiding.Back (Some q)) = (t : ℕ) × Stance least w k q aid.Hold t × (t + aid_left w q a aid.Hold < old + (6 * MOST + 1))
 
   pub paid_calm : (w v : World) (x y : Cover) (k : ℕ) → Calm w v x y f → paid v y k ≤ paid w x k
   paid_calm w v x y k c = price_le each _ _ _ _ (rounds_le w v x y f c n at k) (lives_le w v x y f c n at)
@@ -158,7 +159,7 @@ module _ (n : ℕ) (at : ℕ → Hold) (f : ℕ) where
     pub rises : (d : ℕ) → (w.status d).generation ≡ (w.control d).generation → Rises w d
 
   module _ (w : World) (ground : Ground w) where
-    pub all_stand : (l : ℕ) (r : Reference) → Stands w l r → IsLive w r → every (stands_to w l r.handle.descriptor) 64 ≡ true
+    pub all_stand : (l : ℕ) (r : Reference) → Stands w l r → IsLive w r → every (stands_to w l r.handle.descriptor) MOST ≡ true
     all_stand l r s a =
         let z = ground.fit l r.handle.generation r.handle.descriptor r.line s in
         stands_all w ground.before l r.handle.generation r.handle.descriptor r.line s a z.2 z.1.0 (ground.rises r.handle.descriptor (z.0.1 ∙ sym z.0.0))
@@ -173,12 +174,12 @@ module _ (n : ℕ) (at : ℕ → Hold) (f : ℕ) where
         let q = cond_one (is_live w (at o.0)) (ap (is_live w) o.2 ∙ live_is w r.handle.descriptor r.handle.generation a) in
         omega (arith, p, q)
 
-    pub lives_paid : (r : Reference) (x : Cover) (k : ℕ) → IsLive w r → each + 378 ≤ paid w x k
+    pub lives_paid : (r : Reference) (x : Cover) (k : ℕ) → IsLive w r → each + (6 * MOST - 6) ≤ paid w x k
     lives_paid r x k a = let z = price_life each 0 (rounds n at w x f k) 0 (lives n at w) (omega arith) (let b = lives_one r a in omega (arith, b)) in omega (arith, z)
 
     -- to go on to q, which stands at location l
     pub goes_to : (least : ℕ) (c : ℕ → Control) (k l : ℕ) (q : Reference) (a : Aided) (spent : ℕ) → least ≤ suc l → Stands w l q → (is_active (w.status q.handle.descriptor).phase ≡ false → Frees w k l)
-        → (IsLive w q → (t : ℕ) × (paid w nothing k + 197 * chain n at w l ≤ t + (each + 575)) × (t + 581 < spent))
+        → (IsLive w q → (t : ℕ) × (paid w nothing k + (3 * MOST + 5) * chain n at w l ≤ t + (each + (9 * MOST - 1))) × (t + (9 * MOST + 5) < spent))
         → (is_active (w.status q.handle.descriptor).phase ≡ false → (t : ℕ) × (paid w nothing k ≤ t + each) × (t + 6 < spent))
         → (t : ℕ) × Stance least (record w { control = c }) k q aid.Hold t × (t + aid_left (record w { control = c }) q a aid.Hold < spent)
     goes_to least c k l q a spent low s frees live dead = go (is_active (w.status q.handle.descriptor).phase) refl
@@ -199,6 +200,6 @@ module _ (n : ℕ) (at : ℕ → Hold) (f : ℕ) where
             active_status : (s : Status) (g : ℕ) → s.generation ≡ g → is_active s.phase ≡ true → s ≡ status g Active
             active_status s g p e i = record { generation = p i; phase = phase_active s.phase e i }
 
-        go : (b : Bool) → is_active (w.status q.handle.descriptor).phase ≡ b → (t : ℕ) × Stance least (record w { control = c }) k q aid.Hold t × (t + (if b then 581 else 6) < spent)
+        go : (b : Bool) → is_active (w.status q.handle.descriptor).phase ≡ b → (t : ℕ) × Stance least (record w { control = c }) k q aid.Hold t × (t + (if b then 9 * MOST + 5 else 6) < spent)
         go true e = let x = live (alive e) in (x.0, chained l low s (alive e) refl x.1, x.2)
         go false e = let x = dead e in (x.0, freeing l s e (frees e) refl x.1, x.2)

@@ -27,6 +27,7 @@ use Rattle.kc_machine_words.specs.declared.words.Phase.{Phase}
 use Rattle.kc_machine_words.specs.declared.words.Phase.TheVariants.{Active, Crossed, Failed, Halted, Succeeded}
 use Rattle.kc_machine_words.specs.declared.words.Reference.{Reference}
 use Rattle.kc_model.specs.declared.word.Word.TheVariants.{Ref}
+use Rattle.kc_model.specs.declared.footprint.TheConstants.{MOST}
 use Rattle.std.proofs.Common.{Bool, List, None, Option, Some, arith, false, if◌then◌else◌, inl, inr, length, refl, true, ℕ, ◌*◌, ◌+◌, ◌-◌, ◌<◌, ◌==◌, ◌≡◌, ◌≤◌, ◌⊎◌}
 use Rattle.std.proofs.lemmas.Option.{slice_get_within}
 use Rattle.std.specs.Int.Count.{count_trailing_zeros}
@@ -42,7 +43,7 @@ use Rattle.kc_machine_steps.specs.declared.pass.PassNext.TheVariants as pass
 abbrev pub OwnGoes : World → Aided → ℕ → OwnStep → Type 0
 OwnGoes w a old step = (step_begins step ≡ true) ⊎ (own_left w a step < old)
 
-module _ (w : World) (fresh : (l g d i : ℕ) → w.word l ≡ Ref g d i → (w.control d).generation ≡ g) (caller calls : ℕ) (c : Commit) (h : Handle) (most : length c.intent.lines.items ≤ 64) (bounded : IsBounded c.copy) where
+module _ (w : World) (fresh : (l g d i : ℕ) → w.word l ≡ Ref g d i → (w.control d).generation ≡ g) (caller calls : ℕ) (c : Commit) (h : Handle) (most : length c.intent.lines.items ≤ MOST) (bounded : IsBounded c.copy) where
   abbrev xs : List Line
   xs = c.intent.lines.items
 
@@ -52,7 +53,7 @@ module _ (w : World) (fresh : (l g d i : ℕ) → w.word l ≡ Ref g d i → (w.
   abbrev Falls : OwnStep → Type 0
   Falls step = OwnGoes (touched w (acc step)) (copy_by_own c.copy step (found_at w (acc step))) (own_left w c.copy step) (own_next (record c { copy = copy_by_own c.copy step (found_at w (acc step)) }) h step (found_at w (acc step)))
 
-  fills : (v : World) (k old : ℕ) → 580 + 2 * (64 - k) < old → OwnGoes v c.copy old (fill_next xs k)
+  fills : (v : World) (k old : ℕ) → 8 * MOST + 68 + 2 * (MOST - k) < old → OwnGoes v c.copy old (fill_next xs k)
   fills v k old l = go (slice_get xs k)
     where
       go : (o : Option Line) → OwnGoes v c.copy old (fill_or_start k o)
@@ -66,7 +67,7 @@ module _ (w : World) (fresh : (l g d i : ℕ) → w.word l ≡ Ref g d i → (w.
       go true = inr (omega arith)
       go false = inr (omega arith)
 
-  finishes : (v : World) (p : Phase) (old : ℕ) → 130 < old → OwnGoes v c.copy old (finished c.intent p)
+  finishes : (v : World) (p : Phase) (old : ℕ) → MOST + 66 < old → OwnGoes v c.copy old (finished c.intent p)
   finishes v Active old l = inr (omega arith)
   finishes v Succeeded old l = go (next_line Put c.intent.mode xs 0)
     where
@@ -83,13 +84,13 @@ module _ (w : World) (fresh : (l g d i : ℕ) → w.word l ≡ Ref g d i → (w.
       v : World
       v = touched w (pass_access h xs p)
 
-      go : (n : PassNext) → NextFalls v (pass_left w p) n → OwnGoes v c.copy (pass_left w p + 130) (after_own_pass c.intent n)
+      go : (n : PassNext) → NextFalls v (pass_left w p) n → OwnGoes v c.copy (pass_left w p + (MOST + 66)) (after_own_pass c.intent n)
       go (pass.Goes q) y = inr (omega arith)
       go (pass.Met k r) y = inl refl
-      go (pass.Finished q) y = finishes v q (pass_left w p + 130) (omega arith)
+      go (pass.Finished q) y = finishes v q (pass_left w p + (MOST + 66)) (omega arith)
       go pass.Left y = inr (omega arith)
 
-  aids_on : (k : ℕ) (r : Reference) (a : AidStep) → k < 64 → AidFits c.halted c.copy a → Falls (own.Aid k r a)
+  aids_on : (k : ℕ) (r : Reference) (a : AidStep) → k < MOST → AidFits c.halted c.copy a → Falls (own.Aid k r a)
   aids_on k r a l f = go (aid_next r b a (found_at w (aid_access r c.copy.lines.items a))) (aid_falls w fresh c.halted r c.copy bounded a f)
     where
       v : World
@@ -101,30 +102,30 @@ module _ (w : World) (fresh : (l g d i : ℕ) → w.word l ≡ Ref g d i → (w.
       old : ℕ
       old = aid_left w r c.copy a
 
-      back : (t : Bool) (o : Option Reference) → AidGoes v r b old (aiding.Back o) → OwnGoes v b (515 + (64 - k) + old) (onward_or_back t k o)
+      back : (t : Bool) (o : Option Reference) → AidGoes v r b old (aiding.Back o) → OwnGoes v b (7 * MOST + 67 + (MOST - k) + old) (onward_or_back t k o)
       back true o y = inr (omega arith)
       back false None y = inr (omega (arith, y))
       back false (Some q) y = inl refl
 
-      go : (n : AidNext) → AidGoes v r b old n → OwnGoes v b (515 + (64 - k) + old) (aid_or_back c.halted k r n)
+      go : (n : AidNext) → AidGoes v r b old n → OwnGoes v b (7 * MOST + 67 + (MOST - k) + old) (aid_or_back c.halted k r n)
       go (aiding.Goes s) y = inr (omega (arith, y))
       go (aiding.Back o) y = back c.halted o y
 
   wakes : (k owed : ℕ) → PutsAt xs k → Falls (own.Wake k owed)
   wakes k owed f = by (slice_get xs k) f.1
     where
-      l : k < 64
+      l : k < MOST
       l = let b = slice_get_within xs k f.0 f.1 in omega arith
 
-      by : (o : Option Line) → o ≡ Some f.0 → OwnGoes (touched w (wake_access o)) c.copy (66 + (64 - k)) (wake_next c.intent k owed (found_at w (wake_access o)))
+      by : (o : Option Line) → o ≡ Some f.0 → OwnGoes (touched w (wake_access o)) c.copy (66 + (MOST - k)) (wake_next c.intent k owed (found_at w (wake_access o)))
       by None e = absurd (cc)
       by (Some x) e = go (next_line Put c.intent.mode xs (after_line k)) refl
         where
           v : World
           v = touched w (wake_access (Some x))
 
-          go : (o : Option ℕ) → next_line Put c.intent.mode xs (after_line k) ≡ o → OwnGoes v c.copy (66 + (64 - k)) (wake_or_signal (bit_or owed (w.awaiters x.seen.loc.0)) o)
-          go None e = owes v (bit_or owed (w.awaiters x.seen.loc.0)) (66 + (64 - k)) (omega (arith, l))
+          go : (o : Option ℕ) → next_line Put c.intent.mode xs (after_line k) ≡ o → OwnGoes v c.copy (66 + (MOST - k)) (wake_or_signal (bit_or owed (w.awaiters x.seen.loc.0)) o)
+          go None e = owes v (bit_or owed (w.awaiters x.seen.loc.0)) (66 + (MOST - k)) (omega (arith, l))
           go (Some j) e = let b = next_from Put c.intent.mode xs (after_line k) j e in let d = one_after k l in inr (omega (arith, l))
 
   pub signals : (owed : ℕ) → owed < 2 ^ 64 → count_trailing_zeros 64 owed < 64 → Falls (own.Signal owed)
@@ -138,7 +139,7 @@ module _ (w : World) (fresh : (l g d i : ℕ) → w.word l ≡ Ref g d i → (w.
       go false e = let u = lowest_rises owed l (eqb-false (bit_and owed (owed - 1)) 0 e) in let a = u.1 in inr (omega arith)
 
   fill_seconds : (k : ℕ) → k < length xs → Falls (own.FillSecond k)
-  fill_seconds k l = let d = one_after k (omega arith) in fills (touched w (fill_second h.descriptor k (slice_get xs k))) (after_line k) (579 + 2 * (64 - k)) (omega arith)
+  fill_seconds k l = let d = one_after k (omega arith) in fills (touched w (fill_second h.descriptor k (slice_get xs k))) (after_line k) (8 * MOST + 67 + 2 * (MOST - k)) (omega arith)
 
   starts : Falls own.Start
   starts = let b = install_below (touched w (acc own.Start)) c.intent.mode xs 0 in inr (omega arith)
@@ -150,7 +151,7 @@ module _ (w : World) (fresh : (l g d i : ℕ) → w.word l ≡ Ref g d i → (w.
   OwnTells step = Falls step
 
   pub own_falls : (step : OwnStep) → OwnFits c.halted c.intent c.copy step → OwnIsFormed c.intent step → ((owed : ℕ) → step ≡ own.Signal owed → (owed < 2 ^ 64) × (count_trailing_zeros 64 owed < 64)) → OwnTells step
-  own_falls own.FillOwner f g s = fills (touched w (acc own.FillOwner)) 0 709 (omega arith)
+  own_falls own.FillOwner f g s = fills (touched w (acc own.FillOwner)) 0 (10 * MOST + 69) (omega arith)
   own_falls (own.FillFirst k) f g s = inr (omega arith)
   own_falls (own.FillSecond k) f g s = fill_seconds k g
   own_falls own.Start f g s = starts

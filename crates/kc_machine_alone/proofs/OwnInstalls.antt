@@ -9,7 +9,7 @@ use Rattle.kc_machine_alone.proofs.Left.{aid_left, is_active}
 use Rattle.kc_machine_alone.proofs.Modes.{Frees, Ground, IsLive, Stance, each, goes_to, lives_paid, paid, price_le, price_round}
 use Rattle.kc_machine_alone.proofs.PassFalls.{next_from, one_after}
 use Rattle.kc_machine_alone.proofs.Rounds.{chain, in_line, is_left, is_pending, life_by, life_left, lives, nothing, own_line_left, place_of, refers_line, rounds, weight, weight_le}
-use Rattle.kc_machine_alone.proofs.Tallies.{cond_most, total_le}
+use Rattle.kc_machine_alone.proofs.Tallies.{cond_most, total_le, sum_le, above_none, none_le}
 use Rattle.kc_machine_effects.proofs.Tests.{both, some_line}
 use Rattle.kc_machine_effects.specs.Holds.{Hold}
 use Rattle.kc_machine_passes.proofs.Gone.{Next, next_skips}
@@ -34,6 +34,7 @@ use Rattle.kc_machine_words.specs.declared.words.Phase.TheVariants.{Failed}
 use Rattle.kc_machine_words.specs.declared.words.Reference.{Reference}
 use Rattle.kc_model.specs.declared.word.Word.{Word}
 use Rattle.kc_model.specs.declared.word.Word.TheVariants.{Plain, Ref}
+use Rattle.kc_model.specs.declared.footprint.TheConstants.{MOST}
 use Rattle.std.proofs.Common.{Bool, List, None, Option, Some, ap, arith, cond, false, if◌then◌else◌, inl, inr, not, refl, subst, sym, true, ℕ, ◌*◌, ◌+◌, ◌-◌, ◌<◌, ◌==◌, ◌∙◌, ◌≡◌, ◌≢◌, ◌≤◌, ◌⊎◌}
 use Rattle.std.proofs.lemmas.Option.{slice_get_within}
 use Rattle.std.specs.Prelude.{nat_lt, slice_get}
@@ -69,7 +70,7 @@ module _ (n : ℕ) (at : ℕ → Hold) (w : World) (h : Handle) (ground : Ground
       let b = t.lines in
       in_line_is w f k (omega (arith, l, b), y.3, subst (λ b. is_installed b (line_of_words w f k) ≡ true) (sym t.says) (subst (λ b. is_installed m b ≡ true) (sym (t.line k y.0 y.1)) y.2))
 
-  module _ (g : ℕ → Word) (words : (p : ℕ) → (g p ≡ w.word p) ⊎ (g p ≡ word_of h k)) (j : ℕ) (after : k < j) (skipped : (i : ℕ) → k < i → i < j → i < 64 → in_line w f i ≡ true → ⊥) where
+  module _ (g : ℕ → Word) (words : (p : ℕ) → (g p ≡ w.word p) ⊎ (g p ≡ word_of h k)) (j : ℕ) (after : k < j) (skipped : (i : ℕ) → k < i → i < j → i < MOST → in_line w f i ≡ true → ⊥) where
     abbrev v : World
     v = record w { word = g }
 
@@ -96,7 +97,7 @@ module _ (n : ℕ) (at : ℕ → Hold) (w : World) (h : Handle) (ground : Ground
     some_weight : (l p : Bool) → 1 ≤ weight true l p
     some_weight l p = omega arith
 
-    line_still : (i : ℕ) → i < 64 → own_line_left v nothing f j i ≤ own_line_left w nothing f k i
+    line_still : (i : ℕ) → i < MOST → own_line_left v nothing f j i ≤ own_line_left w nothing f k i
     line_still i low = go (in_line w f i) refl
       where
         at_weight : in_line w f i ≡ true → (e : Bool) → (i == k) ≡ e → (b : Bool) → nat_lt i k ≡ b → (d : Bool) → nat_lt i j ≡ d → weight (not d) (is_left v nothing f (g (place_of w f i))) (is_pending v nothing f i) ≤ weight (not b) (is_left w nothing f (w.word (place_of w f i))) (is_pending w nothing f i)
@@ -115,8 +116,8 @@ module _ (n : ℕ) (at : ℕ → Hold) (w : World) (h : Handle) (ground : Ground
     pub own_paid : paid n at f (record w { word = g }) nothing j ≤ paid n at f w nothing k
     own_paid =
         let a = total_le (λ i. life_left v nothing f (at i)) (λ i. life_left w nothing f (at i)) n (λ i l. life_by w v nothing nothing f refl refl refl (λ d g e. e) left_still (at i)) in
-        let b = total_le (own_line_left v nothing f j) (own_line_left w nothing f k) 64 (λ i l. line_still i l) in
-        price_le (each n at f) _ _ _ _ (omega (arith, a, b)) (omega arith)
+        let b = total_le (own_line_left v nothing f j) (own_line_left w nothing f k) MOST (λ i l. line_still i l) in
+        price_le (each n at f) _ _ _ _ (sum_le _ _ _ _ a b) (omega arith)
 
   -- to the next install, over words that are still or refer to this line
   goes_own : (g : ℕ → Word) → ((p : ℕ) → (g p ≡ w.word p) ⊎ (g p ≡ word_of h k)) → OwnPaid n at (record w { word = g }) f (paid n at f w nothing k) (from_install m xs (after_line k))
@@ -178,14 +179,13 @@ module _ (n : ℕ) (at : ℕ → Hold) (w : World) (h : Handle) (ground : Ground
           go false r = own_frees n at w f k l.seen.loc.0 u b k y.3 (omega arith) own_line (ap (λ (b : Line). b.seen.loc.0) (t.line k l e))
               (ap (is_left w nothing f) s ∙ is_left_of w nothing f q.handle.generation q.handle.descriptor q.line (record { decided = dead; foreign = r; open_to = refl }))
 
-      on : IsLive n at f w q → (t : ℕ) × (paid n at f w nothing k + 197 * chain n at w l.seen.loc.0 ≤ t + (each n at f + 575)) × (t + 581 < old)
+      on : IsLive n at f w q → (t : ℕ) × (paid n at f w nothing k + (3 * MOST + 5) * chain n at w l.seen.loc.0 ≤ t + (each n at f + (9 * MOST - 1))) × (t + (9 * MOST + 5) < old)
       on live =
           let mine = lives_paid n at f w ground q nothing k live in
           let b = chain_most n at w l.seen.loc.0 in
-          (old - 582, omega (arith, mine, b, p, some), omega (arith, mine, p, some))
+          (old - (9 * MOST + 6), omega (arith, mine, b, p, some), omega (arith, mine, p, some))
 
       off : is_active (w.status q.handle.descriptor).phase ≡ false → (t : ℕ) × (paid n at f w nothing k ≤ t + each n at f) × (t + 6 < old)
       off dead =
-          let r = frees dead 0 0 in
-          let b = price_round (each n at f) 0 (rounds n at w nothing f k) 0 (lives n at w) (omega (arith, r)) (omega arith) in
+          let b = price_round (each n at f) 0 (rounds n at w nothing f k) 0 (lives n at w) (above_none _ _ (frees dead 0 0)) (none_le (lives n at w)) in
           (old - 7, omega (arith, p), omega (arith, b, p))

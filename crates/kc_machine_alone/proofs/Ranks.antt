@@ -40,6 +40,7 @@ use Rattle.kc_machine_words.specs.declared.words.Phase.TheVariants.{Active, Cros
 use Rattle.kc_machine_words.specs.declared.words.Reference.{Reference}
 use Rattle.kc_model.specs.declared.word.Word.{Word}
 use Rattle.kc_model.specs.declared.word.Word.TheVariants.{Plain, Ref}
+use Rattle.kc_model.specs.declared.footprint.TheConstants.{MOST}
 use Rattle.std.proofs.Common.{Bool, List, None, Option, Some, arith, cond, false, if◌then◌else◌, inl, inr, not, refl, subst, sym, true, ℕ, ◌&&◌, ◌*◌, ◌+◌, ◌-◌, ◌<◌, ◌==◌, ◌≡◌, ◌≤◌, ◌⊎◌}
 use Rattle.std.specs.Prelude.{bit_and, bit_or, nat_lt, slice_get}
 use Rattle.kc_machine_steps.specs.declared.aid.AidStep.TheVariants as aid
@@ -49,18 +50,18 @@ use Rattle.kc_machine_words.specs.declared.access.Found.TheVariants as found
 use Rattle.kc_machine_commits.specs.declared.commit.OwnStep.TheVariants as own
 
 abbrev pub top : ℕ → ℕ
-top n = price (197 * n + 7) (64 * n + 192) n + 800
+top n = price ((3 * MOST + 5) * n + 7) (MOST * n + 3 * MOST) n + 14 * MOST
 
 -- ---- what there may be to pay at most
 
-line_most : (w : World) (x : Cover) (f d : ℕ) → total (line_left w x f d) 64 ≤ 64
-line_most w x f d = let a = total_most (line_left w x f d) 1 64 (λ t. cond_most (in_line w d t && is_left w x f (w.word (place_of w d t)))) in omega (arith, a)
+line_most : (w : World) (x : Cover) (f d : ℕ) → total (line_left w x f d) MOST ≤ MOST
+line_most w x f d = let a = total_most (line_left w x f d) 1 MOST (λ t. cond_most (in_line w d t && is_left w x f (w.word (place_of w d t)))) in omega (arith, a)
 
-pub life_most : (w : World) (x : Cover) (f : ℕ) (h : Hold) → life_left w x f h ≤ 64
+pub life_most : (w : World) (x : Cover) (f : ℕ) (h : Hold) → life_left w x f h ≤ MOST
 life_most w x f NoHold = omega arith
 life_most w x f (Proper d g) = go (is_live w (Proper d g))
   where
-    go : (b : Bool) → cond b (total (line_left w x f d) 64) 0 ≤ 64
+    go : (b : Bool) → cond b (total (line_left w x f d) MOST) 0 ≤ MOST
     go true = line_most w x f d
     go false = omega arith
 life_most w x f (Stray d g) = omega arith
@@ -75,12 +76,12 @@ own_most w x f k t = go (in_line w f t)
     go true = weight_most _ _ _
     go false = omega arith
 
-pub paid_most : (n : ℕ) (at : ℕ → Hold) (f : ℕ) (w : World) (x : Cover) (k : ℕ) → paid n at f w x k + 800 ≤ top n
+pub paid_most : (n : ℕ) (at : ℕ → Hold) (f : ℕ) (w : World) (x : Cover) (k : ℕ) → paid n at f w x k + 14 * MOST ≤ top n
 paid_most n at f w x k =
-    let a = total_most (λ j. life_left w x f (at j)) 64 n (λ j. life_most w x f (at j)) in
-    let b = total_most (own_line_left w x f k) 3 64 (λ t. own_most w x f k t) in
+    let a = total_most (λ j. life_left w x f (at j)) MOST n (λ j. life_most w x f (at j)) in
+    let b = total_most (own_line_left w x f k) 3 MOST (λ t. own_most w x f k t) in
     let c = total_most (λ j. cond (is_live w (at j)) 1 0) 1 n (λ j. cond_most (is_live w (at j))) in
-    let p = price_le (each n at f) (rounds n at w x f k) (64 * n + 192) (lives n at w) n (omega (arith, a, b)) (omega (arith, c)) in
+    let p = price_le (each n at f) (rounds n at w x f k) (MOST * n + 3 * MOST) (lives n at w) n (omega (arith, a, b)) (omega (arith, c)) in
     omega (arith, p)
 
 -- ---- ranks
@@ -93,7 +94,7 @@ Builds w c h _ = Unit {0}
 
 module _ (n : ℕ) (at : ℕ → Hold) where
   abbrev pub InstallRank : World → ℕ → Bool → ℕ → ℕ → Type 0
-  InstallRank w f true k old = 600 ≤ old
+  InstallRank w f true k old = 10 * MOST ≤ old
   InstallRank w f false k old = paid n at f w nothing k ≤ old
 
   abbrev pub PassRank : World → ℕ → Bool → PassStep → ℕ → Type 0
@@ -263,8 +264,8 @@ module _ (n : ℕ) (at : ℕ → Hold) where
         go (Some k) = inl (install_start v c.halted k old p, refl)
 
     module _ (ground : Ground n at h.descriptor w) (fresh : (l g d i : ℕ) → w.word l ≡ Ref g d i → (w.control d).generation ≡ g) (bounded : IsBounded c.copy) where
-      halted_installs : (v : World) (k old : ℕ) (x : PassNext) → c.halted ≡ true → InstallEnds w v h xs k x → 600 ≤ old → OwnRankGoes v f c.halted c.copy old (385 + (64 - k) + 130) (after_own_pass c.intent x)
-      halted_installs v k old x z (goes q e b) p = subst (λ y. OwnRankGoes v f c.halted c.copy old (385 + (64 - k) + 130) (after_own_pass c.intent y)) (sym e) (inl (subst (λ t. PassRank v f t q old) (sym z) (by q), refl))
+      halted_installs : (v : World) (k old : ℕ) (x : PassNext) → c.halted ≡ true → InstallEnds w v h xs k x → 10 * MOST ≤ old → OwnRankGoes v f c.halted c.copy old (6 * MOST + 1 + (MOST - k) + (MOST + 66)) (after_own_pass c.intent x)
+      halted_installs v k old x z (goes q e b) p = subst (λ y. OwnRankGoes v f c.halted c.copy old (6 * MOST + 1 + (MOST - k) + (MOST + 66)) (after_own_pass c.intent y)) (sym e) (inl (subst (λ t. PassRank v f t q old) (sym z) (by q), refl))
         where
           by : (q : PassStep) → PassRank v f true q old
           by (Install j) = p
@@ -275,11 +276,11 @@ module _ (n : ℕ) (at : ℕ → Hold) where
           by (CheckDrop j r stray y) = tt
           by (Decide y) = tt
           by (Release j y) = tt
-      halted_installs v k old x z (meets q l e u s g r) p = subst (λ y. OwnRankGoes v f c.halted c.copy old (385 + (64 - k) + 130) (after_own_pass c.intent y)) (sym e)
-          (inr (old - 600, subst (λ t. AidRank v f t k q aid.Hold (old - 600)) (sym z) tt, (let b = hold_most v q c.copy in omega (arith, b, p))))
+      halted_installs v k old x z (meets q l e u s g r) p = subst (λ y. OwnRankGoes v f c.halted c.copy old (6 * MOST + 1 + (MOST - k) + (MOST + 66)) (after_own_pass c.intent y)) (sym e)
+          (inr (old - 10 * MOST, subst (λ t. AidRank v f t k q aid.Hold (old - 10 * MOST)) (sym z) tt, (let b = hold_most v q c.copy in omega (arith, b, p))))
 
-      open_installs : (v : World) (k old : ℕ) (x : PassNext) → c.halted ≡ false → OwnEnds n at w v h xs k x → IsInstalledAt c.intent.mode xs k → Target w h c.intent.mode xs → paid n at f w nothing k ≤ old → OwnRankGoes v f c.halted c.copy old (385 + (64 - k) + 130) (after_own_pass c.intent x)
-      open_installs v k old x z (passes q e b) y t p = subst (λ y. OwnRankGoes v f c.halted c.copy old (385 + (64 - k) + 130) (after_own_pass c.intent y)) (sym e) (inl (subst (λ t. PassRank v f t q old) (sym z) (by q b), refl))
+      open_installs : (v : World) (k old : ℕ) (x : PassNext) → c.halted ≡ false → OwnEnds n at w v h xs k x → IsInstalledAt c.intent.mode xs k → Target w h c.intent.mode xs → paid n at f w nothing k ≤ old → OwnRankGoes v f c.halted c.copy old (6 * MOST + 1 + (MOST - k) + (MOST + 66)) (after_own_pass c.intent x)
+      open_installs v k old x z (passes q e b) y t p = subst (λ y. OwnRankGoes v f c.halted c.copy old (6 * MOST + 1 + (MOST - k) + (MOST + 66)) (after_own_pass c.intent y)) (sym e) (inl (subst (λ t. PassRank v f t q old) (sym z) (by q b), refl))
         where
           by : (q : PassStep) → OwnPaid n at v f (paid n at f w nothing k) q → PassRank v f false q old
           by (Install j) b = omega (arith, b, p)
@@ -292,8 +293,8 @@ module _ (n : ℕ) (at : ℕ → Hold) where
           by (Release j y) b = tt
       open_installs v k old x z (stops q l e u s g) y t p =
           let r = own_meets n at w h ground c.intent.mode xs t k y w.control q l c.copy old some s g p in
-          subst (λ y. OwnRankGoes v f c.halted c.copy old (385 + (64 - k) + 130) (after_own_pass c.intent y)) (sym e)
-          (subst (λ b. OwnRankGoes b f c.halted c.copy old (385 + (64 - k) + 130) (own.Aid k q aid.Hold)) (sym u)
+          subst (λ y. OwnRankGoes v f c.halted c.copy old (6 * MOST + 1 + (MOST - k) + (MOST + 66)) (after_own_pass c.intent y)) (sym e)
+          (subst (λ b. OwnRankGoes b f c.halted c.copy old (6 * MOST + 1 + (MOST - k) + (MOST + 66)) (own.Aid k q aid.Hold)) (sym u)
           (inr (r.0, subst (λ t. AidRank w f t k q aid.Hold r.0) (sym z) r.1, (let b = r.2 in omega (arith, b)))))
 
       installs : (k old : ℕ) → IsInstalledAt c.intent.mode xs k → Target w h c.intent.mode xs → InstallRank w f c.halted k old → Ranks (own.Pass (Install k)) old
@@ -338,15 +339,15 @@ module _ (n : ℕ) (at : ℕ → Hold) where
           stance true e rank = tt
           stance false e rank = stance_step n at f 0 w ground k r c.copy s old (subst (λ t. AidFits t c.copy s) e y) b.0 b.1 rank
 
-          back : (h : Bool) (o : Option Reference) → AidGoes v r a left (aiding.Back o) → Comes v k r old h (aiding.Back o) → OwnRankGoes v f h a old (515 + (64 - k) + left) (onward_or_back h k o)
+          back : (h : Bool) (o : Option Reference) → AidGoes v r a left (aiding.Back o) → Comes v k r old h (aiding.Back o) → OwnRankGoes v f h a old (7 * MOST + 67 + (MOST - k) + left) (onward_or_back h k o)
           back true o g z = inl (tt, refl)
           back false None g z = inl (z, refl)
           back false (Some q) g z = inr (z.0, z.1, (let u = z.2 in omega (arith, g, u)))
 
-          go : (h : Bool) → c.halted ≡ h → AidGoes v r a left x → Comes v k r old h x → OwnRankGoes v f c.halted a old (515 + (64 - k) + left) (aid_or_back c.halted k r x)
-          go h e g z = subst (λ t. OwnRankGoes v f t a old (515 + (64 - k) + left) (aid_or_back t k r x)) (sym e) (at_next h x g z)
+          go : (h : Bool) → c.halted ≡ h → AidGoes v r a left x → Comes v k r old h x → OwnRankGoes v f c.halted a old (7 * MOST + 67 + (MOST - k) + left) (aid_or_back c.halted k r x)
+          go h e g z = subst (λ t. OwnRankGoes v f t a old (7 * MOST + 67 + (MOST - k) + left) (aid_or_back t k r x)) (sym e) (at_next h x g z)
             where
-              at_next : (h : Bool) (x : AidNext) → AidGoes v r a left x → Comes v k r old h x → OwnRankGoes v f h a old (515 + (64 - k) + left) (aid_or_back h k r x)
+              at_next : (h : Bool) (x : AidNext) → AidGoes v r a left x → Comes v k r old h x → OwnRankGoes v f h a old (7 * MOST + 67 + (MOST - k) + left) (aid_or_back h k r x)
               at_next true (aiding.Goes t) g z = inr (old, tt, omega (arith, g))
               at_next false (aiding.Goes t) g z = inr (old, z, omega (arith, g))
               at_next h (aiding.Back o) g z = back h o g z
@@ -354,12 +355,12 @@ module _ (n : ℕ) (at : ℕ → Hold) where
       wakes : (k owed old : ℕ) → Ranks (own.Wake k owed) old
       wakes k owed old = by (slice_get xs k)
         where
-          by : (o : Option Line) → OwnRankGoes (touched w (wake_access o)) f c.halted c.copy old (66 + (64 - k)) (wake_next c.intent k owed (found_at w (wake_access o)))
+          by : (o : Option Line) → OwnRankGoes (touched w (wake_access o)) f c.halted c.copy old (66 + (MOST - k)) (wake_next c.intent k owed (found_at w (wake_access o)))
           by None = inl (tt, refl)
           by (Some x) = go (next_line Put c.intent.mode xs (after_line k))
             where
-              go : (o : Option ℕ) → OwnRankGoes (touched w (wake_access (Some x))) f c.halted c.copy old (66 + (64 - k)) (wake_or_signal (bit_or owed (w.awaiters x.seen.loc.0)) o)
-              go None = plain (touched w (wake_access (Some x))) f c.halted c.copy old (66 + (64 - k)) (owed_next (bit_or owed (w.awaiters x.seen.loc.0))) (owed_plain (bit_or owed (w.awaiters x.seen.loc.0)))
+              go : (o : Option ℕ) → OwnRankGoes (touched w (wake_access (Some x))) f c.halted c.copy old (66 + (MOST - k)) (wake_or_signal (bit_or owed (w.awaiters x.seen.loc.0)) o)
+              go None = plain (touched w (wake_access (Some x))) f c.halted c.copy old (66 + (MOST - k)) (owed_next (bit_or owed (w.awaiters x.seen.loc.0))) (owed_plain (bit_or owed (w.awaiters x.seen.loc.0)))
               go (Some j) = inl (tt, refl)
 
       -- the two steps that tell leave nothing to say
@@ -369,10 +370,10 @@ module _ (n : ℕ) (at : ℕ → Hold) where
       OwnRanks x old = Ranks x old
 
       pub own_ranks : (x : OwnStep) (old : ℕ) → OwnFits c.halted c.intent c.copy x → Builds w c h x → OwnRank w f c.halted x old → OwnRanks x old
-      own_ranks own.FillOwner old y b r = fills (touched w (acc own.FillOwner)) c.copy 0 old 709 r
+      own_ranks own.FillOwner old y b r = fills (touched w (acc own.FillOwner)) c.copy 0 old (10 * MOST + 69) r
       own_ranks (own.FillFirst k) old y b r = inl (r, refl)
-      own_ranks (own.FillSecond k) old y b r = fills (touched w (acc (own.FillSecond k))) c.copy (after_line k) old (579 + 2 * (64 - k)) r
-      own_ranks own.Start old y b r = starts (touched w (acc own.Start)) old 580 r
+      own_ranks (own.FillSecond k) old y b r = fills (touched w (acc (own.FillSecond k))) c.copy (after_line k) old (8 * MOST + 67 + 2 * (MOST - k)) r
+      own_ranks own.Start old y b r = starts (touched w (acc own.Start)) old (8 * MOST + 68) r
       own_ranks own.Abandon old y b r = tt
       own_ranks (own.Pass p) old y b r = own_passes p old y b r
       own_ranks (own.Aid k q s) old y b r = aids_on k old q s y.1 b r

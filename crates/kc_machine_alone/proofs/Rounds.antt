@@ -2,7 +2,7 @@
 use Rattle.kc_machine.specs.Machine.{World}
 use Rattle.kc_machine.specs.Words.{status_is}
 use Rattle.kc_machine_alone.proofs.Left.{is_active}
-use Rattle.kc_machine_alone.proofs.Tallies.{cond_le, every, total_le}
+use Rattle.kc_machine_alone.proofs.Tallies.{cond_le, every, total_le, sum_le}
 use Rattle.kc_machine_effects.proofs.Tests.{both, status_active}
 use Rattle.kc_machine_effects.specs.Holds.{Hold, NoHold, Proper, Stray, total}
 use Rattle.kc_machine_pool.specs.Started.{line_of_words}
@@ -11,6 +11,7 @@ use Rattle.kc_machine_steps.specs.Passes.{status}
 use Rattle.kc_machine_words.specs.declared.words.Phase.TheVariants.{Active}
 use Rattle.kc_model.specs.declared.word.Word.{Word}
 use Rattle.kc_model.specs.declared.word.Word.TheVariants.{Plain, Ref}
+use Rattle.kc_model.specs.declared.footprint.TheConstants.{MOST}
 use Rattle.std.proofs.Common.{Bool, ap, arith, cond, false, not, refl, sym, true, ℕ, ◌&&◌, ◌+◌, ◌==◌, ◌∙◌, ◌≡◌, ◌≤◌}
 use Rattle.std.specs.Prelude.{nat_lt, ◌||◌}
 use borrow.Author.Tests.{eq-eqb}
@@ -54,7 +55,7 @@ line_left w x f d t = cond (in_line w d t && is_left w x f (w.word (place_of w d
 
 abbrev pub life_left : World → Cover → ℕ → Hold → ℕ
 life_left w x f NoHold = 0
-life_left w x f (Proper d g) = cond (is_live w (Proper d g)) (total (line_left w x f d) 64) 0
+life_left w x f (Proper d g) = cond (is_live w (Proper d g)) (total (line_left w x f d) MOST) 0
 life_left w x f (Stray d g) = 0
 
 -- its reference stands, or may come to stand
@@ -69,7 +70,7 @@ own_line_left w x f k t = cond (in_line w f t) (weight (not (nat_lt t k)) (is_le
 
 -- n seats, and what they own
 abbrev pub rounds : ℕ → (ℕ → Hold) → World → Cover → ℕ → ℕ → ℕ
-rounds n at w x f k = total (λ j. life_left w x f (at j)) n + total (own_line_left w x f k) 64
+rounds n at w x f k = total (λ j. life_left w x f (at j)) n + total (own_line_left w x f k) MOST
 
 abbrev pub lives : ℕ → (ℕ → Hold) → World → ℕ
 lives n at w = total (λ j. cond (is_live w (at j)) 1 0) n
@@ -81,7 +82,7 @@ stands_to w l d t = not (in_line w d t && not (nat_lt l (place_of w d t))) || re
 
 abbrev pub is_above : World → ℕ → Hold → Bool
 is_above w l NoHold = false
-is_above w l (Proper d g) = is_live w (Proper d g) && every (stands_to w l d) 64
+is_above w l (Proper d g) = is_live w (Proper d g) && every (stands_to w l d) MOST
 is_above w l (Stray d g) = false
 
 abbrev pub chain : ℕ → (ℕ → Hold) → World → ℕ → ℕ
@@ -126,8 +127,8 @@ module _ (w v : World) (x y : Cover) (f : ℕ) (owner : v.owner ≡ w.owner) (fi
   life_by NoHold = omega arith
   life_by (Proper d g) = go (is_live v (Proper d g)) (is_live w (Proper d g)) (live_still w v (Proper d g) live)
     where
-      go : (a b : Bool) → (a ≡ true → b ≡ true) → cond a (total (line_left v y f d) 64) 0 ≤ cond b (total (line_left w x f d) 64) 0
-      go true true h = total_le (line_left v y f d) (line_left w x f d) 64 (λ t l. lines_by d t)
+      go : (a b : Bool) → (a ≡ true → b ≡ true) → cond a (total (line_left v y f d) MOST) 0 ≤ cond b (total (line_left w x f d) MOST) 0
+      go true true h = total_le (line_left v y f d) (line_left w x f d) MOST (λ t l. lines_by d t)
       go true false h = let q = h refl in absurd (cc)
       go false b h = omega arith
   life_by (Stray d g) = omega arith
@@ -163,8 +164,8 @@ module _ (w v : World) (x y : Cover) (f : ℕ) (c : Calm w v x y f) where
   pub rounds_le : (n : ℕ) (at : ℕ → Hold) (k : ℕ) → rounds n at v y f k ≤ rounds n at w x f k
   rounds_le n at k =
       let a = total_le (λ j. life_left v y f (at j)) (λ j. life_left w x f (at j)) n (λ j l. life_le (at j)) in
-      let b = total_le (own_line_left v y f k) (own_line_left w x f k) 64 (λ t l. own_le k t) in
-      omega arith
+      let b = total_le (own_line_left v y f k) (own_line_left w x f k) MOST (λ t l. own_le k t) in
+      sum_le _ _ _ _ a b
 
   pub lives_le : (n : ℕ) (at : ℕ → Hold) → lives n at v ≤ lives n at w
   lives_le n at = total_le (λ j. cond (is_live v (at j)) 1 0) (λ j. cond (is_live w (at j)) 1 0) n (λ j l. cond_le _ _ (live_still w v (at j) c.live))

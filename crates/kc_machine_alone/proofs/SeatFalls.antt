@@ -51,6 +51,7 @@ use Rattle.kc_model.specs.declared.footprint.Loc.{Loc}
 use Rattle.kc_model.specs.declared.footprint.Seen.{Seen}
 use Rattle.kc_model.specs.declared.word.Word.{Word}
 use Rattle.kc_model.specs.declared.word.Word.TheVariants.{Plain, Ref}
+use Rattle.kc_model.specs.declared.footprint.TheConstants.{MOST}
 use Rattle.std.proofs.Common.{Bool, List, None, Option, Some, ap, arith, bit_and, false, if◌then◌else◌, inl, inr, length, refl, subst, sym, true, ℕ, ◌&&◌, ◌*◌, ◌+◌, ◌-◌, ◌<◌, ◌==◌, ◌≡◌, ◌≢◌, ◌≤◌, ◌⊎◌}
 use Rattle.std.proofs.Math.Nat.{pow-le-pow_right}
 use Rattle.std.proofs.lemmas.Option.{slice_get_within}
@@ -145,7 +146,7 @@ NextGoes n e w a old (next.Takes x) = (stage_begins x ≡ true) ⊎ StageGoes n 
 NextGoes n e w a old (next.Tells t) = Unit {0}
 
 module _ (n e : ℕ) (w : World) (there : e < n) (free : IsFree w e) where
-  scans : (a : Aided) (d worn : ℕ) → d < n → NextGoes n e w a (711 + round n e d) (scan_next n d worn (found.Control (w.control d)))
+  scans : (a : Aided) (d worn : ℕ) → d < n → NextGoes n e w a (10 * MOST + 71 + round n e d) (scan_next n d worn (found.Control (w.control d)))
   scans a d worn l = go (nat_lt (w.control d).generation 1099511627775) ((w.control d).holds == 0) (nat_lt worn (n - 1)) refl refl
     where
       other : (nat_lt (w.control d).generation 1099511627775 ≡ false) ⊎ (((w.control d).holds == 0) ≡ false) → d ≢ e
@@ -156,26 +157,26 @@ module _ (n e : ℕ) (w : World) (there : e < n) (free : IsFree w e) where
       fits x y p q = rw (eq-eqb (w.control d).generation (w.control d).generation refl, q, p) refl
 
       go : (x y t : Bool) → nat_lt (w.control d).generation 1099511627775 ≡ x → ((w.control d).holds == 0) ≡ y
-          → NextGoes n e w a (711 + round n e d) (if x then (if y then next.Goes (Take d (w.control d).generation) else next.Goes (Scan (after_scan n d) 0)) else (if t then next.Goes (Scan (after_scan n d) (worn + 1)) else next.Tells told.Worn))
+          → NextGoes n e w a (10 * MOST + 71 + round n e d) (if x then (if y then next.Goes (Take d (w.control d).generation) else next.Goes (Scan (after_scan n d) 0)) else (if t then next.Goes (Scan (after_scan n d) (worn + 1)) else next.Tells told.Worn))
       go true true t p q = inr (rw (fits true true p q) (omega arith), λ u. free)
       go true false t p q = let b = next_round n e d l there (other (inr q)) in inr (omega arith, λ u. free)
       go false y true p q = let b = next_round n e d l there (other (inl p)) in inr (omega arith, λ u. free)
       go false y false p q = tt
 
-  takes_on : (a : Aided) (d g : ℕ) → d < n → NextGoes n e (touched w (access.Control d (grip.Take g))) a (if takes w d g then 710 else 711 + n) (take_next n d g (found.Control (w.control d)))
+  takes_on : (a : Aided) (d g : ℕ) → d < n → NextGoes n e (touched w (access.Control d (grip.Take g))) a (if takes w d g then 10 * MOST + 70 else 10 * MOST + 71 + n) (take_next n d g (found.Control (w.control d)))
   takes_on a d g l = go (takes w d g)
     where
       taken_if : Bool → World
       taken_if b = record w { control = put_some w.control d (if b then Some (control (g + 1) 1) else None) }
 
-      go : (b : Bool) → NextGoes n e (taken_if b) a (if b then 710 else 711 + n) (if b then next.Takes (Own (record { descriptor = d; generation = g + 1 }) own.FillOwner) else next.Goes (Scan (after_scan n d) 0))
+      go : (b : Bool) → NextGoes n e (taken_if b) a (if b then 10 * MOST + 70 else 10 * MOST + 71 + n) (if b then next.Takes (Own (record { descriptor = d; generation = g + 1 }) own.FillOwner) else next.Goes (Scan (after_scan n d) 0))
       go true = inr (omega arith, λ u. absurd (cc))
       go false = let b = after_below n e d l there in inr (omega arith, λ u. free)
 
 -- ---- a commit
 
 module _ (n e : ℕ) (w : World) (there : e < n) where
-  module _ (fresh : (l g d i : ℕ) → w.word l ≡ Ref g d i → (w.control d).generation ≡ g) (caller calls : ℕ) (c : Commit) (most : length c.intent.lines.items ≤ 64) (bounded : IsBounded c.copy) where
+  module _ (fresh : (l g d i : ℕ) → w.word l ≡ Ref g d i → (w.control d).generation ≡ g) (caller calls : ℕ) (c : Commit) (most : length c.intent.lines.items ≤ MOST) (bounded : IsBounded c.copy) where
     abbrev acc : Stage → Access
     acc x = stage_access caller calls c x
 
@@ -259,25 +260,25 @@ module _ (w : World) (fresh : (l g d i : ℕ) → w.word l ≡ Ref g d i → (w.
   HangGoes v old (hanging.Goes step) = hang_left v step < old
   HangGoes v old (hanging.Tells t) = Unit {0}
 
-  module _ (caller : ℕ) (reads : List Seen) (few : length reads ≤ 64) where
+  module _ (caller : ℕ) (reads : List Seen) (few : length reads ≤ MOST) where
     abbrev HangFalls : HangStep → Type 0
     HangFalls step = HangGoes (touched w (hang_access_of caller step (slice_get reads (read_of step)))) (hang_left w step) (hang_next reads step (found_at w (hang_access_of caller step (slice_get reads (read_of step)))))
 
-    sets : (v : World) (k : ℕ) → k < 64 → HangGoes v (637 + (64 - k)) (hanging.Goes (after_set reads k))
+    sets : (v : World) (k : ℕ) → k < MOST → HangGoes v (10 * MOST - 3 + (MOST - k)) (hanging.Goes (after_set reads k))
     sets v k l = go (slice_get reads (after_line k))
       where
-        go : (o : Option Seen) → hang_left v (set_or_look (after_line k) o) < 637 + (64 - k)
+        go : (o : Option Seen) → hang_left v (set_or_look (after_line k) o) < 10 * MOST - 3 + (MOST - k)
         go None = omega arith
         go (Some s) = let d = one_after k l in omega (arith, d)
 
-    clears : (v : World) (k changed : ℕ) → k < 64 → HangGoes v (64 - k) (after_clear reads k changed)
+    clears : (v : World) (k changed : ℕ) → k < MOST → HangGoes v (MOST - k) (after_clear reads k changed)
     clears v k changed l = go (slice_get reads (after_line k))
       where
-        go : (o : Option Seen) → HangGoes v (64 - k) (clear_or_changed changed (after_line k) o)
+        go : (o : Option Seen) → HangGoes v (MOST - k) (clear_or_changed changed (after_line k) o)
         go None = tt
         go (Some s) = let d = one_after k l in omega (arith, d)
 
-    sees : (v : World) (k x y old : ℕ) → k < 64 → 64 + 9 * (63 - k) < old → HangGoes v old (looked reads k x y)
+    sees : (v : World) (k x y old : ℕ) → k < MOST → MOST + 9 * (MOST - 1 - k) < old → HangGoes v old (looked reads k x y)
     sees v k x y old l m = go (y == x)
       where
         on : (o : Option Seen) → slice_get reads (after_line k) ≡ o → HangGoes v old (look_or_end (after_line k) o)
@@ -294,16 +295,16 @@ module _ (w : World) (fresh : (l g d i : ℕ) → w.word l ≡ Ref g d i → (w.
         s : Seen
         s = (is_there reads k l).0
 
-        by : (o : Option Seen) → o ≡ Some s → HangGoes (touched w (hang_access_of caller (hang.Look k step) o)) (64 + 9 * (63 - k) + look_left w step) (look_of reads k step (found_at w (hang_access_of caller (hang.Look k step) o)) o)
+        by : (o : Option Seen) → o ≡ Some s → HangGoes (touched w (hang_access_of caller (hang.Look k step) o)) (MOST + 9 * (MOST - 1 - k) + look_left w step) (look_of reads k step (found_at w (hang_access_of caller (hang.Look k step) o)) o)
         by None e = absurd (cc)
         by (Some x) e = go (look_next x.loc step (found_at w (look_access x.loc step))) (look_falls x.loc step)
           where
             v : World
             v = touched w (look_access x.loc step)
 
-            go : (n : LookNext) → LookGoes v (look_left w step) n → HangGoes v (64 + 9 * (63 - k) + look_left w step) (look_goes_on reads k x.version n)
+            go : (n : LookNext) → LookGoes v (look_left w step) n → HangGoes v (MOST + 9 * (MOST - 1 - k) + look_left w step) (look_goes_on reads k x.version n)
             go (looking.Goes q) y = omega (arith, y)
-            go (looking.Saw seen) y = sees v k x.version seen.version (64 + 9 * (63 - k) + look_left w step) (omega (arith, l, few)) (omega (arith, y))
+            go (looking.Saw seen) y = sees v k x.version seen.version (MOST + 9 * (MOST - 1 - k) + look_left w step) (omega (arith, l, few)) (omega (arith, y))
 
     pub hang_falls : (step : HangStep) → read_of step < length reads → HangFalls step
     hang_falls (hang.Set k) l = sets (touched w (hang_access_of caller (hang.Set k) (slice_get reads k))) k (omega (arith, l, few))
@@ -391,7 +392,7 @@ module _ (o : Opening) (m : State) (k : ℕ) (knows : Knows o m k) (e : ℕ) (th
       go false (looking.Goes q) y = falls y (λ u. absurd (cc)) refl
       go false (looking.Saw seen) y = tells refl
 
-  hang_comes : (h : Hang) → length h.reads.items ≤ 64 → read_of h.step < length h.reads.items → Comes (work.Hang h)
+  hang_comes : (h : Hang) → length h.reads.items ≤ MOST → read_of h.step < length h.reads.items → Comes (work.Hang h)
   hang_comes h few l = go (hang_next h.reads.items h.step (found_at w (hang_access s.caller h))) (hang_falls w knows.fresh s.caller h.reads.items few h.step l)
     where
       v : World
@@ -401,13 +402,13 @@ module _ (o : Opening) (m : State) (k : ℕ) (knows : Knows o m k) (e : ℕ) (th
       go (hanging.Goes q) y = falls y (λ u. absurd (cc)) refl
       go (hanging.Tells t) y = tells refl
 
-  leave_comes : (l : Leave) → length l.reads.items ≤ 64 → LeaveIsFormed s.blocked l.reads.items l.step → Comes (work.Leave l)
+  leave_comes : (l : Leave) → length l.reads.items ≤ MOST → LeaveIsFormed s.blocked l.reads.items l.step → Comes (work.Leave l)
   leave_comes l few f = go (slice_get l.reads.items (next_read l.step)) refl
     where
       v : World
       v = touched w (leave_access s.caller l)
 
-      less : (step : LeaveStep) → LeaveIsFormed s.blocked l.reads.items step → (x : Seen) → slice_get l.reads.items (next_read step) ≡ Some x → 64 - next_read step < free_left step
+      less : (step : LeaveStep) → LeaveIsFormed s.blocked l.reads.items step → (x : Seen) → slice_get l.reads.items (next_read step) ≡ Some x → MOST - next_read step < free_left step
       less leave.Unsignal f x q = omega arith
       less (leave.Clear j) f x q = let a = f.1 in let d = one_after j (omega (arith, a, few)) in omega (arith, a, few, d)
 

@@ -20,6 +20,7 @@ use Rattle.kc_machine_steps.specs.declared.pass.PassStep.TheVariants.{Check, Che
 use Rattle.kc_machine_words.specs.declared.words.Phase.{Phase}
 use Rattle.kc_machine_words.specs.declared.words.Reference.{Reference}
 use Rattle.kc_model.specs.declared.word.Word.TheVariants.{Plain}
+use Rattle.kc_model.specs.declared.footprint.TheConstants.{MOST}
 use Rattle.std.proofs.Common.{Bool, None, Option, Some, arith, false, refl, subst, suc, sym, true, ℕ, ◌==◌, ◌<◌, ◌∙◌, ◌≡◌, ◌≤◌}
 use Rattle.std.specs.Prelude.{slice_get}
 use borrow.Author.Tests.{eq-eqb, eqb-true}
@@ -38,7 +39,7 @@ goes_in (Decide p) b e = absurd (cc)
 abbrev pub IsShut : World → ℕ → ℕ → Type 0
 IsShut w e t = refers_line e t (w.word (place_of w e t)) ≡ false
 
-module _ (n : ℕ) (at : ℕ → Hold) (f : ℕ) (w : World) (ground : Ground n at f w) (e t : ℕ) (line : in_line w e t ≡ true) (low : t < 64) (shut : IsShut w e t) where
+module _ (n : ℕ) (at : ℕ → Hold) (f : ℕ) (w : World) (ground : Ground n at f w) (e t : ℕ) (line : in_line w e t ≡ true) (low : t < MOST) (shut : IsShut w e t) where
   abbrev place : ℕ
   place = place_of w e t
 
@@ -49,7 +50,7 @@ module _ (n : ℕ) (at : ℕ → Hold) (f : ℕ) (w : World) (ground : Ground n 
       by : (u : Bool) → (r.handle.descriptor == e) ≡ u → u ≡ false
       by false q = refl
       by true q =
-          let all = subst (λ d. every (stands_to w l d) 64 ≡ true) (eqb-true r.handle.descriptor e q) (all_stand n at f w ground l r s live) in
+          let all = subst (λ d. every (stands_to w l d) MOST ≡ true) (eqb-true r.handle.descriptor e q) (all_stand n at f w ground l r s live) in
           let z = met_behind w l place e t all low line refl shut in
           absurd (omega (arith, z, b))
 

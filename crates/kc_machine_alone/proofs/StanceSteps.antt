@@ -34,6 +34,7 @@ use Rattle.kc_machine_words.specs.declared.words.Reference.{Reference}
 use Rattle.kc_machine_words.specs.declared.words.Status.{Status}
 use Rattle.kc_model.specs.declared.word.Word.{Word}
 use Rattle.kc_model.specs.declared.word.Word.TheVariants.{Plain, Ref}
+use Rattle.kc_model.specs.declared.footprint.TheConstants.{MOST}
 use Rattle.std.proofs.Common.{Bool, None, Option, Some, [], ap, arith, false, if◌then◌else◌, inl, inr, length, refl, subst, suc, sym, true, ℕ, ◌&&◌, ◌*◌, ◌+◌, ◌-◌, ◌<◌, ◌==◌, ◌∙◌, ◌≡◌, ◌≤◌, ◌⊎◌}
 use Rattle.std.proofs.lemmas.Option.{slice_get_within}
 use Rattle.std.specs.Prelude.{nat_lt, slice_get}
@@ -50,10 +51,10 @@ phase_is_active (Failed j) e = absurd (cc)
 phase_is_active (Crossed j) e = absurd (cc)
 phase_is_active Halted e = absurd (cc)
 
-pub hold_most : (w : World) (r : Reference) (a : Aided) → aid_left w r a aid.Hold ≤ 581
+pub hold_most : (w : World) (r : Reference) (a : Aided) → aid_left w r a aid.Hold ≤ 9 * MOST + 5
 hold_most w r a = go (is_active (w.status r.handle.descriptor).phase)
   where
-    go : (b : Bool) → (if b then 581 else 6) ≤ 581
+    go : (b : Bool) → (if b then 9 * MOST + 5 else 6) ≤ 9 * MOST + 5
     go true = omega arith
     go false = omega arith
 
@@ -61,7 +62,7 @@ drop_spare : (o : Option Reference) → spare (aid.Drop false o) ≡ spare (aid.
 drop_spare None = refl
 drop_spare (Some q) = refl
 
-leave_spare : (o : Option Reference) → 600 ≤ spare (aid.Leave o)
+leave_spare : (o : Option Reference) → 10 * MOST ≤ spare (aid.Leave o)
 leave_spare None = omega arith
 leave_spare (Some q) = omega arith
 
@@ -95,7 +96,7 @@ module _ (n : ℕ) (at : ℕ → Hold) (f least : ℕ) (w : World) (ground : Gro
 
   -- ---- what is of no use
 
-  pub linked_at : (j : ℕ) (q : Reference) (x : Line) (old : ℕ) → Course → slice_get a.lines.items j ≡ Some x → j < 64 → is_installed a.owner.mode x ≡ true → Stands n at f w x.seen.loc.0 q
+  pub linked_at : (j : ℕ) (q : Reference) (x : Line) (old : ℕ) → Course → slice_get a.lines.items j ≡ Some x → j < MOST → is_installed a.owner.mode x ≡ true → Stands n at f w x.seen.loc.0 q
       → IsLive n at f w r → is_active (w.status q.handle.descriptor).phase ≡ false → Frees n at f w k x.seen.loc.0
   linked_at j q x old t e low y s live dead u b = go (q.handle.descriptor == f) refl
     where
@@ -123,7 +124,7 @@ module _ (n : ℕ) (at : ℕ → Hold) (f least : ℕ) (w : World) (ground : Gro
           life_frees n at w f k x.seen.loc.0 u b o.0 c r.handle.generation j o.1 o.2 live low line (ap (λ (l : Line). l.seen.loc.0) (t.line j x e))
           (ap (is_left w nothing f) s ∙ is_left_of w nothing f q.handle.generation q.handle.descriptor q.line (record { decided = dead; foreign = m; open_to = refl }))
 
-  loose_installs : least ≡ 0 → (j old : ℕ) → IsInstalledAt a.owner.mode a.lines.items j → Course → All w (aid.Pass (Install j)) + 600 ≤ old → R (aid.Pass (Install j)) old
+  loose_installs : least ≡ 0 → (j old : ℕ) → IsInstalledAt a.owner.mode a.lines.items j → Course → All w (aid.Pass (Install j)) + 10 * MOST ≤ old → R (aid.Pass (Install j)) old
   loose_installs none j old y t m = go (installs_to w r.handle a.owner.mode a.lines.items j y) (paid_on (aid.Pass (Install j)) y (λ e. t))
     where
       v : World
@@ -153,7 +154,7 @@ module _ (n : ℕ) (at : ℕ → Hold) (f least : ℕ) (w : World) (ground : Gro
   goes_before p old (q, e, b) m then_so =
       subst (λ z. Stance n at f least (V (aid.Pass p)) k r (after_pass z) old) (sym e) (then_so q b (subst (λ z. NextPaid (V (aid.Pass p)) (aiding.Goes (after_pass z)) ≤ All w (aid.Pass p)) e m))
 
-  loose_passes : least ≡ 0 → (p : PassStep) (old : ℕ) → AidFits false a (aid.Pass p) → Course → All w (aid.Pass p) + 600 ≤ old → R (aid.Pass p) old
+  loose_passes : least ≡ 0 → (p : PassStep) (old : ℕ) → AidFits false a (aid.Pass p) → Course → All w (aid.Pass p) + 10 * MOST ≤ old → R (aid.Pass p) old
   loose_passes none (Install j) old y t m = loose_installs none j old y t m
   loose_passes none (Check j) old y t m = goes_before (Check j) old (checks_on w r.handle a.owner.mode a.lines.items j) (paid_on (aid.Pass (Check j)) y (λ e. t)) (λ q b p. loose none (omega (arith, m, p)))
   loose_passes none (CheckHold j q) old y t m = goes_before (CheckHold j q) old (holds_on w r.handle a.owner.mode a.lines.items j q) (paid_on (aid.Pass (CheckHold j q)) y (λ e. t)) (λ q b p. loose none (omega (arith, m, p)))
@@ -169,7 +170,7 @@ module _ (n : ℕ) (at : ℕ → Hold) (f least : ℕ) (w : World) (ground : Gro
       let z = release_spare a.owner.mode a.lines.items (after_line j) x in
       loose none (omega (arith, m, p, z))
 
-  loose_loads : least ≡ 0 → (s : AidStep) (b : Aided) (old : ℕ) → All w s + 600 ≤ old → All w (load_next b) ≤ All w s → Stance n at f least w k r (load_next b) old
+  loose_loads : least ≡ 0 → (s : AidStep) (b : Aided) (old : ℕ) → All w s + 10 * MOST ≤ old → All w (load_next b) ≤ All w s → Stance n at f least w k r (load_next b) old
   loose_loads none s b old m = go (nat_lt (length b.lines.items) b.owner.lines)
     where
       go : (t : Bool) → All w (if t then aid.LoadFirst else aid.Pass (from_install b.owner.mode b.lines.items 0)) ≤ All w s → Stance n at f least w k r (if t then aid.LoadFirst else aid.Pass (from_install b.owner.mode b.lines.items 0)) old
@@ -215,7 +216,7 @@ module _ (n : ℕ) (at : ℕ → Hold) (f least : ℕ) (w : World) (ground : Gro
   loose_step none (aid.Drop stray (Some q)) old y t m =
       let p = paid_on (aid.Drop stray (Some q)) y t in
       let h = hold_most (V (aid.Drop stray (Some q))) q a in
-      (old - 200, loose none (omega (arith, m, p)), omega (arith, m, p, h))
+      (old - 4 * MOST, loose none (omega (arith, m, p)), omega (arith, m, p, h))
 
   -- ---- its releases, and its way back
 
@@ -315,29 +316,29 @@ module _ (n : ℕ) (at : ℕ → Hold) (f least : ℕ) (w : World) (ground : Gro
       go Halted e z = out Halted e refl z x.pays
 
   pub links_step : (q : Reference) (old : ℕ) → Linked n at f least w k r (aid.Drop false (Some q)) q old → R (aid.Drop false (Some q)) old
-  links_step q old x = goes_to n at f w ground least (put_some w.control c (gripped grip.Subtract (w.control c))) k x.place q a (old + 385) x.behind x.stands (x.frees (x.live refl)) (on x.pays) (off x.pays)
+  links_step q old x = goes_to n at f w ground least (put_some w.control c (gripped grip.Subtract (w.control c))) k x.place q a (old + (6 * MOST + 1)) x.behind x.stands (x.frees (x.live refl)) (on x.pays) (off x.pays)
     where
-      mine : each n at f + 378 ≤ paid n at f w nothing k
+      mine : each n at f + (6 * MOST - 6) ≤ paid n at f w nothing k
       mine = lives_paid n at f w ground r nothing k (x.live refl)
 
       on : (paid n at f w nothing k ≤ old) ⊎ (IsLive n at f w r × Behind n at f w k x.place r (aid.Drop false (Some q)) old) → IsLive n at f w q
-          → (t : ℕ) × (paid n at f w nothing k + 197 * chain n at w x.place ≤ t + (each n at f + 575)) × (t + 581 < old + 385)
-      on (inl u) l = let b = chain_most n at w x.place in (old - 197, omega (arith, u, b, mine), omega (arith, u, mine))
+          → (t : ℕ) × (paid n at f w nothing k + (3 * MOST + 5) * chain n at w x.place ≤ t + (each n at f + (9 * MOST - 1))) × (t + (9 * MOST + 5) < old + (6 * MOST + 1))
+      on (inl u) l = let b = chain_most n at w x.place in (old - (3 * MOST + 5), omega (arith, u, b, mine), omega (arith, u, mine))
       on (inr u) l =
           let y = u.1 in
           let p = y.pays in
           let s = y.shorter in
           let b = chain_one n at f w ground x.place q x.stands l in
-          (old - 197, omega (arith, p, s, mine, b), omega (arith, p, s, mine, b))
+          (old - (3 * MOST + 5), omega (arith, p, s, mine, b), omega (arith, p, s, mine, b))
 
       off : (paid n at f w nothing k ≤ old) ⊎ (IsLive n at f w r × Behind n at f w k x.place r (aid.Drop false (Some q)) old) → is_active (w.status q.handle.descriptor).phase ≡ false
-          → (t : ℕ) × (paid n at f w nothing k ≤ t + each n at f) × (t + 6 < old + 385)
+          → (t : ℕ) × (paid n at f w nothing k ≤ t + each n at f) × (t + 6 < old + (6 * MOST + 1))
       off (inl u) d = (old, omega (arith, u), omega arith)
-      off (inr u) d = let y = u.1 in let p = y.pays in let s = y.shorter in (old + 378, omega (arith, p, s), omega arith)
+      off (inr u) d = let y = u.1 in let p = y.pays in let s = y.shorter in (old + (6 * MOST - 6), omega (arith, p, s), omega arith)
 
   -- ---- a chain
 
-  course_line : (j : ℕ) (x : Line) → Course → slice_get a.lines.items j ≡ Some x → j < 64 → is_installed a.owner.mode x ≡ true → in_line w c j ≡ true
+  course_line : (j : ℕ) (x : Line) → Course → slice_get a.lines.items j ≡ Some x → j < MOST → is_installed a.owner.mode x ≡ true → in_line w c j ≡ true
   course_line j x t e low y =
       let l = slice_get_within a.lines.items j x e in
       let m = t.lines in
@@ -372,7 +373,7 @@ module _ (n : ℕ) (at : ℕ → Hold) (f least : ℕ) (w : World) (ground : Gro
           let no : true ≡ false = sym yes ∙ h in
           absurd (cc)
 
-  chained_installs : (j old l : ℕ) → least ≤ suc l → IsInstalledAt a.owner.mode a.lines.items j → Course → Stands n at f w l r → IsLive n at f w r → All w (aid.Pass (Install j)) + 197 * chain n at w l ≤ old + (each n at f + 575) → R (aid.Pass (Install j)) old
+  chained_installs : (j old l : ℕ) → least ≤ suc l → IsInstalledAt a.owner.mode a.lines.items j → Course → Stands n at f w l r → IsLive n at f w r → All w (aid.Pass (Install j)) + (3 * MOST + 5) * chain n at w l ≤ old + (each n at f + (9 * MOST - 1)) → R (aid.Pass (Install j)) old
   chained_installs j old l from y t s live m = go (installs_to w r.handle a.owner.mode a.lines.items j y) (paid_on (aid.Pass (Install j)) y (λ e. t))
     where
       v : World
@@ -411,11 +412,11 @@ module _ (n : ℕ) (at : ℕ → Hold) (f least : ℕ) (w : World) (ground : Gro
   check_keeps : (j l : ℕ) → IsCheckedAt a.owner.mode a.lines.items j → Stands n at f w l r → IsLive n at f w r → Keeps (V (aid.Pass (Check j))) l
   check_keeps j l y s live = subst (λ o. Keeps (touched w (check_access o)) l) (sym y.1) (record { stands = s; live = live; chain_on = omega arith })
 
-  chained_on : (p : PassStep) (old l : ℕ) → least ≤ suc l → Keeps (V (aid.Pass p)) l → All w (aid.Pass p) + 197 * chain n at w l ≤ old + (each n at f + 575)
+  chained_on : (p : PassStep) (old l : ℕ) → least ≤ suc l → Keeps (V (aid.Pass p)) l → All w (aid.Pass p) + (3 * MOST + 5) * chain n at w l ≤ old + (each n at f + (9 * MOST - 1))
       → (q : PassStep) → is_before q ≡ true → All (V (aid.Pass p)) (aid.Pass q) ≤ All w (aid.Pass p) → Stance n at f least (V (aid.Pass p)) k r (aid.Pass q) old
   chained_on p old l from keeps m q b z = chained l from keeps.stands keeps.live b (let u = keeps.chain_on in omega (arith, m, z, u))
 
-  chained_passes : (p : PassStep) (old l : ℕ) → least ≤ suc l → AidFits false a (aid.Pass p) → Course → Stands n at f w l r → IsLive n at f w r → is_before p ≡ true → All w (aid.Pass p) + 197 * chain n at w l ≤ old + (each n at f + 575) → R (aid.Pass p) old
+  chained_passes : (p : PassStep) (old l : ℕ) → least ≤ suc l → AidFits false a (aid.Pass p) → Course → Stands n at f w l r → IsLive n at f w r → is_before p ≡ true → All w (aid.Pass p) + (3 * MOST + 5) * chain n at w l ≤ old + (each n at f + (9 * MOST - 1)) → R (aid.Pass p) old
   chained_passes (Install j) old l from y t s live e m = chained_installs j old l from y t s live m
   chained_passes (Check j) old l from y t s live e m = goes_before (Check j) old (checks_on w r.handle a.owner.mode a.lines.items j) (paid_on (aid.Pass (Check j)) y (λ e. t)) (chained_on (Check j) old l from (check_keeps j l y s live) m)
   chained_passes (CheckHold j q) old l from y t s live e m = goes_before (CheckHold j q) old (holds_on w r.handle a.owner.mode a.lines.items j q) (paid_on (aid.Pass (CheckHold j q)) y (λ e. t)) (chained_on (CheckHold j q) old l from (record { stands = s; live = live; chain_on = omega arith }) m)
@@ -427,20 +428,19 @@ module _ (n : ℕ) (at : ℕ → Hold) (f least : ℕ) (w : World) (ground : Gro
       let v = touched w (decide_access r.handle x) in
       let o = ground.owners c r.handle.generation live in
       let fall = lives_fall n at w r.handle x y.0 o.0 o.1 o.2 live in
-      let less = rounds_le w v (aid_cover c (aid.Pass (Decide x))) (aid_cover c (after_pass (from_release a.owner.mode a.lines.items 0 (decided_as x (w.status c).phase)))) f calm n at k in
-      let p = price_life (each n at f) _ _ _ _ less fall in
+      let p = price_life (each n at f) _ _ _ _ (rounds_le w v (aid_cover c (aid.Pass (Decide x))) (aid_cover c (after_pass (from_release a.owner.mode a.lines.items 0 (decided_as x (w.status c).phase)))) f calm n at k) fall in
       let b = chain_one n at f w ground l r s live in
       leaving (release_out a.owner.mode a.lines.items 0 (decided_as x (w.status c).phase)) (omega (arith, m, p, b))
   chained_passes (Release j x) old l from y t s live e m = absurd (cc)
 
-  chained_loads : (s : AidStep) (b : Aided) (old l : ℕ) → least ≤ suc l → Stands n at f w l r → IsLive n at f w r → All w s + 197 * chain n at w l ≤ old + (each n at f + 575) → All w (load_next b) ≤ All w s → Stance n at f least w k r (load_next b) old
+  chained_loads : (s : AidStep) (b : Aided) (old l : ℕ) → least ≤ suc l → Stands n at f w l r → IsLive n at f w r → All w s + (3 * MOST + 5) * chain n at w l ≤ old + (each n at f + (9 * MOST - 1)) → All w (load_next b) ≤ All w s → Stance n at f least w k r (load_next b) old
   chained_loads s b old l from st live m = go (nat_lt (length b.lines.items) b.owner.lines)
     where
       go : (t : Bool) → All w (if t then aid.LoadFirst else aid.Pass (from_install b.owner.mode b.lines.items 0)) ≤ All w s → Stance n at f least w k r (if t then aid.LoadFirst else aid.Pass (from_install b.owner.mode b.lines.items 0)) old
       go true p = chained l from st live refl (omega (arith, m, p))
       go false p = chained l from st live (install_before b.owner.mode b.lines.items 0) (omega (arith, m, p))
 
-  pub chained_step : (s : AidStep) (old l : ℕ) → least ≤ suc l → AidFits false a s → (goes_or_leaves s ≡ true → Course) → Stands n at f w l r → IsLive n at f w r → is_early s ≡ true → All w s + 197 * chain n at w l ≤ old + (each n at f + 575) → R s old
+  pub chained_step : (s : AidStep) (old l : ℕ) → least ≤ suc l → AidFits false a s → (goes_or_leaves s ≡ true → Course) → Stands n at f w l r → IsLive n at f w r → is_early s ≡ true → All w s + (3 * MOST + 5) * chain n at w l ≤ old + (each n at f + (9 * MOST - 1)) → R s old
   chained_step aid.Hold old l from y t s live e m = rw (last_life l s) (chained l from s live refl m)
   chained_step aid.Status old l from y t s live e m = go (w.status c).phase (ap (λ (s : Status). s.phase) live) (paid_on aid.Status y t)
     where

@@ -6,7 +6,7 @@ use Rattle.kc_machine_alone.proofs.Left.{is_active}
 use Rattle.kc_machine_alone.proofs.Modes.{each, paid, price, price_le}
 use Rattle.kc_machine_alone.proofs.Ranks.{life_most}
 use Rattle.kc_machine_alone.proofs.Rounds.{Cover, in_line, is_left, is_live, is_pending, life_left, line_left, lives, nothing, own_line_left, place_of, refers_line, rounds, weight, weight_le}
-use Rattle.kc_machine_alone.proofs.Tallies.{cond_le, cond_most, total_le, total_most}
+use Rattle.kc_machine_alone.proofs.Tallies.{cond_le, cond_most, total_le, total_most, sum_le, sum_le_more, none_le}
 use Rattle.kc_machine_effects.proofs.Tests.{both, status_active}
 use Rattle.kc_machine_effects.specs.Holds.{Hold, NoHold, Proper, Stray, total}
 use Rattle.kc_machine_steps.specs.Lines.{is_installed, joined}
@@ -17,8 +17,9 @@ use Rattle.kc_machine_words.specs.declared.words.Phase.TheVariants.{Active}
 use Rattle.kc_machine_words.specs.declared.words.Second.{Second}
 use Rattle.kc_machine_words.specs.declared.words.Status.{Status}
 use Rattle.kc_model.specs.declared.word.Word.{Word}
+use Rattle.kc_model.specs.declared.footprint.TheConstants.{MOST}
 use Rattle.std.proofs.Common.{Bool, ap, arith, cond, false, not, refl, subst, suc, sym, true, zero, ℕ, ◌&&◌, ◌*◌, ◌+◌, ◌<◌, ◌==◌, ◌∙◌, ◌≡◌, ◌≢◌, ◌≤◌, ◌⊎◌, inl, inr}
-use Rattle.std.specs.Prelude.{nat_lt, ◌||◌}
+use Rattle.std.specs.Prelude.{nat_lt, ◌||◌, ◌-◌}
 use borrow.Author.Tests.{eqb-false, eqb-true}
 use Rattle.std.proofs.lemmas.Bool.{lt-ltb}
 
@@ -97,12 +98,12 @@ module _ (n : ℕ) (at : ℕ → Hold) (w : World) (e f : ℕ) (idle : is_active
             let z : is_live w (Proper d g) ≡ false = ap (λ x. is_live w (Proper x g)) s ∙ idle_dead w e g idle in
             rw z (omega arith)
         go false q =
-            let l = total_le (line_left v x f d) (line_left w x f d) 64 (λ t b. let z = filled_line x d t (eqb-false d e q) in omega (arith, z)) in
+            let l = total_le (line_left v x f d) (line_left w x f d) MOST (λ t b. let z = filled_line x d t (eqb-false d e q) in omega (arith, z)) in
             by (is_live w (Proper d g)) l
           where
-            by : (b : Bool) → total (line_left v x f d) 64 ≤ total (line_left w x f d) 64 → cond b (total (line_left v x f d) 64) 0 ≤ cond b (total (line_left w x f d) 64) 0
+            by : (b : Bool) → total (line_left v x f d) MOST ≤ total (line_left w x f d) MOST → cond b (total (line_left v x f d) MOST) 0 ≤ cond b (total (line_left w x f d) MOST) 0
             by true l = l
-            by false l = omega arith
+            by false l = none_le 0
     filled_life x (Stray d g) = omega arith
 
     filled_own : (x : Cover) (k t : ℕ) → own_line_left v x f k t ≡ own_line_left w x f k t
@@ -112,8 +113,8 @@ module _ (n : ℕ) (at : ℕ → Hold) (w : World) (e f : ℕ) (idle : is_active
     pub paid_filled : (x : Cover) (k : ℕ) → paid n at f v x k ≤ paid n at f w x k
     paid_filled x k =
         let p = total_le (λ j. life_left v x f (at j)) (λ j. life_left w x f (at j)) n (λ j l. filled_life x (at j)) in
-        let q = total_le (own_line_left v x f k) (own_line_left w x f k) 64 (λ t l. let z = filled_own x k t in omega (arith, z)) in
-        price_le (each n at f) _ _ _ _ (omega (arith, p, q)) (omega arith)
+        let q = total_le (own_line_left v x f k) (own_line_left w x f k) MOST (λ t l. let z = filled_own x k t in omega (arith, z)) in
+        price_le (each n at f) _ _ _ _ (sum_le _ _ _ _ p q) (omega arith)
 
   -- ---- its start
 
@@ -136,16 +137,16 @@ module _ (n : ℕ) (at : ℕ → Hold) (w : World) (e f : ℕ) (idle : is_active
     start_life : (h : Hold) → ((g : ℕ) → h ≡ Proper e g → ⊥) → life_left started here f h ≤ life_left w nothing f h
     start_life NoHold r = omega arith
     start_life (Proper d g) r =
-        let l = total_le (line_left started here f d) (line_left w nothing f d) 64 (λ t b. start_line d t) in
+        let l = total_le (line_left started here f d) (line_left w nothing f d) MOST (λ t b. start_line d t) in
         let z = live_else d g (λ q. r g (λ i. Proper (q i) g)) in
         rw z (by (is_live w (Proper d g)) l)
       where
         live_else : (d g : ℕ) → d ≢ e → is_live started (Proper d g) ≡ is_live w (Proper d g)
         live_else d g q i = is_live (record w { status = λ x. status_else d q i }) (Proper d g)
 
-        by : (b : Bool) → total (line_left started here f d) 64 ≤ total (line_left w nothing f d) 64 → cond b (total (line_left started here f d) 64) 0 ≤ cond b (total (line_left w nothing f d) 64) 0
+        by : (b : Bool) → total (line_left started here f d) MOST ≤ total (line_left w nothing f d) MOST → cond b (total (line_left started here f d) MOST) 0 ≤ cond b (total (line_left w nothing f d) MOST) 0
         by true l = l
-        by false l = omega arith
+        by false l = none_le 0
     start_life (Stray d g) r = omega arith
 
     other_life : (j : ℕ) → j < n → j ≢ k → (g : ℕ) → at j ≡ Proper e g → ⊥
@@ -156,37 +157,37 @@ module _ (n : ℕ) (at : ℕ → Hold) (w : World) (e f : ℕ) (idle : is_active
     start_live (Proper d g) r q = ap (λ s. is_live (record w { status = λ x. s }) (Proper d g)) (sym (status_else d (λ s. r g (λ i. Proper (s i) g)))) ∙ q
     start_live (Stray d g) r q = absurd (cc)
 
-    start_own : (t : ℕ) → own_line_left started here f 64 t ≤ own_line_left w nothing f 64 t
+    start_own : (t : ℕ) → own_line_left started here f MOST t ≤ own_line_left w nothing f MOST t
     start_own t = go (in_line w f t)
       where
         pends : is_pending started here f t ≡ true → is_pending w nothing f t ≡ true
         pends = or_mono (is_active (started.status f).phase) (here f t || refers_line f t (w.word (place_of w f t))) (is_active (w.status f).phase) (false || refers_line f t (w.word (place_of w f t)))
             (λ q. ap (λ (s : Status). is_active s.phase) (sym (status_else f ne)) ∙ q) (or_mono (here f t) (refers_line f t (w.word (place_of w f t))) false (refers_line f t (w.word (place_of w f t))) (λ q. absurd (ne (eqb-true f e q))) (λ q. q))
 
-        go : (b : Bool) → cond b (weight (not (nat_lt t 64)) (is_left started here f (w.word (place_of w f t))) (is_pending started here f t)) 0 ≤ cond b (weight (not (nat_lt t 64)) (is_left w nothing f (w.word (place_of w f t))) (is_pending w nothing f t)) 0
+        go : (b : Bool) → cond b (weight (not (nat_lt t MOST)) (is_left started here f (w.word (place_of w f t))) (is_pending started here f t)) 0 ≤ cond b (weight (not (nat_lt t MOST)) (is_left w nothing f (w.word (place_of w f t))) (is_pending w nothing f t)) 0
         go true = weight_le _ _ _ _ _ _ (λ q. q) (left_else (w.word (place_of w f t))) pends
         go false = omega arith
 
-    pub paid_started : paid n at f started here 64 ≤ price (each n at f) (rounds n at w nothing f 64 + 64) (lives n at w + 1)
+    pub paid_started : paid n at f started here MOST ≤ price (each n at f) (rounds n at w nothing f MOST + MOST) (lives n at w + 1)
     paid_started =
-        let p = total_but (λ j. life_left started here f (at j)) (λ j. life_left w nothing f (at j)) 64 n k (let z = life_most started here f (at k) in omega (arith, z)) (λ j l q. start_life (at j) (other_life j l q)) in
-        let o = total_le (own_line_left started here f 64) (own_line_left w nothing f 64) 64 (λ t l. start_own t) in
+        let p = total_but (λ j. life_left started here f (at j)) (λ j. life_left w nothing f (at j)) MOST n k (let z = life_most started here f (at k) in omega (arith, z)) (λ j l q. start_life (at j) (other_life j l q)) in
+        let o = total_le (own_line_left started here f MOST) (own_line_left w nothing f MOST) MOST (λ t l. start_own t) in
         let u = total_but (λ j. cond (is_live started (at j)) 1 0) (λ j. cond (is_live w (at j)) 1 0) 1 n k (let z = cond_most (is_live started (at k)) in omega (arith, z)) (λ j l q. cond_le _ _ (start_live (at j) (other_life j l q))) in
-        price_le (each n at f) _ _ _ _ (omega (arith, p, o)) u
+        price_le (each n at f) _ _ _ _ (sum_le_more _ _ _ _ MOST p o) u
 
 -- ---- what a commit brings to be paid
 
 abbrev pub fee : ℕ → ℕ
-fee n = 65 * (197 * n + 7) + 378
+fee n = (MOST + 1) * ((3 * MOST + 5) * n + 7) + (6 * MOST - 6)
 
-pub price_fee : (n r a : ℕ) → price (197 * n + 7) (r + 64) (a + 1) ≡ price (197 * n + 7) r a + fee n
+pub price_fee : (n r a : ℕ) → price ((3 * MOST + 5) * n + 7) (r + MOST) (a + 1) ≡ price ((3 * MOST + 5) * n + 7) r a + fee n
 unfolding price
 price_fee n r a = grind arith
 
 -- ---- what there may be to pay at most, before any
 
-own_few : (w : World) (x : Cover) (f t : ℕ) → t < 64 → own_line_left w x f 64 t ≤ 1
-own_few w x f t l = go (in_line w f t) (nat_lt t 64) (lt-ltb t 64 l)
+own_few : (w : World) (x : Cover) (f t : ℕ) → t < MOST → own_line_left w x f MOST t ≤ 1
+own_few w x f t l = go (in_line w f t) (nat_lt t MOST) (lt-ltb t MOST l)
   where
     one : (l p : Bool) → weight false l p ≤ 1
     one l p = let z = cond_most p in omega (arith, z)
@@ -196,10 +197,10 @@ own_few w x f t l = go (in_line w f t) (nat_lt t 64) (lt-ltb t 64 l)
     go true false e = absurd (cc)
     go false c e = omega arith
 
-pub paid_few : (n : ℕ) (at : ℕ → Hold) (f : ℕ) (w : World) (x : Cover) → paid n at f w x 64 ≤ price (197 * n + 7) (64 * n + 64) n
+pub paid_few : (n : ℕ) (at : ℕ → Hold) (f : ℕ) (w : World) (x : Cover) → paid n at f w x MOST ≤ price ((3 * MOST + 5) * n + 7) (MOST * n + MOST) n
 paid_few n at f w x =
-    let a = total_most (λ j. life_left w x f (at j)) 64 n (λ j. life_most w x f (at j)) in
-    let b = total_le (own_line_left w x f 64) (λ t. 1) 64 (λ t l. own_few w x f t l) in
-    let b' : total (λ t. 1) 64 ≡ 64 = refl in
+    let a = total_most (λ j. life_left w x f (at j)) MOST n (λ j. life_most w x f (at j)) in
+    let b = total_le (own_line_left w x f MOST) (λ t. 1) MOST (λ t l. own_few w x f t l) in
+    let b' : total (λ t. 1) MOST ≡ MOST = refl in
     let c = total_most (λ j. cond (is_live w (at j)) 1 0) 1 n (λ j. cond_most (is_live w (at j))) in
-    price_le (each n at f) (rounds n at w x f 64) (64 * n + 64) (lives n at w) n (omega (arith, a, b, b')) (omega (arith, c))
+    price_le (each n at f) (rounds n at w x f MOST) (MOST * n + MOST) (lives n at w) n (omega (arith, a, b, b')) (omega (arith, c))

@@ -29,13 +29,14 @@ use Rattle.kc_machine_steps.specs.declared.task.Event.{Event}
 use Rattle.kc_machine_steps.specs.declared.task.Event.TheVariants.{Step}
 use Rattle.kc_machine_traces.proofs.Others.{run_shape}
 use Rattle.kc_machine_words.specs.declared.words.Reference.{Reference}
-use Rattle.std.proofs.Common.{Bool, List, None, Some, [], ap, append-nil, append_assoc, arith, false, if◌then◌else◌, inl, inr, refl, subst, suc, sym, true, zero, ℕ, ◌*◌, ◌++◌, ◌+◌, ◌<◌, ◌∙◌, ◌∷◌, ◌≡◌, ◌≤◌}
+use Rattle.std.proofs.Common.{Bool, List, None, Some, [], ap, append-nil, append_assoc, arith, false, if◌then◌else◌, inl, inr, refl, subst, suc, sym, true, zero, ℕ, ◌*◌, ◌++◌, ◌+◌, ◌-◌, ◌<◌, ◌∙◌, ◌∷◌, ◌≡◌, ◌≤◌}
 use Rattle.std.proofs.lemmas.List.Elements.{All-push}
 use Rattle.kc_machine_steps.specs.declared.aid.AidStep.TheVariants as aid
 use Rattle.kc_machine.specs.declared.hang.HangStep.TheVariants as hang
 use Rattle.kc_machine.specs.declared.hang.LeaveStep.TheVariants as leave
 use Rattle.kc_machine_commits.specs.declared.commit.OwnStep.TheVariants as own
 use Rattle.kc_machine.specs.Works as work
+use Rattle.kc_model.specs.declared.footprint.TheConstants.{MOST}
 
 -- ---- what is known at every state
 
@@ -68,24 +69,24 @@ none_alone o es k = ap (run o) (append-nil es)
 
 -- ---- the bound
 
-pub work_most : (n e callers : ℕ) (w : World) (x : Work) → n ≡ 3 * callers + 1 → e < n → ((c : Commit) → x ≡ work.Commit c → StageSearches n c.stage) → work_left n e w x ≤ 1279 + 3 * callers
+pub work_most : (n e callers : ℕ) (w : World) (x : Work) → n ≡ 3 * callers + 1 → e < n → ((c : Commit) → x ≡ work.Commit c → StageSearches n c.stage) → work_left n e w x ≤ 20 * MOST - 1 + 3 * callers
 work_most n e callers w work.Idle q l f = omega arith
 work_most n e callers w (work.Look a) q l f = let b = look_most w a.step in omega (arith, b)
 work_most n e callers w (work.Commit c) q l f = go c.stage (f c refl)
   where
-    found_fits : (b : Bool) → (if b then 710 else 711 + n) ≤ 1279 + 3 * callers
+    found_fits : (b : Bool) → (if b then 10 * MOST + 70 else 10 * MOST + 71 + n) ≤ 20 * MOST - 1 + 3 * callers
     found_fits true = omega arith
     found_fits false = omega (arith, q)
 
-    aid_most : (r : Reference) (a : AidStep) → aid_left w r c.copy a ≤ 581
+    aid_most : (r : Reference) (a : AidStep) → aid_left w r c.copy a ≤ 9 * MOST + 5
     aid_most r aid.Hold = by (is_active (w.status r.handle.descriptor).phase)
       where
-        by : (b : Bool) → (if b then 581 else 6) ≤ 581
+        by : (b : Bool) → (if b then 9 * MOST + 5 else 6) ≤ 9 * MOST + 5
         by true = omega arith
         by false = omega arith
     aid_most r aid.Status = by (is_active (w.status r.handle.descriptor).phase)
       where
-        by : (b : Bool) → (if b then 580 else 5) ≤ 581
+        by : (b : Bool) → (if b then 9 * MOST + 4 else 5) ≤ 9 * MOST + 5
         by true = omega arith
         by false = omega arith
     aid_most r (aid.First p) = omega arith
@@ -100,7 +101,7 @@ work_most n e callers w (work.Commit c) q l f = go c.stage (f c refl)
     aid_most r (aid.Drop stray None) = omega arith
     aid_most r (aid.Drop stray (Some y)) = omega arith
 
-    own_most : (x : OwnStep) → own_left w c.copy x ≤ 1279 + 3 * callers
+    own_most : (x : OwnStep) → own_left w c.copy x ≤ 20 * MOST - 1 + 3 * callers
     own_most own.FillOwner = omega arith
     own_most (own.FillFirst k) = omega arith
     own_most (own.FillSecond k) = omega arith
@@ -112,24 +113,24 @@ work_most n e callers w (work.Commit c) q l f = go c.stage (f c refl)
     own_most (own.Signal owed) = omega arith
     own_most (own.Drop p) = omega arith
 
-    go : (x : Stage) → StageSearches n x → stage_left n e w c.copy x ≤ 1279 + 3 * callers
+    go : (x : Stage) → StageSearches n x → stage_left n e w c.copy x ≤ 20 * MOST - 1 + 3 * callers
     go (Scan d worn) g = let b = round_below n e d l in omega (arith, b, q)
     go (Take d g) h = found_fits (takes w d g)
     go (Own h step) g = own_most step
 work_most n e callers w (work.Hang h) q l f = by h.step
   where
-    by : (x : HangStep) → hang_left w x ≤ 1279 + 3 * callers
+    by : (x : HangStep) → hang_left w x ≤ 20 * MOST - 1 + 3 * callers
     by (hang.Set k) = omega arith
     by (hang.Look k step) = let b = look_most w step in omega (arith, b)
     by (hang.Clear k changed) = omega arith
 work_most n e callers w (work.Leave a) q l f = by a.step
   where
-    by : (x : LeaveStep) → free_left x ≤ 1279 + 3 * callers
+    by : (x : LeaveStep) → free_left x ≤ 20 * MOST - 1 + 3 * callers
     by leave.Unsignal = omega arith
     by (leave.Clear k) = omega arith
 work_most n e callers w (work.Swap a) q l f = by a.step
   where
-    by : (x : SwapStep) → swap_left x ≤ 1279 + 3 * callers
+    by : (x : SwapStep) → swap_left x ≤ 20 * MOST - 1 + 3 * callers
     by swap.Exchange = omega arith
     by swap.Wake = omega arith
     by (swap.Signal owed) = omega arith
@@ -186,5 +187,5 @@ all_end o es w k l i free =
     let e = free.0 in
     let there : e < 3 * o.callers + 1 = let a = free.1 in omega arith in
     let most = work_most (3 * o.callers + 1) e o.callers m.world (m.seats k).work refl there (λ x q. subst (WorkSearches (3 * o.callers + 1)) q (searches_in_range o es k l)) in
-    let r = ends o k l e there (1279 + 3 * o.callers) es w i (λ u. (free.2, free.3)) (omega (arith, most)) in
+    let r = ends o k l e there (20 * MOST - 1 + 3 * o.callers) es w i (λ u. (free.2, free.3)) (omega (arith, most)) in
     (r.0, r.1, omega (arith, r.2), r.3)

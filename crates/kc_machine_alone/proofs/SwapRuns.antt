@@ -36,6 +36,7 @@ use Rattle.kc_model.specs.declared.footprint.Loc.{Loc}
 use Rattle.kc_model.specs.declared.footprint.Seen.{Seen}
 use Rattle.kc_model.specs.declared.word.Word.TheVariants.{Plain}
 use Rattle.kc_model.specs.declared.word.Word.{Word}
+use Rattle.kc_model.specs.declared.footprint.TheConstants.{MOST}
 use Rattle.std.proofs.Common.{Bool, List, Some, [], ap, arith, false, if◌then◌else◌, inl, inr, refl, subst, sym, true, ℕ, ◌*◌, ◌++◌, ◌+◌, ◌<◌, ◌∙◌, ◌∷◌, ◌≡◌, ◌≢◌, ◌≤◌, ◌⊎◌}
 use Rattle.std.proofs.Math.Nat.{pow-le-pow_right}
 use Rattle.std.specs.Prelude.{◌||◌, ◌^◌}
@@ -63,7 +64,7 @@ swap_rests n at f w r value calls swap.Exchange old p = go (may_swap calls)
     go : (b : Bool) → Rests n at f (touched w (access.Location r.loc (if b then CompareExchange (seen_word r) (word_after r value) else Load))) old
     go true =
         let new = word_after r value in
-        let a = paid_calm n at f w (touched w (access.Location r.loc (CompareExchange (seen_word r) new))) nothing nothing 64 (exchange_calm w f r.loc (seen_word r) _ value) in
+        let a = paid_calm n at f w (touched w (access.Location r.loc (CompareExchange (seen_word r) new))) nothing nothing MOST (exchange_calm w f r.loc (seen_word r) _ value) in
         omega (arith, a, p)
     go false = p
 swap_rests n at f w r value calls swap.Wake old p = p

@@ -24,7 +24,7 @@ use Rattle.kc_model.specs.Footprint.{IsRead, IsWellMade}
 use Rattle.kc_model.specs.declared.footprint.Loc.{Loc}
 use Rattle.kc_model.specs.declared.footprint.Put.{Put}
 use Rattle.kc_model.specs.declared.footprint.Seen.{Seen}
-use Rattle.kc_model.specs.declared.footprint.TheConstants.{LAST_VERSION}
+use Rattle.kc_model.specs.declared.footprint.TheConstants.{LAST_VERSION, MOST}
 use Rattle.std.proofs.Common.{Bool, List, Some, [], arith, false, refl, subst, sym, true, ℕ, ◌*◌, ◌++◌, ◌+◌, ◌<◌, ◌∙◌, ◌∷◌, ◌≡◌, ◌≢◌, ◌≤◌}
 use Rattle.std.proofs.lemmas.List.Elements.{All-cons, All-contains, All-contains_itself, All-head, All-nil}
 use Rattle.std.specs.List.{Contains}
@@ -114,7 +114,7 @@ all_swap_attempts_end o es w k d e loc value l idle de cd ce low = (
     ne q = omega (arith, de, q)
 
     at_first : ℕ
-    at_first = price (197 * n + 7) (64 * n + 64) n
+    at_first = price ((3 * MOST + 5) * n + 7) (MOST * n + MOST) n
 
     start : Idle o k l es at_first
     start = record { schedule = w; idle = idle; rests = paid_few n (owned_at o es) (3 * n + 1) (run o es).world nothing }
@@ -125,7 +125,7 @@ all_swap_attempts_end o es w k d e loc value l idle de cd ce low = (
     looked : run o (Begun o k l es (task.Look loc) ++ steps k seen.0) ≡ makes (run o es) k (task.Look loc) seen.0
     looked = makes_run o k l es (task.Look loc) seen.0
 
-    swapped : (x : ℕ) × (x ≤ seen.1 + 67 + 2 * (fee n + (712 + 3 * n))) × Swaps k (run o (Begun o k l es (task.Look loc) ++ steps k seen.0)) seen.3.seen (value seen.3.seen) x
+    swapped : (x : ℕ) × (x ≤ seen.1 + 67 + 2 * (fee n + (10 * MOST + 72 + 3 * n))) × Swaps k (run o (Begun o k l es (task.Look loc) ++ steps k seen.0)) seen.3.seen (value seen.3.seen) x
     swapped =
         let z = seen.3 in
         went_on o k l d e ne d_there e_there es idle cd ce (Begun o k l es (task.Look loc) ++ steps k seen.0) seen.1 z.seen (value z.seen) z.rest z.known z.others (subst (λ (x : Loc). x.0 < o.locations) (sym z.at_it.0) low) z.at_it.1 (nat_lt z.seen.version LAST_VERSION) refl

@@ -28,7 +28,7 @@ use Rattle.kc_machine_words.specs.declared.words.Mode.{Mode}
 use Rattle.kc_model.specs.declared.footprint.Footprint.{Footprint}
 use Rattle.kc_model.specs.declared.footprint.Loc.{Loc}
 use Rattle.kc_model.specs.declared.footprint.Seen.{Seen}
-use Rattle.kc_model.specs.declared.footprint.TheConstants.{LAST_VERSION}
+use Rattle.kc_model.specs.declared.footprint.TheConstants.{LAST_VERSION, MOST}
 use Rattle.std.proofs.Common.{Bool, List, None, Option, Some, ap, arith, false, inl, inr, refl, subst, sym, true, ℕ, ◌*◌, ◌++◌, ◌+◌, ◌<◌, ◌∙◌, ◌≡◌, ◌≢◌, ◌≤◌}
 use Rattle.std.specs.Option.{is_some}
 
@@ -50,7 +50,7 @@ module _ (o : Opening) (k : ℕ) (l : k < o.callers) where
     pub at_it : IsSeenAt loc seen
 
   abbrev pub cost : ℕ
-  cost = fee o.callers + (712 + 3 * o.callers)
+  cost = fee o.callers + (10 * MOST + 72 + 3 * o.callers)
 
   answered : (t : Option Told) → is_some t ≡ true → (x : Told) × (t ≡ Some x)
   answered None e = absurd (cc)
@@ -100,7 +100,7 @@ module _ (o : Opening) (k : ℕ) (l : k < o.callers) where
         let fs = Begun o k l es t in
         let is : ((run o fs).seats k).work ≡ committing ((run o es).seats k).first m (lines_of f) = ap (λ (s : Seat). s.work) (seat_begun o k l es t p x) in
         let rests = rests_begun o k l es t p x refl in
-        let left : work_left (3 * o.callers + 1) free (run o fs).world ((run o fs).seats k).work ≡ 711 + round (3 * o.callers + 1) free ((run o es).seats k).first = ap (work_left (3 * o.callers + 1) free (run o fs).world) is in
+        let left : work_left (3 * o.callers + 1) free (run o fs).world ((run o fs).seats k).work ≡ 10 * MOST + 71 + round (3 * o.callers + 1) free ((run o es).seats k).first = ap (work_left (3 * o.callers + 1) free (run o fs).world) is in
         let search = round_below (3 * o.callers + 1) free ((run o es).seats k).first there in
         let r = runs_to_end o k l free there d e g h ne fs (p + cost) (record {
           schedule = schedule_begun o k l es t p x made;

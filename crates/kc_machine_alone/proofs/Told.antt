@@ -36,9 +36,10 @@ use Rattle.kc_machine_steps.specs.declared.look.LookNext.{LookNext}
 use Rattle.kc_machine_words.specs.declared.access.Found.{Found}
 use Rattle.kc_model.specs.declared.footprint.Seen.{Seen}
 use Rattle.kc_model.specs.declared.word.Word.TheVariants.{Ref}
+use Rattle.kc_model.specs.declared.footprint.TheConstants.{MOST}
 use Rattle.std.proofs.Common.{Bool, None, Option, Some, false, if◌then◌else◌, inl, inr, refl, subst, sym, true, ℕ, ◌+◌, ◌-◌, ◌<◌, ◌==◌, ◌≡◌, ◌≤◌, ◌⊎◌}
 use Rattle.std.specs.Option.{is_some}
-use Rattle.std.specs.Prelude.{nat_lt, slice_get}
+use Rattle.std.specs.Prelude.{nat_lt, slice_get, ◌*◌}
 use Rattle.kc_machine_words.specs.declared.access.Access.TheVariants as access
 use Rattle.kc_machine_words.specs.declared.access.Grip.TheVariants as grip
 use Rattle.kc_machine.specs.declared.hang.HangNext.TheVariants as hanging
@@ -71,7 +72,7 @@ module _ (n : ℕ) (at : ℕ → Hold) (m e : ℕ) (w : World) (some : 1 ≤ n) 
   scan_ranks : (d worn old : ℕ) → top n ≤ old → Ranks (Scan d worn) old
   scan_ranks d worn old p = go (nat_lt (w.control d).generation 1099511627775) ((w.control d).holds == 0) (nat_lt worn (m - 1))
     where
-      go : (x y t : Bool) → NextRank n at m e w c.halted c.copy old (711 + round m e d) (if x then (if y then next.Goes (Take d (w.control d).generation) else next.Goes (Scan (after_scan m d) 0)) else (if t then next.Goes (Scan (after_scan m d) (worn + 1)) else next.Tells told.Worn))
+      go : (x y t : Bool) → NextRank n at m e w c.halted c.copy old (10 * MOST + 71 + round m e d) (if x then (if y then next.Goes (Take d (w.control d).generation) else next.Goes (Scan (after_scan m d) 0)) else (if t then next.Goes (Scan (after_scan m d) (worn + 1)) else next.Tells told.Worn))
       go true true t = inl (p, refl)
       go true false t = inl (p, refl)
       go false y true = inl (p, refl)
@@ -80,7 +81,7 @@ module _ (n : ℕ) (at : ℕ → Hold) (m e : ℕ) (w : World) (some : 1 ≤ n) 
   take_ranks : (d g old : ℕ) → top n ≤ old → Ranks (Take d g) old
   take_ranks d g old p = go (takes w d g)
     where
-      go : (b : Bool) → NextRank n at m e (touched w (access.Control d (grip.Take g))) c.halted c.copy old (if takes w d g then 710 else 711 + m) (if b then next.Takes (Own (record { descriptor = d; generation = g + 1 }) own.FillOwner) else next.Goes (Scan (after_scan m d) 0))
+      go : (b : Bool) → NextRank n at m e (touched w (access.Control d (grip.Take g))) c.halted c.copy old (if takes w d g then 10 * MOST + 70 else 10 * MOST + 71 + m) (if b then next.Takes (Own (record { descriptor = d; generation = g + 1 }) own.FillOwner) else next.Goes (Scan (after_scan m d) 0))
       go true = inl (p, refl)
       go false = inl (p, refl)
 

@@ -50,8 +50,9 @@ use Rattle.kc_machine_words.specs.declared.access.Found.{Found}
 use Rattle.kc_machine_words.specs.declared.words.Handle.{Handle}
 use Rattle.kc_machine_words.specs.declared.words.Reference.{Reference}
 use Rattle.kc_model.specs.declared.footprint.Seen.{Seen}
+use Rattle.kc_model.specs.declared.footprint.TheConstants.{MOST}
 use Rattle.std.proofs.Common.{Bool, List, None, Option, Some, ap, arith, false, inl, inr, refl, suc, sym, true, zero, ℕ, ◌<◌, ◌∙◌, ◌≡◌, ◌≤◌, ◌⊎◌}
-use Rattle.std.specs.Prelude.{slice_get}
+use Rattle.std.specs.Prelude.{slice_get, ◌*◌}
 use Rattle.kc_machine_steps.specs.declared.aid.AidStep.TheVariants as aid
 use Rattle.kc_machine.specs.declared.hang.HangStep.TheVariants as hang
 use Rattle.kc_machine.specs.declared.hang.HangNext.TheVariants as hanging
@@ -295,7 +296,7 @@ first_rank n at w (work.Commit c) = go c.stage
     passes_so f (Decide p) = tt
     passes_so f (Release k p) = tt
 
-    spare_most : (s : AidStep) → spare s ≤ 800
+    spare_most : (s : AidStep) → spare s ≤ 14 * MOST
     spare_most aid.Hold = omega arith
     spare_most aid.Status = omega arith
     spare_most (aid.First p) = omega arith

@@ -9,8 +9,8 @@ ghost use Rattle.kc_machine_alone.specs.Attempts.{AttemptsEnd};
 ghost use Rattle.kc_machine_alone.specs.Stretches.{StretchesEnd};
 ghost use Rattle.kc_machine_alone.specs.Swaps.{SwapAttemptsEnd};
 
-/// Where the tasks are well made and a descriptor can be taken, a seat that steps alone is told within (callers + 1)² · 4 · lines²
-/// steps, from whatever state it and the others stand in: where n callers are, of at most 64 lines each, within (n + 1)² · 16,384.
+/// Where the tasks are well made and a descriptor can be taken, a seat that steps alone is told within (callers + 1)² · 4 · `MOST`²
+/// steps, from whatever state it and the others stand in.
 pub fn alone_it_is_told()
     ensures { (o : Opening) (es : List Event) → IsSchedule o es → AloneItIsTold o es }
 {}

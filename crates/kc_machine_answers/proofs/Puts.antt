@@ -17,6 +17,7 @@ use Rattle.kc_machine_words.specs.declared.access.Found.TheVariants as found
 use Rattle.kc_machine_steps.specs.declared.aid.Aided.{Aided}
 use Rattle.kc_machine_steps.specs.declared.line.Intent.{Intent}
 use Rattle.kc_model.specs.declared.footprint.Line.{Line}
+use Rattle.kc_model.specs.declared.footprint.TheConstants.{MOST}
 use Rattle.kc_machine_steps.specs.declared.line.Pick.TheVariants.{Installed, Checked}
 use Rattle.kc_machine_steps.specs.declared.pass.PassStep.TheVariants.{Install, Decide}
 use Rattle.kc_machine_steps.specs.declared.pass.PassNext.TheVariants as pass
@@ -80,11 +81,11 @@ module _ (m : Mode) (xs : List Line) (put_all : (i : ℕ) (x : Line) → slice_g
       go None f = refl
       go (Some i) (x, e, q, l) = let y = puts_in m x (put_all i x e) in let z : not true ≡ true = ap not (sym y) ∙ q in absurd (cc)
 
-  install_next_one : (i : ℕ) (x : Line) → i < 64 → slice_get xs i ≡ Some x → from_install m xs i ≡ Install i
+  install_next_one : (i : ℕ) (x : Line) → i < MOST → slice_get xs i ≡ Some x → from_install m xs i ≡ Install i
   install_next_one i x l e = ap (install_or_check m xs) (next_here Installed m xs i l (Some x) e ∙ picked_yes Installed m i x _ (puts_in m x (put_all i x e)))
 
   decides_next : from_install m xs (length xs) ≡ Decide Succeeded
-  decides_next = ap (install_or_check m xs) (none_behind (64 - length xs) (length xs) (omega arith)) ∙ ap check_or_decide none_checked
+  decides_next = ap (install_or_check m xs) (none_behind (MOST - length xs) (length xs) (omega arith)) ∙ ap check_or_decide none_checked
 
 -- ---- the steps
 
@@ -142,7 +143,7 @@ module _ (k : ℕ) (h : Handle) (i : Intent) where
   abbrev Costs : State → ℕ → Type 0
   Costs m n = ((run_from m (steps k n)).world.status h.descriptor ≡ status h.generation Succeeded) × (comparing m k n ≡ n)
 
-  module _ (rise : IsRising (map line_location xs)) (most : length xs ≤ 64) (put_all : (t : ℕ) (x : Line) → slice_get xs t ≡ Some x → is_some x.put ≡ true) where
+  module _ (rise : IsRising (map line_location xs)) (most : length xs ≤ MOST) (put_all : (t : ℕ) (x : Line) → slice_get xs t ≡ Some x → is_some x.put ≡ true) where
     -- the lines from j on, and the decision
     rest_costs : (n j : ℕ) → j + n ≡ length xs → (m : State) (s : Seat) (b : Bool) (a : Aided) → m.seats k ≡ at_step s i b a h (own.Pass (from_install i.mode xs j)) → Stands m j → Costs m (suc n)
     unfolding steps comparing
@@ -171,8 +172,8 @@ module _ (k : ℕ) (h : Handle) (i : Intent) where
               ap (λ (y : Seat). cond (compares (access_of y)) 1 0 + comparing (event_of m (Step k)) k (suc n)) at ∙ ap (λ c. cond c 1 0 + comparing (event_of m (Step k)) k (suc n)) u ∙ ap (λ z. 1 + comparing z k (suc n)) g ∙ ap (λ z. 1 + z) on.1 ∙ omega arith),
         )
       where
-        after_one : (j : ℕ) → j < 64 → after_line j ≡ j + 1
-        after_one j l = rw (lt-ltb j 64 l) refl
+        after_one : (j : ℕ) → j < MOST → after_line j ≡ j + 1
+        after_one j l = rw (lt-ltb j MOST l) refl
 
 -- ---- from the start
 

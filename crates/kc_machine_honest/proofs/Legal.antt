@@ -38,6 +38,7 @@ use Rattle.kc_model.specs.Store.{Finds}
 use Rattle.kc_model.specs.declared.footprint.Footprint.{Footprint}
 use Rattle.kc_model.specs.declared.footprint.Put.{Put}
 use Rattle.kc_model.specs.declared.footprint.Seen.{Seen}
+use Rattle.kc_model.specs.declared.footprint.TheConstants.{MOST}
 
 -- ---- what a pass that may decide installs stands at its place, and is what the history makes
 
@@ -72,7 +73,7 @@ module _ (o : Opening) where
     d = record { within = u.seat; handle = u.handle; turn = At (Decide Succeeded); pass = u.pass; place = u.place; active = u.was }
 
     -- each line of its pass was installed, or checked
-    line_finds : (i : ℕ) (v : Line) → slice_get u.lines i ≡ Some v → Contains u.lines v → i < 64 → (b : Bool) → is_installed x.mode v ≡ b → stands_at o es x.place v.seen.loc.0 ≡ cell_of v.seen
+    line_finds : (i : ℕ) (v : Line) → slice_get u.lines i ≡ Some v → Contains u.lines v → i < MOST → (b : Bool) → is_installed x.mode v ≡ b → stands_at o es x.place v.seen.loc.0 ≡ cell_of v.seen
     line_finds i y g c l true b = installed_stands o es w (seat_of e) x.place x.mode u.lines d y c b
     line_finds i y g c l false b = (stood o es w).lines hon (seat_of e) x.place x.mode u.lines (Decide Succeeded) d refl i y g b l
 

@@ -7,6 +7,7 @@ use Rattle.std.proofs.lemmas.Option.{slice_get_within}
 use borrow.Author.Tests.{eqb-true}
 use Rattle.kc_machine_words.specs.declared.access.Found.{Found}
 use Rattle.kc_model.specs.declared.footprint.Seen.{Seen}
+use Rattle.kc_model.specs.declared.footprint.TheConstants.{MOST}
 use Rattle.kc_machine_steps.specs.declared.task.Told.TheVariants as told
 use Rattle.kc_machine_steps.specs.declared.look.LookStep.{LookStep}
 use Rattle.kc_machine_steps.specs.declared.task.Event.{Event}
@@ -137,13 +138,13 @@ module _ (o : Opening) (es : List Event) (e : Event) (k : ℕ) (g : Going o es e
         up_to : (i : ℕ) (u : Seen) → i < after_line j → slice_get reads i ≡ Some u → IsConfirmed o es' x.listening u
         up_to i u b z = go (cases_lt i j)
           where
-            last : (b : Bool) → i < (if b then j + 1 else 64) → nat_lt j 64 ≡ b → j ≤ i → i ≡ j
+            last : (b : Bool) → i < (if b then j + 1 else MOST) → nat_lt j MOST ≡ b → j ≤ i → i ≡ j
             last true l q m = omega arith
-            last false l q m = let a = ltb-false j 64 q in omega arith
+            last false l q m = let a = ltb-false j MOST q in omega arith
 
             go : (i < j) ⊎ (j ≤ i) → IsConfirmed o es' x.listening u
             go (inl l) = confirmed i u l z
-            go (inr l) = subst (IsConfirmed o es' x.listening) (same_read (sym expected ∙ ap (slice_get reads) (sym (last (nat_lt j 64) b refl l)) ∙ z)) c
+            go (inr l) = subst (IsConfirmed o es' x.listening) (same_read (sym expected ∙ ap (slice_get reads) (sym (last (nat_lt j MOST) b refl l)) ∙ z)) c
 
         past : (i m : ℕ) (u : Seen) → slice_get reads m ≡ None → slice_get reads i ≡ Some u → i < m
         past i m u q z = go (cases_lt i m) (cases_lt m (length reads))

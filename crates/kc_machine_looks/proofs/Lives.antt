@@ -18,6 +18,7 @@ use Rattle.kc_machine_words.specs.declared.words.Status.{Status}
 use Rattle.kc_model.specs.declared.footprint.Loc.{Loc}
 use Rattle.kc_model.specs.declared.footprint.Seen.{Seen}
 use Rattle.kc_model.specs.declared.word.Word.TheVariants.{Ref}
+use Rattle.kc_model.specs.declared.footprint.TheConstants.{MOST}
 use Rattle.kc_machine_commits.specs.declared.commit.OwnStep.TheVariants as own
 use borrow.Author.Tests.{eqb-true, eqb-false}
 use Rattle.kc_machine_steps.specs.declared.look.LookStep.{LookStep}
@@ -208,7 +209,7 @@ module _ (o : Opening) (es : List Event) (e : Event) (w : IsSchedule o es) (w' :
             let x = is_there y.lines r.line (let z = q.0 in let s = t.lines in omega arith) in
             let line = t.line r.line x.0 x.1 in
             let f : PassedAreInstalled u (Over y.handle y.mode y.lines (At (Decide y.phase))) = subst (PassedAreInstalled u) y.pass (passed_installed o es (seat_of e) b).0 in
-            let g : InstalledBelow u y.handle y.mode y.lines 64 = subst (λ p. InstalledBelow u y.handle y.mode y.lines (gone_by_phase p)) won f in
+            let g : InstalledBelow u y.handle y.mode y.lines MOST = subst (λ p. InstalledBelow u y.handle y.mode y.lines (gone_by_phase p)) won f in
             let at : x.0.seen.loc.0 ≡ l.0 = sym (ap (λ (a : Line). a.seen.loc.0) line) ∙ ap (λ i. (u.second i r.line).loc) (sym y.its) ∙ old.0 in
             let put_in : is_installed y.mode x.0 ≡ true = sym (λ i. is_installed (t.says i) (line i)) ∙ q.2 in
             ap u.word (sym at) ∙ g y.was r.line x.0 q.1 x.1 put_in

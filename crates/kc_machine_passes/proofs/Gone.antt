@@ -11,6 +11,7 @@ use Rattle.kc_machine_pool.proofs.Filled.{past_end}
 use Rattle.kc_machine_steps.specs.Lines.{picks, picked, next_among, next_line, is_installed}
 use Rattle.kc_machine_steps.specs.Passes.{from_install, install_or_check, from_check, check_or_decide, from_release, release_or_finish}
 use Rattle.kc_model.specs.declared.footprint.Line.{Line}
+use Rattle.kc_model.specs.declared.footprint.TheConstants.{MOST}
 use Rattle.kc_machine_steps.specs.declared.line.Pick.{Pick}
 use Rattle.kc_machine_steps.specs.declared.line.Pick.TheVariants.{Installed, Checked}
 use Rattle.kc_machine_steps.specs.declared.pass.PassStep.{PassStep}
@@ -23,7 +24,7 @@ module _ (p : Pick) (m : Mode) (xs : List Line) where
   Skipped k n = (i : ℕ) (x : Line) → k ≤ i → i < n → slice_get xs i ≡ Some x → picks p m x ≡ false
 
   abbrev pub Next : ℕ → Option ℕ → Type 0
-  Next k None = Skipped k 64
+  Next k None = Skipped k MOST
   Next k (Some j) = Skipped k j
 
   behind : (k : ℕ) (x : Line) → slice_get xs k ≡ Some x → picks p m x ≡ false → (n : ℕ) → Skipped (k + 1) n → Skipped k n
@@ -38,26 +39,26 @@ module _ (p : Pick) (m : Mode) (xs : List Line) where
   next_at k (Some x) e after h = go (picks p m x) refl
     where
       past : (o : Option ℕ) → picks p m x ≡ false → Next (k + 1) o → Next k o
-      past None q h = behind k x e q 64 h
+      past None q h = behind k x e q MOST h
       past (Some j) q h = behind k x e q j h
 
       go : (b : Bool) → picks p m x ≡ b → Next k (if b then Some k else after)
       go true q = λ i y a b z. absurd (omega arith)
       go false q = past after q h
 
-  next_among_skips : (n k : ℕ) → 64 ≤ n + k → Next k (next_among p m xs n k)
+  next_among_skips : (n k : ℕ) → MOST ≤ n + k → Next k (next_among p m xs n k)
   unfolding next_among
   next_among_skips zero k l = λ i y a b z. absurd (omega arith)
   next_among_skips (suc n) k l = next_at k (slice_get xs k) refl (next_among p m xs n (k + 1)) (next_among_skips n (k + 1) (omega arith))
 
   pub next_skips : (k : ℕ) → Next k (next_line p m xs k)
-  next_skips k = next_among_skips (64 - k) k (omega arith)
+  next_skips k = next_among_skips (MOST - k) k (omega arith)
 
 module _ (m : Mode) (xs : List Line) where
-  pub gone_check : (k : ℕ) → gone_by_step (from_check m xs k) ≡ 64
+  pub gone_check : (k : ℕ) → gone_by_step (from_check m xs k) ≡ MOST
   gone_check k = go (next_line Checked m xs k)
     where
-      go : (o : Option ℕ) → gone_by_step (check_or_decide o) ≡ 64
+      go : (o : Option ℕ) → gone_by_step (check_or_decide o) ≡ MOST
       go None = refl
       go (Some j) = refl
 
@@ -74,7 +75,7 @@ module _ (m : Mode) (xs : List Line) where
       go false t = absurd (by (next_line Installed m xs k) (next_skips Installed m xs k) l (let a = ltb-false i k t in omega arith))
 
   -- an installed line from k on is still to be released
-  pub release_owes : (q : PassStep) (k : ℕ) (p : Phase) (i : ℕ) (x : Line) → k ≤ i → i < 64 → slice_get xs i ≡ Some x → is_installed m x ≡ true → turn_owes i (turn q (from_release m xs k p)) ≡ true
+  pub release_owes : (q : PassStep) (k : ℕ) (p : Phase) (i : ℕ) (x : Line) → k ≤ i → i < MOST → slice_get xs i ≡ Some x → is_installed m x ≡ true → turn_owes i (turn q (from_release m xs k p)) ≡ true
   release_owes q k p i x a b e y = go (next_line Installed m xs k) (next_skips Installed m xs k)
     where
       before : (j : ℕ) → (i < j → picks Installed m x ≡ false) → (t : Bool) → nat_lt i j ≡ t → not t ≡ true

@@ -3,6 +3,7 @@ use Rattle.std.proofs.Common.{◌≡◌, ℕ, ◌≤◌, ◌∙◌, refl, sym, a
 use Rattle.std.specs.Prelude.{slice_get}
 use borrow.Author.Tests.{eqb-true, eqb-false}
 use Rattle.kc_model.specs.declared.footprint.Line.{Line}
+use Rattle.kc_model.specs.declared.footprint.TheConstants.{MOST}
 use Rattle.kc_machine_steps.specs.declared.line.Pick.TheVariants.{Installed}
 use Rattle.kc_machine_steps.specs.declared.pass.AfterCheck.{AfterCheck}
 use Rattle.kc_machine_steps.specs.declared.pass.PassStep.{PassStep}
@@ -29,14 +30,14 @@ use Rattle.kc_machine_pool.proofs.Shapes.{Shape, same_course}
 use Rattle.kc_machine_steps.specs.Lines.{next_line, after_line, word_of, is_installed}
 use Rattle.kc_machine_steps.specs.Passes.{status, from_install, from_release, release_or_finish, check_drop_next, decided_as}
 
-gone_phase : (p : Phase) → gone_by_phase p ≤ 64
+gone_phase : (p : Phase) → gone_by_phase p ≤ MOST
 gone_phase Active = omega arith
 gone_phase Succeeded = omega arith
 gone_phase (Failed k) = omega arith
 gone_phase (Crossed k) = omega arith
 gone_phase Halted = omega arith
 
-gone_drop : (q : PassStep) (m : Mode) (xs : List Line) (j : ℕ) (c : AfterCheck) → gone_by (turn q (check_drop_next m xs j c)) ≤ 64
+gone_drop : (q : PassStep) (m : Mode) (xs : List Line) (j : ℕ) (c : AfterCheck) → gone_by (turn q (check_drop_next m xs j c)) ≤ MOST
 gone_drop q m xs j checked.Again = omega arith
 gone_drop q m xs j checked.Agrees = let a = gone_check m xs (after_line j) in omega arith
 gone_drop q m xs j (checked.Decide p) = gone_phase p
@@ -102,9 +103,9 @@ passed_own k (Effects.start {w} s {h} {i} q e z) f o = begins (with_status w h.d
 passed_own k (Effects.install {w} s {h} {m} {xs} {j} x q a b e z put_in low) f o = goes_on (with_word w x.seen.loc.0 (word_of h j)) h m xs q j x e a (put_here w.word x.seen.loc.0 (word_of h j)) f
 passed_own k (Effects.installed {w} s {h} {m} {xs} {j} x q a b e z) f o = goes_on w h m xs q j x e a b f
 passed_own k (Effects.unfit {w} s {h} {m} {xs} x a b e) f o = λ y k x l q i. absurd (omega arith)
-passed_own k (Effects.check_fits {w} s {h} {m} {xs} {j} x q a b c e z) f o = fewer w h m xs 64 (gone_by_step q) (let g = ap gone_by_step e in let n = gone_check m xs (after_line j) in omega arith) f
+passed_own k (Effects.check_fits {w} s {h} {m} {xs} {j} x q a b c e z) f o = fewer w h m xs MOST (gone_by_step q) (let g = ap gone_by_step e in let n = gone_check m xs (after_line j) in omega arith) f
 passed_own k (Effects.check_unfit {w} s {h} {m} {xs} x a b e) f o = λ y k x l q i. absurd (omega arith)
-passed_own k (Effects.check_drop {w} s {h} {m} {xs} {j} {r} {stray} {c} t e z) f o = fewer (held_once_less w r.handle.descriptor) h m xs 64 (gone_by t) (let g = ap gone_by e in let n = gone_drop (CheckDrop j r stray c) m xs j c in omega arith) f
+passed_own k (Effects.check_drop {w} s {h} {m} {xs} {j} {r} {stray} {c} t e z) f o = fewer (held_once_less w r.handle.descriptor) h m xs MOST (gone_by t) (let g = ap gone_by e in let n = gone_drop (CheckDrop j r stray c) m xs j c in omega arith) f
 passed_own k (Effects.decide {w} s {h} {m} {xs} p t a b e z may halts) f o = none_claimed (with_status w h.descriptor (status h.generation p)) h m xs t _ e (gone_release (Decide p) m xs 0 p)
 passed_own k (Effects.succeed {w} s {h} {m} {xs} t a e z) f o = none_claimed (with_status w h.descriptor (status h.generation Succeeded)) h m xs t _ e (gone_release (Decide Succeeded) m xs 0 Succeeded)
 passed_own k (Effects.learn {w} s {h} {m} {xs} p t a e z may) f o = none_claimed w h m xs t _ e (gone_release (Decide p) m xs 0 (decided_as p (w.status h.descriptor).phase))

@@ -14,6 +14,7 @@ use Rattle.kc_machine_words.specs.declared.words.Phase.TheVariants.{Active, Succ
 use Rattle.kc_machine_words.specs.declared.words.Reference.{Reference}
 use Rattle.kc_model.specs.declared.word.Word.{Word}
 use Rattle.kc_model.specs.declared.word.Word.TheVariants.{Plain}
+use Rattle.kc_model.specs.declared.footprint.TheConstants.{MOST}
 use Rattle.kc_machine_steps.specs.declared.pass.AfterCheck.TheVariants as checked
 use Rattle.kc_machine_steps.specs.declared.aid.AidStep.{AidStep}
 use Rattle.kc_machine_steps.specs.declared.aid.AidStep.TheVariants as aid
@@ -111,14 +112,14 @@ module _ (h : Handle) (i : ℕ) where
       go false e y = ltb-false i j e
 
   after_at_most : (j : ℕ) → j < i → after_line j ≤ i
-  after_at_most j l = go (nat_lt j 64) refl
+  after_at_most j l = go (nat_lt j MOST) refl
     where
-      go : (b : Bool) → nat_lt j 64 ≡ b → (if b then j + 1 else 64) ≤ i
+      go : (b : Bool) → nat_lt j MOST ≡ b → (if b then j + 1 else MOST) ≤ i
       go true e = omega arith
-      go false e = let a = ltb-false j 64 e in omega arith
+      go false e = let a = ltb-false j MOST e in omega arith
 
   -- the line is there, of location l, where the reference stands behind the step
-  module _ (low : i < 64) where
+  module _ (low : i < MOST) where
     -- from line k on the pass releases
     behind_owes : (w : World) (q : PassStep) (m : Mode) (xs : List Line) (k : ℕ) (p : Phase) (t : Turn) → IsInstalledLine w h.descriptor i → Target w h m xs → k ≤ i → t ≡ turn q (from_release m xs k p) → turn_owes i t ≡ true
     behind_owes w q m xs k p t f y b e = let x = named w h m xs i y f in ap (turn_owes i) e ∙ release_owes m xs q k p i x.0 b low x.1 x.2

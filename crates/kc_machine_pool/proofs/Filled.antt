@@ -5,6 +5,7 @@ use Rattle.std.proofs.lemmas.Option.{slice_get_cases, slice_get_within}
 use Rattle.std.proofs.lemmas.Bool.{ltb-false}
 use Rattle.kc_machine_steps.specs.declared.line.Intent.{Intent}
 use Rattle.kc_model.specs.declared.footprint.Line.{Line}
+use Rattle.kc_model.specs.declared.footprint.TheConstants.{MOST}
 use Rattle.kc_machine_words.specs.declared.words.First.{First}
 use Rattle.kc_machine_words.specs.declared.words.Handle.{Handle}
 use Rattle.kc_machine_words.specs.declared.words.Second.{Second}
@@ -71,11 +72,11 @@ is_there (x ∷ xs) zero l = (x, refl)
 is_there (x ∷ xs) (suc k) l = is_there xs k (omega arith)
 
 pub one_behind : (j : ℕ) → after_line j ≤ j + 1
-one_behind j = go (nat_lt j 64) refl
+one_behind j = go (nat_lt j MOST) refl
   where
-    go : (b : Bool) → nat_lt j 64 ≡ b → (if b then j + 1 else 64) ≤ j + 1
+    go : (b : Bool) → nat_lt j MOST ≡ b → (if b then j + 1 else MOST) ≤ j + 1
     go true q = omega arith
-    go false q = let x = ltb-false j 64 q in omega arith
+    go false q = let x = ltb-false j MOST q in omega arith
 
 -- what is stored where the line to fill next is line k
 firsts_to : (xs : List Line) (k n : ℕ) (x : Line) → slice_get xs n ≡ Some x → FirstStored n (fill_next xs k) → n < k

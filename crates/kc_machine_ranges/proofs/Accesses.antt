@@ -51,7 +51,7 @@ use Rattle.kc_machine_steps.specs.Swaps.{may_swap, seen_word, word_after, swap_a
 use Rattle.kc_machine_steps.specs.declared.swap.SwapStep.{SwapStep}
 use Rattle.kc_machine_steps.specs.declared.swap.SwapStep.TheVariants as swap
 use Rattle.kc_machine_words.specs.declared.access.Touch.TheVariants.{Load, CompareExchange}
-use Rattle.kc_model.specs.declared.footprint.TheConstants.{LAST_VERSION}
+use Rattle.kc_model.specs.declared.footprint.TheConstants.{LAST_VERSION, MOST}
 use Rattle.kc_machine_steps.specs.Lines.{next_version, resolved_version, succeeds, first_of}
 use Rattle.kc_machine_steps.specs.Looks.{look_access}
 use Rattle.kc_machine_steps.specs.Passes.{pass_access, install_access, check_access, release_access, release_at}
@@ -90,8 +90,8 @@ lowest_below (suc j) (suc k) n z l m = go (n % 2) refl (λ ne. lowest_below j k 
 module _ (o : Opening) where
   -- ---- passes
 
-  module _ (h : Handle) (own : HandleIn o h) (xs : List Line) (few : length xs ≤ 64) (lines : (k : ℕ) (x : Line) → slice_get xs k ≡ Some x → (x.seen.loc.0 < o.locations) × (x.seen.version ≤ 2147483647)) where
-    release_in : (k : ℕ) (p : Phase) (x : Line) → k < 64 → x.seen.loc.0 < o.locations → x.seen.version ≤ 2147483647 → AccessIn o (release_access h k p x)
+  module _ (h : Handle) (own : HandleIn o h) (xs : List Line) (few : length xs ≤ MOST) (lines : (k : ℕ) (x : Line) → slice_get xs k ≡ Some x → (x.seen.loc.0 < o.locations) × (x.seen.version ≤ 2147483647)) where
+    release_in : (k : ℕ) (p : Phase) (x : Line) → k < MOST → x.seen.loc.0 < o.locations → x.seen.version ≤ 2147483647 → AccessIn o (release_access h k p x)
     release_in k p x l a v = (a, ((own, l), version_fits (first_of x) p v))
 
     pass_touches : (halted : Bool) (out : AfterCheck) (m : Mode) (p : PassStep) → StepFits halted out m xs p → PassIn o p → AccessIn o (pass_access h xs p)

@@ -23,6 +23,7 @@ use Rattle.kc_machine_steps.specs.declared.line.Intent.{Intent}
 use Rattle.kc_machine_words.specs.declared.words.Handle.{Handle}
 use Rattle.kc_machine_words.specs.declared.words.Reference.{Reference}
 use Rattle.kc_model.specs.declared.footprint.Seen.{Seen}
+use Rattle.kc_model.specs.declared.footprint.TheConstants.{MOST}
 use Rattle.kc_machine_steps.specs.declared.aid.AidStep.TheVariants as aid
 use Rattle.kc_machine_commits.specs.declared.commit.OwnStep.{OwnStep}
 use Rattle.kc_machine_commits.specs.declared.commit.OwnStep.TheVariants as own
@@ -177,8 +178,8 @@ is_possible o m x y z (access.Location l t) r f = lt_is l.0 m.locations (let b =
 is_possible o m x y z (access.Control d g) r f = rw (r d g refl) (rw (lt_is d m.descriptors (let b = f.0 in omega arith)) refl)
 is_possible o m x y z (access.Status d t) r f = lt_is d m.descriptors (let b = f.0 in omega arith)
 is_possible o m x y z (access.Owner d t) r f = lt_is d m.descriptors (let b = f.0 in omega arith)
-is_possible o m x y z (access.First d k t) r f = rw (lt_is k 64 f.1) (rw (lt_is d m.descriptors (let b = f.0 in omega arith)) refl)
-is_possible o m x y z (access.Second d k t) r f = rw (lt_is k 64 f.1) (rw (lt_is d m.descriptors (let b = f.0 in omega arith)) refl)
+is_possible o m x y z (access.First d k t) r f = rw (lt_is k MOST f.1) (rw (lt_is d m.descriptors (let b = f.0 in omega arith)) refl)
+is_possible o m x y z (access.Second d k t) r f = rw (lt_is k MOST f.1) (rw (lt_is d m.descriptors (let b = f.0 in omega arith)) refl)
 is_possible o m x y z (access.Awaiters l b) r f = lt_is l.0 m.locations (let b = f.0 in omega arith)
 is_possible o m x y z (access.Signal c s) r f = lt_is c m.callers (omega arith)
 

@@ -18,6 +18,7 @@ use Rattle.kc_machine_words.specs.declared.access.Found.TheVariants as found
 use Rattle.kc_machine_steps.specs.declared.task.Task.{Task}
 use Rattle.kc_machine_steps.specs.declared.task.Task.TheVariants as task
 use Rattle.kc_model.specs.declared.footprint.Line.{Line}
+use Rattle.kc_model.specs.declared.footprint.TheConstants.{MOST}
 use Rattle.kc_machine_steps.specs.declared.line.Pick.TheVariants.{Installed, Checked, Put}
 use Rattle.kc_machine_steps.specs.declared.look.Look.{Look}
 use Rattle.kc_machine_steps.specs.declared.look.LookStep.{LookStep}
@@ -113,14 +114,14 @@ module _ (o : Opening) where
       go None = tt
       go (Some j) = tt
 
-  installed_in : (h : Handle) (m : Mode) (xs : List Line) (k : ℕ) (f : Found) (x : Option Line) → k < 64 → FoundIn o f → PassNextIn (install_found h m xs k f x)
+  installed_in : (h : Handle) (m : Mode) (xs : List Line) (k : ℕ) (f : Found) (x : Option Line) → k < MOST → FoundIn o f → PassNextIn (install_found h m xs k f x)
   installed_in h m xs k (found.Word (Plain v y)) (Some x) l i = if_in PassNextIn (fits v y x) _ _ (from_install_in m xs (after_line k)) l
   installed_in h m xs k (found.Word (Ref g d j)) (Some x) l i = if_in PassNextIn (refers_to h k (reference_of g d j)) _ _ (from_install_in m xs (after_line k)) i
   installed_in h m xs k (found.Word (Plain v y)) None l i = tt
   installed_in h m xs k (found.Word (Ref g d j)) None l i = tt
   installed_in h m xs k _ x l i = tt
 
-  checked_in : (m : Mode) (xs : List Line) (k : ℕ) (f : Found) (x : Option Line) → k < 64 → FoundIn o f → PassIn o (check_found m xs k f x)
+  checked_in : (m : Mode) (xs : List Line) (k : ℕ) (f : Found) (x : Option Line) → k < MOST → FoundIn o f → PassIn o (check_found m xs k f x)
   checked_in m xs k (found.Word (Plain v y)) (Some x) l i = if_in (PassIn o) (fits v y x) _ _ (from_check_in m xs (after_line k)) l
   checked_in m xs k (found.Word (Ref g d j)) (Some x) l i = i
   checked_in m xs k (found.Word (Plain v y)) None l i = tt
@@ -131,22 +132,22 @@ module _ (o : Opening) where
   held_in k r (found.Control c) y = if_in (PassIn o) (c.generation == r.handle.generation) (CheckStatus k r) (CheckDrop k r true checked.Again) y (y, tt)
   held_in k r _ y = y
 
-  crossed_in : (k : ℕ) (r : Reference) (p : Phase) → k < 64 → ReferenceIn o r → PassIn o (crossed_or_first k r p)
+  crossed_in : (k : ℕ) (r : Reference) (p : Phase) → k < MOST → ReferenceIn o r → PassIn o (crossed_or_first k r p)
   crossed_in k r Active l y = (y, l)
   crossed_in k r Succeeded l y = y
   crossed_in k r (Failed j) l y = y
   crossed_in k r (Crossed j) l y = y
   crossed_in k r Halted l y = y
 
-  status_in : (k : ℕ) (r : Reference) (f : Found) → k < 64 → ReferenceIn o r → PassIn o (check_status_next k r f)
+  status_in : (k : ℕ) (r : Reference) (f : Found) → k < MOST → ReferenceIn o r → PassIn o (check_status_next k r f)
   status_in k r (found.Status s) l y = crossed_in k r s.phase l y
   status_in k r _ l y = y
 
-  agrees_in : (k : ℕ) (b : Bool) → k < 64 → AfterIn (agrees_or_fails k b)
+  agrees_in : (k : ℕ) (b : Bool) → k < MOST → AfterIn (agrees_or_fails k b)
   agrees_in k true l = tt
   agrees_in k false l = l
 
-  first_in : (k : ℕ) (r : Reference) (p : Phase) (f : Found) (x : Option Line) → k < 64 → ReferenceIn o r → PassIn o (check_first_found k r p f x)
+  first_in : (k : ℕ) (r : Reference) (p : Phase) (f : Found) (x : Option Line) → k < MOST → ReferenceIn o r → PassIn o (check_first_found k r p f x)
   first_in k r p (found.First f) (Some x) l y = (y, agrees_in k (resolved_version f p == x.seen.version) l)
   first_in k r p (found.First f) None l y = y
   first_in k r p _ x l y = y
@@ -161,8 +162,8 @@ module _ (o : Opening) where
   decided_in m xs p (found.Status s) y = from_release_in m xs 0 (decided_as p s.phase)
   decided_in m xs p _ y = y
 
-  module _ (halted : Bool) (out : AfterCheck) (h : Handle) (m : Mode) (xs : List Line) (few : length xs ≤ 64) where
-    there : (k : ℕ) (x : Line) → slice_get xs k ≡ Some x → k < 64
+  module _ (halted : Bool) (out : AfterCheck) (h : Handle) (m : Mode) (xs : List Line) (few : length xs ≤ MOST) where
+    there : (k : ℕ) (x : Line) → slice_get xs k ≡ Some x → k < MOST
     there k x e = let l = slice_get_within xs k x e in omega arith
 
     pass_in : (p : PassStep) (f : Found) → StepFits halted out m xs p → FoundIn o f → PassIn o p → PassNextIn (pass_next h m xs p f)
@@ -260,7 +261,7 @@ module _ (o : Opening) where
   owner_copied a _ i y = y
 
   line_copied : (a : Aided) (x : First) (f : Found) → FirstIn x → FoundIn o f → CopyIn o a → CopyIn o (copy_line a x f)
-  line_copied a x (found.Second s) v i y = if_in (CopyIn o) (length a.lines.items == 64) a (record a { lines = record { items = a.lines.items ++ joined x s ∷ [] } }) y (All-push (LineIn o) a.lines.items (joined x s) y.0 (i, v), y.1)
+  line_copied a x (found.Second s) v i y = if_in (CopyIn o) (length a.lines.items == MOST) a (record a { lines = record { items = a.lines.items ++ joined x s ∷ [] } }) y (All-push (LineIn o) a.lines.items (joined x s) y.0 (i, v), y.1)
   line_copied a x _ v i y = y
 
   aid_copied : (a : Aided) (step : AidStep) (f : Found) → FoundIn o f → AidIn o a step → CopyIn o a → CopyIn o (aid_copy a step f)
@@ -324,7 +325,7 @@ module _ (o : Opening) where
         go j (Some i) y = y
     woken_in a k n _ i y = y
 
-    module _ (few : length c.intent.lines.items ≤ 64) (copies : IsCopy c.copy) where
+    module _ (few : length c.intent.lines.items ≤ MOST) (copies : IsCopy c.copy) where
       own_in : (h : Handle) (step : OwnStep) (f : Found) → OwnFits c.halted c.intent c.copy step → FoundIn o f → OwnIn o c.copy step
           → OwnIn o (copy_by_own c.copy step f) (own_next (record c { copy = copy_by_own c.copy step f }) h step f)
       own_in h own.FillOwner f z i y = filled_in c.copy 0
@@ -474,7 +475,7 @@ module _ (o : Opening) where
     look_answers l false (looking.Goes step) y = y
     look_answers l false (looking.Saw seen) y = tt
 
-    commit_answers : (c : Commit) (few : length c.intent.lines.items ≤ 64) (copies : IsCopy c.copy) (f : Found) (n : Next) → CopyIn o (copy_by c.copy c.stage f) → NextIn c few copies (copy_by c.copy c.stage f) n
+    commit_answers : (c : Commit) (few : length c.intent.lines.items ≤ MOST) (copies : IsCopy c.copy) (f : Found) (n : Next) → CopyIn o (copy_by c.copy c.stage f) → NextIn c few copies (copy_by c.copy c.stage f) n
         → SeatIn (after (record s { work = work.Commit (gone_on (loaded c f) n) }) (onward_by n))
     commit_answers c few copies f (next.Goes x) z y = (z, y)
     commit_answers c few copies f (next.Takes x) z y = (z, y)

@@ -55,6 +55,7 @@ use Rattle.kc_model.specs.Footprint.{Reads, put_at}
 use Rattle.kc_model.specs.declared.footprint.Footprint.{Footprint}
 use Rattle.kc_model.specs.declared.footprint.Put.{Put}
 use Rattle.kc_model.specs.declared.footprint.Seen.{Seen}
+use Rattle.kc_model.specs.declared.footprint.TheConstants.{MOST}
 
 -- ---- lists
 
@@ -63,7 +64,7 @@ length_listed f zero = refl
 length_listed f (suc n) = ap suc (length_listed (λ i. f (suc i)) n)
 
 -- a placed pass has gone by all its lines
-gone_all : (t : Turn) → is_placed_in t ≡ true → gone_by t ≡ 64
+gone_all : (t : Turn) → is_placed_in t ≡ true → gone_by t ≡ MOST
 gone_all (At (Install k)) e = absurd (cc)
 gone_all (At (Check k)) e = refl
 gone_all (At (CheckHold k r)) e = refl
@@ -111,7 +112,7 @@ module _ (o : Opening) (es : List Event) where
       over q = ap goes_over q
 
   module _ (w : IsSchedule o es) where
-    pub most_lines : (j : ℕ) (h : Handle) (mode : Mode) (xs : List Line) (t : Turn) → j < o.callers → pass_of o es j ≡ Over h mode xs t → length xs ≤ 64
+    pub most_lines : (j : ℕ) (h : Handle) (mode : Mode) (xs : List Line) (t : Turn) → j < o.callers → pass_of o es j ≡ Over h mode xs t → length xs ≤ MOST
     most_lines j h mode xs t l q =
         let a = target j h mode xs t l q in
         let b = (started_made o es w h.descriptor (a.status ∙ sym a.control)).most in

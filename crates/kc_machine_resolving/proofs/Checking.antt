@@ -22,6 +22,7 @@ use Rattle.kc_machine_words.specs.declared.access.Access.{Access}
 use Rattle.kc_machine_words.specs.declared.access.Access.TheVariants as access
 use Rattle.kc_machine_words.specs.declared.access.Found.TheVariants as found
 use Rattle.kc_model.specs.declared.footprint.Line.{Line}
+use Rattle.kc_model.specs.declared.footprint.TheConstants.{MOST}
 use Rattle.kc_machine_steps.specs.declared.line.Pick.TheVariants.{Installed, Checked}
 use Rattle.kc_machine_steps.specs.declared.pass.AfterCheck.{AfterCheck}
 use Rattle.kc_machine_steps.specs.declared.pass.PassStep.{PassStep}
@@ -128,7 +129,7 @@ module _ (mode : Mode) (xs : List Line) where
   unchecked x e f = let q : true ≡ false = sym (ap not f) ∙ e in absurd (cc)
 
   abbrev SkipsTo : ℕ → Option ℕ → Type 0
-  SkipsTo k None = (i : ℕ) (x : Line) → k ≤ i → i < 64 → slice_get xs i ≡ Some x → picks Checked mode x ≡ false
+  SkipsTo k None = (i : ℕ) (x : Line) → k ≤ i → i < MOST → slice_get xs i ≡ Some x → picks Checked mode x ≡ false
   SkipsTo k (Some j) = (i : ℕ) (x : Line) → k ≤ i → i < j → slice_get xs i ≡ Some x → picks Checked mode x ≡ false
 
   -- no line to be checked lies from line k to before the next check
@@ -147,13 +148,13 @@ module _ (mode : Mode) (xs : List Line) where
       go (Some j) p b = absurd (cc)
 
 -- behind line k the next one is one more
-pub after_is : (k i : ℕ) → k < i → i < 64 → after_line k ≤ i
-after_is k i l b = let e : nat_lt k 64 ≡ true = lt-ltb k 64 (omega arith) in subst (λ t. (if t then k + 1 else 64) ≤ i) (sym e) (omega arith)
+pub after_is : (k i : ℕ) → k < i → i < MOST → after_line k ≤ i
+after_is k i l b = let e : nat_lt k MOST ≡ true = lt-ltb k MOST (omega arith) in subst (λ t. (if t then k + 1 else MOST) ≤ i) (sym e) (omega arith)
 
-pub checked_most : (mode : Mode) (xs : List Line) (k : ℕ) → checked_by (from_check mode xs k) ≤ 64
+pub checked_most : (mode : Mode) (xs : List Line) (k : ℕ) → checked_by (from_check mode xs k) ≤ MOST
 checked_most mode xs k = go (next_line Checked mode xs k) (next_fits Checked mode xs k)
   where
-    go : (t : Option ℕ) → IsPicked Checked mode xs t → checked_by (check_or_decide t) ≤ 64
+    go : (t : Option ℕ) → IsPicked Checked mode xs t → checked_by (check_or_decide t) ≤ MOST
     go None f = omega arith
     go (Some j) f = let b = f.3 in omega arith
 

@@ -64,6 +64,7 @@ use Rattle.kc_machine_steps.specs.Lines.{one_more, next_line, after_line, joined
 use Rattle.kc_machine_seats.specs.Formed.{SwapIsFormed}
 use Rattle.kc_machine_steps.specs.declared.task.Told.TheVariants as told
 use Rattle.kc_model.specs.declared.word.Word.TheVariants.{Plain, Ref}
+use Rattle.kc_model.specs.declared.footprint.TheConstants.{MOST}
 use Rattle.kc_machine_steps.specs.Swaps.{may_swap, exchange_next, swap_next, swap_next_at, swaps_on, ends_at_once}
 use Rattle.kc_machine_steps.specs.Swaps.{owed_next as owed_by_swap}
 use Rattle.kc_machine_steps.specs.declared.swap.SwapStep.{SwapStep}
@@ -203,13 +204,13 @@ module _ (c : Commit) where
 -- ---- what is copied
 
 line_copied : (a : Aided) (x : First) (f : Found) → IsCopy a → IsCopy (copy_line a x f)
-line_copied a x (found.Second s) l = go (length a.lines.items == 64) refl
+line_copied a x (found.Second s) l = go (length a.lines.items == MOST) refl
   where
-    go : (b : Bool) → (length a.lines.items == 64) ≡ b → IsCopy (if b then a else record a { lines = record { items = a.lines.items ++ joined x s ∷ [] } })
+    go : (b : Bool) → (length a.lines.items == MOST) ≡ b → IsCopy (if b then a else record a { lines = record { items = a.lines.items ++ joined x s ∷ [] } })
     go true e = l
     go false e =
-        let n = eqb-false (length a.lines.items) 64 e in
-        let long : length (a.lines.items ++ joined x s ∷ []) ≤ 64 = omega (arith, n, l, length-append a.lines.items (joined x s ∷ [])) in
+        let n = eqb-false (length a.lines.items) MOST e in
+        let long : length (a.lines.items ++ joined x s ∷ []) ≤ MOST = omega (arith, n, l, length-append a.lines.items (joined x s ∷ [])) in
         long
 line_copied a x _ l = l
 

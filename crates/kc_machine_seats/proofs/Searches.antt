@@ -13,13 +13,14 @@ use Rattle.kc_machine_commits.specs.Nexts.{Goes, Takes, Tells}
 use Rattle.kc_machine_commits.specs.declared.commit.Stage.TheVariants.{Scan, Take, Own}
 use Rattle.kc_machine_steps.specs.Lines.{picks, picked, next_among, next_line}
 use Rattle.kc_model.specs.declared.footprint.Line.{Line}
+use Rattle.kc_model.specs.declared.footprint.TheConstants.{MOST}
 use Rattle.kc_machine_steps.specs.declared.line.Pick.{Pick}
 
 abbrev pub IsPicked : Pick → Mode → List Line → Option ℕ → Type 0
 IsPicked p m xs None = Unit {0}
-IsPicked p m xs (Some k) = (x : Line) × (slice_get xs k ≡ Some x) × (picks p m x ≡ true) × (k < 64)
+IsPicked p m xs (Some k) = (x : Line) × (slice_get xs k ≡ Some x) × (picks p m x ≡ true) × (k < MOST)
 
-picked_fits : (p : Pick) (m : Mode) (xs : List Line) (k : ℕ) (x : Option Line) → slice_get xs k ≡ x → k < 64 → (behind : Option ℕ) → IsPicked p m xs behind → IsPicked p m xs (picked p m k x behind)
+picked_fits : (p : Pick) (m : Mode) (xs : List Line) (k : ℕ) (x : Option Line) → slice_get xs k ≡ x → k < MOST → (behind : Option ℕ) → IsPicked p m xs behind → IsPicked p m xs (picked p m k x behind)
 picked_fits p m xs k None e l behind y = tt
 picked_fits p m xs k (Some x) e l behind y = go (picks p m x) refl
   where
@@ -27,13 +28,13 @@ picked_fits p m xs k (Some x) e l behind y = go (picks p m x) refl
     go true q = (x, e, q, l)
     go false q = y
 
-among_fits : (p : Pick) (m : Mode) (xs : List Line) (n k : ℕ) → n ≤ 64 - k → IsPicked p m xs (next_among p m xs n k)
+among_fits : (p : Pick) (m : Mode) (xs : List Line) (n k : ℕ) → n ≤ MOST - k → IsPicked p m xs (next_among p m xs n k)
 unfolding next_among
 among_fits p m xs zero k l = tt
 among_fits p m xs (suc n) k l = picked_fits p m xs k (slice_get xs k) refl (omega arith) (next_among p m xs n (k + 1)) (among_fits p m xs n (k + 1) (omega arith))
 
 pub next_fits : (p : Pick) (m : Mode) (xs : List Line) (k : ℕ) → IsPicked p m xs (next_line p m xs k)
-next_fits p m xs k = among_fits p m xs (64 - k) k (omega arith)
+next_fits p m xs k = among_fits p m xs (MOST - k) k (omega arith)
 
 -- what holds of a search, and where a descriptor is taken, holds of what a search comes to
 module _ (Q : Next → Type 0) (scan : (d worn : ℕ) → Q (Goes (Scan d worn))) (take : (d g : ℕ) → Q (Goes (Take d g))) where

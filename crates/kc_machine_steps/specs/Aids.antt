@@ -13,6 +13,7 @@ use Rattle.kc_machine_words.specs.declared.access.Access.TheVariants as access
 use Rattle.kc_machine_words.specs.declared.access.Found.{Found}
 use Rattle.kc_machine_words.specs.declared.access.Found.TheVariants as found
 use Rattle.kc_model.specs.declared.footprint.Line.{Line}
+use Rattle.kc_model.specs.declared.footprint.TheConstants.{MOST}
 use Rattle.kc_machine_steps.specs.declared.pass.PassNext.{PassNext}
 use Rattle.kc_machine_steps.specs.declared.pass.PassNext.TheVariants as pass
 use Rattle.kc_machine_steps.specs.declared.aid.AidStep.{AidStep}
@@ -47,7 +48,7 @@ copy_owner a (found.Owner o) = record a { owner = o; lines = record { items = []
 copy_owner a _ = a
 
 abbrev pub copy_line : Aided → First → Found → Aided
-copy_line a f (found.Second s) = if length a.lines.items == 64 then a else record a { lines = record { items = a.lines.items ++ joined f s ∷ [] } }
+copy_line a f (found.Second s) = if length a.lines.items == MOST then a else record a { lines = record { items = a.lines.items ++ joined f s ∷ [] } }
 copy_line a f _ = a
 
 abbrev pub aid_copy : Aided → AidStep → Found → Aided

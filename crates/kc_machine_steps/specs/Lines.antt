@@ -2,7 +2,6 @@
 use Rattle.std.specs.Prelude.{ℕ, zero, suc, ◌+◌, ◌-◌, ◌==◌, List, [], ◌∷◌, Bool, true, false, not, Option, None, Some, if◌then◌else◌, slice_get, nat_lt, map}
 use Rattle.kc_model.specs.declared.footprint.Line.{Line}
 use Rattle.kc_machine_steps.specs.declared.line.Pick.{Pick}
-use Rattle.kc_machine_steps.specs.declared.line.TheConstants.{MOST_LINES}
 use Rattle.kc_machine_words.specs.declared.words.First.{First}
 use Rattle.kc_machine_words.specs.declared.words.Handle.{Handle}
 use Rattle.kc_machine_words.specs.declared.words.Mode.{Mode}
@@ -13,7 +12,7 @@ use Rattle.kc_machine_words.specs.declared.words.Second.{Second}
 use Rattle.kc_model.specs.declared.footprint.Footprint.{Footprint}
 use Rattle.kc_model.specs.declared.footprint.Put.{Put}
 use Rattle.kc_model.specs.declared.footprint.Seen.{Seen}
-use Rattle.kc_model.specs.declared.footprint.TheConstants.{LAST_VERSION}
+use Rattle.kc_model.specs.declared.footprint.TheConstants.{LAST_VERSION, MOST}
 use Rattle.kc_model.specs.declared.word.Word.{Word}
 use Rattle.kc_model.specs.declared.word.Word.TheVariants.{Ref}
 use Rattle.kc_machine_steps.specs.declared.line.Pick.TheVariants as pick
@@ -24,7 +23,7 @@ one_more n = if nat_lt n 18446744073709551615 then n + 1 else n
 
 -- the number of the next line, up to the most
 abbrev pub after_line : ℕ → ℕ
-after_line k = if nat_lt k MOST_LINES then k + 1 else MOST_LINES
+after_line k = if nat_lt k MOST then k + 1 else MOST
 
 abbrev pub next_version : ℕ → ℕ
 next_version v = if nat_lt v LAST_VERSION then v + 1 else v
@@ -89,7 +88,7 @@ next_among p m xs zero k = None
 next_among p m xs (suc n) k = picked p m k (slice_get xs k) (next_among p m xs n (k + 1))
 
 abbrev pub next_line : Pick → Mode → List Line → ℕ → Option ℕ
-next_line p m xs k = next_among p m xs (64 - k) k
+next_line p m xs k = next_among p m xs (MOST - k) k
 
 -- the value put at a location
 abbrev pub put_of : List Put → ℕ → Option ℕ

@@ -7,9 +7,6 @@ use arrayvec::ArrayVec;
 use kc_machine_words::{First, Handle, Mode, Phase, Second};
 use kc_model::{Footprint, LAST_VERSION, Line, Loc, MOST, Put, Seen, Word};
 
-/// How many lines a commit may have.
-pub const MOST_LINES: u32 = 64;
-
 /// What a descriptor is to do: its lines, in rising order of location.
 #[derive(Drop)]
 pub struct Intent {
@@ -36,10 +33,10 @@ pub fn one_more(count: u64) -> u64
 pub fn after_line(line: u32) -> u32
     ensures { result ≡ after_line line }
 {
-    if line < MOST_LINES {
+    if line < MOST as u32 {
         line + 1
     } else {
-        MOST_LINES
+        MOST as u32
     }
 }
 
@@ -152,7 +149,7 @@ fn line_at(lines: &[Line], line: u32) -> Option<Line>
 pub fn next_line(pick: Pick, mode: Mode, lines: &[Line], from: u32) -> Option<u32>
     ensures { result ≡ next_line pick mode lines.now from }
 {
-    for i in from..MOST_LINES {
+    for i in from..MOST as u32 {
         match line_at(lines, i) {
             None => return None,
             Some(line) => if picks(pick, mode, &line) {

@@ -2,7 +2,7 @@ use arrayvec::ArrayVec;
 use kc_machine::*;
 use kc_machine_steps::{Pick, first_of, from_install, next_line, second_of};
 use kc_machine_words::{Access, First, Found, Handle, Mode, Second, Touch};
-use kc_model::{Footprint, Line, Loc, OpenError, Put, Seen, Word};
+use kc_model::{Footprint, Line, Loc, MOST, OpenError, Put, Seen, Word};
 use std::test::Fail;
 
 fn seen(loc: u32, version: u32, value: u32) -> Seen {
@@ -29,6 +29,23 @@ fn commit(mode: Mode, reads: &[(u32, u32, u32)], puts: &[(u32, u32, u32)]) -> Ta
     Task::Commit { footprint, mode }
 }
 
+// Puts 1 in place of 0 at so many locations, from the first on.
+fn first_puts(count: u32) -> Task {
+    let mut footprint = Footprint::new();
+    for i in 0..count {
+        let _ = footprint.reads.try_push(seen(i, 0, 0));
+        let _ = footprint.puts.try_push(Put {
+            loc: Loc(i),
+            version: 0,
+            after: 1,
+        });
+    }
+    Task::Commit {
+        footprint,
+        mode: Mode::All,
+    }
+}
+
 // Puts these two values in place of 5 and 6.
 fn two(mode: Mode, first: u32, second: u32) -> Task {
     commit(
@@ -45,7 +62,7 @@ fn swap(loc: u32, version: u32, value: u32, after: u32) -> Task {
     }
 }
 
-fn hang(version: u32) -> ArrayVec<Seen, 64> {
+fn hang(version: u32) -> ArrayVec<Seen, MOST> {
     let mut reads = ArrayVec::new();
     let _ = reads.try_push(seen(0, version, version));
     reads
@@ -183,7 +200,7 @@ fn a_chain_of_sixteen_stopped_owners_is_gone_through(rt: HostRuntime) -> Result<
     let count = finish(&mut machine, 0);
     assert_eq!(rt; told(&machine, 0), WON);
     assert_eq!(rt; count, 1555);
-    assert!(rt; count <= 18 * 18 * 16_384);
+    assert!(rt; count as usize <= 18 * 18 * (4 * MOST * MOST));
     Ok(())
 }
 
@@ -513,28 +530,38 @@ fn exchanges(machine: &mut Machine) -> u32 {
 fn alone_a_commit_of_puts_makes_one_exchange_more_than_it_has_puts(
     rt: HostRuntime,
 ) -> Result<(), Fail> {
-    for (puts, expected) in [(2u32, 16), (64, 326)] {
-        let mut machine = open(&rt, &[0; 64], 1)?;
-        let mut footprint = Footprint::new();
-        for i in 0..puts {
-            let _ = footprint.reads.try_push(seen(i, 0, 0));
-            let _ = footprint.puts.try_push(Put {
-                loc: Loc(i),
-                version: 0,
-                after: 1,
-            });
-        }
-        begin(
-            &mut machine,
-            0,
-            Task::Commit {
-                footprint,
-                mode: Mode::All,
-            },
-        );
+    for (puts, expected) in [(2u32, 16), (64, 326), (MOST as u32, 5 * MOST as u64 + 6)] {
+        let mut machine = open(&rt, &[0; MOST], 1)?;
+        begin(&mut machine, 0, first_puts(puts));
         assert_eq!(rt; exchanges(&mut machine), puts + 1);
         assert_eq!(rt; told(&machine, 0), WON);
         assert_eq!(rt; steps(&machine, 0), expected);
+    }
+    Ok(())
+}
+
+// The owner stops behind its first install. The other copies all its lines and carries them out.
+#[test]
+fn a_commit_of_the_most_lines_is_helped(rt: HostRuntime) -> Result<(), Fail> {
+    let most = MOST as u32;
+    let mut machine = open(&rt, &[0; MOST], 2)?;
+    begin(&mut machine, 0, first_puts(most));
+    step(&mut machine, 0, 2 * most + 5);
+    begin(
+        &mut machine,
+        1,
+        commit(Mode::All, &[(0, 0, 0)], &[(0, 0, 9)]),
+    );
+    assert_eq!(rt; finish(&mut machine, 1), 4 * MOST as u64 + 16);
+    assert_eq!(rt; told(&machine, 1), LOST);
+    assert_eq!(rt; finish(&mut machine, 0), 2 * MOST as u64 + 3);
+    assert_eq!(rt; told(&machine, 0), WON);
+    for loc in [0, most - 1] {
+        assert_eq!(rt;
+            look(&mut machine, 1, loc),
+            Some(Told::Seen(seen(loc, 1, 1))),
+            "{loc}"
+        );
     }
     Ok(())
 }

@@ -34,6 +34,7 @@ use Rattle.kc_machine_pool.specs.References.{met_by_aid}
 use Rattle.kc_machine_pool.specs.Started.{listed, line_of_words}
 use Rattle.kc_machine_steps.specs.Lines.{first_of, second_of}
 use Rattle.kc_model.specs.declared.footprint.Line.{Line}
+use Rattle.kc_model.specs.declared.footprint.TheConstants.{MOST}
 use Rattle.kc_machine_traces.proofs.Whole.{Bound, bound_own, bound_whole}
 use Rattle.kc_machine_traces.specs.Copies.{LoadedOf, LoadedAt, CopyIsTrue, CopiesAreTrue, PassesAreWhole}
 
@@ -112,7 +113,7 @@ more_listed f xs y h e =
 
 line_loaded : (w : World) (r : Reference) (c : Aided) (f : First) → IsLoaded w r c → f ≡ w.first r.handle.descriptor (length c.lines.items)
     → IsLoaded w r (copy_line c f (found.Second (w.second r.handle.descriptor (length c.lines.items))))
-line_loaded w r c f h e = go (length c.lines.items == 64)
+line_loaded w r c f h e = go (length c.lines.items == MOST)
   where
     go : (b : Bool) → IsLoaded w r (if b then c else record c { lines = record { items = c.lines.items ++ joined f (w.second r.handle.descriptor (length c.lines.items)) ∷ [] } })
     go true = h

@@ -19,6 +19,7 @@ use Rattle.kc_machine_steps.specs.Lines.{joined}
 use Rattle.kc_machine_steps.specs.declared.pass.PassStep.{PassStep}
 use Rattle.kc_machine_steps.specs.declared.pass.PassStep.TheVariants.{Install, Check, CheckHold, CheckStatus, CheckFirst, CheckDrop, Decide, Release}
 use Rattle.kc_machine_traces.specs.Copies.{IsWhole}
+use Rattle.kc_model.specs.declared.footprint.TheConstants.{MOST}
 
 abbrev HasAll : Aided → Type 0
 HasAll c = length c.lines.items ≡ c.owner.lines
@@ -38,7 +39,7 @@ Bound (Aids r c (aiding.Back onward)) = Unit {0}
 Bound (Passes r c) = HasAll c
 
 one_line_more : (c : Aided) (f : First) (x : Second) → length c.lines.items < c.owner.lines → StepBound (copy_line c f (found.Second x)) aid.LoadFirst
-one_line_more c f x l = go (length c.lines.items == 64)
+one_line_more c f x l = go (length c.lines.items == MOST)
   where
     go : (b : Bool) → StepBound (if b then c else record c { lines = record { items = c.lines.items ++ joined f x ∷ [] } }) aid.LoadFirst
     go true = omega arith

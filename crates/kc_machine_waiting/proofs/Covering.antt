@@ -33,6 +33,7 @@ use Rattle.kc_model.specs.Footprint.{Reads, put_at}
 use Rattle.kc_model.specs.Store.{cell_after}
 use Rattle.kc_model.specs.declared.footprint.Footprint.{Footprint}
 use Rattle.kc_model.specs.declared.plain_store.Cell.{Cell}
+use Rattle.kc_model.specs.declared.footprint.TheConstants.{MOST}
 use Rattle.kc_machine_commits.specs.declared.commit.OwnStep.TheVariants as own
 use Rattle.kc_machine_commits.specs.declared.commit.Stage.{Stage}
 use Rattle.kc_machine_steps.specs.Passes.{status}
@@ -307,7 +308,7 @@ module _ (o : Opening) (es : List Event) (e : Event) (w : IsSchedule o es) (insi
   owns_on k l (Waits h i x) q s = succeeded_stays h.descriptor h.generation (holds_kept o es k h.descriptor h.generation l (inl q)) s
 
   -- the lines of what the seat owned
-  few : (i : Intent) → own_intent was ≡ Some i → length i.lines.items ≤ 64
+  few : (i : Intent) → own_intent was ≡ Some i → length i.lines.items ≤ MOST
   few i q = go (m.seats j).work (intents_made o es w j) q
     where
       at : (a : Intent) (x : Stage) → own_intent (stage_own a x) ≡ Some i → a ≡ i
@@ -317,8 +318,8 @@ module _ (o : Opening) (es : List Event) (e : Event) (w : IsSchedule o es) (insi
       at a (stage.Own h (own.Aid k r s)) q = cc
       at a (stage.Own h _) q = cc
 
-      go : (x : Work) → IntentIsMade o.locations x → own_intent (work_own x) ≡ Some i → length i.lines.items ≤ 64
-      go (work.Commit c) f q = subst (λ (x : Intent). length x.lines.items ≤ 64) (at c.intent c.stage q) f.most
+      go : (x : Work) → IntentIsMade o.locations x → own_intent (work_own x) ≡ Some i → length i.lines.items ≤ MOST
+      go (work.Commit c) f q = subst (λ (x : Intent). length x.lines.items ≤ MOST) (at c.intent c.stage q) f.most
       go work.Idle f q = absurd (cc)
       go (work.Look l) f q = absurd (cc)
       go (work.Hang h) f q = absurd (cc)

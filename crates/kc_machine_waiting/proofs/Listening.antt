@@ -24,6 +24,7 @@ use Rattle.kc_machine_words.specs.declared.words.Phase.{Phase}
 use Rattle.kc_machine_words.specs.declared.words.Phase.TheVariants.{Active, Succeeded, Failed, Crossed, Halted}
 use Rattle.kc_machine_words.specs.declared.words.Reference.{Reference}
 use Rattle.kc_model.specs.declared.footprint.Seen.{Seen}
+use Rattle.kc_model.specs.declared.footprint.TheConstants.{MOST}
 use Rattle.kc_machine_steps.specs.declared.aid.AidStep.TheVariants as aid
 use Rattle.kc_machine_commits.specs.declared.commit.Commit.{Commit}
 use Rattle.kc_machine_commits.specs.declared.commit.Stage.{Stage}
@@ -106,11 +107,11 @@ wait_is s = go s.work
 -- ---- reads by their index
 
 pub up_to : (i j : ℕ) → i < after_line j → i ≤ j
-up_to i j l = go (nat_lt j 64) refl l
+up_to i j l = go (nat_lt j MOST) refl l
   where
-    go : (b : Bool) → nat_lt j 64 ≡ b → i < (if b then j + 1 else 64) → i ≤ j
+    go : (b : Bool) → nat_lt j MOST ≡ b → i < (if b then j + 1 else MOST) → i ≤ j
     go true q a = omega arith
-    go false q a = let y = ltb-false j 64 q in omega arith
+    go false q a = let y = ltb-false j MOST q in omega arith
 
 pub before_end : (xs : List Seen) (n i : ℕ) (r : Seen) → slice_get xs n ≡ None → slice_get xs i ≡ Some r → i < n
 before_end xs n i r g q = go (slice_get_cases xs n).1

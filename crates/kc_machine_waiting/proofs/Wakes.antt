@@ -9,6 +9,7 @@ use borrow.Author.Tests.{ltb-true, ltb-false, eqb-true}
 use Rattle.kc_machine_commits.specs.declared.commit.OwnStep.{OwnStep}
 use Rattle.kc_machine_steps.specs.declared.line.Intent.{Intent}
 use Rattle.kc_model.specs.declared.footprint.Line.{Line}
+use Rattle.kc_model.specs.declared.footprint.TheConstants.{MOST}
 use Rattle.kc_machine_steps.specs.declared.line.Pick.TheVariants.{Put}
 use Rattle.kc_machine_words.specs.declared.words.Handle.{Handle}
 use Rattle.kc_machine_words.specs.declared.words.Phase.TheVariants.{Succeeded}
@@ -67,7 +68,7 @@ reads_line (y ∷ xs) x (suc i, l, e) = Contains-later y.seen (map (λ x. x.seen
 
 -- ---- the next line that puts
 
-module _ (h : Handle) (i : Intent) (few : length i.lines.items ≤ 64) (x : Line) (puts : is_some x.put ≡ true) where
+module _ (h : Handle) (i : Intent) (few : length i.lines.items ≤ MOST) (x : Line) (puts : is_some x.put ≡ true) where
   abbrev xs : List Line
   xs = i.lines.items
 
@@ -79,7 +80,7 @@ module _ (h : Handle) (i : Intent) (few : length i.lines.items ≤ 64) (x : Line
   next_there : (k j : ℕ) → k ≤ j → slice_get xs j ≡ Some x → (n : ℕ) × (next_line Put i.mode xs k ≡ Some n) × (n ≤ j)
   next_there k j l e = go (next_line Put i.mode xs k) refl
     where
-      there : j < 64
+      there : j < MOST
       there = let w = slice_get_within xs j x e in omega arith
 
       go : (o : Option ℕ) → next_line Put i.mode xs k ≡ o → (n : ℕ) × (next_line Put i.mode xs k ≡ Some n) × (n ≤ j)
@@ -98,12 +99,12 @@ module _ (h : Handle) (i : Intent) (few : length i.lines.items ≤ 64) (x : Line
   pub wake_owes : (owed k j : ℕ) → k < j → slice_get xs j ≡ Some x → Owed (wake_or_signal owed (next_line Put i.mode xs (after_line k)))
   wake_owes owed k j l e =
       let w = slice_get_within xs j x e in
-      let n = next_there (after_line k) j (after (nat_lt k 64) refl) e in
+      let n = next_there (after_line k) j (after (nat_lt k MOST) refl) e in
       subst (λ o. Owed (wake_or_signal owed o)) (sym n.1) (still_behind xs n.0 j x n.2 e)
     where
-      after : (b : Bool) → nat_lt k 64 ≡ b → (if b then k + 1 else 64) ≤ j
+      after : (b : Bool) → nat_lt k MOST ≡ b → (if b then k + 1 else MOST) ≤ j
       after true q = omega arith
-      after false q = let w = slice_get_within xs j x e in let z = ltb-false k 64 q in absurd (omega arith)
+      after false q = let w = slice_get_within xs j x e in let z = ltb-false k MOST q in absurd (omega arith)
 
 -- ---- who is owed
 

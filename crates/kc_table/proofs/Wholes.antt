@@ -13,6 +13,7 @@ use Rattle.kc_machine_words.specs.declared.access.Access.TheVariants as access
 use Rattle.kc_machine_words.specs.declared.access.Found.TheVariants as found
 use Rattle.kc_machine_words.specs.declared.access.Touch.TheVariants as touch
 use Rattle.kc_model.specs.declared.footprint.Line.{Line}
+use Rattle.kc_model.specs.declared.footprint.TheConstants.{MOST}
 use Rattle.kc_machine_steps.specs.declared.task.Task.{Task}
 use Rattle.kc_machine_steps.specs.declared.task.Task.TheVariants as task
 use Rattle.kc_machine.specs.Machine.{run}
@@ -50,7 +51,7 @@ commit_starts v f m idle = (idle, rw idle refl)
 pub look_busy : (s : Seat) (l : Loc) → is_idle s.work ≡ true → is_idle (begun s (task.Look l)).work ≡ false
 look_busy s l e = rw e refl
 
-pub few_lines : (f : Footprint) (m : Mode) (xs : List Line) (n : ℕ) → lines_of f ≡ xs → IsWellMadeTask n (task.Commit f m) → length xs ≤ 64
+pub few_lines : (f : Footprint) (m : Mode) (xs : List Line) (n : ℕ) → lines_of f ≡ xs → IsWellMadeTask n (task.Commit f m) → length xs ≤ MOST
 few_lines f m xs n c w = let e : length xs ≡ length f.reads.items = ap length (sym c) ∙ length-map f.reads.items (line_of f.puts.items) in let l = w.2 in omega arith
 
 abbrev pub starts_as : TableId → Me Unit View → Seat → Task → SeatView

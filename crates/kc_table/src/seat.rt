@@ -1,13 +1,16 @@
 //! A seat of the table, and a note of what a seat knows.
 
 ghost use Rattle.std.specs.Prelude.{◌≡◌, not, true};
+ghost use Rattle.kc_machine_steps.specs.declared.task.Task.TheVariants as task;
 ghost use Rattle.kc_machine.specs.Schedules.{IsWellMadeTask};
 ghost use Rattle.kc_machine.specs.Seats.{begun, halted, is_idle, own_of, steps_of, told_of};
 ghost use Rattle.kc_table_moves.specs.Views.{KnowsReads, Starts};
 
+use arrayvec::ArrayVec;
 use crossbeam_utils::CachePadded;
 use kc_machine::Seat;
 use kc_machine_steps::{Task, Told};
+use kc_model::{MOST, Seen};
 use kc_table_moves::Token;
 use std::marker::Model;
 
@@ -47,6 +50,26 @@ impl KcSeat {
         ensures { self.new ≡ record self.old { seat = begun self.old.seat task.now; began = true } }
     {
         self.machine.begin(task);
+        self.began = true;
+    }
+
+    /// Begins a hang on these reads, as `begin` does.
+    pub fn begin_hang(&mut self, reads: &ArrayVec<Seen, MOST>)
+        requires starts { Starts self.old (task.Hang reads.now) }
+        requires made { IsWellMadeTask self.old.of.origin.locations (task.Hang reads.now) }
+        ensures { self.new ≡ record self.old { seat = begun self.old.seat (task.Hang reads.now); began = true } }
+    {
+        self.machine.begin_hang(reads);
+        self.began = true;
+    }
+
+    /// Begins a leave of these reads, as `begin` does.
+    pub fn begin_leave(&mut self, reads: &ArrayVec<Seen, MOST>)
+        requires starts { Starts self.old (task.Leave reads.now) }
+        requires made { IsWellMadeTask self.old.of.origin.locations (task.Leave reads.now) }
+        ensures { self.new ≡ record self.old { seat = begun self.old.seat (task.Leave reads.now); began = true } }
+    {
+        self.machine.begin_leave(reads);
         self.began = true;
     }
 

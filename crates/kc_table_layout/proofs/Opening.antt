@@ -12,6 +12,7 @@ use Rattle.kc_machine.specs.Words as machine
 use Rattle.kc_machine.specs.Machine.{opened}
 use Rattle.kc_table_layout.proofs.Places.{places_differ, inside}
 use Rattle.kc_table_layout.specs.Cells.{Cell, IsThere, place, base_of, size_of, bits, Stores}
+use Rattle.kc_table_layout.specs.declared.place.TheConstants.{DESCRIPTOR}
 use Rattle.kc_table_layout.specs.Cells.Cell.{none, word, awaiters, control, status, owner, first, second, signal}
 use Rattle.kc_table_layout.specs.Opened.{opening_at, written, AreWords}
 
@@ -88,7 +89,7 @@ module _ (values versions : List ℕ) (generation : ℕ) where
       rest (signal c) ne = refl
 
   pub control_written : (n m d : ℕ) (ws : List ℕ) → 1 ≤ m → d < m → AreWords n m (written values versions generation n d d) ws
-      → AreWords n m (written values versions generation n (d + 1) d) (set ws (base_of n + 136 * d) (control_bits (machine.control generation 0)))
+      → AreWords n m (written values versions generation n (d + 1) d) (set ws (base_of n + DESCRIPTOR * d) (control_bits (machine.control generation 0)))
   control_written n m d ws one lt a = one_written n m (written values versions generation n d d) (written values versions generation n (d + 1) d) ws (control d) _ one a lt (rw (is_below d (d + 1) (omega arith)) refl) rest
     where
       rest : (c : Cell) → c ≢ control d → written values versions generation n (d + 1) d c ≡ written values versions generation n d d c
@@ -103,7 +104,7 @@ module _ (values versions : List ℕ) (generation : ℕ) where
       rest (signal c) ne = refl
 
   pub status_written : (n m d : ℕ) (ws : List ℕ) → 1 ≤ m → d < m → AreWords n m (written values versions generation n (d + 1) d) ws
-      → AreWords n m (written values versions generation n (d + 1) (d + 1)) (set ws (base_of n + 136 * d + 1) (status_bits (record { generation = generation; phase = Halted })))
+      → AreWords n m (written values versions generation n (d + 1) (d + 1)) (set ws (base_of n + DESCRIPTOR * d + 1) (status_bits (record { generation = generation; phase = Halted })))
   status_written n m d ws one lt a = one_written n m (written values versions generation n (d + 1) d) (written values versions generation n (d + 1) (d + 1)) ws (status d) _ one a lt (rw (is_below d (d + 1) (omega arith)) refl) rest
     where
       rest : (c : Cell) → c ≢ status d → written values versions generation n (d + 1) (d + 1) c ≡ written values versions generation n (d + 1) d c

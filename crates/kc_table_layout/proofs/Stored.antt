@@ -12,6 +12,7 @@ use Rattle.kc_table_layout.proofs.Places.{places_differ, inside}
 use Rattle.kc_table_layout.proofs.Touches.{touched_else}
 use Rattle.kc_table_layout.specs.Cells.{Cell, IsThere, base_of, place, bits, cell_of, CellFits, HasRoom, Stores}
 use Rattle.kc_table_layout.specs.Changes.{change_of, changed}
+use Rattle.kc_model.specs.declared.footprint.TheConstants.{MOST}
 
 -- what is possible is there, and a count of holds has room
 pub possible_there : (m : State) (a : Access) → m.callers ≤ 64 → possible m a ≡ true → IsThere m.locations m.descriptors (cell_of a) × HasRoom m.world a
@@ -20,8 +21,8 @@ possible_there m (access.Location l t) c p = (ltb-true _ _ p, tt)
 possible_there m (access.Control d g) c p = let b = both (nat_lt d m.descriptors) (room g (m.world.control d)) p in (ltb-true _ _ b.0, b.1)
 possible_there m (access.Status d t) c p = (ltb-true _ _ p, tt)
 possible_there m (access.Owner d t) c p = (ltb-true _ _ p, tt)
-possible_there m (access.First d k t) c p = let b = both (nat_lt d m.descriptors) (nat_lt k 64) p in ((ltb-true _ _ b.0, ltb-true _ _ b.1), tt)
-possible_there m (access.Second d k t) c p = let b = both (nat_lt d m.descriptors) (nat_lt k 64) p in ((ltb-true _ _ b.0, ltb-true _ _ b.1), tt)
+possible_there m (access.First d k t) c p = let b = both (nat_lt d m.descriptors) (nat_lt k MOST) p in ((ltb-true _ _ b.0, ltb-true _ _ b.1), tt)
+possible_there m (access.Second d k t) c p = let b = both (nat_lt d m.descriptors) (nat_lt k MOST) p in ((ltb-true _ _ b.0, ltb-true _ _ b.1), tt)
 possible_there m (access.Awaiters l b) c p = (ltb-true _ _ p, tt)
 possible_there m (access.Signal k s) c p = let l = ltb-true _ _ p in ((let q : k < 64 = omega arith in q), tt)
 

@@ -2,6 +2,8 @@
 use Rattle.std.specs.Prelude.{◌≡◌, ℕ, ◌+◌, ◌*◌, ◌<◌, List, Bool, true, false, length, slice_index}
 use Rattle.kc_machine_words.specs.declared.access.Access.{Access}
 use Rattle.kc_model.specs.Word.{IsPackable, packed}
+use Rattle.kc_model.specs.declared.footprint.TheConstants.{MOST}
+use Rattle.kc_table_layout.specs.declared.place.TheConstants.{DESCRIPTOR}
 use Rattle.kc_machine_words.specs.declared.access.Access.TheVariants as access
 use Rattle.kc_machine.specs.Machine.{World, room}
 use Rattle.kc_machine_words.specs.Packing.{ControlFits, control_bits, StatusFits, status_bits, OwnerFits, owner_bits, FirstFits, first_bits, SecondFits, second_bits}
@@ -38,29 +40,29 @@ IsThere n m (awaiters l) = l < n
 IsThere n m (control d) = d < m
 IsThere n m (status d) = d < m
 IsThere n m (owner d) = d < m
-IsThere n m (first d k) = (d < m) × (k < 64)
-IsThere n m (second d k) = (d < m) × (k < 64)
+IsThere n m (first d k) = (d < m) × (k < MOST)
+IsThere n m (second d k) = (d < m) × (k < MOST)
 IsThere n m (signal c) = c < 64
 
--- ---- where it lies: eight words to a signal, sixteen to a location, then 136 to a descriptor
+-- ---- where it lies: eight words to a signal, sixteen to a location, then DESCRIPTOR words to a descriptor
 
 -- behind the locations
 abbrev pub base_of : ℕ → ℕ
 base_of n = 512 + 16 * n
 
 abbrev pub size_of : ℕ → ℕ → ℕ
-size_of n m = base_of n + 136 * m
+size_of n m = base_of n + DESCRIPTOR * m
 
 -- in a table whose descriptors lie from `base` on
 abbrev pub place : ℕ → Cell → ℕ
 place base none = 0
 place base (word l) = 512 + 16 * l
 place base (awaiters l) = 513 + 16 * l
-place base (control d) = base + 136 * d
-place base (status d) = base + 136 * d + 1
-place base (owner d) = base + 136 * d + 2
-place base (first d k) = base + 136 * d + 3 + 2 * k
-place base (second d k) = base + 136 * d + 4 + 2 * k
+place base (control d) = base + DESCRIPTOR * d
+place base (status d) = base + DESCRIPTOR * d + 1
+place base (owner d) = base + DESCRIPTOR * d + 2
+place base (first d k) = base + DESCRIPTOR * d + 3 + 2 * k
+place base (second d k) = base + DESCRIPTOR * d + 4 + 2 * k
 place base (signal c) = 8 * c
 
 -- ---- what stands in it

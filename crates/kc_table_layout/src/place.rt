@@ -7,7 +7,7 @@ ghost use Rattle.kc_model.specs.declared.plain_store.TheConstants.{MOST_LOCATION
 ghost use Rattle.kc_table_layout.specs.Cells.{base_of, size_of, place};
 ghost use Rattle.kc_table_layout.specs.Cells.Cell.{word, awaiters, control, status, owner, first, second, signal};
 
-use kc_model::Loc;
+use kc_model::{Loc, MOST};
 
 // Words of a cache line.
 const LINE: usize = 8;
@@ -18,8 +18,8 @@ const PAIR: usize = 2 * LINE;
 // Behind the signals of 64 callers.
 const LOCATIONS: usize = 512;
 
-// Words of a descriptor: control, status, owner, then two to a line.
-const DESCRIPTOR: usize = 136;
+// Words of a descriptor: control, status, owner, then two to a line, and what is left of its last cache line.
+const DESCRIPTOR: usize = (3 + 2 * MOST + LINE - 1) / LINE * LINE;
 
 /// Where the descriptors may begin at most. Those of every table begin before it, and sums of places stay in their type.
 pub const LAST_BASE: usize = 2_097_152;

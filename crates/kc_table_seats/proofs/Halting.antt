@@ -1,6 +1,6 @@
 -- A task that was halted ends: each step leaves fewer.
 use Rattle.std.proofs.Common.{arith, ◌≡◌, ◌≢◌, ◌<◌, ◌≤◌, ◌⊎◌, inl, inr, ◌∙◌, ◌+◌, ◌-◌, ◌==◌, ◌&&◌, ◌^◌, ℕ, Bool, true, false, not, List, length, Option, None, Some, refl, sym, ap, subst, if◌then◌else◌}
-use Rattle.std.specs.Prelude.{bit_and, bit_or, slice_get}
+use Rattle.std.specs.Prelude.{bit_and, bit_or, slice_get, ◌*◌}
 use Rattle.std.specs.Int.Count.{count_trailing_zeros}
 use Rattle.std.proofs.Math.Nat.{pow-le-pow_right}
 use Rattle.std.proofs.lemmas.Option.{slice_get_within}
@@ -35,6 +35,7 @@ use Rattle.kc_machine_steps.specs.declared.aid.AidStep.{AidStep}
 use Rattle.kc_machine_steps.specs.declared.aid.AidStep.TheVariants as aid
 use Rattle.kc_machine_steps.specs.declared.aid.Aided.{Aided}
 use Rattle.kc_model.specs.declared.footprint.Line.{Line}
+use Rattle.kc_model.specs.declared.footprint.TheConstants.{MOST}
 use Rattle.kc_machine_steps.specs.declared.line.Pick.TheVariants.{Installed, Put}
 use Rattle.kc_machine_steps.specs.Swaps as swaps
 use Rattle.kc_machine_steps.specs.Swaps.{ends_at_once, onward_of, swap_access, swaps_on}
@@ -141,7 +142,7 @@ halt_sends s = go s.work refl
 
 -- ---- the most
 
-pass_few : (p : PassStep) → pass_left p ≤ 66
+pass_few : (p : PassStep) → pass_left p ≤ MOST + 2
 pass_few (Install k) = omega arith
 pass_few (Check k) = omega arith
 pass_few (CheckHold k r) = omega arith
@@ -151,7 +152,7 @@ pass_few (CheckDrop k r stray c) = omega arith
 pass_few (Decide p) = omega arith
 pass_few (Release k p) = omega arith
 
-aid_few : (a : AidStep) → aid_left a ≤ 66
+aid_few : (a : AidStep) → aid_left a ≤ MOST + 2
 aid_few aid.Hold = omega arith
 aid_few aid.Status = omega arith
 aid_few (aid.First p) = omega arith
@@ -164,7 +165,7 @@ aid_few (aid.Pass p) = pass_few p
 aid_few (aid.Leave onward) = omega arith
 aid_few (aid.Drop stray onward) = omega arith
 
-own_few : (step : OwnStep) → own_left step ≤ 262
+own_few : (step : OwnStep) → own_left step ≤ 3 * MOST + 70
 own_few own.FillOwner = omega arith
 own_few (own.FillFirst k) = omega arith
 own_few (own.FillSecond k) = omega arith
@@ -176,20 +177,20 @@ own_few (own.Wake k owed) = omega arith
 own_few (own.Signal owed) = omega arith
 own_few (own.Drop p) = omega arith
 
-pub few_left : (s : Seat) → steps_left s ≤ 262
+pub few_left : (s : Seat) → steps_left s ≤ 3 * MOST + 70
 few_left s = go s.work
   where
-    stages : (x : Stage) → stage_left x ≤ 262
+    stages : (x : Stage) → stage_left x ≤ 3 * MOST + 70
     stages (Scan d worn) = omega arith
     stages (Take d g) = omega arith
     stages (Own h step) = own_few step
 
-    swaps : (x : SwapStep) → swap_left x ≤ 262
+    swaps : (x : SwapStep) → swap_left x ≤ 3 * MOST + 70
     swaps swap.Exchange = omega arith
     swaps swap.Wake = omega arith
     swaps (swap.Signal owed) = omega arith
 
-    go : (x : Work) → work_left x ≤ 262
+    go : (x : Work) → work_left x ≤ 3 * MOST + 70
     go work.Idle = omega arith
     go (work.Look l) = omega arith
     go (work.Commit c) = stages c.stage
@@ -203,9 +204,9 @@ abbrev PassEnds : ℕ → PassNext → Type 0
 PassEnds old (pass.Goes p) = (pass_ends p ≡ true) × (pass_left p < old)
 PassEnds old (pass.Met k r) = ⊥
 PassEnds old (pass.Finished p) = 1 ≤ old
-PassEnds old pass.Left = 65 < old
+PassEnds old pass.Left = MOST + 1 < old
 
-releases : (m : Mode) (xs : List Line) (k : ℕ) (p : Phase) (old : ℕ) → 64 - k < old → PassEnds old (from_release m xs k p)
+releases : (m : Mode) (xs : List Line) (k : ℕ) (p : Phase) (old : ℕ) → MOST - k < old → PassEnds old (from_release m xs k p)
 releases m xs k p old l = go (next_line Installed m xs k) refl
   where
     go : (o : Option ℕ) → next_line Installed m xs k ≡ o → PassEnds old (release_or_finish p o)
@@ -222,8 +223,8 @@ pass_falls w marked out h m xs (CheckDrop k r stray checked.Again) f e = absurd 
 pass_falls w marked out h m xs (CheckDrop k r stray checked.Agrees) f e = absurd (cc)
 pass_falls w marked out h m xs (CheckDrop k r stray (checked.Decide p)) f e = (refl, omega arith)
 pass_falls w marked out h m xs (CheckDrop k r stray checked.Leave) f e = omega arith
-pass_falls w marked out h m xs (Decide p) f e = releases m xs 0 (decided_as p (w.status h.descriptor).phase) 65 (omega arith)
-pass_falls w marked out h m xs (Release k p) f e = let l = f.0.3 in let d = one_after k l in releases m xs (after_line k) p (64 - k) (omega arith)
+pass_falls w marked out h m xs (Decide p) f e = releases m xs 0 (decided_as p (w.status h.descriptor).phase) (MOST + 1) (omega arith)
+pass_falls w marked out h m xs (Release k p) f e = let l = f.0.3 in let d = one_after k l in releases m xs (after_line k) p (MOST - k) (omega arith)
 
 -- ---- of an aid
 
@@ -250,10 +251,10 @@ aid_falls w marked r c (aid.LoadSecond x) f e = absurd (cc)
 aid_falls w marked r c (aid.Pass p) f e = pass_on (pass_left p) (pass_next r.handle c.owner.mode c.lines.items p (found_at w (pass_access r.handle c.lines.items p))) (pass_falls w marked checked.Leave r.handle c.owner.mode c.lines.items p f e)
 aid_falls w marked r c (aid.Leave onward) f e = go (w.status r.handle.descriptor).phase
   where
-    by : (p : Phase) → AidEnds 65 (aiding.Goes (after_pass (from_release c.owner.mode c.lines.items 0 p)))
-    by p = pass_on 65 (from_release c.owner.mode c.lines.items 0 p) (releases c.owner.mode c.lines.items 0 p 65 (omega arith))
+    by : (p : Phase) → AidEnds (MOST + 1) (aiding.Goes (after_pass (from_release c.owner.mode c.lines.items 0 p)))
+    by p = pass_on (MOST + 1) (from_release c.owner.mode c.lines.items 0 p) (releases c.owner.mode c.lines.items 0 p (MOST + 1) (omega arith))
 
-    go : (p : Phase) → AidEnds 65 (aiding.Goes (drop_or_release c.owner.mode c.lines.items onward p))
+    go : (p : Phase) → AidEnds (MOST + 1) (aiding.Goes (drop_or_release c.owner.mode c.lines.items onward p))
     go Active = (refl, omega arith)
     go Succeeded = by Succeeded
     go (Failed k) = by (Failed k)
@@ -276,7 +277,7 @@ NextEnds marked old (next.Goes x) = (stage_ends marked x ≡ true) × (stage_lef
 NextEnds marked old (next.Takes x) = ⊥
 NextEnds marked old (next.Tells t) = Unit {0}
 
-module _ (w : World) (n caller calls : ℕ) (c : Commit) (few : length c.intent.lines.items ≤ 64) (h : Handle) where
+module _ (w : World) (n caller calls : ℕ) (c : Commit) (few : length c.intent.lines.items ≤ MOST) (h : Handle) where
   abbrev xs : List Line
   xs = c.intent.lines.items
 
@@ -286,7 +287,7 @@ module _ (w : World) (n caller calls : ℕ) (c : Commit) (few : length c.intent.
   abbrev Falls : OwnStep → Type 0
   Falls step = OwnEnds c.halted (own_left step) (own_next (record c { copy = copy_by_own c.copy step (there step) }) h step (there step))
 
-  ends_so : (p : Phase) (old : ℕ) → 130 < old → OwnEnds c.halted old (finished c.intent p)
+  ends_so : (p : Phase) (old : ℕ) → MOST + 66 < old → OwnEnds c.halted old (finished c.intent p)
   ends_so Active old l = (refl, omega arith)
   ends_so Succeeded old l = go (next_line Put c.intent.mode xs 0)
     where
@@ -300,10 +301,10 @@ module _ (w : World) (n caller calls : ℕ) (c : Commit) (few : length c.intent.
   passes : (p : PassStep) → StepFits c.halted (checked.Decide Halted) c.intent.mode xs p → pass_ends p ≡ true → Falls (own.Pass p)
   passes p f e = go (pass_next h c.intent.mode xs p (there (own.Pass p))) (pass_falls w c.halted (checked.Decide Halted) h c.intent.mode xs p f e)
     where
-      go : (n : PassNext) → PassEnds (pass_left p) n → OwnEnds c.halted (pass_left p + 130) (after_own_pass c.intent n)
+      go : (n : PassNext) → PassEnds (pass_left p) n → OwnEnds c.halted (pass_left p + (MOST + 66)) (after_own_pass c.intent n)
       go (pass.Goes q) y = (y.0, omega (arith, y.1))
       go (pass.Met k r) y = absurd y
-      go (pass.Finished q) y = ends_so q (pass_left p + 130) (omega (arith, y))
+      go (pass.Finished q) y = ends_so q (pass_left p + (MOST + 66)) (omega (arith, y))
       go pass.Left y = (refl, omega (arith, y))
 
   aids : (k : ℕ) (r : Reference) (a : AidStep) → AidFits c.halted c.copy a → c.halted ≡ true → aid_ends a ≡ true → Falls (own.Aid k r a)
@@ -312,32 +313,32 @@ module _ (w : World) (n caller calls : ℕ) (c : Commit) (few : length c.intent.
       b : Aided
       b = aid_copy c.copy a (there (own.Aid k r a))
 
-      back : (t : Bool) (o : Option Reference) → t ≡ true → OwnEnds t (aid_left a + 196) (onward_or_back t k o)
+      back : (t : Bool) (o : Option Reference) → t ≡ true → OwnEnds t (aid_left a + (2 * MOST + 68)) (onward_or_back t k o)
       back true o e = (refl, omega arith)
       back false o e = absurd (cc)
 
-      go : (n : AidNext) → AidEnds (aid_left a) n → OwnEnds c.halted (aid_left a + 196) (aid_or_back c.halted k r n)
+      go : (n : AidNext) → AidEnds (aid_left a) n → OwnEnds c.halted (aid_left a + (2 * MOST + 68)) (aid_or_back c.halted k r n)
       go (aiding.Goes s) y = (ap (λ t. t && aid_ends s) marked ∙ y.0, omega (arith, y.1))
       go (aiding.Back o) y = back c.halted o marked
 
   wakes : (k owed : ℕ) → PutsAt xs k → Falls (own.Wake k owed)
   wakes k owed f = by (slice_get xs k) f.1
     where
-      l : k < 64
+      l : k < MOST
       l = let b = slice_get_within xs k f.0 f.1 in omega arith
 
-      owes : (x : ℕ) → OwnEnds c.halted (64 - k + 66) (owed_next x)
+      owes : (x : ℕ) → OwnEnds c.halted (MOST - k + 66) (owed_next x)
       owes x = go (x == 0)
         where
-          go : (b : Bool) → OwnEnds c.halted (64 - k + 66) (if b then own.Drop Succeeded else own.Signal x)
+          go : (b : Bool) → OwnEnds c.halted (MOST - k + 66) (if b then own.Drop Succeeded else own.Signal x)
           go true = (refl, omega arith)
           go false = (refl, omega arith)
 
-      by : (o : Option Line) → o ≡ Some f.0 → OwnEnds c.halted (64 - k + 66) (wake_next c.intent k owed (found_at w (wake_access o)))
+      by : (o : Option Line) → o ≡ Some f.0 → OwnEnds c.halted (MOST - k + 66) (wake_next c.intent k owed (found_at w (wake_access o)))
       by None e = absurd (cc)
       by (Some x) e = go (next_line Put c.intent.mode xs (after_line k)) refl
         where
-          go : (o : Option ℕ) → next_line Put c.intent.mode xs (after_line k) ≡ o → OwnEnds c.halted (64 - k + 66) (wake_or_signal (bit_or owed (w.awaiters x.seen.loc.0)) o)
+          go : (o : Option ℕ) → next_line Put c.intent.mode xs (after_line k) ≡ o → OwnEnds c.halted (MOST - k + 66) (wake_or_signal (bit_or owed (w.awaiters x.seen.loc.0)) o)
           go None e = owes (bit_or owed (w.awaiters x.seen.loc.0))
           go (Some j) e = let b = next_from Put c.intent.mode xs (after_line k) j e in let d = one_after k l in (refl, omega (arith, l))
 
@@ -388,7 +389,7 @@ module _ (o : Opening) (w : World) (s : Seat) (stands : Stands o s) where
       go true e = inl refl
       go false e = absurd (cc)
 
-  commit_ends : (c : Commit) → StageFits c.halted c.intent c.copy c.stage → StageIsFormed s.calls c.intent c.stage → length c.intent.lines.items ≤ 64 → StageIn o c.copy c.stage → stage_ends c.halted c.stage ≡ true
+  commit_ends : (c : Commit) → StageFits c.halted c.intent c.copy c.stage → StageIsFormed s.calls c.intent c.stage → length c.intent.lines.items ≤ MOST → StageIn o c.copy c.stage → stage_ends c.halted c.stage ≡ true
       → Ends (stage_left c.stage) (answer_by s (found_at w (commit_access s.caller s.calls c)) (work.Commit c))
   commit_ends c f g few r e = go (stage_next s.descriptors s.calls (loaded c there) c.stage there) (stages c.stage f g r e)
     where

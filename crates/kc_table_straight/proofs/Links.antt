@@ -19,6 +19,7 @@ use Rattle.kc_model.specs.declared.word.Word.TheVariants.{Plain, Ref}
 use Rattle.kc_machine_words.specs.declared.access.Found.TheVariants as found
 use Rattle.kc_machine_steps.specs.declared.line.Intent.{Intent}
 use Rattle.kc_model.specs.declared.footprint.Line.{Line}
+use Rattle.kc_model.specs.declared.footprint.TheConstants.{MOST}
 use Rattle.kc_machine_steps.specs.declared.line.Pick.{Pick}
 use Rattle.kc_machine_steps.specs.declared.line.Pick.TheVariants.{Installed, Checked, Put}
 use Rattle.kc_machine_steps.specs.declared.pass.PassStep.TheVariants.{Install, Check, Decide, Release}
@@ -50,16 +51,16 @@ use Rattle.kc_table_moves.specs.declared.view.View.{View}
 
 -- ---- the first line of a kind from here on
 
-pub next_here : (p : Pick) (m : Mode) (xs : List Line) (k : ℕ) (x : Line) → k < 64 → slice_get xs k ≡ Some x → picks p m x ≡ true → next_line p m xs k ≡ Some k
+pub next_here : (p : Pick) (m : Mode) (xs : List Line) (k : ℕ) (x : Line) → k < MOST → slice_get xs k ≡ Some x → picks p m x ≡ true → next_line p m xs k ≡ Some k
 unfolding next_among
 next_here p m xs k x l e b =
-    let n : 64 - k ≡ suc (64 - (k + 1)) = omega arith in
+    let n : MOST - k ≡ suc (MOST - (k + 1)) = omega arith in
     ap (λ n. next_among p m xs n k) n ∙ ap (λ o. picked p m k o (next_line p m xs (k + 1))) e ∙ ap (λ b. if b then Some k else next_line p m xs (k + 1)) b
 
-pub next_past : (p : Pick) (m : Mode) (xs : List Line) (k : ℕ) (x : Line) → k < 64 → slice_get xs k ≡ Some x → picks p m x ≡ false → next_line p m xs k ≡ next_line p m xs (k + 1)
+pub next_past : (p : Pick) (m : Mode) (xs : List Line) (k : ℕ) (x : Line) → k < MOST → slice_get xs k ≡ Some x → picks p m x ≡ false → next_line p m xs k ≡ next_line p m xs (k + 1)
 unfolding next_among
 next_past p m xs k x l e b =
-    let n : 64 - k ≡ suc (64 - (k + 1)) = omega arith in
+    let n : MOST - k ≡ suc (MOST - (k + 1)) = omega arith in
     ap (λ n. next_among p m xs n k) n ∙ ap (λ o. picked p m k o (next_line p m xs (k + 1))) e ∙ ap (λ b. if b then Some k else next_line p m xs (k + 1)) b
 
 among_none : (p : Pick) (m : Mode) (xs : List Line) (n k : ℕ) → slice_get xs k ≡ None → next_among p m xs n k ≡ None
@@ -68,7 +69,7 @@ among_none p m xs zero k e = refl
 among_none p m xs (suc n) k e = ap (λ o. picked p m k o (next_among p m xs n (k + 1))) e
 
 pub next_none : (p : Pick) (m : Mode) (xs : List Line) (k : ℕ) → slice_get xs k ≡ None → next_line p m xs k ≡ None
-next_none p m xs k e = among_none p m xs (64 - k) k e
+next_none p m xs k e = among_none p m xs (MOST - k) k e
 
 -- ---- what a step touches its word with fits
 
@@ -349,7 +350,7 @@ decide_on start r token me h made n p w z is =
 -- ---- what a step goes on with
 
 module _ (m : Mode) (xs : List Line) (k : ℕ) where
-  module _ (x : Line) (l : k < 64) (e : slice_get xs k ≡ Some x) where
+  module _ (x : Line) (l : k < MOST) (e : slice_get xs k ≡ Some x) where
     pub installs_here : is_installed m x ≡ true → from_install m xs k ≡ Install k
     installs_here b = ap (install_or_check m xs) (next_here Installed m xs k x l e b)
 
@@ -419,10 +420,10 @@ owed_some owed n = let e : (owed == 0) ≡ false = grind (arith, nat_tests) in a
 pub owed_none : (owed : ℕ) → owed ≡ 0 → owed_next owed ≡ own.Drop Succeeded
 owed_none owed e = ap owed_next e
 
-pub after_is : (k : ℕ) → k < 64 → after_line k ≡ k + 1
-after_is k l = let t : nat_lt k 64 ≡ true = grind (arith, nat_tests) in rw t refl
+pub after_is : (k : ℕ) → k < MOST → after_line k ≡ k + 1
+after_is k l = let t : nat_lt k MOST ≡ true = grind (arith, nat_tests) in rw t refl
 
-pub below : (xs : List Line) (k : ℕ) (x : Line) → length xs ≤ 64 → slice_get xs k ≡ Some x → k < 64
+pub below : (xs : List Line) (k : ℕ) (x : Line) → length xs ≤ MOST → slice_get xs k ≡ Some x → k < MOST
 below xs k x few e = let l = slice_get_within xs k x e in omega arith
 
 pub has_one : (o : Option ℕ) → has_put o ≡ is_some o

@@ -8,6 +8,7 @@ use Rattle.kc_model.specs.Footprint.{IsWellMade, Reads}
 use Rattle.kc_model.specs.declared.footprint.Footprint.{Footprint}
 use Rattle.kc_model.specs.declared.footprint.Loc.{Loc}
 use Rattle.kc_model.specs.declared.footprint.Seen.{Seen}
+use Rattle.kc_model.specs.declared.footprint.TheConstants.{MOST}
 use Rattle.kc_machine_steps.specs.declared.task.Task.TheVariants as task
 use Rattle.kc_machine_steps.specs.declared.task.Told.TheVariants as told
 use Rattle.kc_machine.specs.Schedules.{IsWellMadeTask}
@@ -62,7 +63,7 @@ module _ (v : SeatView) (reads : List Seen) (f : Footprint) (among : (r : Seen) 
   pub commit_known : (m : Mode) → KnowsReads v (task.Commit f m)
   commit_known m = λ r c. (each r c).1
 
-  pub commit_made : (m : Mode) → IsWellMade f → length f.reads.items ≤ 64 → IsWellMadeTask v.of.origin.locations (task.Commit f m)
+  pub commit_made : (m : Mode) → IsWellMade f → length f.reads.items ≤ MOST → IsWellMadeTask v.of.origin.locations (task.Commit f m)
   commit_made m w l = (w, λ r c. (each r c).0, l)
 
 pub are_all : (z : TableView) (a b : SeatView) → a.of ≡ z → b.of ≡ z → z.origin.callers ≡ 2 → a.number ≡ 0 → b.number ≡ 1 → is_idle a.seat.work ≡ true → is_idle b.seat.work ≡ true → AreAll z (a ∷ b ∷ [])

@@ -16,7 +16,7 @@ use std::thread::Threads;
 const COMMITS: u32 = 500;
 
 // More turns than any thread makes.
-const MOST: u32 = 1_000_000_000;
+const TURNS: u32 = 1_000_000_000;
 
 // What commits put at a location: how many put there, and what they added in all.
 #[derive(Clone, Copy, Debug, PartialEq)]
@@ -138,7 +138,7 @@ fn add(table: &KcTable, mut first: KcSeat, mut second: KcSeat) -> (KcSeat, Sums)
 {
     let mut firsts = Tally::new(COMMITS);
     let mut seconds = Tally::new(COMMITS);
-    for _ in 0..MOST {
+    for _ in 0..TURNS {
         if firsts.left == 0 && seconds.left == 0 {
             break;
         }

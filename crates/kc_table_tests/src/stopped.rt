@@ -17,7 +17,7 @@ const FAILED: Option<Told> = Some(Told::Failed { entry: 0 });
 const HALTED: Option<Told> = Some(Told::Halted);
 
 // More steps than any of these commits makes.
-const MOST: u32 = 100;
+const STEPS: u32 = 100;
 
 // How a commit ended: its steps behind its stop, and what it was told.
 type Ended = (u32, Option<Told>);
@@ -74,9 +74,9 @@ fn stop(rt: &HostRuntime, made: u32) -> Result<(Ended, Ended, Stood), Fail> {
     if go(&table, &mut a, &mine, &[Some(7), Some(8)], made)? != made {
         return Err(Fail::from("it ended before its stop"));
     }
-    let others = go(&table, &mut b, &theirs, &[Some(9), Some(9)], MOST)?;
+    let others = go(&table, &mut b, &theirs, &[Some(9), Some(9)], STEPS)?;
     let other = (others, b.told());
-    let further = steps(&table, &mut a, &mine, MOST);
+    let further = steps(&table, &mut a, &mine, STEPS);
     let own = (further, a.told());
     let stood = close(rt, table, a, b)?;
     Ok((other, own, stood))
@@ -94,7 +94,7 @@ fn halt(rt: &HostRuntime, made: u32) -> Result<(Ended, Stood), Fail> {
         return Err(Fail::from("it ended before its halt"));
     }
     a.halt();
-    let further = steps(&table, &mut a, &[], MOST);
+    let further = steps(&table, &mut a, &[], STEPS);
     let own = (further, a.told());
     let stood = close(rt, table, a, b)?;
     Ok((own, stood))

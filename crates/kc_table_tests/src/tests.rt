@@ -1,6 +1,7 @@
 ghost use Rattle.std.specs.Prelude.{◌≡◌, ◌<◌, ◌≤◌, [], false, All, IfOk, IfSome, Contains, length};
 ghost use Rattle.kc_model.specs.Footprint.{Reads};
 ghost use Rattle.kc_model.specs.declared.footprint.Seen.{Seen};
+ghost use Rattle.kc_model.specs.declared.footprint.TheConstants.{MOST};
 ghost use Rattle.kc_table_seats.specs.Tasks.{IsSameSeat, KnowsRead};
 ghost use Rattle.kc_table_moves.specs.Views.{AreAll};
 
@@ -81,7 +82,7 @@ pub(crate) fn look_both(table: &KcTable, seat: &mut KcSeat) -> Option<[Seen; 2]>
 // The footprint of these reads, and of puts where there is a value.
 fn footprint(reads: &[Seen], puts: &[Option<u32>]) -> Footprint
     ensures among { (r : Seen) → Reads result r → Contains reads.now r }
-    ensures few { length result.reads.items ≤ 64 }
+    ensures few { length result.reads.items ≤ MOST }
 {
     let mut footprint = Footprint::new();
     if footprint.reads.try_extend_from_slice(reads).is_err() {
