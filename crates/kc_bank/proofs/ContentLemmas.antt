@@ -7,7 +7,7 @@ use Rattle.kc_hash.proofs.Values.{hash_means}
 use Rattle.kc_hash.specs.Content.{StandsFor, hash_value, put_value, value_at}
 use Rattle.kc_hash.specs.Meaning.{hash_meaning}
 use Rattle.kc_model.specs.declared.Reply.{Reply}
-use Rattle.kc_model.specs.declared.Reply.TheVariants.{Bool, Empty, Full, Many, Stranded, Unit, Value}
+use Rattle.kc_model.specs.declared.Reply.TheVariants.{Bool, Cancelled, Empty, Full, Many, Stranded, Unit, Value}
 use Rattle.kc_term.proofs.Closed.{map_after-append}
 use Rattle.kc_xt.specs.Meaning.{Meaning, Outcome, Run, Touch, map_after, replied, retried, then_meaning, then_run, too_large}
 use Rattle.kc_xt.specs.Structure.{MeansItsValue, Standing, comes_to}
@@ -62,6 +62,7 @@ credited_means c pairs (Bool b) = λ n m ks st h. (refl, st)
 credited_means c pairs Empty = λ n m ks st h. (refl, st)
 credited_means c pairs Full = λ n m ks st h. (refl, st)
 credited_means c pairs Stranded = λ n m ks st h. (refl, st)
+credited_means c pairs Cancelled = λ n m ks st h. (refl, st)
 credited_means c pairs (Many items) = λ n m ks st h. (refl, st)
 
 pub credit_comes : (c : Credit) (pairs : List (ℕ × ℕ)) (found : Option ℕ) → value_at pairs c.account ≡ found →

@@ -10,7 +10,7 @@ use Rattle.kc_hash.proofs.Kept.{same_cells}
 use Rattle.kc_hash.specs.Meaning.{cells_end as accounts_end, hash_begin, hash_meaning, hash_program}
 use Rattle.kc_hash.specs.declared.HashOp.{HashOp}
 use Rattle.kc_model.specs.declared.Reply.{Reply}
-use Rattle.kc_model.specs.declared.Reply.TheVariants.{Bool, Empty, Full, Many, Stranded, Unit, Value}
+use Rattle.kc_model.specs.declared.Reply.TheVariants.{Bool, Cancelled, Empty, Full, Many, Stranded, Unit, Value}
 use Rattle.kc_queue.proofs.QueueLaw.{queue_stays}
 use Rattle.kc_queue.proofs.Standing.{queue_own}
 use Rattle.kc_queue.proofs.Values.{queue_means}
@@ -52,6 +52,7 @@ credited_leaves c l outside (Bool b) = λ n m ks. refl
 credited_leaves c l outside Empty = λ n m ks. refl
 credited_leaves c l outside Full = λ n m ks. refl
 credited_leaves c l outside Stranded = λ n m ks. refl
+credited_leaves c l outside Cancelled = λ n m ks. refl
 credited_leaves c l outside (Many items) = λ n m ks. refl
 
 pub credit_leaves : (c : Credit) → (l : ℕ) →
@@ -87,6 +88,7 @@ paid_means p far line accounts (Bool b) = λ n m ks st h. (refl, st)
 paid_means p far line accounts Empty = λ n m ks st h. (refl, st)
 paid_means p far line accounts Full = λ n m ks st h. (refl, st)
 paid_means p far line accounts Stranded = λ n m ks st h. (refl, st)
+paid_means p far line accounts Cancelled = λ n m ks st h. (refl, st)
 paid_means p far line accounts (Many items) = λ n m ks st h. (refl, st)
 
 -- what the line's operation comes to, beside the accounts

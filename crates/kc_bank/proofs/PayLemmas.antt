@@ -3,7 +3,7 @@ use Rattle.kc_bank.specs.Bank.{credited, paid}
 use Rattle.kc_bank.specs.declared.bank.Credit.{Credit}
 use Rattle.kc_bank.specs.declared.bank.PayNext.{PayNext}
 use Rattle.kc_model.specs.declared.Reply.{Reply}
-use Rattle.kc_model.specs.declared.Reply.TheVariants.{Bool, Empty, Full, Many, Stranded, Unit, Value}
+use Rattle.kc_model.specs.declared.Reply.TheVariants.{Bool, Cancelled, Empty, Full, Many, Stranded, Unit, Value}
 use Rattle.kc_xt.proofs.Chain.{does_reply}
 use Rattle.kc_xt.proofs.Composed.{obeys_wider}
 use Rattle.kc_xt.proofs.Laws.{law_of}
@@ -35,6 +35,7 @@ credited_other c (Bool b) h = refl
 credited_other c Empty h = refl
 credited_other c Full h = refl
 credited_other c Stranded h = refl
+credited_other c Cancelled h = refl
 credited_other c (Many items) h = refl
 
 pub paid_other : (p : PayNext) (a : Reply) → ((v : ℕ) → a ≡ Value v → ⊥) → paid p a ≡ meaning (replies Empty)
@@ -44,6 +45,7 @@ paid_other p (Bool b) h = refl
 paid_other p Empty h = refl
 paid_other p Full h = refl
 paid_other p Stranded h = refl
+paid_other p Cancelled h = refl
 paid_other p (Many items) h = refl
 
 -- the second's reply is the whole's

@@ -12,7 +12,7 @@ use Rattle.kc_hash.specs.declared.HashOp.{HashOp}
 use Rattle.kc_loc.proofs.LocLaw.{loc_stays}
 use Rattle.kc_loc.specs.Meaning.{loc_begin, loc_last, loc_program}
 use Rattle.kc_model.specs.declared.Reply.{Reply}
-use Rattle.kc_model.specs.declared.Reply.TheVariants.{Bool, Empty, Full, Many, Stranded, Unit, Value}
+use Rattle.kc_model.specs.declared.Reply.TheVariants.{Bool, Cancelled, Empty, Full, Many, Stranded, Unit, Value}
 use Rattle.kc_queue.proofs.QueueLaw.{queue_stays}
 use Rattle.kc_queue.specs.Meaning.{queue_begin, queue_end, queue_meaning, queue_program}
 use Rattle.kc_term.specs.Fit.{AreFit, Each}
@@ -36,6 +36,7 @@ credited_one c (Bool b) = λ n m ks. tt
 credited_one c Empty = λ n m ks. tt
 credited_one c Full = λ n m ks. tt
 credited_one c Stranded = λ n m ks. tt
+credited_one c Cancelled = λ n m ks. tt
 credited_one c (Many items) = λ n m ks. tt
 
 pub paid_one : (p : PayNext) → (a : Reply) → RepliesOneItem (paid p a)
@@ -46,6 +47,7 @@ paid_one p (Bool b) = λ n m ks. tt
 paid_one p Empty = λ n m ks. tt
 paid_one p Full = λ n m ks. tt
 paid_one p Stranded = λ n m ks. tt
+paid_one p Cancelled = λ n m ks. tt
 paid_one p (Many items) = λ n m ks. tt
 
 -- each of the bank's operations replies one item

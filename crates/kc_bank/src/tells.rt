@@ -36,6 +36,7 @@ fn tells_reply(rt: &impl Print, reply: &Reply) -> Result<()> {
         Reply::Empty => print!(rt; "none")?,
         Reply::Full => print!(rt; "full")?,
         Reply::Stranded => print!(rt; "stranded")?,
+        Reply::Cancelled => print!(rt; "cancelled")?,
         Reply::Many(items) => {
             for index in 0..items.len() {
                 if index > 0 {

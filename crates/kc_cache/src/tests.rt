@@ -2,7 +2,7 @@ ghost use Rattle.std.specs.Prelude.{◌≡◌, ◌≤◌, length};
 ghost use Rattle.kc_cache.specs.Meaning.{cache_end};
 
 use crate::*;
-use kc_model::{Loc, PlainStore, Reply};
+use kc_model::{Loc, MOST, PlainStore, Reply};
 use kc_xt::{PlainPeek, Room, Stop, Transact, Xt};
 use std::test::Fail;
 
@@ -42,7 +42,7 @@ fn the_least_recent_pair_is_dropped(rt: HostRuntime) -> Result<(), Fail> {
         return Err(Fail::from("too few locations"));
     }
     let mut room = Room::new();
-    let mut xt = Xt::new(PlainPeek::new(&store), &mut room);
+    let mut xt = Xt::new(PlainPeek::new(&store), &mut room, MOST as u32);
     expect(&mut xt, on(c, CacheAct::CPut(1, 10)), Ok(Reply::Unit))?;
     expect(&mut xt, on(c, CacheAct::CPut(2, 20)), Ok(Reply::Unit))?;
     expect(&mut xt, on(c, CacheAct::CGet(1)), Ok(Reply::Value(10)))?;
@@ -67,7 +67,7 @@ fn a_waiting_put_takes_a_place_that_is_free_again(rt: HostRuntime) -> Result<(),
         return Err(Fail::from("too few locations"));
     }
     let mut room = Room::new();
-    let mut xt = Xt::new(PlainPeek::new(&store), &mut room);
+    let mut xt = Xt::new(PlainPeek::new(&store), &mut room, MOST as u32);
     expect(&mut xt, on(c, CacheAct::CPutWait(1, 10)), Ok(Reply::Unit))?;
     expect(&mut xt, on(c, CacheAct::CPutWait(2, 20)), Ok(Reply::Unit))?;
     expect(&mut xt, on(c, CacheAct::CPutWait(4, 40)), Err(Stop::Retry))?;
@@ -120,7 +120,7 @@ fn a_cache_out_of_order_answers_and_ends(rt: HostRuntime) -> Result<(), Fail> {
         return Err(Fail::from("too few locations"));
     }
     let mut room = Room::new();
-    let mut xt = Xt::new(PlainPeek::new(&store), &mut room);
+    let mut xt = Xt::new(PlainPeek::new(&store), &mut room, MOST as u32);
     expect(&mut xt, on(c, CacheAct::CGet(5)), Ok(Reply::Empty))?;
     expect(&mut xt, on(c, CacheAct::CPut(5, 1)), Ok(Reply::Full))?;
     expect(&mut xt, on(c, CacheAct::CPut(6, 1)), Ok(Reply::Full))?;

@@ -1,7 +1,7 @@
 ghost use Rattle.std.specs.Prelude.{◌≡◌, IfOk, length};
 
 use crate::*;
-use kc_model::{Loc, PlainStore, Reply};
+use kc_model::{Loc, MOST, PlainStore, Reply};
 use kc_xt::{PlainPeek, Room, Stop, Transact, Xt};
 use std::alloc::Global;
 use std::test::Fail;
@@ -21,7 +21,7 @@ fn a_put_waits_while_there_is_a_value_and_a_take_until_there_is_one(
 ) -> Result<(), Fail> {
     let store = store_of(rt.alloc(), &[5, 0, 9])?;
     let mut room = Room::new();
-    let mut xt = Xt::new(PlainPeek::new(&store), &mut room);
+    let mut xt = Xt::new(PlainPeek::new(&store), &mut room, MOST as u32);
     let mvar = Mvar::layout(Loc(1));
     let op = |act: MvarAct| MvarOp { mvar, act };
     assert_eq!(rt; mvar.cells(), 2);
@@ -42,7 +42,7 @@ fn a_put_waits_while_there_is_a_value_and_a_take_until_there_is_one(
 fn a_promise_keeps_its_first_value(rt: HostRuntime) -> Result<(), Fail> {
     let store = store_of(rt.alloc(), &[0, 0])?;
     let mut room = Room::new();
-    let mut xt = Xt::new(PlainPeek::new(&store), &mut room);
+    let mut xt = Xt::new(PlainPeek::new(&store), &mut room, MOST as u32);
     let promise = Promise::layout(Loc(0));
     let op = |act: PromiseAct| PromiseOp { promise, act };
     assert_eq!(rt; promise.cells(), 2);
@@ -70,7 +70,7 @@ fn a_promise_keeps_its_first_value(rt: HostRuntime) -> Result<(), Fail> {
 fn a_flag_that_no_operation_leaves_says_that_there_is_a_value(rt: HostRuntime) -> Result<(), Fail> {
     let store = store_of(rt.alloc(), &[7, 3])?;
     let mut room = Room::new();
-    let mut xt = Xt::new(PlainPeek::new(&store), &mut room);
+    let mut xt = Xt::new(PlainPeek::new(&store), &mut room, MOST as u32);
     let promise = Promise::layout(Loc(0));
     let mvar = Mvar::layout(Loc(0));
     let op = |act: MvarAct| MvarOp { mvar, act };
@@ -96,7 +96,7 @@ fn a_flag_that_no_operation_leaves_says_that_there_is_a_value(rt: HostRuntime) -
 fn a_bump_goes_round_the_cells_and_a_total_wraps(rt: HostRuntime) -> Result<(), Fail> {
     let store = store_of(rt.alloc(), &[1, u32::MAX, 0, 4])?;
     let mut room = Room::new();
-    let mut xt = Xt::new(PlainPeek::new(&store), &mut room);
+    let mut xt = Xt::new(PlainPeek::new(&store), &mut room, MOST as u32);
     let acc = Accumulator::layout(Loc(1), 3);
     let op = |act: AccAct| AccOp { acc, act };
     assert_eq!(rt; acc.cells(), 3);
@@ -115,7 +115,7 @@ fn a_bump_goes_round_the_cells_and_a_total_wraps(rt: HostRuntime) -> Result<(), 
 fn two_totals_of_32_cells_fill_a_log(rt: HostRuntime) -> Result<(), Fail> {
     let store = store_of(rt.alloc(), &[0; 65])?;
     let mut room = Room::new();
-    let mut xt = Xt::new(PlainPeek::new(&store), &mut room);
+    let mut xt = Xt::new(PlainPeek::new(&store), &mut room, 64);
     let a = Accumulator::layout(Loc(0), 32);
     let b = Accumulator::layout(Loc(32), 32);
     let on = |acc: Accumulator, act: AccAct| AccOp { acc, act };

@@ -2,7 +2,7 @@ ghost use Rattle.std.specs.Prelude.{◌≡◌, ◌≤◌, length};
 ghost use Rattle.kc_dllist.specs.Meaning.{NamesNode, cells_end};
 
 use crate::*;
-use kc_model::{Loc, PlainStore, Reply};
+use kc_model::{Loc, MOST, PlainStore, Reply};
 use kc_xt::{PlainPeek, Room, Transact, Xt};
 use std::test::Fail;
 
@@ -33,7 +33,7 @@ fn a_list_of_one_node_is_full_with_it(rt: HostRuntime) -> Result<(), Fail> {
         return Err(Fail::from("too few locations"));
     }
     let mut room = Room::new();
-    let mut xt = Xt::new(PlainPeek::new(&store), &mut room);
+    let mut xt = Xt::new(PlainPeek::new(&store), &mut room, MOST as u32);
     let l = Dllist::layout(Loc(1), 1);
     assert_eq!(rt; l.cells(), 6);
     assert_eq!(rt; l.opening(2), 1);
@@ -57,7 +57,7 @@ fn the_last_of_three_nodes_moves_to_the_front(rt: HostRuntime) -> Result<(), Fai
         return Err(Fail::from("too few locations"));
     }
     let mut room = Room::new();
-    let mut xt = Xt::new(PlainPeek::new(&store), &mut room);
+    let mut xt = Xt::new(PlainPeek::new(&store), &mut room, MOST as u32);
     let l = Dllist::layout(Loc(0), 3);
     expect(&mut xt, l, DllistAct::PushFront(10), Reply::Value(1))?;
     expect(&mut xt, l, DllistAct::PushFront(20), Reply::Value(2))?;
@@ -108,7 +108,7 @@ fn links_past_the_nodes_count_as_none(rt: HostRuntime) -> Result<(), Fail> {
         return Err(Fail::from("too few locations"));
     }
     let mut room = Room::new();
-    let mut xt = Xt::new(PlainPeek::new(&store), &mut room);
+    let mut xt = Xt::new(PlainPeek::new(&store), &mut room, MOST as u32);
     let l = Dllist::layout(Loc(0), 1);
     expect(&mut xt, l, DllistAct::Last, Reply::Empty)?;
     expect(&mut xt, l, DllistAct::Remove(1), Reply::Value(5))?;

@@ -1,5 +1,5 @@
 use crate::*;
-use kc_model::{Loc, PlainStore, Reply};
+use kc_model::{Loc, MOST, PlainStore, Reply};
 use kc_xt::{PlainPeek, Room, Transact, Xt};
 use std::test::Fail;
 
@@ -18,7 +18,7 @@ fn a_table_is_a_finite_map_with_room_for_some_keys(rt: HostRuntime) -> Result<()
     assert_eq!(rt; hash.opening(8), 3);
     assert_eq!(rt; hash.opening(11), 0);
     let mut room = Room::new();
-    let mut xt = Xt::new(PlainPeek::new(&store), &mut room);
+    let mut xt = Xt::new(PlainPeek::new(&store), &mut room, MOST as u32);
     let op = |act: HashAct| HashOp { hash, act };
     assert_eq!(rt; op(HashAct::Put(1, 10)).run(&mut xt), Ok(Reply::Unit));
     assert_eq!(rt; op(HashAct::Put(2, 20)).run(&mut xt), Ok(Reply::Unit));
@@ -44,7 +44,7 @@ fn a_walk_round_a_circle_of_links_ends(rt: HostRuntime) -> Result<(), Fail> {
     }
     let hash = Hash::layout(Loc(1), 1, 2);
     let mut room = Room::new();
-    let mut xt = Xt::new(PlainPeek::new(&store), &mut room);
+    let mut xt = Xt::new(PlainPeek::new(&store), &mut room, MOST as u32);
     let find = HashOp {
         hash,
         act: HashAct::Find(9),

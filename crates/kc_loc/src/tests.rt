@@ -1,5 +1,5 @@
 use crate::*;
-use kc_model::{Loc, PlainStore, Reply};
+use kc_model::{Loc, MOST, PlainStore, Reply};
 use kc_xt::{PlainPeek, Room, Stop, Transact, Xt};
 use std::test::Fail;
 
@@ -12,7 +12,7 @@ fn operations_answer(rt: HostRuntime) -> Result<(), Fail> {
         return Err(Fail::from("too few locations"));
     }
     let mut room = Room::new();
-    let mut xt = Xt::new(PlainPeek::new(&store), &mut room);
+    let mut xt = Xt::new(PlainPeek::new(&store), &mut room, MOST as u32);
     let (x, y) = (Loc(0), Loc(1));
     assert_eq!(rt; LocOp::Swap(x, y).run(&mut xt), Ok(Reply::Unit));
     assert_eq!(rt; LocOp::Get(x).run(&mut xt), Ok(Reply::Value(2)));
@@ -38,7 +38,7 @@ fn a_value_wraps_and_a_check_waits(rt: HostRuntime) -> Result<(), Fail> {
         return Err(Fail::from("too few locations"));
     }
     let mut room = Room::new();
-    let mut xt = Xt::new(PlainPeek::new(&store), &mut room);
+    let mut xt = Xt::new(PlainPeek::new(&store), &mut room, MOST as u32);
     let (x, y) = (Loc(0), Loc(1));
     assert_eq!(rt; LocOp::Decr(x).run(&mut xt), Ok(Reply::Unit));
     assert_eq!(rt; LocOp::Get(x).run(&mut xt), Ok(Reply::Value(4_294_967_295)));

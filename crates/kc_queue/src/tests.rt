@@ -1,7 +1,7 @@
 ghost use Rattle.std.specs.Prelude.{◌≡◌};
 
 use crate::*;
-use kc_model::{Loc, PlainStore, Reply};
+use kc_model::{Loc, MOST, PlainStore, Reply};
 use kc_xt::{PlainPeek, Room, Stop, Transact, Xt};
 use std::test::Fail;
 
@@ -20,7 +20,7 @@ fn items_leave_in_the_order_they_came(rt: HostRuntime) -> Result<(), Fail> {
         return Err(Fail::from("too few locations"));
     }
     let mut room = Room::new();
-    let mut xt = Xt::new(PlainPeek::new(&store), &mut room);
+    let mut xt = Xt::new(PlainPeek::new(&store), &mut room, MOST as u32);
     let q = Queue::layout(Loc(0), 3);
     assert_eq!(rt; q.cells(), 5);
     assert_eq!(rt; q.opening(4), 0);
@@ -47,7 +47,7 @@ fn an_empty_queue_waits_or_says_so(rt: HostRuntime) -> Result<(), Fail> {
         return Err(Fail::from("too few locations"));
     }
     let mut room = Room::new();
-    let mut xt = Xt::new(PlainPeek::new(&store), &mut room);
+    let mut xt = Xt::new(PlainPeek::new(&store), &mut room, MOST as u32);
     let q = Queue::layout(Loc(1), 1);
     assert_eq!(rt; on(q, QueueAct::Deq).run(&mut xt), Ok(Reply::Empty));
     assert_eq!(rt; on(q, QueueAct::Front).run(&mut xt), Ok(Reply::Empty));
@@ -67,7 +67,7 @@ fn a_head_past_the_ring_counts_as_its_first_place(rt: HostRuntime) -> Result<(),
         return Err(Fail::from("too few locations"));
     }
     let mut room = Room::new();
-    let mut xt = Xt::new(PlainPeek::new(&store), &mut room);
+    let mut xt = Xt::new(PlainPeek::new(&store), &mut room, MOST as u32);
     let q = Queue::layout(Loc(0), 2);
     let count = q.count(&store);
     assert_eq!(rt; count, 2);

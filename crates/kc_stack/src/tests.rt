@@ -1,5 +1,5 @@
 use crate::*;
-use kc_model::{Loc, PlainStore, Reply};
+use kc_model::{Loc, MOST, PlainStore, Reply};
 use kc_xt::{PlainPeek, Room, Stop, Transact, Xt};
 use std::test::Fail;
 
@@ -12,7 +12,7 @@ fn items_leave_in_the_order_last_in_first_out(rt: HostRuntime) -> Result<(), Fai
         return Err(Fail::from("too few locations"));
     }
     let mut room = Room::new();
-    let mut xt = Xt::new(PlainPeek::new(&store), &mut room);
+    let mut xt = Xt::new(PlainPeek::new(&store), &mut room, MOST as u32);
     let stack = Stack::layout(Loc(1), 2);
     let op = |act: StackAct| StackOp { stack, act };
     assert_eq!(rt; stack.cells(), 3);
@@ -39,7 +39,7 @@ fn a_count_above_the_capacity_counts_as_the_capacity(rt: HostRuntime) -> Result<
         return Err(Fail::from("too few locations"));
     }
     let mut room = Room::new();
-    let mut xt = Xt::new(PlainPeek::new(&store), &mut room);
+    let mut xt = Xt::new(PlainPeek::new(&store), &mut room, MOST as u32);
     let stack = Stack::layout(Loc(0), 2);
     let op = |act: StackAct| StackOp { stack, act };
     let count = stack.count(&store);

@@ -66,6 +66,7 @@ one_item (reply.Bool b) h = omega arith
 one_item reply.Empty h = omega arith
 one_item reply.Full h = omega arith
 one_item reply.Stranded h = absurd h
+one_item reply.Cancelled h = absurd h
 one_item (reply.Many items) h = absurd h
 
 -- what means a reply of one item answers one

@@ -16,6 +16,7 @@ items_of (reply.Bool b) = item.Bool b ∷ []
 items_of reply.Empty = item.Empty ∷ []
 items_of reply.Full = item.Full ∷ []
 items_of reply.Stranded = []
+items_of reply.Cancelled = []
 items_of (reply.Many items) = items
 
 -- By the meanings of its operations. A sequence replies the items of its parts, behind the items so far.

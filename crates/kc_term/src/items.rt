@@ -16,7 +16,7 @@ pub(crate) fn add(items: &mut Items, reply: Reply)
         Reply::Bool(yes) => items.push(Item::Bool(yes)),
         Reply::Empty => items.push(Item::Empty),
         Reply::Full => items.push(Item::Full),
-        Reply::Stranded => {}
+        Reply::Stranded | Reply::Cancelled => {}
         Reply::Many(more) => add_all(items, more),
     }
 }

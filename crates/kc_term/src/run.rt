@@ -1,7 +1,9 @@
 //! A term on a log.
 
 ghost use Rattle.std.specs.Prelude.{◌≡◌, ◌≤◌, ◌↔◌, [], length, Err, IfOk, IsTrue};
+ghost use Rattle.kc_model.specs.declared.footprint.TheConstants.{MOST};
 ghost use Rattle.kc_xt.specs.Law.{Obeys};
+ghost use Rattle.kc_xt.specs.declared.xt.TheConstants.{FEW};
 ghost use Rattle.kc_term.specs.Tree.{first, trees, operations, all_operations};
 ghost use Rattle.kc_term.specs.Meaning.{term_meaning, parts_meaning, greatest_end, items_of};
 ghost use Rattle.kc_term.specs.Fit.{AreFit};
@@ -9,10 +11,10 @@ ghost use Rattle.kc_term.specs.Fit.{AreFit};
 use crate::bound::term_bound;
 use crate::items::add;
 use crate::term::{Node, Term};
-use kc_model::{Items, Reply};
-use kc_xt::{Peek, Stop, Transact, Xt};
+use kc_model::{Items, MOST, Reply};
+use kc_xt::{FEW, Peek, Stop, Transact, Xt};
 
-/// A term is fit where it has at most 16 operations, each is fit, and none replies many items or that it is stranded.
+/// A term is fit where it has at most 16 operations, each is fit, and none replies many items, or that it is stranded or cancelled.
 impl<O: Transact> Transact for Term<O> {
     ghost meaning = { term_meaning O.meaning };
 
@@ -22,6 +24,10 @@ impl<O: Transact> Transact for Term<O> {
 
     fn bound(&self) -> u32 {
         term_bound(self)
+    }
+
+    fn limit(&self) -> u32 {
+        MOST as u32
     }
 
     fn run<P: Peek>(&self, xt: &mut Xt<P>) -> Result<Reply, Stop> {
@@ -53,12 +59,56 @@ fn run_first<O: Transact, P: Peek>(a: &Term<O>, b: &Term<O>, xt: &mut Xt<P>) -> 
     ensures items { IfOk result (λ r. length (items_of r) ≤ length (operations (first a.now b.now))) }
     ensures size { P.locations xt.new.peek ≡ P.locations xt.old.peek }
 {
-    let before = xt.snapshot();
+    if xt.count() <= FEW {
+        run_behind_few(a, b, xt)
+    } else {
+        run_behind_many(a, b, xt)
+    }
+}
+
+// Behind few lines.
+#[cycle(run)]
+fn run_behind_few<O: Transact, P: Peek>(
+    a: &Term<O>,
+    b: &Term<O>,
+    xt: &mut Xt<P>,
+) -> Result<Reply, Stop>
+    requires fit { AreFit O.is_fit O.meaning (operations (first a.now b.now)) }
+    requires within { greatest_end O.end (operations (first a.now b.now)) ≤ P.locations xt.old.peek }
+    requires room { length xt.old.lines ≤ FEW }
+    ensures law { Obeys P.peek_gives (term_meaning O.meaning (first a.now b.now)) (greatest_end O.end (operations (first a.now b.now))) xt.old result xt.new }
+    ensures items { IfOk result (λ r. length (items_of r) ≤ length (operations (first a.now b.now))) }
+    ensures size { P.locations xt.new.peek ≡ P.locations xt.old.peek }
+{
+    let before = xt.snapshot::<{ FEW }>();
     let tried = run_term(a, xt);
     if !is_retry(&tried) {
         return tried;
     }
     xt.rollback(&before);
+    run_term(b, xt)
+}
+
+// Behind however many: a function of its own, since the room of such a snapshot is cleared where it begins.
+#[cycle(run)]
+fn run_behind_many<O: Transact, P: Peek>(
+    a: &Term<O>,
+    b: &Term<O>,
+    xt: &mut Xt<P>,
+) -> Result<Reply, Stop>
+    requires fit { AreFit O.is_fit O.meaning (operations (first a.now b.now)) }
+    requires within { greatest_end O.end (operations (first a.now b.now)) ≤ P.locations xt.old.peek }
+    requires room { length xt.old.lines ≤ MOST }
+    ensures law { Obeys P.peek_gives (term_meaning O.meaning (first a.now b.now)) (greatest_end O.end (operations (first a.now b.now))) xt.old result xt.new }
+    ensures items { IfOk result (λ r. length (items_of r) ≤ length (operations (first a.now b.now))) }
+    ensures size { P.locations xt.new.peek ≡ P.locations xt.old.peek }
+{
+    let start = xt.snapshot::<{ MOST }>();
+    let tried = run_term(a, xt);
+    if !is_retry(&tried) {
+        return tried;
+    }
+    xt.rollback(&start);
     run_term(b, xt)
 }
 

@@ -9,7 +9,7 @@ ghost use Rattle.kc_term.specs.Meaning.{term_meaning};
 ghost use Rattle.kc_term.specs.Worked.{add_program};
 
 use crate::*;
-use kc_model::{Item, Items, Loc, PlainStore, Reply};
+use kc_model::{Item, Items, Loc, MOST, PlainStore, Reply};
 use kc_xt::{Peek, PlainPeek, Room, Stop, Transact, Xt};
 use std::alloc::Global;
 use std::test::Fail;
@@ -17,9 +17,9 @@ use std::test::Fail;
 // The definitions, computed by hand on the map with 5 everywhere: an alternative that is given up touches, and leaves
 // no change; items of a part stand in its place; nothing is done behind a part that waits.
 fn meanings_by_hand()
-    ensures given_up { term_meaning meaning (first (seq (trees (op (write 1 7 (replies reply.Unit)) ∷ op (read 2 (λ v. retries)) ∷ []))) (op (read 1 (λ v. replies (reply.Value v))))) 64 (λ (l : ℕ). 5) [] ≡ record { outcome = replied (reply.Value 5); touches = record { cell = 1; wrote = None } ∷ record { cell = 2; wrote = None } ∷ record { cell = 1; wrote = None } ∷ [] } }
-    ensures spliced { term_meaning meaning (seq (trees (op (write 1 7 (replies reply.Unit)) ∷ seq (trees (op (read 1 (λ v. replies (reply.Value v))) ∷ op (replies reply.Full) ∷ [])) ∷ op (replies reply.Empty) ∷ []))) 64 (λ (l : ℕ). 5) [] ≡ record { outcome = replied (reply.Many (item.Unit ∷ item.Value 7 ∷ item.Full ∷ item.Empty ∷ [])); touches = record { cell = 1; wrote = Some 7 } ∷ record { cell = 1; wrote = None } ∷ [] } }
-    ensures stopped { term_meaning meaning (seq (trees (op (write 1 7 (replies reply.Unit)) ∷ op (read 2 (λ v. retries)) ∷ op (write 3 7 (replies reply.Unit)) ∷ []))) 64 (λ (l : ℕ). 5) [] ≡ record { outcome = retried; touches = record { cell = 1; wrote = Some 7 } ∷ record { cell = 2; wrote = None } ∷ [] } }
+    ensures given_up { term_meaning meaning (first (seq (trees (op (write 1 7 (replies reply.Unit)) ∷ op (read 2 (λ v. retries)) ∷ []))) (op (read 1 (λ v. replies (reply.Value v))))) MOST (λ (l : ℕ). 5) [] ≡ record { outcome = replied (reply.Value 5); touches = record { cell = 1; wrote = None } ∷ record { cell = 2; wrote = None } ∷ record { cell = 1; wrote = None } ∷ [] } }
+    ensures spliced { term_meaning meaning (seq (trees (op (write 1 7 (replies reply.Unit)) ∷ seq (trees (op (read 1 (λ v. replies (reply.Value v))) ∷ op (replies reply.Full) ∷ [])) ∷ op (replies reply.Empty) ∷ []))) MOST (λ (l : ℕ). 5) [] ≡ record { outcome = replied (reply.Many (item.Unit ∷ item.Value 7 ∷ item.Full ∷ item.Empty ∷ [])); touches = record { cell = 1; wrote = Some 7 } ∷ record { cell = 1; wrote = None } ∷ [] } }
+    ensures stopped { term_meaning meaning (seq (trees (op (write 1 7 (replies reply.Unit)) ∷ op (read 2 (λ v. retries)) ∷ op (write 3 7 (replies reply.Unit)) ∷ []))) MOST (λ (l : ℕ). 5) [] ≡ record { outcome = retried; touches = record { cell = 1; wrote = Some 7 } ∷ record { cell = 2; wrote = None } ∷ [] } }
 {}
 
 // Waits while a location has less than `least`, and then adds `n` there. Replies the value before.
@@ -39,6 +39,10 @@ impl Transact for Add {
 
     fn bound(&self) -> u32 {
         self.at as u32 + 1
+    }
+
+    fn limit(&self) -> u32 {
+        MOST as u32
     }
 
     fn run<P: Peek>(&self, xt: &mut Xt<P>) -> Result<Reply, Stop> {
@@ -122,7 +126,7 @@ fn many(items: &[Item]) -> Reply
 fn a_sequence_of_nothing_replies_no_items(rt: HostRuntime) -> Result<(), Fail> {
     let store = store_of(rt.alloc(), &[5])?;
     let mut room = Room::new();
-    let mut xt = Xt::new(PlainPeek::new(&store), &mut room);
+    let mut xt = Xt::new(PlainPeek::new(&store), &mut room, MOST as u32);
     let nothing = one_after_another(Vec::new(rt.alloc()))?;
     assert_eq!(rt; answer(&nothing, &store, &mut xt)?, Ok(many(&[])));
     Ok(())
@@ -132,7 +136,7 @@ fn a_sequence_of_nothing_replies_no_items(rt: HostRuntime) -> Result<(), Fail> {
 fn items_of_a_part_stand_in_its_place(rt: HostRuntime) -> Result<(), Fail> {
     let store = store_of(rt.alloc(), &[5, 6])?;
     let mut room = Room::new();
-    let mut xt = Xt::new(PlainPeek::new(&store), &mut room);
+    let mut xt = Xt::new(PlainPeek::new(&store), &mut room, MOST as u32);
     let inner = one_after_another(vec![in rt.alloc(); adding(1, 1), adding(0, 2)]?)?;
     let outer = one_after_another(vec![in rt.alloc(); adding(0, 3), inner, adding(1, 0)]?)?;
     let items = [
@@ -149,7 +153,7 @@ fn items_of_a_part_stand_in_its_place(rt: HostRuntime) -> Result<(), Fail> {
 fn a_sequence_ends_where_a_part_would_wait(rt: HostRuntime) -> Result<(), Fail> {
     let store = store_of(rt.alloc(), &[5, 6, 7])?;
     let mut room = Room::new();
-    let mut xt = Xt::new(PlainPeek::new(&store), &mut room);
+    let mut xt = Xt::new(PlainPeek::new(&store), &mut room, MOST as u32);
     let term = one_after_another(vec![in rt.alloc(); adding(0, 1), waiting(1, 9), adding(2, 1)]?)?;
     assert_eq!(rt; answer(&term, &store, &mut xt)?, Err(Stop::Retry));
     let (_, footprint) = xt.into_parts();
@@ -164,7 +168,7 @@ fn an_alternative_that_would_wait_is_rolled_back_and_its_reads_stay(
 ) -> Result<(), Fail> {
     let store = store_of(rt.alloc(), &[5, 6, 7])?;
     let mut room = Room::new();
-    let mut xt = Xt::new(PlainPeek::new(&store), &mut room);
+    let mut xt = Xt::new(PlainPeek::new(&store), &mut room, MOST as u32);
     let given_up = one_after_another(vec![in rt.alloc();
         adding(0, 10),
         adding(1, 10),
@@ -187,7 +191,7 @@ fn an_alternative_that_would_wait_is_rolled_back_and_its_reads_stay(
 fn the_second_alternative_is_not_run_where_the_first_replies(rt: HostRuntime) -> Result<(), Fail> {
     let store = store_of(rt.alloc(), &[5, 6])?;
     let mut room = Room::new();
-    let mut xt = Xt::new(PlainPeek::new(&store), &mut room);
+    let mut xt = Xt::new(PlainPeek::new(&store), &mut room, MOST as u32);
     let term = either(rt.alloc(), adding(0, 1), adding(1, 1))?;
     assert_eq!(rt; answer(&term, &store, &mut xt)?, Ok(Reply::Value(5)));
     let (_, footprint) = xt.into_parts();
@@ -199,16 +203,16 @@ fn the_second_alternative_is_not_run_where_the_first_replies(rt: HostRuntime) ->
 fn the_second_alternative_is_not_run_where_the_first_is_too_large(
     rt: HostRuntime,
 ) -> Result<(), Fail> {
-    let store = store_of(rt.alloc(), &[5; 65])?;
+    let store = store_of(rt.alloc(), &[5; 3])?;
     let mut room = Room::new();
-    let mut xt = Xt::new(PlainPeek::new(&store), &mut room);
-    for at in 0..64 {
+    let mut xt = Xt::new(PlainPeek::new(&store), &mut room, 2);
+    for at in 0..2 {
         assert_eq!(rt;
             answer(&adding(at, 0), &store, &mut xt)?,
             Ok(Reply::Value(5))
         );
     }
-    let term = either(rt.alloc(), adding(64, 1), adding(0, 1))?;
+    let term = either(rt.alloc(), adding(2, 1), adding(0, 1))?;
     assert_eq!(rt; answer(&term, &store, &mut xt)?, Err(Stop::TooLarge));
     Ok(())
 }

@@ -4,7 +4,7 @@ use Rattle.kc_model.specs.declared.reply.Reply.TheVariants as reply
 use Rattle.kc_xt.specs.Meaning.{Outcome, replied, retried, too_large}
 use Rattle.kc_xt.specs.Program.{Program, ends, read, write}
 
--- neither a list of items nor Stranded, if it is a reply
+-- no list of items and neither Stranded nor Cancelled, if it is a reply
 abbrev pub RepliesOne : Outcome → Type 0
 RepliesOne (replied reply.Unit) = Unit {0}
 RepliesOne (replied (reply.Value v)) = Unit {0}
@@ -12,6 +12,7 @@ RepliesOne (replied (reply.Bool b)) = Unit {0}
 RepliesOne (replied reply.Empty) = Unit {0}
 RepliesOne (replied reply.Full) = Unit {0}
 RepliesOne (replied reply.Stranded) = ⊥
+RepliesOne (replied reply.Cancelled) = ⊥
 RepliesOne (replied (reply.Many items)) = ⊥
 RepliesOne retried = Unit {0}
 RepliesOne too_large = Unit {0}

@@ -9,7 +9,7 @@ ghost use Rattle.kc_model.specs.declared.reply.Reply.{Reply};
 ghost use Rattle.kc_xt.specs.declared.attempts.Tried.TheVariants as tried;
 ghost use Rattle.kc_xt.specs.declared.attempts.Tried.{Tried as Answered};
 ghost use Rattle.kc_xt.specs.Commit.{Came, IsOfLines, PutsWhereDone, Looked, Settles, tried_of};
-ghost use Rattle.kc_xt.specs.Meaning.{Meaning};
+ghost use Rattle.kc_xt.specs.Meaning.{Meaning, limited};
 ghost use Rattle.kc_xt.specs.Peeks.{PlainLooks};
 
 use crate::peek::Peek;
@@ -26,7 +26,7 @@ pub enum Tried {
     Done(Reply),
     /// It would wait for a change of what it read.
     Later,
-    /// It would touch more than `MOST` locations.
+    /// It would touch more locations than its limit.
     TooLarge,
     /// A look was given up.
     Busy,
@@ -47,14 +47,14 @@ pub fn attempt<P: Peek, T: Transact>(
 ) -> P
     requires fit { T.is_fit transaction.now }
     requires within { T.end transaction.now ≤ P.locations peek }
-    ensures came { Came (T.meaning transaction.now) (tried_of trial.new.went trial.new.reply) footprint.old footprint.new }
+    ensures came { Came (limited (T.most transaction.now) (T.meaning transaction.now)) (tried_of trial.new.went trial.new.reply) footprint.old footprint.new }
     ensures puts { PutsWhereDone (tried_of trial.new.went trial.new.reply) footprint.new }
     ensures within { tried_of trial.new.went trial.new.reply ≢ tried.Busy → IsBelow (T.end transaction.now) footprint.new }
-    ensures looked { Looked P.peek_gives (T.meaning transaction.now) (tried_of trial.new.went trial.new.reply) peek footprint.new result }
+    ensures looked { Looked P.peek_gives (limited (T.most transaction.now) (T.meaning transaction.now)) (tried_of trial.new.went trial.new.reply) peek footprint.new result }
     ensures size { P.locations result ≡ P.locations peek }
     ensures lines { IsOfLines (tried_of trial.new.went trial.new.reply) room.new footprint.new }
 {
-    let mut xt = Xt::new(peek, room);
+    let mut xt = Xt::new(peek, room, transaction.limit());
     let answer = transaction.run(&mut xt);
     let Trial { went, reply } = trial;
     *went = settle(&mut xt, answer, reply, footprint);

@@ -9,7 +9,7 @@ use kc_model::{Answer, Footprint, Reply};
 #[derive(Debug, Drop)]
 pub enum Ended {
     Done { reply: Reply, footprint: Footprint },
-    /// It would touch more than `MOST` locations: nothing was put.
+    /// It would touch more locations than its limit: nothing was put.
     TooLarge { footprint: Footprint },
 }
 

@@ -1,6 +1,7 @@
 ghost use Rattle.std.specs.Prelude.{◌≡◌, ◌+◌, ◌-◌, ◌<◌, ◌≤◌, ⊤, length, IfOk, ℕ, List, [], ◌∷◌, Some, None};
+ghost use Rattle.kc_model.specs.declared.footprint.TheConstants.{MOST};
 ghost use Rattle.kc_model.specs.declared.reply.Reply.TheVariants as reply;
-ghost use Rattle.kc_xt.specs.Meaning.{Run, Touch, replied, too_large, first_meaning, then_meaning, map_after, last_written};
+ghost use Rattle.kc_xt.specs.Meaning.{Run, Touch, limited, replied, too_large, first_meaning, then_meaning, map_after, last_written};
 ghost use Rattle.kc_xt.specs.Program.{meaning, read, write, replies, retries};
 ghost use Rattle.kc_xt.specs.Steps.{Does};
 ghost use Rattle.kc_xt.specs.Worked.{clears, takes_one};
@@ -13,9 +14,10 @@ use std::test::Fail;
 // The definitions, computed by hand on the map with 5 everywhere: an alternative that is given up touches, and leaves
 // no change; one part behind another sees its writes; a third location under a limit of two is too large.
 fn meanings_by_hand()
-    ensures given_up { first_meaning (meaning (write 1 7 retries)) (meaning (read 1 (λ v. replies (reply.Value v)))) 64 (λ (l : ℕ). 5) [] ≡ record { outcome = replied (reply.Value 5); touches = record { cell = 1; wrote = None } ∷ record { cell = 1; wrote = None } ∷ [] } }
-    ensures behind { then_meaning (meaning (write 1 7 (replies reply.Unit))) (λ a. meaning (read 1 (λ v. replies (reply.Value v)))) 64 (λ (l : ℕ). 5) [] ≡ record { outcome = replied (reply.Value 7); touches = record { cell = 1; wrote = Some 7 } ∷ record { cell = 1; wrote = None } ∷ [] } }
-    ensures limited { meaning (read 1 (λ v. read 2 (λ w. read 1 (λ u. write 3 u (replies reply.Unit))))) 2 (λ (l : ℕ). 5) [] ≡ record { outcome = too_large; touches = record { cell = 1; wrote = None } ∷ record { cell = 2; wrote = None } ∷ record { cell = 1; wrote = None } ∷ [] } }
+    ensures given_up { first_meaning (meaning (write 1 7 retries)) (meaning (read 1 (λ v. replies (reply.Value v)))) MOST (λ (l : ℕ). 5) [] ≡ record { outcome = replied (reply.Value 5); touches = record { cell = 1; wrote = None } ∷ record { cell = 1; wrote = None } ∷ [] } }
+    ensures behind { then_meaning (meaning (write 1 7 (replies reply.Unit))) (λ a. meaning (read 1 (λ v. replies (reply.Value v)))) MOST (λ (l : ℕ). 5) [] ≡ record { outcome = replied (reply.Value 7); touches = record { cell = 1; wrote = Some 7 } ∷ record { cell = 1; wrote = None } ∷ [] } }
+    ensures too_many { meaning (read 1 (λ v. read 2 (λ w. read 1 (λ u. write 3 u (replies reply.Unit))))) 2 (λ (l : ℕ). 5) [] ≡ record { outcome = too_large; touches = record { cell = 1; wrote = None } ∷ record { cell = 2; wrote = None } ∷ record { cell = 1; wrote = None } ∷ [] } }
+    ensures own_limit { limited 2 (meaning (read 1 (λ v. read 2 (λ w. read 1 (λ u. write 3 u (replies reply.Unit)))))) MOST (λ (l : ℕ). 5) [] ≡ (meaning (read 1 (λ v. read 2 (λ w. read 1 (λ u. write 3 u (replies reply.Unit)))))) 2 (λ (l : ℕ). 5) [] }
 {}
 
 fn store_of(alloc: Global, values: &[u32]) -> Result<PlainStore, Fail>
@@ -28,10 +30,10 @@ fn store_of(alloc: Global, values: &[u32]) -> Result<PlainStore, Fail>
 }
 
 #[test]
-fn the_sixty_fifth_line_is_too_large(rt: HostRuntime) -> Result<(), Fail> {
+fn the_line_past_the_most_is_too_large(rt: HostRuntime) -> Result<(), Fail> {
     let store = store_of(rt.alloc(), &[7; MOST + 1])?;
     let mut room = Room::new();
-    let mut xt = Xt::new(PlainPeek::new(&store), &mut room);
+    let mut xt = Xt::new(PlainPeek::new(&store), &mut room, MOST as u32);
     for l in 0..MOST as u32 {
         assert_eq!(rt; xt.get(Loc(l)), Ok(7));
     }
@@ -42,12 +44,25 @@ fn the_sixty_fifth_line_is_too_large(rt: HostRuntime) -> Result<(), Fail> {
 }
 
 #[test]
+fn a_log_keeps_to_the_limit_that_it_was_given(rt: HostRuntime) -> Result<(), Fail> {
+    let store = store_of(rt.alloc(), &[5, 6, 7])?;
+    let mut room = Room::new();
+    let mut xt = Xt::new(PlainPeek::new(&store), &mut room, 2);
+    assert_eq!(rt; xt.get(Loc(2)), Ok(7));
+    assert_eq!(rt; xt.set(Loc(0), 8), Ok(()));
+    assert_eq!(rt; xt.set(Loc(1), 9), Err(Stop::TooLarge));
+    assert_eq!(rt; xt.get(Loc(0)), Ok(8));
+    assert_eq!(rt; xt.count(), 2);
+    Ok(())
+}
+
+#[test]
 fn a_rollback_keeps_lines_and_takes_back_values(rt: HostRuntime) -> Result<(), Fail> {
     let store = store_of(rt.alloc(), &[5, 6])?;
     let mut room = Room::new();
-    let mut xt = Xt::new(PlainPeek::new(&store), &mut room);
+    let mut xt = Xt::new(PlainPeek::new(&store), &mut room, MOST as u32);
     assert_eq!(rt; xt.set(Loc(0), 7), Ok(()));
-    let before = xt.snapshot();
+    let before = xt.snapshot::<{ FEW }>();
     assert_eq!(rt; xt.set(Loc(0), 8), Ok(()));
     assert_eq!(rt; xt.set(Loc(1), 9), Ok(()));
     xt.rollback(&before);
@@ -63,7 +78,7 @@ fn a_rollback_keeps_lines_and_takes_back_values(rt: HostRuntime) -> Result<(), F
 fn a_swap_gives_each_location_the_other_value(rt: HostRuntime) -> Result<(), Fail> {
     let store = store_of(rt.alloc(), &[5, 6])?;
     let mut room = Room::new();
-    let mut xt = Xt::new(PlainPeek::new(&store), &mut room);
+    let mut xt = Xt::new(PlainPeek::new(&store), &mut room, MOST as u32);
     assert_eq!(rt; xt.swap(Loc(0), Loc(1)), Ok(()));
     assert_eq!(rt; xt.get(Loc(0)), Ok(6));
     assert_eq!(rt; xt.get(Loc(1)), Ok(5));
@@ -74,7 +89,7 @@ fn a_swap_gives_each_location_the_other_value(rt: HostRuntime) -> Result<(), Fai
 fn a_compare_and_set_that_answers_false_sets_nothing(rt: HostRuntime) -> Result<(), Fail> {
     let store = store_of(rt.alloc(), &[5])?;
     let mut room = Room::new();
-    let mut xt = Xt::new(PlainPeek::new(&store), &mut room);
+    let mut xt = Xt::new(PlainPeek::new(&store), &mut room, MOST as u32);
     assert_eq!(rt; xt.compare_and_set(Loc(0), 6, 7), Ok(false));
     let (_, footprint) = xt.into_parts();
     assert!(rt; footprint.puts.is_empty());
@@ -85,7 +100,7 @@ fn a_compare_and_set_that_answers_false_sets_nothing(rt: HostRuntime) -> Result<
 fn a_sum_wraps_and_an_exchange_answers_the_value_before(rt: HostRuntime) -> Result<(), Fail> {
     let store = store_of(rt.alloc(), &[u32::MAX])?;
     let mut room = Room::new();
-    let mut xt = Xt::new(PlainPeek::new(&store), &mut room);
+    let mut xt = Xt::new(PlainPeek::new(&store), &mut room, MOST as u32);
     assert_eq!(rt; xt.fetch_add(Loc(0), 3), Ok(u32::MAX));
     assert_eq!(rt; xt.exchange(Loc(0), 9), Ok(2));
     assert_eq!(rt; xt.compare_and_set(Loc(0), 9, 1), Ok(true));
@@ -108,7 +123,7 @@ fn clear_range<P: Peek>(first: u32, end: u32, xt: &mut Xt<P>) -> Result<Reply, S
 fn a_loop_clears_the_locations_that_it_names_alone(rt: HostRuntime) -> Result<(), Fail> {
     let store = store_of(rt.alloc(), &[5, 6, 7, 8])?;
     let mut room = Room::new();
-    let mut xt = Xt::new(PlainPeek::new(&store), &mut room);
+    let mut xt = Xt::new(PlainPeek::new(&store), &mut room, MOST as u32);
     assert_eq!(rt; clear_range(1, 3, &mut xt), Ok(Reply::Unit));
     assert_eq!(rt; xt.get(Loc(0)), Ok(5));
     assert_eq!(rt; xt.get(Loc(1)), Ok(0));
@@ -132,6 +147,10 @@ impl Transact for Take {
 
     fn bound(&self) -> u32 {
         self.at as u32 + 1
+    }
+
+    fn limit(&self) -> u32 {
+        MOST as u32
     }
 
     fn run<P: Peek>(&self, xt: &mut Xt<P>) -> Result<Reply, Stop> {

@@ -3,6 +3,7 @@
 ghost use Rattle.std.specs.Prelude.{◌≡◌, ◌==◌, ◌+◌, ◌<◌, ◌≤◌, Some, None, [], if◌then◌else◌, length, IfOk, OnErr};
 ghost use Rattle.kc_model.specs.Rising.{IsRising};
 ghost use Rattle.kc_model.specs.Footprint.{IsWellMade};
+ghost use Rattle.kc_model.specs.declared.footprint.TheConstants.{MOST};
 ghost use Rattle.kc_xt.specs.Calls.{Touches, Updates, Swaps, IsMissing, IsPlace, HasLine, having_set, stop_of};
 ghost use Rattle.kc_xt.specs.Commit.{Filled};
 ghost use Rattle.kc_xt.specs.Lines.{locations, Keeps, SetsNothing, ReadsAs, rolled_back, seens, puts, CanPut, worn_of};
@@ -51,13 +52,16 @@ struct Found {
     value: u32,
 }
 
-/// The lines that a log had. Contracts see a list of lines.
+/// How many lines a snapshot has room for that costs little: the room of a larger one takes some hundred nanoseconds to make.
+pub const FEW: usize = 8;
+
+/// The lines that a log had, at most N. Contracts see a list of lines.
 #[derive(Drop)]
-pub struct Snapshot {
-    lines: ArrayVec<Line, MOST>,
+pub struct Snapshot<const N: usize> {
+    lines: ArrayVec<Line, N>,
 }
 
-impl Model for Snapshot {
+impl<const N: usize> Model for Snapshot<N> {
     ghost use Rattle.std.specs.Prelude.{List};
     ghost use Rattle.kc_model.specs.declared.footprint.Line.{Line};
 
@@ -68,16 +72,13 @@ impl Model for Snapshot {
 
 // What is done at every location is in line: an answer that lies in memory is written in parts, and who reads it as a whole waits.
 impl<'a, P: Peek> Xt<'a, P> {
-    /// The empty log, with room for `MOST` lines.
-    pub fn new(peek: P, room: &'a mut Room) -> Xt<'a, P>
-        ensures { result ≡ empty_log room.entry.ghost_name peek }
+    /// The empty log, with room for so many lines.
+    pub fn new(peek: P, room: &'a mut Room, limit: u32) -> Xt<'a, P>
+        requires { (0 < limit) × (limit ≤ MOST) }
+        ensures { result ≡ empty_log limit room.entry.ghost_name peek }
     {
         room.clear();
-        Xt {
-            peek,
-            limit: MOST as u32,
-            room,
-        }
+        Xt { peek, limit, room }
     }
 
     // The place of the location's line, which is made where there is none.
@@ -269,8 +270,17 @@ impl<'a, P: Peek> Xt<'a, P> {
         Ok(found.value)
     }
 
-    /// The lines as they are now.
-    pub fn snapshot(&self) -> Snapshot
+    /// How many lines it has.
+    pub fn count(&self) -> usize
+        ensures is { result ≡ length self.now.lines }
+        ensures most { result ≤ MOST }
+    {
+        self.room.as_slice().len()
+    }
+
+    /// The lines as they are now, where there is room for them.
+    pub fn snapshot<const N: usize>(&self) -> Snapshot<N>
+        requires { length self.now.lines ≤ N }
         ensures lines { result ≡ self.now.lines }
         ensures rising { IsRising (locations self.now.lines) }
     {
@@ -280,7 +290,7 @@ impl<'a, P: Peek> Xt<'a, P> {
     }
 
     /// Takes the new values back to those of a snapshot. All lines stay.
-    pub fn rollback(&mut self, to: &Snapshot)
+    pub fn rollback<const N: usize>(&mut self, to: &Snapshot<N>)
         requires { Keeps to.now self.old.lines }
         ensures { self.new ≡ record self.old { lines = rolled_back to.now self.old.lines } }
     {

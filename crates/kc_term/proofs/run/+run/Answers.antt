@@ -62,29 +62,56 @@ run_term-run_first-requires g t c κs within =
 
 -- ---- alternatives
 
-pub run_first-run_term-tried-requires : goal.run_first-run_term-tried-requires
-run_first-run_term-tried-requires g t c κs within =
+pub run_behind_few-run_term-tried-requires : goal.run_behind_few-run_term-tried-requires
+run_behind_few-run_term-tried-requires g t c κs within =
     let e = end-append g.O.Transact.end (operations c.args.a.now) (operations c.args.b.now) in
     (omega (arith, c.decreases), (within.0, (within.1, (fit-left _ _ _ _ c.requires.fit, omega (arith, e, c.requires.within)))))
 
-pub run_first-run_term-requires : goal.run_first-run_term-requires
-run_first-run_term-requires g t c κs within =
+pub run_behind_few-run_term-requires : goal.run_behind_few-run_term-requires
+run_behind_few-run_term-requires g t c κs within =
     let e = end-append g.O.Transact.end (operations c.args.a.now) (operations c.args.b.now) in
     let kept = ap (λ (x : Log g.row.P.Denot). g.P.Peek.locations x.peek) c.rollback.ensures ∙ c.run_term-tried.ensures.size in
     (omega (arith, c.decreases), (within.0, (within.1, (fit-right _ _ (operations c.args.a.now) _ c.requires.fit, omega (arith, e, kept, c.requires.within)))))
 
-pub run_first-returns-then-not-is_retry-clause-law : goal.run_first-returns-then-not-is_retry-clause-law
-run_first-returns-then-not-is_retry-clause-law g t c =
+pub run_behind_few-returns-then-not-is_retry-clause-law : goal.run_behind_few-returns-then-not-is_retry-clause-law
+run_behind_few-returns-then-not-is_retry-clause-law g t c =
     let a = c.args.a.now in
     let b = c.args.b.now in
     rw end-append (obeys_first_stays _ _ (term_meaning g.O.Transact.meaning b) _ _ _ (λ e. true≢false (sym (c.if-not-is_retry.ensures.1 e))) (obeys_wider (greatest_end g.O.Transact.end (operations a)) _ (omega arith) _ _ _ _ c.run_term-tried.ensures.law))
 
-pub run_first-returns-clause-law : goal.run_first-returns-clause-law
-run_first-returns-clause-law g t c =
+pub run_behind_few-returns-clause-law : goal.run_behind_few-returns-clause-law
+run_behind_few-returns-clause-law g t c =
     let a = c.args.a.now in
     let b = c.args.b.now in
     let waited = rw (c.if-not-is_retry.ensures.0 refl) at c.run_term-tried.ensures.law in
     let back = rw c.snapshot-before.ensures.lines at c.rollback.ensures in
     rw end-append (obeys_first_else _ _ _ _ _ _ _ _ c.snapshot-before.ensures.rising
+    (obeys_wider (greatest_end g.O.Transact.end (operations a)) _ (omega arith) _ _ _ _ waited) back
+    (obeys_wider (greatest_end g.O.Transact.end (operations b)) _ (omega arith) _ _ _ _ c.run_term.ensures.law))
+
+pub run_behind_many-run_term-tried-requires : goal.run_behind_many-run_term-tried-requires
+run_behind_many-run_term-tried-requires g t c κs within =
+    let e = end-append g.O.Transact.end (operations c.args.a.now) (operations c.args.b.now) in
+    (omega (arith, c.decreases), (within.0, (within.1, (fit-left _ _ _ _ c.requires.fit, omega (arith, e, c.requires.within)))))
+
+pub run_behind_many-run_term-requires : goal.run_behind_many-run_term-requires
+run_behind_many-run_term-requires g t c κs within =
+    let e = end-append g.O.Transact.end (operations c.args.a.now) (operations c.args.b.now) in
+    let kept = ap (λ (x : Log g.row.P.Denot). g.P.Peek.locations x.peek) c.rollback.ensures ∙ c.run_term-tried.ensures.size in
+    (omega (arith, c.decreases), (within.0, (within.1, (fit-right _ _ (operations c.args.a.now) _ c.requires.fit, omega (arith, e, kept, c.requires.within)))))
+
+pub run_behind_many-returns-then-not-is_retry-clause-law : goal.run_behind_many-returns-then-not-is_retry-clause-law
+run_behind_many-returns-then-not-is_retry-clause-law g t c =
+    let a = c.args.a.now in
+    let b = c.args.b.now in
+    rw end-append (obeys_first_stays _ _ (term_meaning g.O.Transact.meaning b) _ _ _ (λ e. true≢false (sym (c.if-not-is_retry.ensures.1 e))) (obeys_wider (greatest_end g.O.Transact.end (operations a)) _ (omega arith) _ _ _ _ c.run_term-tried.ensures.law))
+
+pub run_behind_many-returns-clause-law : goal.run_behind_many-returns-clause-law
+run_behind_many-returns-clause-law g t c =
+    let a = c.args.a.now in
+    let b = c.args.b.now in
+    let waited = rw (c.if-not-is_retry.ensures.0 refl) at c.run_term-tried.ensures.law in
+    let back = rw c.snapshot-start.ensures.lines at c.rollback.ensures in
+    rw end-append (obeys_first_else _ _ _ _ _ _ _ _ c.snapshot-start.ensures.rising
     (obeys_wider (greatest_end g.O.Transact.end (operations a)) _ (omega arith) _ _ _ _ waited) back
     (obeys_wider (greatest_end g.O.Transact.end (operations b)) _ (omega arith) _ _ _ _ c.run_term.ensures.law))
