@@ -1,12 +1,10 @@
 -- Records that are applied one by one.
-use Rattle.std.proofs.Common.{◌≡◌, ℕ, ◌+◌, ◌<◌, ◌≤◌, List, [], ◌∷◌, Option, Some, None, length, drop, get_or, refl, sym, ap, subst, Vec}
+use Rattle.std.proofs.Common.{◌≡◌, ℕ, ◌+◌, ◌<◌, ◌≤◌, List, [], ◌∷◌, Option, Some, None, length, drop, get_or, refl, sym, subst}
 use Rattle.std.specs.Prelude.{IsSome}
 use Rattle.std.specs.Option.{option_map}
-use Rattle.std.specs.Global.{Global}
 use Rattle.std.proofs.lemmas.List.{drop_more, drop_all}
-use Rattle.kc_history.proofs.Places.{record_read}
 use Rattle.kc_history.specs.Order.{Footprints, Legal, more}
-use Rattle.kc_history.specs.Records.{record_at, footprint_at, lists_of}
+use Rattle.kc_history.specs.Records.{record_at, footprint_at}
 use Rattle.kc_history.specs.declared.record.Place.{Place}
 use Rattle.kc_history.specs.declared.record.Record.{Record}
 use Rattle.kc_model.specs.Store.{Store, Finds, after}
@@ -19,10 +17,6 @@ some_record records t k f e = by (record_at records t k) e
     by : (o : Option Record) → option_map (λ (r : Record). r.footprint) o ≡ Some f → IsSome o
     by None e = absurd (cc)
     by (Some r) e = refl
-
--- so the footprint is that of the record that is read there
-pub footprint_read : (vs : List (Vec Record Global)) (t k : ℕ) (v : Vec Record Global) (r : Record) (f : Footprint) → v ≡ get_or vs t v → r ≡ get_or v.items k r → footprint_at (lists_of vs) t k ≡ Some f → footprint_at (lists_of vs) t k ≡ Some r.footprint
-footprint_read vs t k v r f e d is = ap (option_map (λ (q : Record). q.footprint)) (record_read vs t k v r e (some_record (lists_of vs) t k f is) d)
 
 -- The records before this index took the first store to the one now, and the rest is legal from it. What goes on legally is legal as a whole.
 pub record Comes (a : Footprints) (order : List Place) (old now : Store) (i : ℕ) : Type 0 where

@@ -1,3 +1,5 @@
+pub mod Added
+pub mod Kept
 pub mod Choice
 pub mod Ready
 pub mod Exchange

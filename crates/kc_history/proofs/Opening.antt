@@ -1,10 +1,11 @@
 -- The counts where no record stands.
-use Rattle.std.proofs.Common.{◌≡◌, ℕ, zero, suc, ◌+◌, ◌<◌, ◌≤◌, List, [], ◌∷◌, Some, Vec, vec_len, All, length, take, slice_get, slice_index, slice_index_or, sum, sum_by, refl, sym, ap, subst, ◌∙◌, arith, ◌++◌, drop, append-nil, take_all}
+use Rattle.std.proofs.Common.{◌≡◌, ℕ, zero, suc, ◌+◌, ◌-◌, ◌<◌, ◌≤◌, List, [], ◌∷◌, Some, All, length, take, slice_get, slice_index, slice_index_or, sum, sum_by, refl, sym, ap, subst, ◌∙◌, arith, ◌++◌, drop, append-nil, take_all}
 use Rattle.std.proofs.Math.Path.{fun_ext}
 use Rattle.std.proofs.Math.ListN.{drop_of_length-le}
-use Rattle.std.proofs.lemmas.List.Sums.{sum_by-cons, sum_by_more, sum_by-take-le}
-use Rattle.std.specs.Global.{Global}
+use Rattle.std.proofs.lemmas.List.Sums.{sum_by-cons, sum_by_more}
+use Rattle.kc_history.specs.RecordsValue.{RecordsValue}
 use Rattle.kc_history.proofs.Choice.{some_is}
+use Rattle.kc_history.proofs.Tallies.{climbs}
 use Rattle.kc_history.proofs.Totals.{total_all, record_is, list_is}
 use Rattle.kc_history.specs.Counts.{foot_at, footprints, total, readers_of, putters_of, slot, width, Slots, Counted}
 use Rattle.kc_history.specs.declared.record.Record.{Record}
@@ -23,14 +24,14 @@ any_default [] k d e lt = absurd (omega arith)
 any_default (x ∷ xs) zero d e lt = refl
 any_default (x ∷ xs) (suc k) d e lt = any_default xs k d e (omega arith)
 
-pub all_lists : (P : Footprint → Type 0) (vs : List (Vec Record Global)) → ((u k : ℕ) (f : Footprint) → foot_at vs u k ≡ Some f → P f) → All (λ (v : Vec Record Global). All (λ (r : Record). P r.footprint) v.items) vs
+pub all_lists : (P : Footprint → Type 0) (vs : List RecordsValue) → ((u k : ℕ) (f : Footprint) → foot_at vs u k ≡ Some f → P f) → All (λ (v : RecordsValue). All (λ (r : Record). P r.footprint) v.items) vs
 all_lists P vs h u d lt k e kt =
     let v = slice_index_or vs u d in
     let r = slice_index_or v.items k e in
-    h u k r.footprint (record_is vs u v v.items k r lt (any_default vs u d v lt) refl kt (any_default v.items k e r kt))
+    h u k r.footprint (record_is vs u v k r lt (any_default vs u d v lt) kt (any_default v.items k e r kt))
 
 -- and back
-pub by_lists : (P : Footprint → Type 0) (vs : List (Vec Record Global)) → All (λ (v : Vec Record Global). All (λ (r : Record). P r.footprint) v.items) vs → (u k : ℕ) (f : Footprint) → foot_at vs u k ≡ Some f → P f
+pub by_lists : (P : Footprint → Type 0) (vs : List RecordsValue) → All (λ (v : RecordsValue). All (λ (r : Record). P r.footprint) v.items) vs → (u k : ℕ) (f : Footprint) → foot_at vs u k ≡ Some f → P f
 by_lists P [] h u k f e = absurd (cc)
 by_lists P (v ∷ vs) h zero k f e = in_list P v.items (h zero v (omega arith)) k f e
   where
@@ -40,18 +41,21 @@ by_lists P (v ∷ vs) h zero k f e = in_list P v.items (h zero v (omega arith)) 
     in_list P (r ∷ rs) h (suc k) f e = in_list P rs (λ j d lt. h (suc j) d (omega arith)) k f e
 by_lists P (v ∷ vs) h (suc u) k f e = by_lists P vs (λ j d lt. h (suc j) d (omega arith)) u k f e
 
-pub slots_of : (starts widths : List ℕ) (size : ℕ) → length starts ≡ length widths → ((k : ℕ) → k < length widths → slice_index starts k ≡ sum (take k widths)) → sum widths ≤ size → Slots starts size
+pub slots_of : (starts widths : List ℕ) (size : ℕ) → length starts ≡ length widths → ((k : ℕ) → k < length widths → slice_index starts k ≡ sum (take k widths)) → slice_index starts (length starts - 1) ≤ size → Slots starts size
 slots_of starts widths size len h few = record {
-  rises = λ l lt.
-      let a = h l (omega arith) in
-      let b = h (l + 1) (omega arith) in
-      let c = sum_by_more (λ x. x) widths l 0 (omega arith) in
-      omega arith;
+  rises = rises;
   ends = λ l lt.
-      let a = h l (omega arith) in
-      let b = sum_by-take-le (λ x. x) widths l in
+      let a = climbs starts rises l (length starts - 1 - l) (omega arith) in
+      let b : slice_index starts (l + (length starts - 1 - l)) ≡ slice_index starts (length starts - 1) = ap (slice_index starts) (omega arith) in
       omega arith;
 }
+  where
+    rises : (l : ℕ) → l + 1 < length starts → slice_index starts l ≤ slice_index starts (l + 1)
+    rises l lt =
+        let a = h l (omega arith) in
+        let b = h (l + 1) (omega arith) in
+        let c = sum_by_more (λ x. x) widths l 0 (omega arith) in
+        omega arith
 
 pub width_is : (starts widths : List ℕ) → length starts ≡ length widths → ((k : ℕ) → k < length widths → slice_index starts k ≡ sum (take k widths)) → (l : ℕ) → l + 1 < length starts → width starts l ≡ slice_index widths l
 width_is starts widths len h l lt =
@@ -66,10 +70,9 @@ a_record (x ∷ xs) zero lt = (x.footprint, refl)
 a_record (x ∷ xs) (suc k) lt = a_record xs k (omega arith)
 
 -- the thread has a record there
-pub left_at : (vs : List (Vec Record Global)) (t : ℕ) (v : Vec Record Global) (k : ℕ) → t < length vs → v ≡ slice_index_or vs t v → k < vec_len v → (f : Footprint) × (foot_at vs t k ≡ Some f)
+pub left_at : (vs : List RecordsValue) (t : ℕ) (v : RecordsValue) (k : ℕ) → t < length vs → v ≡ slice_index_or vs t v → k < length v.items → (f : Footprint) × (foot_at vs t k ≡ Some f)
 left_at vs t v k lt e kt =
-    let a = v.ok.0 in
-    let r = a_record v.items k (omega arith) in
+    let r = a_record v.items k kt in
     (r.0, ap (λ xs. slice_get xs k) (list_is vs t v lt e) ∙ r.1)
 
 pub in_items : (xs : List Record) (k : ℕ) (f : Footprint) → slice_get (footprints xs) k ≡ Some f → k < length xs
@@ -77,20 +80,19 @@ in_items [] k f e = absurd (cc)
 in_items (x ∷ xs) zero f e = omega arith
 in_items (x ∷ xs) (suc k) f e = let a = in_items xs k f e in omega arith
 
-pub none_left_at : (vs : List (Vec Record Global)) (t : ℕ) (v : Vec Record Global) (n k : ℕ) (f : Footprint) → t < length vs → v ≡ slice_index_or vs t v → vec_len v ≤ n → foot_at vs t k ≡ Some f → k < n
+pub none_left_at : (vs : List RecordsValue) (t : ℕ) (v : RecordsValue) (n k : ℕ) (f : Footprint) → t < length vs → v ≡ slice_index_or vs t v → length v.items ≤ n → foot_at vs t k ≡ Some f → k < n
 none_left_at vs t v n k f lt e h r =
-    let a = v.ok.0 in
     let b = in_items v.items k f (ap (λ xs. slice_get xs k) (sym (list_is vs t v lt e)) ∙ r) in
     omega arith
 
-total_at_zero : (w : Footprint → ℕ) (vs : List (Vec Record Global)) (next : List ℕ) → ((u : ℕ) → slice_index next u ≡ 0) → total w vs (slice_index next) ≡ sum_by (λ (v : Vec Record Global). sum_by (λ (r : Record). w r.footprint) v.items) vs
+total_at_zero : (w : Footprint → ℕ) (vs : List RecordsValue) (next : List ℕ) → ((u : ℕ) → slice_index next u ≡ 0) → total w vs (slice_index next) ≡ sum_by (λ (v : RecordsValue). sum_by (λ (r : Record). w r.footprint) v.items) vs
 total_at_zero w vs next h = ap (total w vs) (fun_ext h) ∙ total_all w vs
 
-pub opening_counts : (vs : List (Vec Record Global)) (next versions starts widths left : List ℕ) →
+pub opening_counts : (vs : List RecordsValue) (next versions starts widths left : List ℕ) →
     length starts ≡ length versions + 1 → length starts ≡ length widths → ((k : ℕ) → k < length widths → slice_index starts k ≡ sum (take k widths)) → Slots starts (length left) →
     ((u : ℕ) → slice_index next u ≡ 0) → ((l : ℕ) → slice_index versions l ≡ 0) →
-    ((l : ℕ) → l < length widths → slice_index widths l ≡ 1 + sum_by (λ (v : Vec Record Global). sum_by (λ (r : Record). putters_of l r.footprint) v.items) vs) →
-    ((l v : ℕ) → l + 1 < length starts → v < width starts l → slice_index left (slot starts l v) ≡ sum_by (λ (w : Vec Record Global). sum_by (λ (r : Record). readers_of l v r.footprint) w.items) vs) →
+    ((l : ℕ) → l < length widths → slice_index widths l ≡ 1 + sum_by (λ (v : RecordsValue). sum_by (λ (r : Record). putters_of l r.footprint) v.items) vs) →
+    ((l v : ℕ) → l + 1 < length starts → v < width starts l → slice_index left (slot starts l v) ≡ sum_by (λ (w : RecordsValue). sum_by (λ (r : Record). readers_of l v r.footprint) w.items) vs) →
     Counted vs next versions starts left
 opening_counts vs next versions starts widths left lens len h slots none zeros puts reads = record {
   slots = slots;

@@ -1,7 +1,7 @@
 -- The test by counts is readiness.
-use Rattle.std.proofs.Common.{◌≡◌, ◌≢◌, ℕ, zero, suc, ◌+◌, ◌<◌, ◌≤◌, List, Option, Some, Vec, All, length, slice_index, slice_index_or, sym, ap, ◌∙◌, subst, arith, inl, inr, ◌⊎◌}
+use Rattle.std.proofs.Common.{◌≡◌, ◌≢◌, ℕ, zero, suc, ◌+◌, ◌<◌, ◌≤◌, List, Option, Some, All, length, slice_index, slice_index_or, sym, ap, ◌∙◌, subst, arith, inl, inr, ◌⊎◌}
 use Rattle.std.proofs.lemmas.List.Elements.{All-contains, Contains-get_or}
-use Rattle.std.specs.Global.{Global}
+use Rattle.kc_history.specs.RecordsValue.{RecordsValue}
 use Rattle.kc_history.proofs.Exchange.{more_least}
 use Rattle.kc_history.proofs.Ready.{same_or, more_same, still}
 use Rattle.kc_history.proofs.Tallies.{other_loc, other_version}
@@ -9,13 +9,12 @@ use Rattle.kc_history.proofs.Totals.{total_step, zero_each, each_zero, no_reader
 use Rattle.kc_history.specs.Counts.{foot_at, total, readers, readers_of, slot, WellMade, AllWellMade, Passes, Counted}
 use Rattle.kc_history.specs.Order.{more, IsNext, Ready}
 use Rattle.kc_history.specs.declared.record.Place.{Place}
-use Rattle.kc_history.specs.declared.record.Record.{Record}
 use Rattle.kc_model.specs.Footprint.{Reads, Puts, PutsWhatItReads}
 use Rattle.kc_model.specs.declared.footprint.Footprint.{Footprint}
 use Rattle.kc_model.specs.declared.footprint.Put.{Put}
 use Rattle.kc_model.specs.declared.footprint.Seen.{Seen}
 
-module _ (vs : List (Vec Record Global)) (next versions starts left : List ℕ) (well : AllWellMade (length versions) vs) (counted : Counted vs next versions starts left) where
+module _ (vs : List RecordsValue) (next versions starts left : List ℕ) (well : AllWellMade (length versions) vs) (counted : Counted vs next versions starts left) where
   abbrev a : ℕ → ℕ → Option Footprint
   a = foot_at vs
 

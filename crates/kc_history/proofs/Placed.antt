@@ -1,17 +1,18 @@
 -- One more record is placed.
-use Rattle.std.proofs.Common.{◌≡◌, ◌≢◌, ℕ, zero, suc, ◌+◌, ◌^◌, ◌<◌, ◌≤◌, List, [], ◌∷◌, ◌++◌, Some, Vec, vec_len, All, length, take, slice_get, slice_set, slice_index, slice_index_or, sum_by, refl, sym, ap, ◌∙◌, subst, subst₂, arith, inl, inr, Contains, add-one, length-take, get_or-take, get_or-set_same, get_or-set_other}
+use Rattle.std.proofs.Common.{◌≡◌, ◌≢◌, ℕ, zero, suc, ◌+◌, ◌^◌, ◌<◌, ◌≤◌, List, [], ◌∷◌, ◌++◌, Some, All, length, take, slice_get, slice_set, slice_index, slice_index_or, sum_by, refl, sym, ap, ◌∙◌, subst, subst₂, arith, inl, inr, Contains, add-one, length-take, get_or-take, get_or-set_same, get_or-set_other}
 use Rattle.std.proofs.Math.Path.{fun_ext}
 use Rattle.std.proofs.Math.Seq.{take-suc-set}
 use Rattle.std.proofs.lemmas.List.Elements.{All-contains, Contains-get_or}
 use Rattle.std.proofs.lemmas.List.Sums.{sum_by-cons}
-use Rattle.std.specs.Global.{Global}
+use Rattle.kc_history.specs.RecordsValue.{RecordsValue}
 use Rattle.kc_history.proofs.Opening.{in_items}
 use Rattle.kc_history.proofs.Passing.{passes_ready, ready_passes}
 use Rattle.kc_history.proofs.Ready.{same_or, more_same, more_other, Skips, skips_or, ends_what_stands}
 use Rattle.kc_history.proofs.Tallies.{all_taken}
-use Rattle.kc_history.proofs.Totals.{total_step, zero_each, reader_in, raised_as_put, same_record, list_is, record_is}
+use Rattle.kc_history.proofs.Totals.{total_step, zero_each, reader_in, raised_as_put, same_record, list_is, foot_is}
 use Rattle.kc_history.specs.Counts.{Slots, Forgets, footprints, foot_at, total, readers, readers_of, putters_of, slot, width, records_in, WellMade, AllWellMade, Passes, Counted}
 use Rattle.kc_history.specs.Order.{Footprints, version_after, more, raised, NoneReady, Ready, Chosen, Chooses}
+use Rattle.kc_history.specs.Records.{print_of}
 use Rattle.kc_history.specs.Tested.{Finds, IsTested, AllTested, untested, Placing}
 use Rattle.kc_history.specs.declared.placing.Tested.{Tested}
 use Rattle.kc_history.specs.declared.record.Place.{Place}
@@ -32,31 +33,29 @@ set_more next t lt = fun_ext (λ u. elim (same_or u t) [
   | inr n ↦ get_or-set_other next t u (slice_index next t + 1) 0 n ∙ sym (more_other t (slice_index next) u n)
 ])
 
-pub in_list : (vs : List (Vec Record Global)) (t : ℕ) (v : Vec Record Global) (items : List Record) (k : ℕ) (f : Footprint) → t < length vs → v ≡ slice_index_or vs t v → items ≡ v.items → foot_at vs t k ≡ Some f → k < length items
-in_list vs t v items k f lt e i h = in_items items k f (ap (λ xs. slice_get xs k) (sym (list_is vs t v lt e ∙ ap footprints (sym i))) ∙ h)
+pub in_list : (vs : List RecordsValue) (t : ℕ) (v : RecordsValue) (k : ℕ) (f : Footprint) → t < length vs → v ≡ slice_index_or vs t v → foot_at vs t k ≡ Some f → k < length v.items
+in_list vs t v k f lt e h = in_items v.items k f (ap (λ xs. slice_get xs k) (sym (list_is vs t v lt e)) ∙ h)
 
-pub few_records : (vs : List (Vec Record Global)) (t k : ℕ) (f : Footprint) → foot_at vs t k ≡ Some f → k < records_in vs
+pub few_records : (vs : List RecordsValue) (t k : ℕ) (f : Footprint) → foot_at vs t k ≡ Some f → k < records_in vs
 few_records [] t k f e = absurd (cc)
 few_records (v ∷ vs) zero k f e =
     let a = in_items v.items k f e in
-    let b = v.ok.0 in
-    let c = sum_by-cons (λ (v : Vec Record Global). vec_len v) v vs in
+    let c = sum_by-cons (λ (v : RecordsValue). length v.items) v vs in
     omega arith
 few_records (v ∷ vs) (suc t) k f e =
     let a = few_records vs t k f e in
-    let c = sum_by-cons (λ (v : Vec Record Global). vec_len v) v vs in
+    let c = sum_by-cons (λ (v : RecordsValue). length v.items) v vs in
     omega arith
 
 length_is : (xs : List Record) → sum_by (λ _. 1) (footprints xs) ≡ length xs
 length_is [] = refl
 length_is (x ∷ xs) = let a = sum_by-cons (λ (_ : Footprint). 1) x.footprint (footprints xs) in let b = length_is xs in omega arith
 
-pub all_records : (vs : List (Vec Record Global)) → total (λ _. 1) vs (λ _. 0) ≡ records_in vs
+pub all_records : (vs : List RecordsValue) → total (λ _. 1) vs (λ _. 0) ≡ records_in vs
 all_records [] = refl
 all_records (v ∷ vs) =
     let a = length_is v.items in
-    let b = v.ok.0 in
-    let c = sum_by-cons (λ (v : Vec Record Global). vec_len v) v vs in
+    let c = sum_by-cons (λ (v : RecordsValue). length v.items) v vs in
     let d = all_records vs in
     omega arith
 
@@ -71,13 +70,13 @@ pub nothing_tested : (versions starts left : List ℕ) (f : Footprint) → IsTes
 nothing_tested versions starts left f = record { finds = λ i d lt. absurd (omega arith); alone = λ i d lt. absurd (omega arith); behind = λ lt. absurd (omega arith) }
 
 -- where a record that doesn't stand yet counts, the sum does
-total_some : (w : Footprint → ℕ) (vs : List (Vec Record Global)) (n : ℕ → ℕ) (u k : ℕ) (g : Footprint) → foot_at vs u k ≡ Some g → n u ≤ k → 1 ≤ w g → 1 ≤ total w vs n
+total_some : (w : Footprint → ℕ) (vs : List RecordsValue) (n : ℕ → ℕ) (u k : ℕ) (g : Footprint) → foot_at vs u k ≡ Some g → n u ≤ k → 1 ≤ w g → 1 ≤ total w vs n
 total_some w vs n u k g at le some = elim (same_or (total w vs n) 0) [
   | inl none ↦ absurd (let z = zero_each w vs n none u k g at le in omega arith)
   | inr ne ↦ omega arith
 ]
 
-module _ (vs : List (Vec Record Global)) (next versions starts left : List ℕ) (well : AllWellMade (length versions) vs) (counted : Counted vs next versions starts left) (t : ℕ) (f : Footprint) (passes : Passes vs next versions starts left t f) where
+module _ (vs : List RecordsValue) (next versions starts left : List ℕ) (well : AllWellMade (length versions) vs) (counted : Counted vs next versions starts left) (t : ℕ) (f : Footprint) (passes : Passes vs next versions starts left t f) where
   abbrev n : ℕ → ℕ
   n = slice_index next
 
@@ -214,14 +213,14 @@ module _ (vs : List (Vec Record Global)) (next versions starts left : List ℕ) 
   ]
 
 -- none passes, so none is ready
-pub ends : (vs : List (Vec Record Global)) (next versions starts left : List ℕ) → AllWellMade (length versions) vs → Counted vs next versions starts left → ((u : ℕ) (f : Footprint) → Passes vs next versions starts left u f → ⊥) → NoneReady (foot_at vs) (slice_index next) (slice_index versions)
+pub ends : (vs : List RecordsValue) (next versions starts left : List ℕ) → AllWellMade (length versions) vs → Counted vs next versions starts left → ((u : ℕ) (f : Footprint) → Passes vs next versions starts left u f → ⊥) → NoneReady (foot_at vs) (slice_index next) (slice_index versions)
 ends vs next versions starts left well counted none p f r = none p.thread f (ready_passes vs next versions starts left well counted p f r)
 
-passes_at : (vs : List (Vec Record Global)) (next versions starts left : List ℕ) (t : ℕ) (f g : Footprint) → foot_at vs t (slice_index next t) ≡ Some f → Passes vs next versions starts left t g → Passes vs next versions starts left t f
+passes_at : (vs : List RecordsValue) (next versions starts left : List ℕ) (t : ℕ) (f g : Footprint) → foot_at vs t (slice_index next t) ≡ Some f → Passes vs next versions starts left t g → Passes vs next versions starts left t f
 passes_at vs next versions starts left t f g is h = subst (λ f. Passes vs next versions starts left t f) (same_record vs t (slice_index next t) g f h.is is) h
 
 -- with what a thread's next record was tested to
-pub tested_set : (vs : List (Vec Record Global)) (next versions starts left : List ℕ) (tested : List Tested) (t : ℕ) (k : Tested) (f : Footprint) → t < length tested → foot_at vs t (slice_index next t) ≡ Some f → AllTested vs next versions starts left tested → IsTested versions starts left k f → AllTested vs next versions starts left (slice_set tested t k)
+pub tested_set : (vs : List RecordsValue) (next versions starts left : List ℕ) (tested : List Tested) (t : ℕ) (k : Tested) (f : Footprint) → t < length tested → foot_at vs t (slice_index next t) ≡ Some f → AllTested vs next versions starts left tested → IsTested versions starts left k f → AllTested vs next versions starts left (slice_set tested t k)
 tested_set vs next versions starts left tested t k f lt is known now u g at = elim (same_or u t) [
   | inl same ↦
       let is' : foot_at vs u (slice_index next u) ≡ Some f = ap (λ u. foot_at vs u (slice_index next u)) same ∙ is in
@@ -230,11 +229,10 @@ tested_set vs next versions starts left tested t k f lt is known now u g at = el
   | inr ne ↦ subst (λ k. IsTested versions starts left k g) (sym (get_or-set_other tested t u k untested ne)) (known u g at)
 ]
 
--- the next record of a thread's vector passes, where one does
-pub next_passes : (vs : List (Vec Record Global)) (next versions starts left : List ℕ) (t : ℕ) (v : Vec Record Global) (items : List Record) (r : Record) (g : Footprint) → t < length vs → v ≡ slice_index_or vs t v → items ≡ v.items → r ≡ slice_index_or items (slice_index next t) r → Passes vs next versions starts left t g → Passes vs next versions starts left t r.footprint
-next_passes vs next versions starts left t v items r g lt e i is h =
-    let inside = in_list vs t v items (slice_index next t) g lt e i h.is in
-    passes_at vs next versions starts left t r.footprint g (record_is vs t v items (slice_index next t) r lt e i inside is) h
+-- the next record of a thread passes, where one does
+pub next_passes : (vs : List RecordsValue) (next versions starts left : List ℕ) (t : ℕ) (v : RecordsValue) (g : Footprint) → t < length vs → v ≡ slice_index_or vs t v → Passes vs next versions starts left t g → Passes vs next versions starts left t (print_of v.items (slice_index next t))
+next_passes vs next versions starts left t v g lt e h =
+    passes_at vs next versions starts left t (print_of v.items (slice_index next t)) g (foot_is vs t v (slice_index next t) lt e (in_list vs t v (slice_index next t) g lt e h.is)) h
 
-pub made_still : (vs : List (Vec Record Global)) (a b : ℕ) → a ≡ b → AllWellMade b vs → AllWellMade a vs
+pub made_still : (vs : List RecordsValue) (a b : ℕ) → a ≡ b → AllWellMade b vs → AllWellMade a vs
 made_still vs a b e h = subst (λ k. AllWellMade k vs) (sym e) h

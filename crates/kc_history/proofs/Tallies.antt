@@ -15,18 +15,18 @@ all_taken P xs i h a = subst (All P) (take_all i xs h) a
 pub taken_all : {X : Type 0} (P : X → Type 0) (xs : List X) → All P xs → All P (take (length xs) xs)
 taken_all P xs h = subst (All P) (sym (take_all (length xs) xs (omega arith))) h
 
-climbs : (starts : List ℕ) (size : ℕ) → Slots starts size → (l k : ℕ) → l + k < length starts → slice_index starts l ≤ slice_index starts (l + k)
-climbs starts size h l zero lt = rw add-zero (omega arith)
-climbs starts size h l (suc k) lt =
-    let a = climbs starts size h l k (omega arith) in
-    let b = h.rises (l + k) (omega arith) in
+pub climbs : (starts : List ℕ) → ((l : ℕ) → l + 1 < length starts → slice_index starts l ≤ slice_index starts (l + 1)) → (l k : ℕ) → l + k < length starts → slice_index starts l ≤ slice_index starts (l + k)
+climbs starts rises l zero lt = rw add-zero (omega arith)
+climbs starts rises l (suc k) lt =
+    let a = climbs starts rises l k (omega arith) in
+    let b = rises (l + k) (omega arith) in
     let e : slice_index starts (l + suc k) ≡ slice_index starts (l + k + 1) = ap (slice_index starts) (omega arith) in
     omega arith
 
 -- counts of a lower location lie before
 before : (starts : List ℕ) (size : ℕ) → Slots starts size → (l m v w : ℕ) → m + 1 < length starts → v < width starts l → l < m → slot starts l v ≢ slot starts m w
 before starts size h l m v w mt vt lt e =
-    let a = climbs starts size h (l + 1) (m - (l + 1)) (omega arith) in
+    let a = climbs starts h.rises (l + 1) (m - (l + 1)) (omega arith) in
     let b : slice_index starts (l + 1 + (m - (l + 1))) ≡ slice_index starts m = ap (slice_index starts) (omega arith) in
     omega arith
 

@@ -1,16 +1,17 @@
 -- Sums over the records that don't stand yet.
-use Rattle.std.proofs.Common.{◌≡◌, ◌≢◌, ℕ, zero, suc, ◌+◌, ◌<◌, ◌≤◌, List, [], ◌∷◌, Bool, true, false, cond, Some, None, Vec, length, drop, slice_get, slice_index_or, sum_by, Contains, AllPairs, ◌==◌, refl, sym, ap, ap₂, ◌∙◌, arith, add-one, eq-eqb, ne_eqb, inl, inr}
+use Rattle.std.proofs.Common.{◌≡◌, ◌≢◌, ℕ, zero, suc, ◌+◌, ◌<◌, ◌≤◌, List, [], ◌∷◌, Bool, true, false, cond, Some, None, length, drop, slice_get, slice_index_or, sum_by, Contains, AllPairs, ◌==◌, refl, sym, ap, ap₂, ◌∙◌, arith, add-one, eq-eqb, ne_eqb, inl, inr}
 use Rattle.std.proofs.Math.Path.{fun_ext}
 use Rattle.std.proofs.lemmas.List.Elements.{Contains-get_or}
 use Rattle.std.proofs.lemmas.List.Sums.{sum_by-cons}
 use Rattle.std.specs.Prelude.{map}
 use Rattle.std.specs.Option.{option_map}
 use Rattle.kc_history.specs.Ends.{AreWellMade}
-use Rattle.kc_history.specs.Records.{footprint_at, lists_of}
+use Rattle.kc_history.specs.Records.{footprint_at, lists_of, print_of}
 use Rattle.kc_model.specs.Rising.{IsRising, IsRisingAbove}
 use Rattle.kc_model.specs.declared.plain_store.TheConstants.{MOST_LOCATIONS}
-use Rattle.std.specs.Global.{Global}
+use Rattle.kc_history.specs.RecordsValue.{RecordsValue}
 use Rattle.kc_history.proofs.Choice.{some_is}
+use Rattle.kc_history.proofs.Kept.{print_at}
 use Rattle.kc_history.proofs.Ready.{no_some, same_or, more_same, more_other}
 use Rattle.kc_history.proofs.Tallies.{one_read, other_loc}
 use Rattle.kc_history.specs.Counts.{AllWellMade, list_at, footprints, foot_at, total, reads_at, readers, putters, puts_at}
@@ -42,7 +43,7 @@ more_behind t n u = elim (same_or u t) [
 ]
 
 -- one more record stands
-pub total_step : (w : Footprint → ℕ) (vs : List (Vec Record Global)) (n : ℕ → ℕ) (t : ℕ) (f : Footprint) → foot_at vs t (n t) ≡ Some f → total w vs n ≡ w f + total w vs (more t n)
+pub total_step : (w : Footprint → ℕ) (vs : List RecordsValue) (n : ℕ → ℕ) (t : ℕ) (f : Footprint) → foot_at vs t (n t) ≡ Some f → total w vs n ≡ w f + total w vs (more t n)
 total_step w [] n t f e = absurd (no_some f e)
 total_step w (v ∷ vs) n zero f e =
     let a = rest_step w (footprints v.items) (n zero) f e in
@@ -56,9 +57,9 @@ total_step w (v ∷ vs) n (suc t) f e =
     omega arith
 
 -- where none stands, over all
-pub total_all : (w : Footprint → ℕ) (vs : List (Vec Record Global)) → total w vs (λ _. 0) ≡ sum_by (λ (v : Vec Record Global). sum_by (λ (r : Record). w r.footprint) v.items) vs
+pub total_all : (w : Footprint → ℕ) (vs : List RecordsValue) → total w vs (λ _. 0) ≡ sum_by (λ (v : RecordsValue). sum_by (λ (r : Record). w r.footprint) v.items) vs
 total_all w [] = refl
-total_all w (v ∷ vs) = ap₂ (λ (j k : ℕ). j + k) (sum_footprints w v.items) (total_all w vs) ∙ sym (sum_by-cons (λ (v : Vec Record Global). sum_by (λ (r : Record). w r.footprint) v.items) v vs)
+total_all w (v ∷ vs) = ap₂ (λ (j k : ℕ). j + k) (sum_footprints w v.items) (total_all w vs) ∙ sym (sum_by-cons (λ (v : RecordsValue). sum_by (λ (r : Record). w r.footprint) v.items) v vs)
   where
     sum_footprints : (w : Footprint → ℕ) (rs : List Record) → sum_by w (footprints rs) ≡ sum_by (λ (r : Record). w r.footprint) rs
     sum_footprints w [] = refl
@@ -71,7 +72,7 @@ zero_in w (x ∷ xs) zero (suc k) g z h e = let a = sum_by-cons w x xs in zero_i
 zero_in w (x ∷ xs) (suc j) zero g z h e = absurd (omega arith)
 zero_in w (x ∷ xs) (suc j) (suc k) g z h e = zero_in w xs j k g z (omega arith) e
 
-pub zero_each : (w : Footprint → ℕ) (vs : List (Vec Record Global)) (n : ℕ → ℕ) → total w vs n ≡ 0 → (u k : ℕ) (g : Footprint) → foot_at vs u k ≡ Some g → n u ≤ k → w g ≡ 0
+pub zero_each : (w : Footprint → ℕ) (vs : List RecordsValue) (n : ℕ → ℕ) → total w vs n ≡ 0 → (u k : ℕ) (g : Footprint) → foot_at vs u k ≡ Some g → n u ≤ k → w g ≡ 0
 zero_each w [] n z u k g e h = absurd (no_some g e)
 zero_each w (v ∷ vs) n z zero k g e h = zero_in w (footprints v.items) (n zero) k g (omega arith) h e
 zero_each w (v ∷ vs) n z (suc u) k g e h = zero_each w vs (λ u. n (suc u)) (omega arith) u k g e h
@@ -86,7 +87,7 @@ in_zero w (x ∷ xs) zero h =
     omega arith
 in_zero w (x ∷ xs) (suc j) h = in_zero w xs j (λ k g e l. h (suc k) g e (omega arith))
 
-pub each_zero : (w : Footprint → ℕ) (vs : List (Vec Record Global)) (n : ℕ → ℕ) → ((u k : ℕ) (g : Footprint) → foot_at vs u k ≡ Some g → n u ≤ k → w g ≡ 0) → total w vs n ≡ 0
+pub each_zero : (w : Footprint → ℕ) (vs : List RecordsValue) (n : ℕ → ℕ) → ((u k : ℕ) (g : Footprint) → foot_at vs u k ≡ Some g → n u ≤ k → w g ≡ 0) → total w vs n ≡ 0
 each_zero w [] n h = refl
 each_zero w (v ∷ vs) n h =
     let a = in_zero w (footprints v.items) (n zero) (h zero) in
@@ -167,10 +168,10 @@ raised_as_put l v (p ∷ ps) h =
           omega arith
     ]
 
--- a thread's footprints are those of its vector
-pub list_is : (vs : List (Vec Record Global)) (t : ℕ) (v : Vec Record Global) → t < length vs → v ≡ slice_index_or vs t v → list_at vs t ≡ footprints v.items
+-- a thread's footprints are those of its list
+pub list_is : (vs : List RecordsValue) (t : ℕ) (v : RecordsValue) → t < length vs → v ≡ slice_index_or vs t v → list_at vs t ≡ footprints v.items
 list_is [] t v lt e = absurd (omega arith)
-list_is (w ∷ vs) zero v lt e = ap (λ (v : Vec Record Global). footprints v.items) (sym e)
+list_is (w ∷ vs) zero v lt e = ap (λ (v : RecordsValue). footprints v.items) (sym e)
 list_is (w ∷ vs) (suc t) v lt e = list_is vs t v (omega arith) e
 
 at_index : (xs : List Record) (k : ℕ) (r : Record) → k < length xs → r ≡ slice_index_or xs k r → slice_get (footprints xs) k ≡ Some r.footprint
@@ -183,24 +184,28 @@ past_end [] k h = refl
 past_end (x ∷ xs) zero h = absurd (omega arith)
 past_end (x ∷ xs) (suc k) h = past_end xs k (omega arith)
 
--- the footprint of a record of the thread's vector
-pub record_is : (vs : List (Vec Record Global)) (t : ℕ) (v : Vec Record Global) (items : List Record) (k : ℕ) (r : Record) → t < length vs → v ≡ slice_index_or vs t v → items ≡ v.items → k < length items → r ≡ slice_index_or items k r → foot_at vs t k ≡ Some r.footprint
-record_is vs t v items k r lt e i kt g = ap (λ xs. slice_get xs k) (list_is vs t v lt e ∙ ap footprints (sym i)) ∙ at_index items k r kt g
+-- the footprint of a record of the thread's
+pub record_is : (vs : List RecordsValue) (t : ℕ) (v : RecordsValue) (k : ℕ) (r : Record) → t < length vs → v ≡ slice_index_or vs t v → k < length v.items → r ≡ slice_index_or v.items k r → foot_at vs t k ≡ Some r.footprint
+record_is vs t v k r lt e kt g = ap (λ xs. slice_get xs k) (list_is vs t v lt e) ∙ at_index v.items k r kt g
 
--- past the end of the vector is none
-pub record_past : (vs : List (Vec Record Global)) (t : ℕ) (v : Vec Record Global) (items : List Record) (k : ℕ) → t < length vs → v ≡ slice_index_or vs t v → items ≡ v.items → length items ≤ k → (f : Footprint) → foot_at vs t k ≡ Some f → ⊥
-record_past vs t v items k lt e i kt f h = no_some f (sym (ap (λ xs. slice_get xs k) (list_is vs t v lt e ∙ ap footprints (sym i)) ∙ past_end items k kt) ∙ h)
+-- the same, by its lines
+pub foot_is : (vs : List RecordsValue) (t : ℕ) (v : RecordsValue) (k : ℕ) → t < length vs → v ≡ slice_index_or vs t v → k < length v.items → foot_at vs t k ≡ Some (print_of v.items k)
+foot_is vs t v k lt e kt = ap (λ xs. slice_get xs k) (list_is vs t v lt e) ∙ print_at v.items k kt
 
-pub no_thread : (vs : List (Vec Record Global)) (t k : ℕ) → length vs ≤ t → (f : Footprint) → foot_at vs t k ≡ Some f → ⊥
+-- past the end of the list is none
+pub record_past : (vs : List RecordsValue) (t : ℕ) (v : RecordsValue) (k : ℕ) → t < length vs → v ≡ slice_index_or vs t v → length v.items ≤ k → (f : Footprint) → foot_at vs t k ≡ Some f → ⊥
+record_past vs t v k lt e kt f h = no_some f (sym (ap (λ xs. slice_get xs k) (list_is vs t v lt e) ∙ past_end v.items k kt) ∙ h)
+
+pub no_thread : (vs : List RecordsValue) (t k : ℕ) → length vs ≤ t → (f : Footprint) → foot_at vs t k ≡ Some f → ⊥
 no_thread [] t k h f e = no_some f e
 no_thread (v ∷ vs) zero k h f e = omega arith
 no_thread (v ∷ vs) (suc t) k h f e = no_thread vs t k (omega arith) f e
 
-pub same_record : (vs : List (Vec Record Global)) (t k : ℕ) (f g : Footprint) → foot_at vs t k ≡ Some f → foot_at vs t k ≡ Some g → f ≡ g
+pub same_record : (vs : List RecordsValue) (t k : ℕ) (f g : Footprint) → foot_at vs t k ≡ Some f → foot_at vs t k ≡ Some g → f ≡ g
 same_record vs t k f g e h = some_is f g (sym e ∙ h)
 
--- the footprints by the lists of the vectors are those by the vectors
-pub same_footprints : (vs : List (Vec Record Global)) → footprint_at (lists_of vs) ≡ foot_at vs
+-- the footprints by the lists are those by the threads
+pub same_footprints : (vs : List RecordsValue) → footprint_at (lists_of vs) ≡ foot_at vs
 same_footprints vs = fun_ext (λ u. fun_ext (λ k. by_lists vs u k))
   where
     in_list : (rs : List Record) (k : ℕ) → option_map (λ (r : Record). r.footprint) (slice_get rs k) ≡ slice_get (footprints rs) k
@@ -208,7 +213,7 @@ same_footprints vs = fun_ext (λ u. fun_ext (λ k. by_lists vs u k))
     in_list (r ∷ rs) zero = refl
     in_list (r ∷ rs) (suc k) = in_list rs k
 
-    by_lists : (vs : List (Vec Record Global)) (u k : ℕ) → footprint_at (lists_of vs) u k ≡ foot_at vs u k
+    by_lists : (vs : List RecordsValue) (u k : ℕ) → footprint_at (lists_of vs) u k ≡ foot_at vs u k
     by_lists [] u k = refl
     by_lists (v ∷ vs) zero k = in_list v.items k
     by_lists (v ∷ vs) (suc u) k = by_lists vs u k
@@ -231,7 +236,7 @@ pairs_rise at (x ∷ xs) rise (suc i) (suc j) d lt le = pairs_rise at xs (rest a
     rest at x (y ∷ xs) rise = rise.1
 
 -- well-made footprints, as the counts need them
-pub all_well_made : (vs : List (Vec Record Global)) → AreWellMade (footprint_at (lists_of vs)) → AllWellMade MOST_LOCATIONS vs
+pub all_well_made : (vs : List RecordsValue) → AreWellMade (footprint_at (lists_of vs)) → AllWellMade MOST_LOCATIONS vs
 all_well_made vs h u k f is =
     let (w, below) = h u k f (ap (λ (a : Footprints). a u k) (same_footprints vs) ∙ is) in
     record {

@@ -1,6 +1,6 @@
 -- The counts from which the order is made. They serve private functions and proofs.
-use Rattle.std.specs.Prelude.{◌≡◌, ℕ, zero, suc, ◌+◌, ◌-◌, ◌^◌, ◌<◌, ◌≤◌, List, [], ◌∷◌, map, Option, Some, All, AllPairs, drop, slice_get, Bool, ◌==◌, ◌&&◌, count_by, sum_by, length, slice_index, Vec, vec_len}
-use Rattle.std.specs.Global.{Global}
+use Rattle.std.specs.Prelude.{◌≡◌, ℕ, zero, suc, ◌+◌, ◌-◌, ◌^◌, ◌<◌, ◌≤◌, List, [], ◌∷◌, map, Option, Some, All, AllPairs, drop, slice_get, Bool, ◌==◌, ◌&&◌, count_by, sum_by, length, slice_index}
+use Rattle.kc_history.specs.RecordsValue.{RecordsValue}
 use Rattle.kc_history.specs.declared.record.Record.{Record}
 use Rattle.kc_model.specs.Footprint.{PutsWhatItReads}
 use Rattle.kc_model.specs.declared.footprint.Footprint.{Footprint}
@@ -37,23 +37,23 @@ pub record Slots (starts : List ℕ) (size : ℕ) : Type 0 where
 abbrev pub Forgets : List ℕ → List ℕ → List ℕ → List Seen → Type 0
 Forgets starts left left' rs = (l v : ℕ) → l + 1 < length starts → v < width starts l → slice_index left' (slot starts l v) + readers l v rs ≡ slice_index left (slot starts l v)
 
-abbrev pub records_in : List (Vec Record Global) → ℕ
-records_in vs = sum_by (λ v. vec_len v) vs
+abbrev pub records_in : List RecordsValue → ℕ
+records_in vs = sum_by (λ v. length v.items) vs
 
 abbrev pub footprints : List Record → List Footprint
 footprints rs = map (λ r. r.footprint) rs
 
 -- the footprints of a thread
-abbrev pub list_at : List (Vec Record Global) → ℕ → List Footprint
+abbrev pub list_at : List RecordsValue → ℕ → List Footprint
 list_at [] u = []
 list_at (v ∷ vs) zero = footprints v.items
 list_at (v ∷ vs) (suc u) = list_at vs u
 
-abbrev pub foot_at : List (Vec Record Global) → ℕ → ℕ → Option Footprint
+abbrev pub foot_at : List RecordsValue → ℕ → ℕ → Option Footprint
 foot_at vs u k = slice_get (list_at vs u) k
 
 -- the sum over all records that don't stand yet
-abbrev pub total : (Footprint → ℕ) → List (Vec Record Global) → (ℕ → ℕ) → ℕ
+abbrev pub total : (Footprint → ℕ) → List RecordsValue → (ℕ → ℕ) → ℕ
 total w [] n = 0
 total w (v ∷ vs) n = sum_by w (drop (n zero) (footprints v.items)) + total w vs (λ u. n (suc u))
 
@@ -71,17 +71,17 @@ pub record WellMade (n : ℕ) (f : Footprint) : Type 0 where
   pub below : All (λ (r : Seen). r.loc.0 < n) f.reads.items
   pub last : All (λ (p : Put). p.version + 1 < 2 ^ 31) f.puts.items
 
-abbrev pub AllWellMade : ℕ → List (Vec Record Global) → Type 0
+abbrev pub AllWellMade : ℕ → List RecordsValue → Type 0
 AllWellMade n vs = (u k : ℕ) (f : Footprint) → foot_at vs u k ≡ Some f → WellMade n f
 
 -- the next record of the thread passes the test by counts
-pub record Passes (vs : List (Vec Record Global)) (next versions starts left : List ℕ) (t : ℕ) (f : Footprint) : Type 0 where
+pub record Passes (vs : List RecordsValue) (next versions starts left : List ℕ) (t : ℕ) (f : Footprint) : Type 0 where
   pub is : foot_at vs t (slice_index next t) ≡ Some f
   pub finds : All (λ (r : Seen). slice_index versions r.loc.0 ≡ r.version) f.reads.items
   pub alone : All (λ (p : Put). slice_index left (slot starts p.loc.0 (slice_index versions p.loc.0)) ≡ 1) f.puts.items
 
 -- what the counts are
-pub record Counted (vs : List (Vec Record Global)) (next versions starts left : List ℕ) : Type 0 where
+pub record Counted (vs : List RecordsValue) (next versions starts left : List ℕ) : Type 0 where
   pub slots : Slots starts (length left)
   pub lengths : length starts ≡ length versions + 1
   pub counts : (l v : ℕ) → l < length versions → v < width starts l → slice_index left (slot starts l v) ≡ total (readers_of l v) vs (slice_index next)

@@ -1,3 +1,8 @@
+pub mod Kept
+pub mod Spans
+pub mod PrintsValue
+pub mod Joined
+pub mod RecordsValue
 pub mod Records
 pub mod Order
 pub mod Callers

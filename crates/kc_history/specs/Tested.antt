@@ -1,11 +1,10 @@
 -- What is known of the records that come next, and what holds while records are placed. It serves private functions and proofs.
-use Rattle.std.specs.Prelude.{◌≡◌, ℕ, ◌+◌, ◌<◌, ◌≤◌, List, Some, All, take, length, slice_index, slice_index_or, Vec}
-use Rattle.std.specs.Global.{Global}
+use Rattle.std.specs.Prelude.{◌≡◌, ℕ, ◌+◌, ◌<◌, ◌≤◌, List, Some, All, take, length, slice_index, slice_index_or}
+use Rattle.kc_history.specs.RecordsValue.{RecordsValue}
 use Rattle.kc_history.specs.Counts.{Counted, foot_at, records_in, slot, total}
 use Rattle.kc_history.specs.Order.{Chooses}
 use Rattle.kc_history.specs.declared.placing.Tested.{Tested}
 use Rattle.kc_history.specs.declared.record.Place.{Place}
-use Rattle.kc_history.specs.declared.record.Record.{Record}
 use Rattle.kc_model.specs.declared.footprint.Footprint.{Footprint}
 use Rattle.kc_model.specs.declared.footprint.Put.{Put}
 use Rattle.kc_model.specs.declared.footprint.Seen.{Seen}
@@ -28,11 +27,11 @@ abbrev pub untested : Tested
 untested = record { reads = 0; puts = 0 }
 
 -- of each thread's next record
-abbrev pub AllTested : List (Vec Record Global) → List ℕ → List ℕ → List ℕ → List ℕ → List Tested → Type 0
+abbrev pub AllTested : List RecordsValue → List ℕ → List ℕ → List ℕ → List ℕ → List Tested → Type 0
 AllTested vs next versions starts left tested = (u : ℕ) (f : Footprint) → foot_at vs u (slice_index next u) ≡ Some f → IsTested versions starts left (slice_index_or tested u untested) f
 
 -- what holds while records are placed
-pub record Placing (vs : List (Vec Record Global)) (order : List Place) (placed : ℕ) (next versions starts left : List ℕ) (tested : List Tested) : Type 0 where
+pub record Placing (vs : List RecordsValue) (order : List Place) (placed : ℕ) (next versions starts left : List ℕ) (tested : List Tested) : Type 0 where
   pub chooses : Chooses (foot_at vs) (λ _. 0) (λ _. 0) (take placed order) (slice_index next) (slice_index versions)
   pub counted : Counted vs next versions starts left
   pub known : AllTested vs next versions starts left tested

@@ -7,6 +7,9 @@ use Rattle.kc_model.specs.declared.reply.Reply.{Reply}
 use Rattle.kc_model.specs.declared.reply.Reply.TheVariants as reply
 use Rattle.kc_model.specs.declared.reply.Answer.{Answer}
 use Rattle.kc_model.specs.declared.reply.Answer.TheVariants as answer
+use Rattle.kc_history.specs.Joined.{record_of}
+use Rattle.kc_history.specs.Kept.{print}
+use Rattle.kc_history.specs.declared.record.Head.{Head}
 use Rattle.kc_history.specs.declared.record.Mark.{Mark}
 use Rattle.kc_history.specs.declared.record.Mark.TheVariants as mark
 use Rattle.kc_history.specs.Records.{record_at}
@@ -38,6 +41,7 @@ reply_text (reply.Bool false) = codes "false"
 reply_text reply.Empty = codes "none"
 reply_text reply.Full = codes "full"
 reply_text reply.Stranded = codes "stranded"
+reply_text reply.Cancelled = codes "cancelled"
 reply_text (reply.Many items) = items_text items
 
 abbrev pub answer_text : Answer → List ℕ
@@ -51,6 +55,10 @@ mark_text mark.End = codes "end"
 -- the thread and what the record is of
 abbrev pub label_text : Record → List ℕ
 label_text r = decimal r.thread ++ codes "." ++ mark_text r.mark
+
+-- what a head says, as a record of nothing
+abbrev pub bare : Head → Record
+bare h = record_of h (print [] [])
 
 -- an end has no reply line
 abbrev pub marked_reply : Mark → Record → List ℕ

@@ -1,6 +1,6 @@
 //! The canonical order, found in room that was taken before.
 
-ghost use Rattle.std.specs.Prelude.{◌≡◌, ◌+◌, ◌*◌, ◌^◌, ◌<◌, ◌≤◌, ◌↔◌, All, IfOk, IfErr, IsOk, IsTrue, [], length, take};
+ghost use Rattle.std.specs.Prelude.{◌≡◌, ◌+◌, ◌*◌, ◌^◌, ◌<◌, ◌≤◌, ◌↔◌, All, IfOk, IfErr, IsOk, IsTrue, [], length, take, vec_capacity};
 ghost use Rattle.kc_history.specs.Records.{footprint_at, lists_of};
 ghost use Rattle.kc_history.specs.Order.{IsCanonical};
 ghost use Rattle.kc_history.specs.Counts.{AllWellMade, foot_at, records_in};
@@ -8,7 +8,8 @@ ghost use Rattle.kc_history.specs.Ends.{AreWellMade, CanStand, HasLegalList, IsS
 
 use crate::counting::{clear_numbers, count_records};
 use crate::placing::{Tested, UNTESTED, clear_tests, first_left, place_all};
-use crate::record::{Place, Record};
+use crate::record::Place;
+use crate::records::Records;
 use kc_model::{Footprint, MOST, MOST_LOCATIONS, NoMemory};
 use std::alloc::Global;
 use std::marker::Model;
@@ -26,7 +27,7 @@ pub struct Room {
 }
 
 impl Model for Room {
-    ghost use Rattle.std.specs.Prelude.{◌≡◌, ◌+◌, ◌*◌, ◌^◌, ◌<◌, ◌≤◌, take, vec_len};
+    ghost use Rattle.std.specs.Prelude.{◌≡◌, ◌+◌, ◌*◌, ◌^◌, ◌<◌, ◌≤◌, take, vec_capacity, vec_len};
     ghost use Rattle.kc_model.specs.declared.footprint.TheConstants.{MOST};
     ghost use Rattle.kc_model.specs.declared.plain_store.TheConstants.{MOST_LOCATIONS};
     ghost use Rattle.kc_history.specs.Rooms.{RoomValue};
@@ -35,7 +36,7 @@ impl Model for Room {
 
     ghost view = { λ r. record { threads = vec_len r.next; records = vec_len r.order; order = take r.placed r.order.items } };
 
-    ghost invariant = { λ r. (vec_len r.versions ≡ MOST_LOCATIONS) × (vec_len r.starts ≡ MOST_LOCATIONS + 1) × (MOST_LOCATIONS + 1 + MOST * vec_len r.order ≤ vec_len r.left) × (vec_len r.order < 2 ^ 32) × (vec_len r.next < 2 ^ 32) × (vec_len r.tested ≡ vec_len r.next) × (r.placed ≤ vec_len r.order) };
+    ghost invariant = { λ r. (vec_len r.versions ≡ MOST_LOCATIONS) × (vec_len r.starts ≡ MOST_LOCATIONS + 1) × (MOST_LOCATIONS + 1 + MOST * vec_len r.order ≤ vec_capacity r.left) × (vec_len r.order < 2 ^ 32) × (vec_len r.next < 2 ^ 32) × (vec_len r.tested ≡ vec_len r.next) × (r.placed ≤ vec_len r.order) };
 }
 
 /// No record that is left is ready: the lowest thread with a record left, and that record's place in it, both from 1.
@@ -46,7 +47,8 @@ pub struct Cycle {
 }
 
 impl Room {
-    /// Room for so many threads and so many records.
+    /// Room for so many threads and so many records. The room for counts is only taken, and is written as far as an order
+    /// needs it.
     pub fn open(alloc: Global, threads: u32, records: u32) -> Result<Room, NoMemory>
         ensures { IfOk result (λ room. room ≡ record { threads = threads; records = records; order = [] }) }
     {
@@ -61,7 +63,7 @@ impl Room {
             next: vec![in alloc; 0; threads as usize]?,
             versions: vec![in alloc; 0; MOST_LOCATIONS]?,
             starts: vec![in alloc; 0; MOST_LOCATIONS + 1]?,
-            left: vec![in alloc; 0; MOST_LOCATIONS + 1 + MOST * records]?,
+            left: Vec::with_capacity(alloc, MOST_LOCATIONS + 1 + MOST * records)?,
             tested: vec![in alloc; UNTESTED; threads as usize]?,
         })
     }
@@ -75,22 +77,24 @@ impl Room {
 }
 
 /// Whether each footprint is well made, and of locations that a store may have.
-pub fn are_well_made(records: &[Vec<Record>]) -> bool
+pub fn are_well_made(records: &[Records]) -> bool
     ensures { IsTrue result ↔ AreWellMade (footprint_at (lists_of records.now)) }
 {
+    let mut footprint = Footprint::new();
     for list in records {
-        if !all_well_made(list) {
+        if !all_well_made(list, &mut footprint) {
             return false;
         }
     }
     true
 }
 
-fn all_well_made(list: &[Record]) -> bool
-    ensures { IsTrue result ↔ All (λ r. CanStand r.footprint) list.now }
+fn all_well_made(list: &Records, footprint: &mut Footprint) -> bool
+    ensures { IsTrue result ↔ All (λ r. CanStand r.footprint) list.now.items }
 {
-    for commit in list {
-        if !can_stand(&commit.footprint) {
+    for i in 0..list.len() {
+        list.fill(i, footprint);
+        if !can_stand(footprint) {
             return false;
         }
     }
@@ -112,7 +116,7 @@ fn can_stand(footprint: &Footprint) -> bool
 /// # Errors
 ///
 /// `Cycle`, exactly where a record is left and none is ready. Records that have a legal order never come to that.
-pub fn arrange(records: &[Vec<Record>], room: &mut Room) -> Result<(), Cycle>
+pub fn arrange(records: &[Records], room: &mut Room) -> Result<(), Cycle>
     requires made { AreWellMade (footprint_at (lists_of records.now)) }
     requires threads { length records.now ≤ room.old.threads }
     requires records { records_in records.now ≤ room.old.records }
@@ -128,7 +132,7 @@ pub fn arrange(records: &[Vec<Record>], room: &mut Room) -> Result<(), Cycle>
         room.next.as_mut_slice(),
         room.versions.as_mut_slice(),
         room.starts.as_mut_slice(),
-        room.left.as_mut_slice(),
+        &mut room.left,
         room.tested.as_mut_slice(),
     );
     room.placed = placed;
@@ -137,12 +141,12 @@ pub fn arrange(records: &[Vec<Record>], room: &mut Room) -> Result<(), Cycle>
 
 // Finds the order, and says how many records stand in it.
 fn find_order(
-    records: &[Vec<Record>],
+    records: &[Records],
     order: &mut [Place],
     next: &mut [u32],
     versions: &mut [u32],
     starts: &mut [usize],
-    left: &mut [usize],
+    left: &mut Vec<usize>,
     tested: &mut [Tested],
 ) -> (usize, Result<(), Cycle>)
     requires threads { length records.now ≤ length next.old }
@@ -150,11 +154,12 @@ fn find_order(
     requires few { length next.old < 2 ^ 32 }
     requires made { AllWellMade (length versions.old) records.now }
     requires locations { length starts.old ≡ length versions.old + 1 }
-    requires counts { length starts.old + MOST * length order.old ≤ length left.old }
-    requires bytes { length left.old < 2 ^ 64 }
+    requires counts { length starts.old + MOST * length order.old ≤ vec_capacity left.old }
+    requires bytes { vec_capacity left.old < 2 ^ 64 }
     requires records { records_in records.now ≤ length order.old }
     requires short { length order.old < 2 ^ 32 }
     ensures within { result.0 ≤ length order.new }
+    ensures capacity { vec_capacity left.new ≡ vec_capacity left.old }
     ensures arranged { IfOk result.1 (λ _. IsCanonical (foot_at records.now) (take result.0 order.new)) }
     ensures stuck { IfErr result.1 (λ cycle. IsStuck (foot_at records.now) cycle) }
     ensures never { HasLegalList (foot_at records.now) → IsOk result.1 }
@@ -163,7 +168,15 @@ fn find_order(
     clear_numbers(versions);
     clear_tests(tested);
     count_records(records, starts, left);
-    let placed = place_all(records, order, next, versions, starts, left, tested);
+    let placed = place_all(
+        records,
+        order,
+        next,
+        versions,
+        starts,
+        left.as_mut_slice(),
+        tested,
+    );
     match first_left(records, next) {
         None => (placed, Ok(())),
         Some(thread) => {

@@ -1,10 +1,10 @@
 //! The counts of reads and puts from which the order is made.
 
-ghost use Rattle.std.specs.Prelude.{◌≡◌, ℕ, ◌+◌, ◌-◌, ◌*◌, ◌^◌, ◌<◌, ◌≤◌, All, List, length, slice_index, sum, sum_by, take};
+ghost use Rattle.std.specs.Prelude.{◌≡◌, ℕ, ◌+◌, ◌-◌, ◌*◌, ◌^◌, ◌<◌, ◌≤◌, All, List, length, slice_index, sum, sum_by, take, vec_capacity};
 ghost use Rattle.kc_model.specs.declared.footprint.TheConstants.{MOST};
 ghost use Rattle.kc_history.specs.Counts.{AllWellMade, Counted, Forgets, Slots, putters, readers, records_in, slot, width};
 
-use crate::record::Record;
+use crate::records::Records;
 use kc_model::{Put, Seen};
 
 // Adds the reads of a record to the counts of readers.
@@ -62,56 +62,61 @@ fn sum_up(widths: &mut [usize])
     }
 }
 
-fn count_list_puts(list: &[Record], widths: &mut [usize])
-    requires below { All (λ r. All (λ p. p.loc.0 < length widths.old) r.footprint.puts.items) list.now }
-    requires room { sum widths.old + MOST * length list.now < 2 ^ 64 }
-    ensures counts { (l : ℕ) → l < length widths.old → slice_index widths.new l ≡ slice_index widths.old l + sum_by (λ r. putters l r.footprint.puts.items) list.now }
-    ensures sum { sum widths.new ≤ sum widths.old + MOST * length list.now }
+fn count_list_puts(list: &Records, widths: &mut [usize])
+    requires below { All (λ r. All (λ p. p.loc.0 < length widths.old) r.footprint.puts.items) list.now.items }
+    requires room { sum widths.old + MOST * length list.now.items < 2 ^ 64 }
+    ensures counts { (l : ℕ) → l < length widths.old → slice_index widths.new l ≡ slice_index widths.old l + sum_by (λ r. putters l r.footprint.puts.items) list.now.items }
+    ensures sum { sum widths.new ≤ sum widths.old + MOST * length list.now.items }
 {
-    for commit in list {
-        count_puts(commit.footprint.puts.as_slice(), widths);
+    for i in 0..list.len() {
+        count_puts(list.puts(i), widths);
     }
 }
 
-fn count_all_puts(records: &[Vec<Record>], widths: &mut [usize])
+fn count_all_puts(records: &[Records], widths: &mut [usize])
     requires below { All (λ list. All (λ r. All (λ p. p.loc.0 < length widths.old) r.footprint.puts.items) list.items) records.now }
     requires room { sum widths.old + MOST * records_in records.now < 2 ^ 64 }
     ensures counts { (l : ℕ) → l < length widths.old → slice_index widths.new l ≡ slice_index widths.old l + sum_by (λ list. sum_by (λ r. putters l r.footprint.puts.items) list.items) records.now }
     ensures sum { sum widths.new ≤ sum widths.old + MOST * records_in records.now }
 {
     for list in records {
-        count_list_puts(list.as_slice(), widths);
+        count_list_puts(list, widths);
     }
 }
 
-fn count_list_reads(list: &[Record], starts: &[usize], left: &mut [usize])
+fn count_list_reads(list: &Records, starts: &[usize], left: &mut [usize])
     requires slots { Slots starts.now (length left.old) }
-    requires below { All (λ c. All (λ r. r.loc.0 + 1 < length starts.now) c.footprint.reads.items) list.now }
-    requires room { (k : ℕ) → slice_index left.old k + MOST * length list.now < 2 ^ 64 }
-    ensures counts { (l v : ℕ) → l + 1 < length starts.now → v < width starts.now l → slice_index left.new (slot starts.now l v) ≡ slice_index left.old (slot starts.now l v) + sum_by (λ r. readers l v r.footprint.reads.items) list.now }
-    ensures most { (k : ℕ) → slice_index left.new k ≤ slice_index left.old k + MOST * length list.now }
+    requires below { All (λ c. All (λ r. r.loc.0 + 1 < length starts.now) c.footprint.reads.items) list.now.items }
+    requires room { (k : ℕ) → slice_index left.old k + MOST * length list.now.items < 2 ^ 64 }
+    ensures counts { (l v : ℕ) → l + 1 < length starts.now → v < width starts.now l → slice_index left.new (slot starts.now l v) ≡ slice_index left.old (slot starts.now l v) + sum_by (λ r. readers l v r.footprint.reads.items) list.now.items }
+    ensures most { (k : ℕ) → slice_index left.new k ≤ slice_index left.old k + MOST * length list.now.items }
 {
-    for commit in list {
-        count_reads(commit.footprint.reads.as_slice(), starts, left);
+    for i in 0..list.len() {
+        count_reads(list.reads(i), starts, left);
     }
 }
 
-fn count_all_reads(records: &[Vec<Record>], starts: &[usize], left: &mut [usize])
+fn count_all_reads(records: &[Records], starts: &[usize], left: &mut [usize])
     requires slots { Slots starts.now (length left.old) }
     requires below { All (λ list. All (λ c. All (λ r. r.loc.0 + 1 < length starts.now) c.footprint.reads.items) list.items) records.now }
     requires room { (k : ℕ) → slice_index left.old k + MOST * records_in records.now < 2 ^ 64 }
     ensures { (l v : ℕ) → l + 1 < length starts.now → v < width starts.now l → slice_index left.new (slot starts.now l v) ≡ slice_index left.old (slot starts.now l v) + sum_by (λ list. sum_by (λ r. readers l v r.footprint.reads.items) list.items) records.now }
 {
     for list in records {
-        count_list_reads(list.as_slice(), starts, left);
+        count_list_reads(list, starts, left);
     }
 }
 
-fn clear(counts: &mut [usize])
-    ensures { (k : ℕ) → slice_index counts.new k ≡ 0 }
+// Makes of the counts so many, all 0, in room that is there.
+fn clear(counts: &mut Vec<usize>, size: usize)
+    requires { size ≤ vec_capacity counts.old }
+    ensures each { (k : ℕ) → slice_index counts.new.items k ≡ 0 }
+    ensures size { length counts.new.items ≡ size }
+    ensures capacity { vec_capacity counts.new ≡ vec_capacity counts.old }
 {
-    for count in counts.iter_mut() {
-        *count = 0;
+    counts.clear();
+    for _ in 0..size {
+        counts.push_reserved(0);
     }
 }
 
@@ -133,16 +138,17 @@ fn make_ones(counts: &mut [usize])
 }
 
 // Makes all counts anew, as they are where no record stands.
-pub(crate) fn count_records(records: &[Vec<Record>], starts: &mut [usize], left: &mut [usize])
+pub(crate) fn count_records(records: &[Records], starts: &mut [usize], left: &mut Vec<usize>)
     requires made { AllWellMade (length starts.old - 1) records.now }
     requires one { 0 < length starts.old }
-    requires room { length starts.old + MOST * records_in records.now ≤ length left.old }
-    requires short { length left.old < 2 ^ 64 }
-    ensures { (next versions : List ℕ) → length starts.new ≡ length versions + 1 → ((u : ℕ) → slice_index next u ≡ 0) → ((l : ℕ) → slice_index versions l ≡ 0) → Counted records.now next versions starts.new left.new }
+    requires room { length starts.old + MOST * records_in records.now ≤ vec_capacity left.old }
+    requires short { vec_capacity left.old < 2 ^ 64 }
+    ensures counted { (next versions : List ℕ) → length starts.new ≡ length versions + 1 → ((u : ℕ) → slice_index next u ≡ 0) → ((l : ℕ) → slice_index versions l ≡ 0) → Counted records.now next versions starts.new left.new.items }
+    ensures capacity { vec_capacity left.new ≡ vec_capacity left.old }
 {
     make_ones(starts);
     count_all_puts(records, starts);
     sum_up(starts);
-    clear(left);
-    count_all_reads(records, starts, left);
+    clear(left, starts[starts.len() - 1]);
+    count_all_reads(records, starts, left.as_mut_slice());
 }

@@ -5,7 +5,9 @@ mod arranging;
 mod counting;
 mod laws;
 mod placing;
+mod prints;
 mod record;
+mod records;
 mod replaying;
 #[cfg(test)]
 mod tests;
@@ -16,6 +18,7 @@ pub use laws::{
     arranging_ends_in_one_way, canonical_is_legal, entries_are_records, looks_can_be_left,
     one_order_is_canonical,
 };
-pub use record::{Mark, Place, Record};
+pub use record::{Head, Mark, Place, Record};
+pub use records::Records;
 pub use replaying::replay;
 pub use text::{put_text, write_text};

@@ -7,10 +7,12 @@ ghost use Rattle.kc_history.specs.Order.{version_after, more, raised, Chooses, N
 ghost use Rattle.kc_history.specs.Counts.{AllWellMade, Counted, Forgets, Passes, foot_at, records_in, slot};
 ghost use Rattle.kc_history.specs.Tested.{IsTested, AllTested, Finds, IsAlone, untested};
 ghost use Rattle.kc_history.specs.Ends.{IsFirstLeft};
+ghost use Rattle.kc_history.specs.Kept.{print};
 
 use crate::counting::forget_reads;
-use crate::record::{Place, Record};
-use kc_model::{Footprint, Put, Seen};
+use crate::record::Place;
+use crate::records::Records;
+use kc_model::{Put, Seen};
 
 // How many reads of a thread's next record are known to find their versions, and then, how many of its puts end a
 // version that it alone still reads. What passed once passes until the record stands, so that no test is made twice.
@@ -64,31 +66,32 @@ fn count_alone(
 
 // Whether a record may stand; the tests begin where they stopped before.
 fn may_stand(
-    foot: &Footprint,
+    reads: &[Seen],
+    puts: &[Put],
     versions: &[u32],
     starts: &[usize],
     left: &[usize],
     tested: &mut Tested,
 ) -> bool
-    requires reads { All (λ r. r.loc.0 < length versions.now) foot.now.reads.items }
-    requires puts { All (λ p. p.loc.0 < length versions.now) foot.now.puts.items }
+    requires reads { All (λ r. r.loc.0 < length versions.now) reads.now }
+    requires puts { All (λ p. p.loc.0 < length versions.now) puts.now }
     requires starts { length starts.now ≡ length versions.now + 1 }
     requires left { (l : ℕ) → l < length versions.now → slot starts.now l (slice_index versions.now l) < length left.now }
-    requires tested { IsTested versions.now starts.now left.now tested.old foot.now }
-    ensures passes { IsTrue result ↔ (All (Finds versions.now) foot.now.reads.items × All (IsAlone versions.now starts.now left.now) foot.now.puts.items) }
-    ensures tested { IsTested versions.now starts.now left.now tested.new foot.now }
+    requires tested { IsTested versions.now starts.now left.now tested.old (print reads.now puts.now) }
+    ensures passes { IsTrue result ↔ (All (Finds versions.now) reads.now × All (IsAlone versions.now starts.now left.now) puts.now) }
+    ensures tested { IsTested versions.now starts.now left.now tested.new (print reads.now puts.now) }
 {
-    tested.reads = count_found(foot.reads.as_slice(), versions, tested.reads);
-    if tested.reads < foot.reads.len() {
+    tested.reads = count_found(reads, versions, tested.reads);
+    if tested.reads < reads.len() {
         return false;
     }
-    tested.puts = count_alone(foot.puts.as_slice(), versions, starts, left, tested.puts);
-    tested.puts >= foot.puts.len()
+    tested.puts = count_alone(puts, versions, starts, left, tested.puts);
+    tested.puts >= puts.len()
 }
 
 // The lowest thread whose next record is ready.
 fn first_ready(
-    records: &[Vec<Record>],
+    records: &[Records],
     next: &[u32],
     versions: &[u32],
     starts: &[usize],
@@ -106,12 +109,12 @@ fn first_ready(
     ensures tested { AllTested records.now next.now versions.now starts.now left.now tested.new }
 {
     for thread in 0..records.len() {
-        let list = records[thread].as_slice();
+        let list = &records[thread];
         let index = next[thread] as usize;
         if index < list.len() {
-            let commit = &list[index];
             if may_stand(
-                &commit.footprint,
+                list.reads(index),
+                list.puts(index),
                 versions,
                 starts,
                 left,
@@ -137,7 +140,7 @@ fn raise(puts: &[Put], versions: &mut [u32])
 
 // Lets the next record of a thread stand, which passes.
 fn let_stand(
-    records: &[Vec<Record>],
+    records: &[Records],
     thread: usize,
     next: &mut [u32],
     versions: &mut [u32],
@@ -155,16 +158,16 @@ fn let_stand(
     ensures left { (f : Foot) → foot_at records.now thread (slice_index next.old thread) ≡ Some f → Forgets starts.now left.old left.new f.reads.items }
     ensures counted { Counted records.now next.new versions.new starts.now left.new }
 {
-    let list = records[thread].as_slice();
-    let commit = &list[next[thread] as usize];
+    let list = &records[thread];
+    let index = next[thread] as usize;
     next[thread] += 1;
-    forget_reads(commit.footprint.reads.as_slice(), starts, left);
-    raise(commit.footprint.puts.as_slice(), versions);
+    forget_reads(list.reads(index), starts, left);
+    raise(list.puts(index), versions);
 }
 
 // Lets records stand, one by one, until none is ready, and says how many stand.
 pub(crate) fn place_all(
-    records: &[Vec<Record>],
+    records: &[Records],
     order: &mut [Place],
     next: &mut [u32],
     versions: &mut [u32],
@@ -209,7 +212,7 @@ pub(crate) fn clear_tests(tested: &mut [Tested])
 }
 
 // The lowest thread with a record left.
-pub(crate) fn first_left(records: &[Vec<Record>], next: &[u32]) -> Option<usize>
+pub(crate) fn first_left(records: &[Records], next: &[u32]) -> Option<usize>
     requires { length records.now ≤ length next.now }
     ensures { MatchOption result
         (NoneLeft (foot_at records.now) (slice_index next.now))

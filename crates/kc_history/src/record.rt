@@ -1,5 +1,3 @@
-ghost use Rattle.std.specs.Prelude.{◌≡◌, []};
-
 use kc_model::{Answer, Footprint, Reply};
 
 /// What a record is of.
@@ -11,7 +9,7 @@ pub enum Mark {
     End,
 }
 
-/// What one commit of a run did.
+/// What one commit of a run did. Contracts speak of it; `Records` keeps heads and footprints apart.
 #[derive(Debug, Drop)]
 pub struct Record {
     /// The thread's number, from 1.
@@ -21,6 +19,15 @@ pub struct Record {
     pub footprint: Footprint,
 }
 
+/// What a record says but for its footprint.
+#[derive(Clone, Copy, Debug)]
+pub struct Head {
+    /// The thread's number, from 1.
+    pub thread: u32,
+    pub mark: Mark,
+    pub answer: Answer,
+}
+
 /// Where a record stands in lists by thread: the list's index and the index in it, both from 0.
 #[derive(Clone, Copy, Debug, PartialEq, Eq)]
 pub struct Place {
@@ -28,20 +35,9 @@ pub struct Place {
     pub index: u32,
 }
 
-impl Record {
-    /// A record that is still to be filled: it replies `ok`, and has read and put nothing.
-    pub fn new(thread: u32, mark: Mark) -> Record
-        ensures thread { result.thread ≡ thread }
-        ensures mark { result.mark ≡ mark }
-        ensures answer { result.answer ≡ Answer.Reply Reply.Unit }
-        ensures reads { result.footprint.reads.items ≡ [] }
-        ensures puts { result.footprint.puts.items ≡ [] }
-    {
-        Record {
-            thread,
-            mark,
-            answer: Answer::Reply(Reply::Unit),
-            footprint: Footprint::new(),
-        }
-    }
-}
+// A head that is still to be filled.
+pub(crate) const BLANK: Head = Head {
+    thread: 0,
+    mark: Mark::End,
+    answer: Answer::Reply(Reply::Unit),
+};

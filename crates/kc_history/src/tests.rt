@@ -1,18 +1,26 @@
-ghost use Rattle.std.specs.Prelude.{◌+◌, ◌≤◌, vec_len};
+ghost use Rattle.std.specs.Prelude.{◌≡◌, ◌+◌, ◌-◌, ◌<◌, ◌≤◌, IfOk, [], length};
+ghost use Rattle.kc_model.specs.declared.footprint.TheConstants.{MOST};
 
 use super::*;
-use kc_model::{Answer, FrailSink, Item, Items, Loc, Put, Reply, Seen};
+use kc_model::{Answer, Footprint, FrailSink, Item, Items, Loc, MOST, Put, Reply, Seen};
 use std::alloc::Global;
 use std::process::Abort;
 use std::test::Fail;
 
+// Room for the records of a thread.
+fn open(alloc: Global) -> Result<Records, Fail>
+    ensures { IfOk result (λ r. r ≡ record { items = []; spare = 4; limit = MOST }) }
+{
+    Ok(Records::open(alloc, 4, MOST as u32)?)
+}
+
 #[test]
 fn an_end_has_no_reply_line(rt: HostRuntime) -> Result<(), Fail> {
-    let mut command = Record::new(1, Mark::Command(1));
-    command.answer = Answer::Reply(Reply::Value(5));
-    let mut list = Vec::new(rt.alloc());
-    list.push(command)?;
-    list.push(Record::new(1, Mark::End))?;
+    let mut list = open(rt.alloc())?;
+    let footprint = Footprint::new();
+    let five = Answer::Reply(Reply::Value(5));
+    list.add(1, Mark::Command(1), five, &footprint);
+    list.add(1, Mark::End, Answer::Reply(Reply::Unit), &footprint);
     let mut records = Vec::new(rt.alloc());
     records.push(list)?;
     let order = [
@@ -33,10 +41,8 @@ fn an_end_has_no_reply_line(rt: HostRuntime) -> Result<(), Fail> {
 
 // Asserts how a command's answer is shown.
 fn shows(rt: &impl Abort, alloc: Global, answer: Answer, text: &[u8]) -> Result<(), Fail> {
-    let mut command = Record::new(1, Mark::Command(1));
-    command.answer = answer;
-    let mut list = Vec::new(alloc);
-    list.push(command)?;
+    let mut list = open(alloc)?;
+    list.add(1, Mark::Command(1), answer, &Footprint::new());
     let mut records = Vec::new(alloc);
     records.push(list)?;
     let mut sink = FrailSink::new(alloc, 64, Vec::new(alloc))?;
@@ -65,32 +71,37 @@ fn items_and_too_large_in_words(rt: HostRuntime) -> Result<(), Fail> {
     shows(&rt, rt.alloc(), Answer::TooLarge, b"1.1 toolarge\norder\n")
 }
 
-// A record that reads location 0 at this version, and puts it or not.
-fn of_version(thread: u32, number: u32, version: u32, puts: bool) -> Record {
-    let mut commit = Record::new(thread, Mark::Command(number));
+// Adds a record that reads location 0 at this version, and puts it or not.
+fn add_version(list: &mut Records, thread: u32, number: u32, version: u32, puts: bool)
+    requires { (0 < list.old.spare) × (list.old.limit ≡ MOST) }
+    ensures items { length list.new.items ≡ length list.old.items + 1 }
+    ensures room { (list.new.spare ≡ list.old.spare - 1) × (list.new.limit ≡ MOST) }
+{
+    let mut footprint = Footprint::new();
     let loc = Loc(0);
-    let _ = commit.footprint.reads.try_push(Seen {
+    let _ = footprint.reads.try_push(Seen {
         loc,
         version,
         value: 7,
     });
     if puts {
-        let _ = commit.footprint.puts.try_push(Put {
+        let _ = footprint.puts.try_push(Put {
             loc,
             version,
             after: 7,
         });
     }
-    commit
+    let unit = Answer::Reply(Reply::Unit);
+    list.add(thread, Mark::Command(number), unit, &footprint);
 }
 
 // The records of two threads, in their order, or where that is stuck.
 fn arranged(
     alloc: Global,
-    first: Vec<Record>,
-    second: Vec<Record>,
+    first: Records,
+    second: Records,
 ) -> Result<(Room, Result<(), Cycle>), Fail>
-    requires { vec_len first + vec_len second ≤ 4 }
+    requires { length first.items + length second.items ≤ 4 }
 {
     let mut records = Vec::new(alloc);
     records.push(first)?;
@@ -110,11 +121,11 @@ fn at(thread: u32, index: u32) -> Place {
 
 #[test]
 fn a_later_reader_of_what_a_put_ends_stands_before_it(rt: HostRuntime) -> Result<(), Fail> {
-    let mut first = Vec::new(rt.alloc());
-    first.push(of_version(1, 1, 0, true))?;
-    let mut second = Vec::new(rt.alloc());
-    second.push(of_version(2, 1, 0, false))?;
-    second.push(of_version(2, 2, 1, true))?;
+    let mut first = open(rt.alloc())?;
+    add_version(&mut first, 1, 1, 0, true);
+    let mut second = open(rt.alloc())?;
+    add_version(&mut second, 2, 1, 0, false);
+    add_version(&mut second, 2, 2, 1, true);
     let (room, ended) = arranged(rt.alloc(), first, second)?;
     assert_eq!(rt; ended, Ok(()));
     assert_eq!(rt; room.order(), [at(1, 0), at(0, 0), at(1, 1)].as_slice());
@@ -123,10 +134,10 @@ fn a_later_reader_of_what_a_put_ends_stands_before_it(rt: HostRuntime) -> Result
 
 #[test]
 fn two_records_that_end_one_version_are_stuck(rt: HostRuntime) -> Result<(), Fail> {
-    let mut first = Vec::new(rt.alloc());
-    first.push(of_version(1, 1, 0, true))?;
-    first.push(of_version(1, 2, 0, true))?;
-    let (_, ended) = arranged(rt.alloc(), first, Vec::new(rt.alloc()))?;
+    let mut first = open(rt.alloc())?;
+    add_version(&mut first, 1, 1, 0, true);
+    add_version(&mut first, 1, 2, 0, true);
+    let (_, ended) = arranged(rt.alloc(), first, open(rt.alloc())?)?;
     let stuck = Cycle {
         thread: 1,
         number: 1,

@@ -4,13 +4,14 @@ ghost use Rattle.std.specs.Prelude.{◌++◌, IsSome, codes, drop};
 ghost use Rattle.std.specs.List.{flat_map};
 ghost use Rattle.kc_model.specs.Pen.{Puts, Prints};
 ghost use Rattle.kc_history.specs.Records.{lists_of, record_at, NamesRecords};
-ghost use Rattle.kc_history.specs.Text.{item_text, spaced_items, items_text, reply_text, answer_text, mark_text, label_text, reply_line, reply_lines, order_line, order_lines, records_text};
+ghost use Rattle.kc_history.specs.Text.{bare, item_text, spaced_items, items_text, reply_text, answer_text, mark_text, label_text, reply_line, reply_lines, order_line, order_lines, records_text};
 
-use crate::record::{Mark, Place, Record};
+use crate::record::{Head, Mark, Place};
+use crate::records::Records;
 use kc_model::{Answer, Failed, Item, Items, Pen, Reply, Sink};
 
 /// Puts the reply lines, thread by thread, and the order.
-pub fn put_text<K: Sink>(pen: &mut Pen<K>, records: &[Vec<Record>], order: &[Place])
+pub fn put_text<K: Sink>(pen: &mut Pen<K>, records: &[Records], order: &[Place])
     requires { NamesRecords (lists_of records.now) order.now }
     ensures { Puts K.written K.faults K.write_gives pen.old pen.new (records_text (lists_of records.now) order.now) }
 {
@@ -20,11 +21,7 @@ pub fn put_text<K: Sink>(pen: &mut Pen<K>, records: &[Vec<Record>], order: &[Pla
 }
 
 /// Writes the reply lines, thread by thread, and the order. After a failed write no further one is made.
-pub fn write_text<K: Sink>(
-    records: &[Vec<Record>],
-    order: &[Place],
-    sink: &mut K,
-) -> Result<(), Failed>
+pub fn write_text<K: Sink>(records: &[Records], order: &[Place], sink: &mut K) -> Result<(), Failed>
     requires { NamesRecords (lists_of records.now) order.now }
     ensures { Prints K.written K.faults K.write_gives sink.old sink.new result (records_text (lists_of records.now) order.now) }
 {
@@ -33,7 +30,7 @@ pub fn write_text<K: Sink>(
     pen.end()
 }
 
-fn put_replies<K: Sink>(pen: &mut Pen<K>, records: &[Vec<Record>])
+fn put_replies<K: Sink>(pen: &mut Pen<K>, records: &[Records])
     ensures { Puts K.written K.faults K.write_gives pen.old pen.new (reply_lines (lists_of records.now)) }
 {
     for list in records {
@@ -41,38 +38,38 @@ fn put_replies<K: Sink>(pen: &mut Pen<K>, records: &[Vec<Record>])
     }
 }
 
-fn put_thread_replies<K: Sink>(pen: &mut Pen<K>, list: &[Record])
-    ensures { Puts K.written K.faults K.write_gives pen.old pen.new (flat_map reply_line list.now) }
+fn put_thread_replies<K: Sink>(pen: &mut Pen<K>, list: &Records)
+    ensures { Puts K.written K.faults K.write_gives pen.old pen.new (flat_map reply_line list.now.items) }
 {
-    for commit in list {
-        put_reply_line(pen, commit);
+    for i in 0..list.len() {
+        put_reply_line(pen, list.head(i));
     }
 }
 
-fn put_reply_line<K: Sink>(pen: &mut Pen<K>, commit: &Record)
-    ensures { Puts K.written K.faults K.write_gives pen.old pen.new (reply_line commit.now) }
+fn put_reply_line<K: Sink>(pen: &mut Pen<K>, head: &Head)
+    ensures { Puts K.written K.faults K.write_gives pen.old pen.new (reply_line (bare head.now)) }
 {
-    match commit.mark {
-        Mark::Command(_) => put_command_line(pen, commit),
+    match head.mark {
+        Mark::Command(_) => put_command_line(pen, head),
         Mark::End => {}
     }
 }
 
-fn put_command_line<K: Sink>(pen: &mut Pen<K>, commit: &Record)
-    ensures { Puts K.written K.faults K.write_gives pen.old pen.new (label_text commit.now ++ codes " " ++ answer_text commit.now.answer ++ codes "\n") }
+fn put_command_line<K: Sink>(pen: &mut Pen<K>, head: &Head)
+    ensures { Puts K.written K.faults K.write_gives pen.old pen.new (label_text (bare head.now) ++ codes " " ++ answer_text head.now.answer ++ codes "\n") }
 {
-    put_label(pen, commit);
+    put_label(pen, head);
     pen.put(b" ");
-    put_answer(pen, &commit.answer);
+    put_answer(pen, &head.answer);
     pen.put(b"\n");
 }
 
-fn put_label<K: Sink>(pen: &mut Pen<K>, commit: &Record)
-    ensures { Puts K.written K.faults K.write_gives pen.old pen.new (label_text commit.now) }
+fn put_label<K: Sink>(pen: &mut Pen<K>, head: &Head)
+    ensures { Puts K.written K.faults K.write_gives pen.old pen.new (label_text (bare head.now)) }
 {
-    pen.put_number(commit.thread);
+    pen.put_number(head.thread);
     pen.put(b".");
-    put_mark(pen, commit.mark);
+    put_mark(pen, head.mark);
 }
 
 fn put_mark<K: Sink>(pen: &mut Pen<K>, mark: Mark)
@@ -104,6 +101,7 @@ fn put_reply<K: Sink>(pen: &mut Pen<K>, reply: &Reply)
         Reply::Empty => pen.put(b"none"),
         Reply::Full => pen.put(b"full"),
         Reply::Stranded => pen.put(b"stranded"),
+        Reply::Cancelled => pen.put(b"cancelled"),
         Reply::Many(items) => put_items(pen, items),
     }
 }
@@ -141,7 +139,7 @@ fn put_item<K: Sink>(pen: &mut Pen<K>, item: Item)
     }
 }
 
-fn put_order<K: Sink>(pen: &mut Pen<K>, records: &[Vec<Record>], order: &[Place])
+fn put_order<K: Sink>(pen: &mut Pen<K>, records: &[Records], order: &[Place])
     requires { NamesRecords (lists_of records.now) order.now }
     ensures { Puts K.written K.faults K.write_gives pen.old pen.new (order_lines (lists_of records.now) order.now) }
 {
@@ -150,12 +148,11 @@ fn put_order<K: Sink>(pen: &mut Pen<K>, records: &[Vec<Record>], order: &[Place]
     }
 }
 
-fn put_order_line<K: Sink>(pen: &mut Pen<K>, records: &[Vec<Record>], place: Place)
+fn put_order_line<K: Sink>(pen: &mut Pen<K>, records: &[Records], place: Place)
     requires { IsSome (record_at (lists_of records.now) place.thread place.index) }
     ensures { Puts K.written K.faults K.write_gives pen.old pen.new (order_line (record_at (lists_of records.now) place.thread place.index)) }
 {
     let list = &records[place.thread as usize];
-    let commit = &list[place.index as usize];
-    put_label(pen, commit);
+    put_label(pen, list.head(place.index as usize));
     pen.put(b"\n");
 }

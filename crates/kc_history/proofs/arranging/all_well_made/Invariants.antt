@@ -3,5 +3,5 @@ use Rattle.kc_history.specs.Ends.{CanStand}
 use Rattle.kc_history.specs.declared.record.Record.{Record}
 use Rattle.kc_history.proofs.arranging.all_well_made.Given as goal
 
-abbrev pub invariant-loop-commit : goal.invariant-loop-commit
-invariant-loop-commit l = All (λ (r : Record). CanStand r.footprint) (take l.commit-index l.list)
+abbrev pub invariant-loop-i : goal.invariant-loop-i
+invariant-loop-i l = All (λ (r : Record). CanStand r.footprint) (take l.i l.list.items)

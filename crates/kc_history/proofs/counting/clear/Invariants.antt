@@ -1,5 +1,9 @@
-use Rattle.std.proofs.Common.{◌≡◌, ◌<◌, ℕ, slice_index}
+use Rattle.std.proofs.Common.{◌≡◌, ℕ, length, slice_index, vec_capacity}
 use Rattle.kc_history.proofs.counting.clear.Given as goal
 
-abbrev pub invariant-loop-count : goal.invariant-loop-count
-invariant-loop-count l = (k : ℕ) → k < l.count-index → slice_index l.counts k ≡ 0
+abbrev pub invariant-loop : goal.invariant-loop
+invariant-loop l = record {
+  each : (k : ℕ) → slice_index l.counts.items k ≡ 0;
+  size : length l.counts.items ≡ l.counter;
+  capacity : vec_capacity l.counts ≡ vec_capacity l.fn.counts;
+}

@@ -1,5 +1,5 @@
-use Rattle.std.proofs.Common.{◌≡◌, ◌<◌, ℕ, length, sum_by, Vec, vec_len, ap, arith}
-use Rattle.std.specs.Global.{Global}
+use Rattle.std.proofs.Common.{◌<◌, ℕ, length, sum_by, arith}
+use Rattle.kc_history.specs.RecordsValue.{RecordsValue}
 use Rattle.kc_history.proofs.Tallies.{item_more}
 use Rattle.kc_history.specs.Counts.{putters}
 use Rattle.kc_history.specs.declared.record.Record.{Record}
@@ -13,16 +13,15 @@ loop-list-preserved c =
     record {
       counts = λ k lt.
           let G : Record → ℕ = λ r. putters k r.footprint.puts.items in
-          let F : Vec Record Global → ℕ = λ v. sum_by G v.items in
+          let F : RecordsValue → ℕ = λ v. sum_by G v.items in
           let w = c.count_list_puts.auto.widths in
           let lt2 : k < length c.loop-list.widths = omega arith in
           let a = c.count_list_puts.ensures.counts k lt2 in
           let b = c.loop-list.invariant.counts k lt2 in
           let d = item_more F vs i v c.loop-list-test.true c.list-item.is in
-          let e : sum_by G c.as_slice.result.now ≡ sum_by G v.items = ap (sum_by G) c.as_slice.ensures.value in
           omega arith;
       sum =
-          let L : Vec Record Global → ℕ = λ v. vec_len v in
+          let L : RecordsValue → ℕ = λ v. length v.items in
           let d = item_more L vs i v c.loop-list-test.true c.list-item.is in
           omega arith;
     }

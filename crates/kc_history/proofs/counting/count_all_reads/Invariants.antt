@@ -1,10 +1,12 @@
-use Rattle.std.proofs.Common.{◌≡◌, ◌+◌, ◌*◌, ◌<◌, ◌≤◌, ℕ, length, take, slice_index, sum_by, Vec, Global}
+use Rattle.std.proofs.Common.{◌≡◌, ◌+◌, ◌*◌, ◌<◌, ◌≤◌, ℕ, length, take, slice_index, sum_by}
+use Rattle.kc_history.specs.RecordsValue.{RecordsValue}
 use Rattle.kc_history.specs.Counts.{readers, slot, width, records_in}
 use Rattle.kc_history.specs.declared.record.Record.{Record}
+use Rattle.kc_model.specs.declared.footprint.TheConstants.{MOST}
 use Rattle.kc_history.proofs.counting.count_all_reads.Given as goal
 
 abbrev pub invariant-loop-list : goal.invariant-loop-list
 invariant-loop-list l = record {
-  counts : (x v : ℕ) → x + 1 < length l.starts → v < width l.starts x → slice_index l.left (slot l.starts x v) ≡ slice_index l.initial.left (slot l.starts x v) + sum_by (λ (w : Vec Record Global). sum_by (λ (r : Record). readers x v r.footprint.reads.items) w.items) (take l.list-index l.records);
-  most : (k : ℕ) → slice_index l.left k ≤ slice_index l.initial.left k + 64 * records_in (take l.list-index l.records);
+  counts : (x v : ℕ) → x + 1 < length l.starts → v < width l.starts x → slice_index l.left (slot l.starts x v) ≡ slice_index l.initial.left (slot l.starts x v) + sum_by (λ (w : RecordsValue). sum_by (λ (r : Record). readers x v r.footprint.reads.items) w.items) (take l.list-index l.records);
+  most : (k : ℕ) → slice_index l.left k ≤ slice_index l.initial.left k + MOST * records_in (take l.list-index l.records);
 }

@@ -1,4 +1,4 @@
-use Rattle.std.proofs.Common.{◌≡◌, ◌<◌, ◌≤◌, ℕ, length, slice_index, vec_len, Some, subst, sym, inl, inr, arith}
+use Rattle.std.proofs.Common.{◌≡◌, ◌<◌, ◌≤◌, ℕ, length, slice_index, Some, subst, sym, inl, inr, arith}
 use Rattle.kc_history.proofs.Opening.{left_at, none_left_at}
 use Rattle.kc_history.proofs.Passing.{at_or_below, below_end}
 use Rattle.kc_history.proofs.Totals.{no_thread}
@@ -18,8 +18,8 @@ pub loop-thread-preserved : goal.loop-thread-preserved
 loop-thread-preserved c u k f lt is = elim (at_or_below c.loop-thread.thread u lt) [
   | inl below ↦ c.loop-thread.invariant u k f below is
   | inr e ↦
-      let past : vec_len c.index-records-thread.result ≤ slice_index c.args.next.now u = (let a = c.if-next-thread.false in let b = c.len.ensures in subst (λ t. vec_len c.index-records-thread.result ≤ slice_index c.args.next.now t) (sym e) (omega arith)) in
-      subst (λ (t : ℕ). vec_len c.index-records-thread.result ≤ slice_index c.args.next.now t → k < slice_index c.args.next.now t) (sym e)
+      let past : length c.index-records-thread.result.items ≤ slice_index c.args.next.now u = (let a = c.if-next-thread.false in let b = c.len.ensures in subst (λ t. length c.index-records-thread.result.items ≤ slice_index c.args.next.now t) (sym e) (omega arith)) in
+      subst (λ (t : ℕ). length c.index-records-thread.result.items ≤ slice_index c.args.next.now t → k < slice_index c.args.next.now t) (sym e)
       (λ past. none_left_at c.args.records.now c.loop-thread.thread c.index-records-thread.result (slice_index c.args.next.now c.loop-thread.thread) k f c.loop-thread-test.true c.index-records-thread.is past (subst (λ t. foot_at c.args.records.now t k ≡ Some f) e is)) past
 ]
 

@@ -9,7 +9,7 @@ loop-list-init g c = (refl, owes_all _ _)
 pub loop-list-preserved : goal.loop-list-preserved
 loop-list-preserved g c =
     let here : c.loop-list.list-index < length c.args.records.now = omega arith in
-    (c.put_thread_replies.ensures.same_sink ∙ c.loop-list.invariant.0, owes_then c.put_thread_replies.ensures.asks (rw (drop_more c.args.records.now c.loop-list.list-index c.list-item.result here, ← c.list-item.is, ← c.deref.ensures.value) at c.loop-list.invariant.1))
+    (c.put_thread_replies.ensures.same_sink ∙ c.loop-list.invariant.0, owes_then c.put_thread_replies.ensures.asks (rw (drop_more c.args.records.now c.loop-list.list-index c.list-item.result here, ← c.list-item.is) at c.loop-list.invariant.1))
 
 pub returns : goal.returns
 returns g c =
