@@ -1,5 +1,5 @@
 -- One step of a hanging.
-use Rattle.std.proofs.Common.{◌≡◌, ◌≢◌, ◌<◌, ◌≤◌, Bool, true, false, ℕ, refl, sym, ◌∙◌, ap, subst, [], length, if◌then◌else◌}
+use Rattle.std.proofs.Common.{◌≡◌, ◌≢◌, ◌<◌, ◌≤◌, Bool, true, false, ℕ, refl, sym, ◌∙◌, ap, subst, [], length, if◌then◌else◌, ◌⊎◌, inl, inr}
 use Rattle.std.specs.Prelude.{All}
 use Rattle.arrayvec.specs.ArrayVec.{ArrayVec}
 use Rattle.kc_await.proofs.Tasks.{step_shows}
@@ -67,6 +67,18 @@ runs_busy (task.Commit f m) x r = elim r [ ]
 
 pub starts : (v : SeatView) (h : HangingView) → is_under_way h.state ≡ true → MayStart h.state v → Starts v (task_of h)
 starts v h e may = (may.0, (begins h.state h.reads v.seat e may.0 may.1).busy)
+
+-- of a state that isn't Leaving it is a hang
+pub hang_starts : (v : SeatView) (h : HangingView) → is_under_way h.state ≡ true → MayStep h v → h.begun ≡ false → (h.state ≡ Going) ⊎ ((h.state ≡ Hung) ⊎ (h.state ≡ Free)) → Starts v (task.Hang h.reads)
+hang_starts v h e may first which = let m : MayStart h.state v = subst (λ b. may_step b h v) first may in go h.state which e m
+  where
+    go : (s : HangState) → (s ≡ Going) ⊎ ((s ≡ Hung) ⊎ (s ≡ Free)) → is_under_way s ≡ true → MayStart s v → Starts v (task.Hang h.reads)
+    go Going w e m = (m.0, (begins Going h.reads v.seat e m.0 m.1).busy)
+    go Leaving (inl x) e m = absurd (cc)
+    go Leaving (inr (inl x)) e m = absurd (cc)
+    go Leaving (inr (inr x)) e m = absurd (cc)
+    go Hung w e m = absurd (cc)
+    go Free w e m = absurd (cc)
 
 -- ---- a step
 

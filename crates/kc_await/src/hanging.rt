@@ -8,7 +8,7 @@ ghost use Rattle.kc_table_seats.specs.Tasks.{Does};
 
 use crate::hang_state::HangState;
 use arrayvec::ArrayVec;
-use kc_machine_steps::{Task, Told};
+use kc_machine_steps::Told;
 use kc_model::{Footprint, MOST, Seen};
 use kc_store::{Caller, Store};
 use std::marker::Model;
@@ -63,16 +63,24 @@ impl Hanging {
         self.begun = false;
     }
 
-    // The task of its state.
-    fn task(&self) -> Task
-        ensures task { result ≡ task_of self.now }
-        ensures fits { length self.now.reads.items ≤ MOST }
+    // The same hang, of which the reads stay here.
+    pub(crate) fn lent(&self) -> Hang<'_>
+        ensures { result ≡ self.now }
     {
-        let reads = copied(self.reads.as_slice());
-        match self.state {
-            HangState::Leaving => Task::Leave { reads },
-            HangState::Going | HangState::Hung | HangState::Free => Task::Hang { reads },
+        prove!(self.reads.len() <= MOST);
+        Hang {
+            reads: &self.reads,
+            state: self.state,
+            begun: self.begun,
         }
+    }
+
+    // As it is behind steps of the same hang, which ended in this state.
+    pub(crate) fn note(&mut self, state: HangState)
+        ensures { self.new ≡ record self.old { state = state; begun = true } }
+    {
+        self.state = state;
+        self.begun = true;
     }
 }
 
@@ -83,6 +91,49 @@ fn copied(reads: &[Seen]) -> ArrayVec<Seen, MOST>
     match ArrayVec::try_from(reads) {
         Ok(copy) => copy,
         Err(_) => unreachable!("there is room"),
+    }
+}
+
+/// A hang on reads that lie elsewhere: with a commit that waits they lie in its footprint, and nothing of its size is made anew.
+#[derive(Drop)]
+pub(crate) struct Hang<'a> {
+    reads: &'a ArrayVec<Seen, MOST>,
+    state: HangState,
+    begun: bool,
+}
+
+impl<'a> Model for Hang<'a> {
+    ghost use Rattle.std.specs.Prelude.{◌≢◌, ◌≤◌, [], length};
+    ghost use Rattle.kc_await.specs.HangingView.{HangingView};
+    ghost use Rattle.kc_model.specs.declared.footprint.TheConstants.{MOST};
+
+    ghost Value = { HangingView };
+
+    ghost view = { λ h. record { reads = h.reads.now; state = h.state; begun = h.begun } };
+
+    ghost invariant = { λ h. (h.reads.now.items ≢ []) × (length h.reads.now.items ≤ MOST) };
+}
+
+impl<'a> Hang<'a> {
+    // A hang that is still to be made.
+    pub(crate) fn on(reads: &'a ArrayVec<Seen, MOST>) -> Hang<'a>
+        requires { reads.now.items ≢ [] }
+        ensures { result ≡ record { reads = reads.now; state = HangState.Going; begun = false } }
+    {
+        prove!(reads.len() <= MOST);
+        Hang {
+            reads,
+            state: HangState::Going,
+            begun: false,
+        }
+    }
+
+    // Hangs no longer: the next steps take the bits back.
+    pub(crate) fn leave(&mut self)
+        ensures { self.new ≡ record self.old { state = HangState.Leaving; begun = false } }
+    {
+        self.state = HangState::Leaving;
+        self.begun = false;
     }
 }
 
@@ -101,6 +152,24 @@ pub fn hang_step(store: &Store, caller: &mut Caller, hanging: &mut Hanging) -> H
     ensures hanging { hanging.new ≡ record hanging.old { state = result; begun = true } }
     ensures shows { Shows hanging.old.reads hanging.old.state result caller.new }
 {
+    let mut hang = hanging.lent();
+    let state = step(store, caller, &mut hang);
+    hanging.note(state);
+    state
+}
+
+// One step of a hang on reads that lie elsewhere.
+pub(crate) fn step(store: &Store, caller: &mut Caller, hanging: &mut Hang) -> HangState
+    requires caller { caller.old.of ≡ store.now }
+    requires below { All (λ r. r.loc.0 < store.now.origin.locations) hanging.old.reads.items }
+    requires under_way { is_under_way hanging.old.state ≡ true }
+    requires may { MayStep hanging.old caller.old }
+    ensures step { Stepped (stepping hanging.old caller.old) caller.new }
+    ensures first { hanging.old.begun ≡ false → Does caller.old (task_of hanging.old) caller.new }
+    ensures further { hanging.old.begun ≡ true → (v : SeatView) → Does v (task_of hanging.old) caller.old → Does v (task_of hanging.old) caller.new }
+    ensures hanging { hanging.new ≡ record hanging.old { state = result; begun = true } }
+    ensures shows { Shows hanging.old.reads hanging.old.state result caller.new }
+{
     start(caller, hanging);
     store.step(caller);
     hanging.state = state_at(hanging.state, caller);
@@ -108,7 +177,7 @@ pub fn hang_step(store: &Store, caller: &mut Caller, hanging: &mut Hanging) -> H
 }
 
 // Begins the task of the state, before its first step.
-fn start(caller: &mut Caller, hanging: &mut Hanging)
+fn start(caller: &mut Caller, hanging: &mut Hang)
     requires below { All (λ r. r.loc.0 < caller.old.of.origin.locations) hanging.old.reads.items }
     requires under_way { is_under_way hanging.old.state ≡ true }
     requires may { MayStep hanging.old caller.old }
@@ -119,8 +188,10 @@ fn start(caller: &mut Caller, hanging: &mut Hanging)
     if hanging.begun {
         return;
     }
-    let task = hanging.task();
-    caller.begin(&task);
+    match hanging.state {
+        HangState::Leaving => caller.begin_leave(hanging.reads),
+        HangState::Going | HangState::Hung | HangState::Free => caller.begin_hang(hanging.reads),
+    }
     hanging.begun = true;
 }
 

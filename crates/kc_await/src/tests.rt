@@ -1,5 +1,6 @@
 ghost use Rattle.std.specs.Prelude.{◌≡◌, ◌≢◌, ◌<◌, ◌≤◌, true, false, All, length, IfSome};
-ghost use Rattle.kc_await.specs.Hanging.{MayStart};
+ghost use Rattle.kc_await.specs.Hanging.{MayStart, Shows, is_under_way, task_of};
+ghost use Rattle.kc_table_seats.specs.Tasks.{Does};
 ghost use Rattle.kc_cells.specs.Mvar.{mvar_cells_end};
 ghost use Rattle.kc_machine.specs.Seats.{is_idle};
 ghost use Rattle.kc_queue.specs.Meaning.{cells_end};
@@ -88,6 +89,22 @@ fn hanging_behind<T: Transact>(
     }
 }
 
+// Steps until the task of its state has ended.
+fn step_all<R: Wait>(rt: &R, store: &Store, caller: &mut Caller, hanging: &mut Hanging)
+    requires caller { caller.old.of ≡ store.now }
+    requires below { All (λ r. r.loc.0 < store.now.origin.locations) hanging.old.reads.items }
+    requires under_way { is_under_way hanging.old.state ≡ true }
+    requires start { (hanging.old.begun ≡ false) × MayStart hanging.old.state caller.old }
+    ensures does { Does caller.old (task_of hanging.old) caller.new }
+    ensures ended { is_under_way hanging.new.state ≡ false }
+    ensures hanging { hanging.new ≡ record hanging.old { state = hanging.new.state; begun = true } }
+    ensures shows { Shows hanging.old.reads hanging.old.state hanging.new.state caller.new }
+{
+    let mut hang = hanging.lent();
+    let state = step_on(rt, store, caller, &mut hang);
+    hanging.note(state);
+}
+
 // Hangs until it is told: in how many steps.
 fn hang<R: Wait>(rt: &R, store: &Store, caller: &mut Caller, hanging: &mut Hanging) -> u64
     requires caller { (caller.old.of ≡ store.now) × MayStart HangState.Going caller.old }
@@ -98,7 +115,7 @@ fn hang<R: Wait>(rt: &R, store: &Store, caller: &mut Caller, hanging: &mut Hangi
     ensures free { hanging.new.state ≢ HangState.Hung → caller.new.seat.blocked ≡ false }
 {
     let before = caller.steps();
-    step_on(rt, store, caller, hanging);
+    step_all(rt, store, caller, hanging);
     caller.steps().wrapping_sub(before)
 }
 
@@ -114,7 +131,7 @@ fn leave<R: Wait>(rt: &R, store: &Store, caller: &mut Caller, hanging: &mut Hang
     };
     let before = caller.steps();
     hanging.leave();
-    step_on(rt, store, caller, hanging);
+    step_all(rt, store, caller, hanging);
     caller.steps().wrapping_sub(before)
 }
 

@@ -8,9 +8,10 @@ ghost use Rattle.kc_model.specs.Footprint.{IsBelow};
 ghost use Rattle.kc_store.specs.Values.{IsOutcome};
 ghost use Rattle.kc_store.specs.Verdicts.{has_entry, verdict_of};
 ghost use Rattle.kc_table_seats.specs.Tasks.{Does, Keeps};
+ghost use Rattle.kc_xt.specs.Meaning.{limited};
 
 use crate::hang_state::HangState;
-use crate::hanging::{Hanging, hang_step};
+use crate::hanging::{Hang, step};
 use kc_model::Footprint;
 use kc_store::{Answered, Caller, Outcome, Store, Wear};
 use kc_xt::Transact;
@@ -28,7 +29,7 @@ pub fn commit_waiting<R: Wait, T: Transact>(
     requires free { caller.old.seat.blocked ≡ false }
     requires fit { T.is_fit transaction.now }
     requires within { T.end transaction.now ≤ store.now.origin.locations }
-    ensures commits { CommitsByValue (T.meaning transaction.now) (T.end transaction.now) result caller.old caller.new }
+    ensures commits { CommitsByValue (limited (T.most transaction.now) (T.meaning transaction.now)) (T.end transaction.now) result caller.old caller.new }
     ensures keeps { Keeps caller.old caller.new }
     ensures idle { is_idle caller.new.seat.work ≡ true }
     ensures free { caller.new.seat.blocked ≡ false }
@@ -64,7 +65,7 @@ pub fn commit_waiting_into<R: Wait, T: Transact>(
     requires free { caller.old.seat.blocked ≡ false }
     requires fit { T.is_fit transaction.now }
     requires within { T.end transaction.now ≤ store.now.origin.locations }
-    ensures commits { CommitsAtLast (T.meaning transaction.now) result footprint.new caller.old caller.new }
+    ensures commits { CommitsAtLast (limited (T.most transaction.now) (T.meaning transaction.now)) result footprint.new caller.old caller.new }
     ensures keeps { Keeps caller.old caller.new }
     ensures idle { is_idle caller.new.seat.work ≡ true }
     ensures free { caller.new.seat.blocked ≡ false }
@@ -95,7 +96,7 @@ fn wait_for_a_change<R: Wait>(rt: &R, store: &Store, caller: &mut Caller, footpr
     ensures hangs { Hangs footprint.now.reads caller.old caller.new }
     ensures free { (is_idle caller.new.seat.work ≡ true) × (caller.new.seat.blocked ≡ false) }
 {
-    let mut hanging = Hanging::begin(footprint);
+    let mut hanging = Hang::on(&footprint.reads);
     if let HangState::Hung = step_on(rt, store, caller, &mut hanging) {
         store.park(rt, caller);
         hanging.leave();
@@ -108,7 +109,7 @@ pub(crate) fn step_on<R: Wait>(
     rt: &R,
     store: &Store,
     caller: &mut Caller,
-    hanging: &mut Hanging,
+    hanging: &mut Hang,
 ) -> HangState
     requires caller { caller.old.of ≡ store.now }
     requires below { All (λ r. r.loc.0 < store.now.origin.locations) hanging.old.reads.items }
@@ -120,7 +121,7 @@ pub(crate) fn step_on<R: Wait>(
     ensures shows { Shows hanging.old.reads hanging.old.state result caller.new }
 {
     'steps: for _ in rt.forever() {
-        let state = hang_step(store, caller, hanging);
+        let state = step(store, caller, hanging);
         if !is_under_way(state) {
             return state;
         }

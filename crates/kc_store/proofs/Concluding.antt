@@ -28,7 +28,7 @@ use Rattle.kc_store.proofs.Seeing.{keeps_then}
 use Rattle.kc_store.specs.Alone.{EndsAlone}
 use Rattle.kc_store.specs.Answers.{Gains, own_entries, placed_entry}
 use Rattle.kc_store.specs.Lone.{AllAlone, CommitsAlone}
-use Rattle.kc_store.specs.Steps.{steps_made}
+use Rattle.kc_store.specs.Steps.{sole_bound, steps_made}
 use Rattle.kc_store.specs.declared.verdict.Answered.TheVariants as answered
 use Rattle.kc_table_moves.specs.Origins.{opening_of}
 use Rattle.kc_table_moves.specs.Views.{SeatView, TableView, knows, opening_at_seat}
@@ -143,7 +143,7 @@ module _ (m : Meaning) (a : Reply) (before : Footprint) (v : SeatView) (f : Foot
     pub blocked_both : w.seat.blocked ≡ v.seat.blocked
     blocked_both = (runs t u w refl x.passes.idle made y.ran).stands.blocked ∙ x.passes.blocked
 
-    pub steps_both : length f.reads.items ≤ MOST → steps_made w ≤ steps_made v + 8192
+    pub steps_both : length f.reads.items ≤ MOST → steps_made w ≤ steps_made v + sole_bound
     steps_both few = let p = x.passes.steps in let q = y.steps in omega (arith, p, q, few)
 
     pub worn_pool : b ≡ false → EndsAlone m answered.WornPool v f w

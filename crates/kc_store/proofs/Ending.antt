@@ -8,6 +8,7 @@ use Rattle.kc_machine.specs.Works.{Work}
 use Rattle.kc_machine.specs.Works as work
 use Rattle.kc_machine.specs.declared.seat.Seat.{Seat}
 use Rattle.kc_machine_steps.specs.Lines.{line_of, lines_of}
+use Rattle.kc_model.specs.declared.footprint.TheConstants.{MOST}
 use Rattle.kc_model.specs.declared.footprint.Line.{Line}
 use Rattle.kc_machine_steps.specs.declared.task.Task.{Task}
 use Rattle.kc_machine_steps.specs.declared.task.Task.TheVariants as task
@@ -165,7 +166,7 @@ pub idle_is : (x r : Bool) → r ≡ not x → r ≡ false → x ≡ true
 idle_is true r e t = refl
 idle_is false r e t = absurd (cc)
 
-pub few_reads : (f : Footprint) (xs : List Line) → lines_of f ≡ xs → length xs ≤ 64 → length f.reads.items ≤ 64
+pub few_reads : (f : Footprint) (xs : List Line) → lines_of f ≡ xs → length xs ≤ MOST → length f.reads.items ≤ MOST
 few_reads f xs e few = let n = ap length (sym e) in let m = length-map f.reads.items (λ r. line_of f.puts.items r) in omega (arith, few, n, m)
 
 -- what a look gives

@@ -1,5 +1,6 @@
 -- How many steps a call has made.
 use Rattle.std.specs.Prelude.{ℕ, ◌+◌, ◌*◌, ◌≤◌, ◌==◌, List, [], ◌∷◌, if◌then◌else◌}
+use Rattle.kc_model.specs.declared.footprint.TheConstants.{MOST}
 use Rattle.kc_machine_steps.specs.declared.task.Event.{Event}
 use Rattle.kc_machine_steps.specs.declared.task.Event.TheVariants.{Begin, Step, Halt}
 use Rattle.kc_table_moves.specs.Views.{SeatView}
@@ -17,7 +18,11 @@ steps_made v = steps_in v.number v.past
 
 -- so many steps are made before a call is given up
 abbrev pub busy_bound : ℕ → ℕ
-busy_bound callers = (callers + 1) * (callers + 1) * 16384
+busy_bound callers = (callers + 1) * (callers + 1) * (4 * MOST * MOST)
+
+-- so many the only caller makes at most
+abbrev pub sole_bound : ℕ
+sole_bound = 128 * MOST
 
 -- of these, a call that began at `start` has at most so many left
 abbrev pub HasLeft : SeatView → SeatView → ℕ → Type 0

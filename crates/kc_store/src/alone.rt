@@ -13,7 +13,8 @@ ghost use Rattle.kc_table_seats.specs.Tasks.{Keeps};
 ghost use Rattle.kc_table_sole.specs.Sole.{standing};
 ghost use Rattle.kc_store.specs.Alone.{AnswersAlone, EndsAlone, Says};
 ghost use Rattle.kc_store.specs.Lone.{CommitsAlone, is_worn};
-ghost use Rattle.kc_store.specs.Steps.{steps_made};
+ghost use Rattle.kc_store.specs.Steps.{sole_bound, steps_made};
+ghost use Rattle.kc_xt.specs.Meaning.{limited};
 
 use crate::sole_peek::run_alone;
 use crate::store::{Caller, Store};
@@ -31,7 +32,7 @@ pub enum Sole {
     Done { reply: Reply, footprint: Footprint },
     /// It would wait, and nobody is there who could change what it read.
     Later { footprint: Footprint },
-    /// It would touch more than `MOST` locations.
+    /// It would touch more locations than its limit.
     TooLarge { footprint: Footprint },
     Worn(Wear),
 }
@@ -53,7 +54,7 @@ impl Sole {
 impl Store {
     /// A transaction by the only caller, of a store that was opened for one: it is told exactly what the transaction comes to on
     /// what stands, or what is worn out. The footprint is filled with what stood at each location touched, and at Done with
-    /// what it put. It takes no memory, never waits, and makes at most 8,192 steps.
+    /// what it put. It takes no memory, never waits, and makes at most 32,768 steps.
     pub fn sole_into<T: Transact>(
         &mut self,
         caller: &mut Caller,
@@ -66,8 +67,8 @@ impl Store {
         requires fit { T.is_fit transaction.now }
         requires within { T.end transaction.now ≤ self.old.origin.locations }
         ensures store { self.new ≡ self.old }
-        ensures ends { EndsAlone (T.meaning transaction.now) result caller.old footprint.new caller.new }
-        ensures steps { steps_made caller.new ≤ steps_made caller.old + 8192 }
+        ensures ends { EndsAlone (limited (T.most transaction.now) (T.meaning transaction.now)) result caller.old footprint.new caller.new }
+        ensures steps { steps_made caller.new ≤ steps_made caller.old + sole_bound }
         ensures keeps { Keeps caller.old caller.new }
         ensures idle { is_idle caller.new.seat.work ≡ true }
         ensures blocked { caller.new.seat.blocked ≡ caller.old.seat.blocked }
@@ -90,8 +91,8 @@ impl Store {
         requires fit { T.is_fit transaction.now }
         requires within { T.end transaction.now ≤ self.old.origin.locations }
         ensures store { self.new ≡ self.old }
-        ensures ends { AnswersAlone (T.meaning transaction.now) (T.end transaction.now) result caller.old caller.new }
-        ensures steps { steps_made caller.new ≤ steps_made caller.old + 8192 }
+        ensures ends { AnswersAlone (limited (T.most transaction.now) (T.meaning transaction.now)) (T.end transaction.now) result caller.old caller.new }
+        ensures steps { steps_made caller.new ≤ steps_made caller.old + sole_bound }
         ensures keeps { Keeps caller.old caller.new }
         ensures idle { is_idle caller.new.seat.work ≡ true }
         ensures blocked { caller.new.seat.blocked ≡ caller.old.seat.blocked }
@@ -115,8 +116,8 @@ fn end_alone<T: Transact>(
     requires idle { is_idle seat.old.seat.work ≡ true }
     requires fit { T.is_fit transaction.now }
     requires within { T.end transaction.now ≤ table.now.origin.locations }
-    ensures ends { EndsAlone (T.meaning transaction.now) result seat.old footprint.new seat.new }
-    ensures steps { steps_made seat.new ≤ steps_made seat.old + 8192 }
+    ensures ends { EndsAlone (limited (T.most transaction.now) (T.meaning transaction.now)) result seat.old footprint.new seat.new }
+    ensures steps { steps_made seat.new ≤ steps_made seat.old + sole_bound }
     ensures keeps { Keeps seat.old seat.new }
     ensures idle { is_idle seat.new.seat.work ≡ true }
     ensures blocked { seat.new.seat.blocked ≡ seat.old.seat.blocked }

@@ -8,14 +8,14 @@ ghost use Rattle.kc_table_moves.specs.Views.{AreAll, IsPast, OpensAt, opened_sea
 ghost use Rattle.kc_store.specs.Steps.{busy_bound};
 
 use kc_machine_words::LAST_GENERATION;
-use kc_model::{LAST_VERSION, OpenError};
+use kc_model::{LAST_VERSION, MOST, OpenError};
 use kc_table::{KcSeat, KcTable, Past};
 use kc_xt::Room;
 use std::alloc::{AllocError, Global};
 use std::marker::Model;
 
 /// How many steps a call makes for each of the squared number of callers and one, before it is given up.
-const STEPS_EACH: u32 = 16_384;
+const STEPS_EACH: u32 = 4 * MOST as u32 * MOST as u32;
 
 /// A store that threads share. Contracts see its table.
 #[derive(Drop)]

@@ -4,6 +4,7 @@ ghost use Rattle.std.specs.Prelude.{◌≡◌, ◌≤◌, true};
 ghost use Rattle.kc_machine.specs.Seats.{is_idle};
 ghost use Rattle.kc_table_seats.specs.Tasks.{Keeps};
 ghost use Rattle.kc_store.specs.Values.{CommitsTo, IsOutcome, IsTry, TriesTo};
+ghost use Rattle.kc_xt.specs.Meaning.{limited};
 
 use crate::store::{Caller, Store};
 use crate::verdict::{Answered, Verdict};
@@ -26,7 +27,7 @@ pub enum Try {
     Done { reply: Reply, footprint: Footprint },
     /// It would wait for a change of what it read.
     Later { footprint: Footprint },
-    /// It would touch more than `MOST` locations.
+    /// It would touch more locations than its limit.
     TooLarge { footprint: Footprint },
     /// Another caller has put this location since the call began, and made this version of it.
     Lost { loc: Loc, version: u32 },
@@ -41,7 +42,7 @@ pub enum Outcome {
     Done { reply: Reply, footprint: Footprint },
     /// It would wait for a change of what it read.
     Later { footprint: Footprint },
-    /// It would touch more than `MOST` locations.
+    /// It would touch more locations than its limit.
     TooLarge { footprint: Footprint },
     Worn(Wear),
 }
@@ -83,7 +84,7 @@ impl Store {
         requires idle { is_idle caller.old.seat.work ≡ true }
         requires fit { T.is_fit transaction.now }
         requires within { T.end transaction.now ≤ self.now.origin.locations }
-        ensures tries { TriesTo (T.meaning transaction.now) (T.end transaction.now) result caller.old caller.new }
+        ensures tries { TriesTo (limited (T.most transaction.now) (T.meaning transaction.now)) (T.end transaction.now) result caller.old caller.new }
         ensures keeps { Keeps caller.old caller.new }
         ensures idle { is_idle caller.new.seat.work ≡ true }
         ensures blocked { caller.new.seat.blocked ≡ caller.old.seat.blocked }
@@ -104,7 +105,7 @@ impl Store {
         requires idle { is_idle caller.old.seat.work ≡ true }
         requires fit { T.is_fit transaction.now }
         requires within { T.end transaction.now ≤ self.now.origin.locations }
-        ensures tries { CommitsTo (T.meaning transaction.now) (T.end transaction.now) result caller.old caller.new }
+        ensures tries { CommitsTo (limited (T.most transaction.now) (T.meaning transaction.now)) (T.end transaction.now) result caller.old caller.new }
         ensures keeps { Keeps caller.old caller.new }
         ensures idle { is_idle caller.new.seat.work ≡ true }
         ensures blocked { caller.new.seat.blocked ≡ caller.old.seat.blocked }

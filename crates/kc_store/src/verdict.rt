@@ -14,7 +14,7 @@ pub enum Verdict {
     Done(Reply),
     /// It would wait for a change of what it read.
     Later,
-    /// It would touch more than `MOST` locations.
+    /// It would touch more locations than its limit.
     TooLarge,
     /// It would put this location, which stands at the last version: the lowest such one.
     WornLocation(Loc),
@@ -33,7 +33,7 @@ pub enum Answered {
     Done(Reply),
     /// It would wait for a change of what it read.
     Later,
-    /// It would touch more than `MOST` locations.
+    /// It would touch more locations than its limit.
     TooLarge,
     /// It would put this location, which stands at the last version: the lowest such one.
     WornLocation(Loc),

@@ -3,22 +3,33 @@
 ghost use Rattle.std.specs.Prelude.{◌≡◌, not, true, false};
 ghost use Rattle.kc_machine.specs.Schedules.{IsWellMadeTask};
 ghost use Rattle.kc_machine.specs.Seats.{begun, is_idle, told_of};
-ghost use Rattle.kc_table_moves.specs.Views.{KnowsReads, Signalled, Starts, Stepped};
+ghost use Rattle.kc_machine_steps.specs.declared.task.Task.TheVariants as task;
+ghost use Rattle.kc_table_moves.specs.Views.{Signalled, Starts, Stepped};
 
 use crate::store::{Caller, Store};
-use kc_machine_steps::{Task, Told};
+use arrayvec::ArrayVec;
+use kc_machine_steps::Told;
+use kc_model::{MOST, Seen};
 use std::sync::Wait;
 
 impl Caller {
-    /// Begins a task, a hang or a leave. It touches no word, and shows with the next step. No task runs, and who is blocked
-    /// begins no hang; the task is well made.
-    pub fn begin(&mut self, task: &Task)
-        requires starts { Starts self.old task.now }
-        requires made { IsWellMadeTask self.old.of.origin.locations task.now }
-        requires known { KnowsReads self.old task.now }
-        ensures { self.new ≡ record self.old { seat = begun self.old.seat task.now; began = true } }
+    /// Begins a hang on these reads. It touches no word, and shows with the next step. No task runs, the caller isn't blocked, and
+    /// the task is well made.
+    pub fn begin_hang(&mut self, reads: &ArrayVec<Seen, MOST>)
+        requires starts { Starts self.old (task.Hang reads.now) }
+        requires made { IsWellMadeTask self.old.of.origin.locations (task.Hang reads.now) }
+        ensures { self.new ≡ record self.old { seat = begun self.old.seat (task.Hang reads.now); began = true } }
     {
-        self.seat.begin(task);
+        self.seat.begin_hang(reads);
+    }
+
+    /// Begins a leave of these reads, likewise; the caller may be blocked.
+    pub fn begin_leave(&mut self, reads: &ArrayVec<Seen, MOST>)
+        requires starts { Starts self.old (task.Leave reads.now) }
+        requires made { IsWellMadeTask self.old.of.origin.locations (task.Leave reads.now) }
+        ensures { self.new ≡ record self.old { seat = begun self.old.seat (task.Leave reads.now); began = true } }
+    {
+        self.seat.begin_leave(reads);
     }
 
     /// Whether a task runs.

@@ -7,7 +7,7 @@ ghost use Rattle.kc_machine.specs.Seats.{is_idle};
 use kc_hash::{Hash, HashAct, HashOp};
 use kc_loc::{LocOp, Rel};
 use kc_machine_words::LAST_GENERATION;
-use kc_model::{Footprint, LAST_VERSION, Loc, OpenError, Reply};
+use kc_model::{Footprint, LAST_VERSION, Loc, MOST, OpenError, Reply};
 use kc_store::{Answered, Caller, Outcome, Store, Try, Verdict, Wear};
 use kc_xt::Transact;
 use std::sync::Wait;
@@ -127,23 +127,26 @@ fn what_would_wait_is_for_later(rt: HostRuntime) -> Result<(), Fail> {
     Ok(())
 }
 
+// More keys in one bucket than a put can go by.
+const KEYS: u32 = 130;
+
 // How many keys are put before a put is too large.
 fn puts(store: &Store, caller: &mut Caller, hash: Hash, footprint: &mut Footprint) -> u32
     requires caller { (caller.old.of ≡ store.now) × (is_idle caller.old.seat.work ≡ true) }
     requires within { cells_end hash ≤ store.now.origin.locations }
 {
-    for key in 0..40 {
+    for key in 0..KEYS {
         let act = HashAct::Put(key, key);
         if tried(store, caller, &HashOp { hash, act }, footprint) == Verdict::TooLarge {
             return key;
         }
     }
-    40
+    KEYS
 }
 
 #[test]
 fn a_long_chain_is_too_large(rt: HostRuntime) -> Result<(), Fail> {
-    let hash = Hash::layout(Loc(0), 1, 40);
+    let hash = Hash::layout(Loc(0), 1, KEYS);
     let mut values = vec![in rt.alloc(); 0u32; hash.cells() as usize]?;
     for i in 0..values.len() {
         values[i] = hash.opening(i as u32);
@@ -152,8 +155,8 @@ fn a_long_chain_is_too_large(rt: HostRuntime) -> Result<(), Fail> {
         return Err(Fail::from("not opened"));
     };
     let mut footprint = Footprint::new();
-    assert_eq!(rt; puts(&store, &mut a, hash, &mut footprint), 30);
-    assert_eq!(rt; (footprint.reads.len(), footprint.puts.len()), (64, 0));
+    assert_eq!(rt; puts(&store, &mut a, hash, &mut footprint), 126);
+    assert_eq!(rt; (footprint.reads.len(), footprint.puts.len()), (MOST, 0));
     Ok(())
 }
 

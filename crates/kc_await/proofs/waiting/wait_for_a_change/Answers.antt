@@ -14,10 +14,10 @@ returns-in-Hung-clause-hangs g c =
     let b = c.park.new.caller in
     let last = c.step_on-in-Hung in
     let left : c.leave.new.self ≡ record { reads = reads; state = Leaving; begun = false } =
-    c.leave.ensures ∙ ap (λ (h : HangingView). record h { state = Leaving; begun = false }) c.in-Hung.ensures.hanging ∙ ap (λ (h : HangingView). record h { state = Leaving; begun = false }) c.begin-hanging.ensures in
+    c.leave.ensures ∙ ap (λ (h : HangingView). record h { state = Leaving; begun = false }) c.in-Hung.ensures.hanging ∙ ap (λ (h : HangingView). record h { state = Leaving; begun = false }) c.on-hanging.ensures in
     (hangs_signalled reads v last.new.caller a b last.result
-    (subst (λ (h : HangingView). Does v (task_of h) a) c.begin-hanging.ensures c.in-Hung.ensures.does)
-    (subst (λ (h : HangingView). Shows h.reads h.state Hung a) c.begin-hanging.ensures c.in-Hung.ensures.shows)
+    (subst (λ (h : HangingView). Does v (task_of h) a) c.on-hanging.ensures c.in-Hung.ensures.does)
+    (subst (λ (h : HangingView). Shows h.reads h.state Hung a) c.on-hanging.ensures c.in-Hung.ensures.shows)
     c.park.ensures last.ensures.ended
     (subst (λ (h : HangingView). Does b (task_of h) last.new.caller) left last.ensures.does)
     (subst (λ (h : HangingView). Shows h.reads h.state last.result last.new.caller) left last.ensures.shows)).0
@@ -28,6 +28,6 @@ returns-in_default g c =
     let v = c.args.caller.now in
     let r = c.step_on in
     let h = hangs_at_once reads v r.new.caller r.result c.in_default.not-Hung r.ensures.ended
-    (subst (λ (h : HangingView). Does v (task_of h) r.new.caller) c.begin-hanging.ensures r.ensures.does)
-    (subst (λ (h : HangingView). Shows h.reads h.state r.result r.new.caller) c.begin-hanging.ensures r.ensures.shows) in
+    (subst (λ (h : HangingView). Does v (task_of h) r.new.caller) c.on-hanging.ensures r.ensures.does)
+    (subst (λ (h : HangingView). Shows h.reads h.state r.result r.new.caller) c.on-hanging.ensures r.ensures.shows) in
     record { hangs = h.0; free = h.1 }

@@ -1,7 +1,9 @@
 use Rattle.std.proofs.Common.{◌≡◌, ◌≤◌, ◌∙◌, arith, sym, ap}
 use Rattle.kc_loc.specs.Meaning.{loc_end, loc_meaning}
+use Rattle.kc_model.specs.declared.footprint.TheConstants.{MOST}
 use Rattle.kc_store.proofs.Settling.{not_busy, ready}
 use Rattle.kc_xt.specs.Commit.{tried_of}
+use Rattle.kc_xt.specs.Meaning.{limited}
 use Rattle.kc_store.specs.declared.tests.TheConstants.{ADD}
 use Rattle.kc_store.proofs.tests.overtaken.Goals as goal
 
@@ -12,7 +14,7 @@ commit-told-requires c =
     let same : c.store.inside.table.origin.locations ≡ c.args.store.now.origin.locations = ap (λ z. z.origin.locations) c.store.view_is in
     let up : loc_end ADD ≤ c.store.inside.table.origin.locations = omega (arith, same) in
     let y =
-    ready (loc_meaning ADD) (tried_of c.look_and_run.new.trial.went c.look_and_run.new.trial.reply) c.new-footprint.result c.look_and_run.new.footprint c.store.inside.table c.a.inside.seat c.look_and_run.new.seat c.store.inside.most_steps c.look_and_run.new.left
+    ready (limited MOST (loc_meaning ADD)) (tried_of c.look_and_run.new.trial.went c.look_and_run.new.trial.reply) c.new-footprint.result c.look_and_run.new.footprint c.store.inside.table c.a.inside.seat c.look_and_run.new.seat c.store.inside.most_steps c.look_and_run.new.left
     (loc_end ADD) of c.store.invariant (not_busy c.look_and_run.new.trial.went c.look_and_run.new.trial.reply c.in_default.not-Busy) x.came x.within up x.looked in
     record {
       table = y.table;

@@ -1,10 +1,12 @@
 use Rattle.std.proofs.Common.{◌≡◌, ◌≤◌, ◌∙◌, arith, refl, sym, ap, length}
 use Rattle.kc_loc.specs.Meaning.{loc_end, loc_meaning}
+use Rattle.kc_model.specs.declared.footprint.TheConstants.{MOST}
 use Rattle.kc_machine_steps.specs.declared.task.Task.TheVariants as task
 use Rattle.kc_machine_words.specs.declared.words.Mode.TheVariants.{All}
 use Rattle.kc_store.proofs.Ending.{tried_starts}
 use Rattle.kc_store.proofs.Settling.{not_busy, ready}
 use Rattle.kc_xt.specs.Commit.{tried_of}
+use Rattle.kc_xt.specs.Meaning.{limited}
 use Rattle.kc_store.specs.declared.tests.TheConstants.{ADD}
 use Rattle.kc_store.proofs.tests.stop_within.Goals as goal
 
@@ -16,9 +18,9 @@ begin-requires c =
     let same : c.store.inside.table.origin.locations ≡ c.args.store.now.origin.locations = ap (λ z. z.origin.locations) c.store.view_is in
     let up : loc_end ADD ≤ c.store.inside.table.origin.locations = omega (arith, same) in
     let size = ap length c.as_slice.ensures.value in
-    let few : length f.reads.items ≤ 64 = omega (arith, size) in
+    let few : length f.reads.items ≤ MOST = omega (arith, size) in
     let y =
-    ready (loc_meaning ADD) (tried_of c.look_and_run.new.trial.went c.look_and_run.new.trial.reply) c.new-footprint.result f c.store.inside.table c.caller.inside.seat c.look_and_run.new.seat c.store.inside.most_steps c.look_and_run.new.left
+    ready (limited MOST (loc_meaning ADD)) (tried_of c.look_and_run.new.trial.went c.look_and_run.new.trial.reply) c.new-footprint.result f c.store.inside.table c.caller.inside.seat c.look_and_run.new.seat c.store.inside.most_steps c.look_and_run.new.left
     (loc_end ADD) of c.store.invariant (not_busy c.look_and_run.new.trial.went c.look_and_run.new.trial.reply c.in_default.not-Busy) x.came x.within up x.looked in
     record {
       starts = tried_starts c.look_and_run.new.seat (task.Commit f All) refl y.idle;

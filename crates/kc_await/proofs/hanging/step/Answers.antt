@@ -3,7 +3,7 @@ use Rattle.kc_await.proofs.Steps.{step_begins, step_comes, step_further}
 use Rattle.kc_await.specs.Hanging.{Shows, state_at, stepping}
 use Rattle.kc_await.specs.HangingView.{HangingView}
 use Rattle.kc_table_moves.specs.Views.{Stepped}
-use Rattle.kc_await.proofs.hanging.hang_step.Goals as goal
+use Rattle.kc_await.proofs.hanging.step.Goals as goal
 
 pub returns-clause-first : goal.returns-clause-first
 returns-clause-first c = λ first.
