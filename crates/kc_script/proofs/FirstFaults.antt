@@ -1,9 +1,7 @@
 -- The reader stops at the first fault.
-use Rattle.std.proofs.Common.{◌≡◌, ℕ, ◌+◌, Bool, true, false, ◌&&◌, not, cond, leb, ltb, eqb, List, [], ◌∷◌, ◌++◌, length, drop, Option, Some, None, Result, Ok, Err, refl, sym, ap, subst, ◌∙◌, arith, length-append}
-use Rattle.std.specs.Prelude.{codes, IfOk, IfErr}
+use Rattle.std.proofs.Common.{◌≡◌, ℕ, ◌+◌, Bool, true, false, not, cond, leb, ltb, List, [], ◌∷◌, ◌++◌, length, drop, Option, Some, None, Result, Ok, Err, refl, sym, ap, subst, ◌∙◌, arith, length-append}
+use Rattle.std.specs.Prelude.{IfOk, IfErr}
 use Rattle.std.specs.Option.{option_or, option_map}
-use Rattle.std.specs.Str.{bytes_eq}
-use Rattle.std.proofs.lemmas.Bool.{eqb-true}
 use Rattle.std.proofs.lemmas.Bool.Decides.{nat_tests}
 use Rattle.std.proofs.lemmas.List.{map-append}
 use Rattle.kc_script_bundle.specs.declared.object.Object.{Object}
@@ -27,11 +25,14 @@ use Rattle.kc_script_verbs.specs.declared.word.Kind.{Kind}
 use Rattle.kc_script_verbs.specs.declared.word.Word.{Word}
 use Rattle.kc_script_verbs.specs.declared.word.Word.TheVariants as word
 use Rattle.kc_script.proofs.Agree.{spells_spelled}
+use Rattle.kc_script.proofs.Heads.{header_fault, unknown_fault, unknown_comes}
+use Rattle.kc_script.specs.declared.reader.Version.{Version}
+use Rattle.kc_script.specs.Version.{version_of}
 use Rattle.kc_script.proofs.Kept.{MakesBlocks, opening_makes}
 use Rattle.kc_script.proofs.Objects.{next_from_more}
 use Rattle.kc_script.proofs.ReadLines.{header_read, spelled_spells}
 use Rattle.kc_script.specs.Blocks.{OpenBlock, Place, block_of, in_block, counted_up, with_op, with_block, op_line, level_here, atomic_line, or_at, end_at}
-use Rattle.kc_script.specs.FirstFault.{Fault, OpenAt, Context, start, is_open, level_below, innermost, thread_after, is_header, room_tests, limit_tests, word_tests, tests, end_tests, one_more, deeper, ended_block, behind_word, next, line_of, fault_in, first_fault_from, first_fault}
+use Rattle.kc_script.specs.FirstFault.{version_or, Fault, OpenAt, Context, start, is_open, level_below, innermost, thread_after, is_header, room_tests, limit_tests, word_tests, tests, end_tests, one_more, deeper, ended_block, behind_word, next, line_of, fault_in, first_fault_from, first_fault}
 use Rattle.kc_script.specs.Reading.{State, opening, begun_thread, next_thread, no_block, with_object, placed, declared_line, said_line, begun_block, thread_line, worded_line, header_line, content_line, any_line, all_lines, ended, script_at, atomics_behind, atomics_after, nearest, place_of_fault, at_line, then_read, read_from, part_read, spelled, Spelled}
 use Rattle.kc_script.specs.Refused.{SpellNone, Refused}
 use Rattle.kc_script.specs.Spells.{Line}
@@ -58,6 +59,7 @@ abbrev pub context_of : State → List ℕ → Context
 context_of s atomics = record {
   whole = s.whole;
   begun = s.begun;
+  version = s.version;
   names = kinds_of s.objects;
   cells = next_from 0 s.objects;
   thread = s.thread;
@@ -80,17 +82,17 @@ same_thread (Some n) = refl
 
 -- ---- a line's tests
 
-abbrev state : Bool → Bool → Names → List (List Command) → Option ℕ → List Command → List OpenBlock → ℕ → State
-state whole begun objects threads thread here blocks count = record { whole = whole; begun = begun; objects = objects; threads = threads; thread = thread; place = record { here = here; open_blocks = blocks; count = count } }
+abbrev state : Bool → Bool → Version → Names → List (List Command) → Option ℕ → List Command → List OpenBlock → ℕ → State
+state whole begun version objects threads thread here blocks count = record { whole = whole; begun = begun; version = version; objects = objects; threads = threads; thread = thread; place = record { here = here; open_blocks = blocks; count = count } }
 
 -- a block that is open can be made
 abbrev Made : List OpenBlock → Type 0
 Made [] = Unit {0}
 Made (b ∷ outer) = (t : Tree Op) × (block_of b ≡ Ok t)
 
-module _ (whole begun : Bool) (objects : Names) (threads : List (List Command)) (here : List Command) (count : ℕ) (atomics : List ℕ) where
+module _ (whole begun : Bool) (version : Version) (objects : Names) (threads : List (List Command)) (here : List Command) (count : ℕ) (atomics : List ℕ) where
   abbrev now : Option ℕ → List OpenBlock → State
-  now thread blocks = state whole begun objects threads thread here blocks count
+  now thread blocks = state whole begun version objects threads thread here blocks count
 
   abbrev context : Option ℕ → List OpenBlock → Context
   context thread blocks = context_of (now thread blocks) atomics
@@ -100,7 +102,7 @@ module _ (whole begun : Bool) (objects : Names) (threads : List (List Command)) 
   room_fault thread [] = made_fault (wants (ltb (length here) 4096) (TooMany CommandsLimit)) (λ room. 0) _ (wants_fault _ _)
   room_fault thread (b ∷ outer) = made_fault (wants (ltb count 16) (TooMany BlockLimit)) (λ room. count + 1) _ (wants_fault _ _)
 
-  thread_fault : (thread : Option ℕ) (blocks : List OpenBlock) (args : List (List ℕ)) → Tested (thread_line (now thread blocks) args) (word_tests (context thread blocks) (Some word.Thread) args)
+  thread_fault : (thread : Option ℕ) (blocks : List OpenBlock) (args : List (List ℕ)) → Tested (thread_line (now thread blocks) args) (word_tests (context thread blocks) [] (Some word.Thread) args)
   unfolding thread_line
   thread_fault None [] args = record { same = (then_fault (wants whole StrayWord) (λ here. counted 0 args >>= λ all. wants (ltb 0 16) (TooMany ThreadsLimit) >>= λ room. Ok (begun_thread (now None []) 0)) ((whole, StrayWord) ∷ []) (count_tests 0 args ++ (ltb 0 16, TooMany ThreadsLimit) ∷ []) (wants_fault _ _) (λ here f. then_fault (counted 0 args) (λ all. wants (ltb 0 16) (TooMany ThreadsLimit) >>= λ room. Ok (begun_thread (now None []) 0)) _ ((ltb 0 16, TooMany ThreadsLimit) ∷ []) (counted_fault 0 args) (λ all e. made_fault (wants (ltb 0 16) (TooMany ThreadsLimit)) (λ room. begun_thread (now None []) 0) _ (wants_fault _ _)))).same }
   thread_fault (Some n) [] args = record { same = (then_fault (wants whole StrayWord) (λ here. counted 0 args >>= λ all. wants (ltb (n + 1) 16) (TooMany ThreadsLimit) >>= λ room. Ok (begun_thread (now (Some n) []) (n + 1))) ((whole, StrayWord) ∷ []) (count_tests 0 args ++ (ltb (n + 1) 16, TooMany ThreadsLimit) ∷ []) (wants_fault _ _) (λ here f. then_fault (counted 0 args) (λ all. wants (ltb (n + 1) 16) (TooMany ThreadsLimit) >>= λ room. Ok (begun_thread (now (Some n) []) (n + 1))) _ ((ltb (n + 1) 16, TooMany ThreadsLimit) ∷ []) (counted_fault 0 args) (λ all e. made_fault (wants (ltb (n + 1) 16) (TooMany ThreadsLimit)) (λ room. begun_thread (now (Some n) []) (n + 1)) _ (wants_fault _ _)))).same }
@@ -124,65 +126,51 @@ module _ (whole begun : Bool) (objects : Names) (threads : List (List Command)) 
       (λ all e. then_fault (counted_up (now thread blocks).place blocks) last (room_tests (context thread blocks)) (depth (level_here blocks)) (room_fault thread blocks)
       (λ count f. made_fault (wants (leb (level_here blocks) 8) (TooMany Depth)) (λ shallow. begun_at blocks count) _ (wants_fault _ _))))
 
-  atomic_fault : (thread : Option ℕ) (blocks : List OpenBlock) (args : List (List ℕ)) → Tested (begun_block (now thread blocks) args) (word_tests (context thread blocks) (Some word.Atomic) args)
+  atomic_fault : (thread : Option ℕ) (blocks : List OpenBlock) (args : List (List ℕ)) → Tested (begun_block (now thread blocks) args) (word_tests (context thread blocks) [] (Some word.Atomic) args)
   unfolding begun_block
   atomic_fault None blocks args = record { same = refl }
   atomic_fault (Some n) blocks args = record { same = (made_fault (atomic_line (now (Some n) blocks).place args) _ _ (begins_fault (Some n) blocks args)).same }
 
-  or_fault : (thread : Option ℕ) (blocks : List OpenBlock) (args : List (List ℕ)) → Tested (placed (now thread blocks) (or_at (now thread blocks).place blocks args)) (word_tests (context thread blocks) (Some word.Or) args)
+  or_fault : (thread : Option ℕ) (blocks : List OpenBlock) (args : List (List ℕ)) → Tested (placed (now thread blocks) (or_at (now thread blocks).place blocks args)) (word_tests (context thread blocks) [] (Some word.Or) args)
   unfolding or_at
   or_fault thread [] args = record { same = refl }
   or_fault thread (b ∷ outer) args = record { same = (made_fault (or_at (now thread (b ∷ outer)).place (b ∷ outer) args) _ _ (then_fault (counted 0 args) _ _ ((ltb b.level 8, TooMany Depth) ∷ []) (counted_fault 0 args) (λ all e. made_fault (wants (ltb b.level 8) (TooMany Depth)) _ _ (wants_fault _ _)))).same }
 
-  end_fault : (thread : Option ℕ) (blocks : List OpenBlock) (args : List (List ℕ)) → Made blocks → Tested (placed (now thread blocks) (end_at (now thread blocks).place blocks args)) (word_tests (context thread blocks) (Some word.End) args)
+  end_fault : (thread : Option ℕ) (blocks : List OpenBlock) (args : List (List ℕ)) → Made blocks → Tested (placed (now thread blocks) (end_at (now thread blocks).place blocks args)) (word_tests (context thread blocks) [] (Some word.End) args)
   unfolding end_at
   end_fault thread [] args made = record { same = refl }
   end_fault thread (b ∷ outer) args made = record { same = (made_fault (end_at (now thread (b ∷ outer)).place (b ∷ outer) args) _ _ (then_fault (counted 0 args) _ _ [] (counted_fault 0 args) (λ all e. made_whole))).same } where
     made_whole : Tested (block_of b >>= λ t. Ok (with_block (now thread (b ∷ outer)).place outer t)) []
     made_whole = rw made.1 (record { same = refl })
 
-  said_fault : (thread : Option ℕ) (blocks : List OpenBlock) (v : Verb) (args : List (List ℕ)) → Tested (said_line (now thread blocks) v args) (word_tests (context thread blocks) (Some (word.Say v)) args)
+  said_fault : (thread : Option ℕ) (blocks : List OpenBlock) (v : Verb) (args : List (List ℕ)) → Tested (said_line (now thread blocks) v args) (word_tests (context thread blocks) [] (Some (word.Say v)) args)
   unfolding said_line op_line
   said_fault None blocks v args = record { same = refl }
   said_fault (Some n) blocks v args = record { same = (then_fault (say n objects v args) _ _ _ (say_fault n objects v args) (λ o e. made_fault (op_line (now (Some n) blocks).place o) _ _ (made_fault (counted_up (now (Some n) blocks).place blocks) _ _ (room_fault (Some n) blocks)))).same }
 
-  declared_fault : (thread : Option ℕ) (blocks : List OpenBlock) (k : Kind) (args : List (List ℕ)) → Tested (declared_line (now thread blocks) k args) (word_tests (context thread blocks) (Some (word.Declare k)) args)
+  declared_fault : (thread : Option ℕ) (blocks : List OpenBlock) (k : Kind) (args : List (List ℕ)) → Tested (declared_line (now thread blocks) k args) (word_tests (context thread blocks) [] (Some (word.Declare k)) args)
   unfolding declared_line
   declared_fault (Some n) blocks k args = record { same = refl }
   declared_fault None blocks k args = record { same = (made_fault (declare objects k args) _ _ (subst (λ t. Tested (declare objects k args) (args_tests (kinds_of objects) (kind_fields k) args ++ (t, TooMany Locations) ∷ [])) (limit (next_from 0 objects) (size_of k args) (next_from 1 objects) (shifted 0 objects)) (declare_fault objects k args))).same } where
     limit : (sum size first : ℕ) → first ≡ sum + 1 → leb (first + size) 65536 ≡ leb (sum + size) 65535
     limit sum size first e = grind (arith, nat_tests)
 
-  word_fault : (thread : Option ℕ) (blocks : List OpenBlock) (w : Option Word) (args : List (List ℕ)) → Made blocks → Tested (worded_line (now thread blocks) w args) (word_tests (context thread blocks) w args)
+  word_fault : (thread : Option ℕ) (blocks : List OpenBlock) (first : List ℕ) (w : Option Word) (args : List (List ℕ)) → Made blocks → Tested (worded_line (now thread blocks) first w args) (word_tests (context thread blocks) first w args)
   unfolding worded_line
-  word_fault thread blocks None args made = record { same = refl }
-  word_fault thread blocks (Some word.Thread) args made = thread_fault thread blocks args
-  word_fault thread blocks (Some word.Atomic) args made = atomic_fault thread blocks args
-  word_fault thread blocks (Some word.Or) args made = or_fault thread blocks args
-  word_fault thread blocks (Some word.End) args made = end_fault thread blocks args made
-  word_fault thread blocks (Some (word.Declare k)) args made = declared_fault thread blocks k args
-  word_fault thread blocks (Some (word.Say v)) args made = said_fault thread blocks v args
-
-header_fault : (s : State) (line : Line) → Tested (header_line s line) ((is_header line, Header) ∷ [])
-unfolding header_line
-header_fault s [] = record { same = refl }
-header_fault s (a ∷ []) = record { same = refl }
-header_fault s (a ∷ b ∷ []) = record { same = by (bytes_eq a (codes "kcas")) (bytes_eq b (codes "1")) } where
-  by : (x y : Bool) → fault_of (wants x Header >>= λ first. wants y Header >>= λ second. Ok (record s { begun = true })) ≡ first_failing ((x && y, Header) ∷ [])
-  by true true = refl
-  by true false = refl
-  by false y = refl
-header_fault s (a ∷ b ∷ d ∷ more) = record { same = by (eqb (length (a ∷ b ∷ d ∷ more)) 2) refl } where
-  by : (t : Bool) → eqb (length (a ∷ b ∷ d ∷ more)) 2 ≡ t → fault_of (wants t Header >>= λ count. wants (bytes_eq a (codes "kcas")) Header >>= λ first. wants (bytes_eq b (codes "1")) Header >>= λ second. Ok (record s { begun = true })) ≡ Some Header
-  by true e = absurd (omega (arith, eqb-true _ _ e))
-  by false e = refl
+  word_fault thread blocks first None args made = unknown_fault (now thread blocks) first args
+  word_fault thread blocks first (Some word.Thread) args made = thread_fault thread blocks args
+  word_fault thread blocks first (Some word.Atomic) args made = atomic_fault thread blocks args
+  word_fault thread blocks first (Some word.Or) args made = or_fault thread blocks args
+  word_fault thread blocks first (Some word.End) args made = end_fault thread blocks args made
+  word_fault thread blocks first (Some (word.Declare k)) args made = declared_fault thread blocks k args
+  word_fault thread blocks first (Some (word.Say v)) args made = said_fault thread blocks v args
 
 pub line_fault : (s : State) (atomics : List ℕ) (line : Line) → Made s.place.open_blocks → Tested (content_line s line) (tests (context_of s atomics) line)
 unfolding content_line
 line_fault s atomics [] made = record { same = refl }
 line_fault s atomics (first ∷ args) made = by s.begun where
-  by : (b : Bool) → Tested (cond b (worded_line s (word_of first) args) (header_line s (first ∷ args))) (cond b (word_tests (context_of s atomics) (word_of first) args) ((is_header (first ∷ args), Header) ∷ []))
-  by true = word_fault s.whole s.begun s.objects s.threads s.place.here s.place.count atomics s.thread s.place.open_blocks (word_of first) args made
+  by : (b : Bool) → Tested (cond b (worded_line s first (word_of first) args) (header_line s (first ∷ args))) (cond b (word_tests (context_of s atomics) first (word_of first) args) ((is_header (first ∷ args), Header) ∷ []))
+  by true = word_fault s.whole s.begun s.version s.objects s.threads s.place.here s.place.count atomics s.thread s.place.open_blocks first (word_of first) args made
   by false = header_fault s (first ∷ args)
 
 -- ---- what a line adds
@@ -194,13 +182,13 @@ kinds_more names entry word k e f =
     ∙ ap (λ (w : List ℕ). kinds_of names ++ (w, object_kind entry.1) ∷ []) e
     ∙ ap (λ (j : Kind). kinds_of names ++ (word, j) ∷ []) f
 
-module _ (whole begun : Bool) (objects : Names) (threads : List (List Command)) (here : List Command) (count : ℕ) (atomics : List ℕ) (n : ℕ) (t : State) where
+module _ (whole begun : Bool) (version : Version) (objects : Names) (threads : List (List Command)) (here : List Command) (count : ℕ) (atomics : List ℕ) (n : ℕ) (t : State) where
   -- in this context, a line with this first word has come to the state
   abbrev Comes : Option ℕ → List OpenBlock → Option Word → List (List ℕ) → Type 0
-  Comes thread blocks w args = context_of t (atomics_behind atomics n w) ≡ behind_word (context whole begun objects threads here count atomics thread blocks) n w args
+  Comes thread blocks w args = context_of t (atomics_behind atomics n w) ≡ behind_word (context whole begun version objects threads here count atomics thread blocks) n w args
 
   abbrev from : Option ℕ → List OpenBlock → State
-  from thread blocks = state whole begun objects threads thread here blocks count
+  from thread blocks = state whole begun version objects threads thread here blocks count
 
   thread_comes : (thread : Option ℕ) (blocks : List OpenBlock) (args : List (List ℕ)) → thread_line (from thread blocks) args ≡ Ok t → Comes thread blocks (Some word.Thread) args
   unfolding thread_line
@@ -213,17 +201,17 @@ module _ (whole begun : Bool) (objects : Names) (threads : List (List Command)) 
       let w = bind_ok (wants whole StrayWord) middle t a.2 in
       let b = bind_ok (counted 0 args) second t w.2 in
       let d = bind_ok (wants (ltb (next_thread thread) 16) (TooMany ThreadsLimit)) last t b.2 in
-      subst (λ (x : State). context_of x atomics ≡ behind_word (context whole begun objects threads here count atomics thread blocks) n (Some word.Thread) args) (ok_is _ _ d.2)
-      (ap (λ (x : ℕ). record { whole = whole; begun = begun; names = kinds_of objects; cells = next_from 0 objects; thread = Some x; commands = 0; blocks = []; count = 0 }) (same_thread thread))
+      subst (λ (x : State). context_of x atomics ≡ behind_word (context whole begun version objects threads here count atomics thread blocks) n (Some word.Thread) args) (ok_is _ _ d.2)
+      (ap (λ (x : ℕ). record { whole = whole; begun = begun; version = version; names = kinds_of objects; cells = next_from 0 objects; thread = Some x; commands = 0; blocks = []; count = 0 }) (same_thread thread))
 
   -- a new place in the thread
-  new_place : (thread : Option ℕ) (blocks : List OpenBlock) (w : Option Word) (args : List (List ℕ)) (r : Result Place Why) → placed (from thread blocks) r ≡ Ok t → ((p : Place) → r ≡ Ok p → context_of (record (from thread blocks) { place = p }) (atomics_behind atomics n w) ≡ behind_word (context whole begun objects threads here count atomics thread blocks) n w args) → Comes thread blocks w args
+  new_place : (thread : Option ℕ) (blocks : List OpenBlock) (w : Option Word) (args : List (List ℕ)) (r : Result Place Why) → placed (from thread blocks) r ≡ Ok t → ((p : Place) → r ≡ Ok p → context_of (record (from thread blocks) { place = p }) (atomics_behind atomics n w) ≡ behind_word (context whole begun version objects threads here count atomics thread blocks) n w args) → Comes thread blocks w args
   new_place thread blocks w args r e more =
       let a = bind_ok r (λ (p : Place). given (record (from thread blocks) { place = p })) t e in
-      subst (λ (x : State). context_of x (atomics_behind atomics n w) ≡ behind_word (context whole begun objects threads here count atomics thread blocks) n w args) (ok_is _ _ a.2) (more a.0 a.1)
+      subst (λ (x : State). context_of x (atomics_behind atomics n w) ≡ behind_word (context whole begun version objects threads here count atomics thread blocks) n w args) (ok_is _ _ a.2) (more a.0 a.1)
 
   -- how many the outermost block then has
-  counted_is : (thread : Option ℕ) (blocks : List OpenBlock) (m : ℕ) → counted_up (from thread blocks).place blocks ≡ Ok m → (one_more (context whole begun objects threads here count atomics thread blocks)).count ≡ m
+  counted_is : (thread : Option ℕ) (blocks : List OpenBlock) (m : ℕ) → counted_up (from thread blocks).place blocks ≡ Ok m → (one_more (context whole begun version objects threads here count atomics thread blocks)).count ≡ m
   unfolding counted_up
   counted_is thread [] m e =
       let a = bind_ok (wants (ltb (length here) 4096) (TooMany CommandsLimit)) (λ room. given 0) m e in
@@ -233,7 +221,7 @@ module _ (whole begun : Bool) (objects : Names) (threads : List (List Command)) 
       ok_is _ _ a.2
 
   -- a block begins
-  atomic_place : (thread : Option ℕ) (blocks : List OpenBlock) (args : List (List ℕ)) (m : ℕ) → (one_more (context whole begun objects threads here count atomics thread blocks)).count ≡ m → context_of (record (from thread blocks) { place = record { here = here; open_blocks = record { level = level_here blocks; done = []; parts = [] } ∷ blocks; count = m } }) (n ∷ atomics) ≡ behind_word (context whole begun objects threads here count atomics thread blocks) n (Some word.Atomic) args
+  atomic_place : (thread : Option ℕ) (blocks : List OpenBlock) (args : List (List ℕ)) (m : ℕ) → (one_more (context whole begun version objects threads here count atomics thread blocks)).count ≡ m → context_of (record (from thread blocks) { place = record { here = here; open_blocks = record { level = level_here blocks; done = []; parts = [] } ∷ blocks; count = m } }) (n ∷ atomics) ≡ behind_word (context whole begun version objects threads here count atomics thread blocks) n (Some word.Atomic) args
   atomic_place thread [] args m e = rw (sym e) refl
   atomic_place thread (b ∷ outer) args m e = rw (sym e) refl
 
@@ -241,12 +229,12 @@ module _ (whole begun : Bool) (objects : Names) (threads : List (List Command)) 
   unfolding begun_block atomic_line
   atomic_comes None blocks args e = absurd cc
   atomic_comes (Some i) blocks args e = new_place (Some i) blocks (Some word.Atomic) args (atomic_line (from (Some i) blocks).place args) e (λ p f.
-      let made = λ (m : ℕ). begun_at whole begun objects threads here count atomics blocks m in
+      let made = λ (m : ℕ). begun_at whole begun version objects threads here count atomics blocks m in
       let last = λ (m : ℕ). wants (leb (level_here blocks) 8) (TooMany Depth) >>= λ shallow. given (made m) in
       let a = bind_ok (counted 0 args) (λ all. counted_up (from (Some i) blocks).place blocks >>= last) p f in
       let b = bind_ok (counted_up (from (Some i) blocks).place blocks) last p a.2 in
       let d = bind_ok (wants (leb (level_here blocks) 8) (TooMany Depth)) (λ shallow. given (made b.0)) p b.2 in
-      subst (λ (x : Place). context_of (record (from (Some i) blocks) { place = x }) (n ∷ atomics) ≡ behind_word (context whole begun objects threads here count atomics (Some i) blocks) n (Some word.Atomic) args) (ok_is _ _ d.2) (atomic_place (Some i) blocks args b.0 (counted_is (Some i) blocks b.0 b.1)))
+      subst (λ (x : Place). context_of (record (from (Some i) blocks) { place = x }) (n ∷ atomics) ≡ behind_word (context whole begun version objects threads here count atomics (Some i) blocks) n (Some word.Atomic) args) (ok_is _ _ d.2) (atomic_place (Some i) blocks args b.0 (counted_is (Some i) blocks b.0 b.1)))
 
   or_comes : (thread : Option ℕ) (blocks : List OpenBlock) (args : List (List ℕ)) → placed (from thread blocks) (or_at (from thread blocks).place blocks args) ≡ Ok t → Comes thread blocks (Some word.Or) args
   unfolding or_at
@@ -256,11 +244,11 @@ module _ (whole begun : Bool) (objects : Names) (threads : List (List Command)) 
       let last = λ (shallow : Unit {0}). given made in
       let a = bind_ok (counted 0 args) (λ all. wants (ltb b.level 8) (TooMany Depth) >>= last) p f in
       let d = bind_ok (wants (ltb b.level 8) (TooMany Depth)) last p a.2 in
-      subst (λ (x : Place). context_of (record (from thread (b ∷ outer)) { place = x }) atomics ≡ behind_word (context whole begun objects threads here count atomics thread (b ∷ outer)) n (Some word.Or) args) (ok_is made p d.2) refl)
+      subst (λ (x : Place). context_of (record (from thread (b ∷ outer)) { place = x }) atomics ≡ behind_word (context whole begun version objects threads here count atomics thread (b ∷ outer)) n (Some word.Or) args) (ok_is made p d.2) refl)
 
   -- a block has ended
-  end_place : (thread : Option ℕ) (b : OpenBlock) (outer : List OpenBlock) (args : List (List ℕ)) (x : Tree Op) → context_of (record (from thread (b ∷ outer)) { place = with_block (from thread (b ∷ outer)).place outer x }) (drop 1 atomics) ≡ behind_word (context whole begun objects threads here count atomics thread (b ∷ outer)) n (Some word.End) args
-  end_place thread b [] args x = ap (λ (m : ℕ). record { whole = whole; begun = begun; names = kinds_of objects; cells = next_from 0 objects; thread = thread; commands = m; blocks = []; count = 0 }) (length-append here (command.Block x ∷ []))
+  end_place : (thread : Option ℕ) (b : OpenBlock) (outer : List OpenBlock) (args : List (List ℕ)) (x : Tree Op) → context_of (record (from thread (b ∷ outer)) { place = with_block (from thread (b ∷ outer)).place outer x }) (drop 1 atomics) ≡ behind_word (context whole begun version objects threads here count atomics thread (b ∷ outer)) n (Some word.End) args
+  end_place thread b [] args x = ap (λ (m : ℕ). record { whole = whole; begun = begun; version = version; names = kinds_of objects; cells = next_from 0 objects; thread = thread; commands = m; blocks = []; count = 0 }) (length-append here (command.Block x ∷ []))
   end_place thread b (o ∷ outer) args x = refl
 
   end_comes : (thread : Option ℕ) (blocks : List OpenBlock) (args : List (List ℕ)) → placed (from thread blocks) (end_at (from thread blocks).place blocks args) ≡ Ok t → Comes thread blocks (Some word.End) args
@@ -270,11 +258,11 @@ module _ (whole begun : Bool) (objects : Names) (threads : List (List Command)) 
       let last = λ (x : Tree Op). given (with_block (from thread (b ∷ outer)).place outer x) in
       let a = bind_ok (counted 0 args) (λ all. block_of b >>= last) p f in
       let d = bind_ok (block_of b) last p a.2 in
-      subst (λ (x : Place). context_of (record (from thread (b ∷ outer)) { place = x }) (drop 1 atomics) ≡ behind_word (context whole begun objects threads here count atomics thread (b ∷ outer)) n (Some word.End) args) (ok_is _ _ d.2) (end_place thread b outer args d.0))
+      subst (λ (x : Place). context_of (record (from thread (b ∷ outer)) { place = x }) (drop 1 atomics) ≡ behind_word (context whole begun version objects threads here count atomics thread (b ∷ outer)) n (Some word.End) args) (ok_is _ _ d.2) (end_place thread b outer args d.0))
 
   -- an operation is said
-  said_place : (thread : Option ℕ) (blocks : List OpenBlock) (v : Verb) (args : List (List ℕ)) (o : Op) (m : ℕ) → (one_more (context whole begun objects threads here count atomics thread blocks)).count ≡ m → context_of (record (from thread blocks) { place = with_op (from thread blocks).place blocks m o }) atomics ≡ behind_word (context whole begun objects threads here count atomics thread blocks) n (Some (word.Say v)) args
-  said_place thread [] v args o m e = rw (sym e) (ap (λ (x : ℕ). record { whole = whole; begun = begun; names = kinds_of objects; cells = next_from 0 objects; thread = thread; commands = x; blocks = []; count = 0 }) (length-append here (command.One o ∷ [])))
+  said_place : (thread : Option ℕ) (blocks : List OpenBlock) (v : Verb) (args : List (List ℕ)) (o : Op) (m : ℕ) → (one_more (context whole begun version objects threads here count atomics thread blocks)).count ≡ m → context_of (record (from thread blocks) { place = with_op (from thread blocks).place blocks m o }) atomics ≡ behind_word (context whole begun version objects threads here count atomics thread blocks) n (Some (word.Say v)) args
+  said_place thread [] v args o m e = rw (sym e) (ap (λ (x : ℕ). record { whole = whole; begun = begun; version = version; names = kinds_of objects; cells = next_from 0 objects; thread = thread; commands = x; blocks = []; count = 0 }) (length-append here (command.One o ∷ [])))
   said_place thread (b ∷ outer) v args o m e = rw (sym e) refl
 
   said_comes : (thread : Option ℕ) (blocks : List OpenBlock) (v : Verb) (args : List (List ℕ)) → said_line (from thread blocks) v args ≡ Ok t → Comes thread blocks (Some (word.Say v)) args
@@ -286,7 +274,7 @@ module _ (whole begun : Bool) (objects : Names) (threads : List (List Command)) 
       new_place (Some i) blocks (Some (word.Say v)) args (op_line s.place a.0) a.2 (λ p f.
       let last = λ (m : ℕ). given (with_op s.place blocks m a.0) in
       let b = bind_ok (counted_up s.place blocks) last p f in
-      subst (λ (x : Place). context_of (record s { place = x }) atomics ≡ behind_word (context whole begun objects threads here count atomics (Some i) blocks) n (Some (word.Say v)) args) (ok_is _ _ b.2) (said_place (Some i) blocks v args a.0 b.0 (counted_is (Some i) blocks b.0 b.1)))
+      subst (λ (x : Place). context_of (record s { place = x }) atomics ≡ behind_word (context whole begun version objects threads here count atomics (Some i) blocks) n (Some (word.Say v)) args) (ok_is _ _ b.2) (said_place (Some i) blocks v args a.0 b.0 (counted_is (Some i) blocks b.0 b.1)))
 
   declared_comes : (thread : Option ℕ) (blocks : List OpenBlock) (k : Kind) (args : List (List ℕ)) → declared_line (from thread blocks) k args ≡ Ok t → Comes thread blocks (Some (word.Declare k)) args
   unfolding declared_line
@@ -298,29 +286,29 @@ module _ (whole begun : Bool) (objects : Names) (threads : List (List Command)) 
       let is = declare_is objects k args a.0 a.1 in
       let sum = next_from_more 0 objects a.0 ∙ ap (λ size. next_from 0 objects + size) is.2 in
       let names = kinds_more objects a.0 (word_at args 0) k is.0 is.1 in
-      subst (λ (x : State). context_of x atomics ≡ behind_word (context whole begun objects threads here count atomics None blocks) n (Some (word.Declare k)) args) (ok_is _ _ a.2)
-      (ap (λ (x : Kinds). record { whole = whole; begun = begun; names = x; cells = next_from 0 (objects ++ a.0 ∷ []); thread = None; commands = begun_in blocks here; blocks = opened blocks atomics; count = count }) names
-      ∙ ap (λ (x : ℕ). record { whole = whole; begun = begun; names = kinds_of objects ++ (word_at args 0, k) ∷ []; cells = x; thread = None; commands = begun_in blocks here; blocks = opened blocks atomics; count = count }) sum)
+      subst (λ (x : State). context_of x atomics ≡ behind_word (context whole begun version objects threads here count atomics None blocks) n (Some (word.Declare k)) args) (ok_is _ _ a.2)
+      (ap (λ (x : Kinds). record { whole = whole; begun = begun; version = version; names = x; cells = next_from 0 (objects ++ a.0 ∷ []); thread = None; commands = begun_in blocks here; blocks = opened blocks atomics; count = count }) names
+      ∙ ap (λ (x : ℕ). record { whole = whole; begun = begun; version = version; names = kinds_of objects ++ (word_at args 0, k) ∷ []; cells = x; thread = None; commands = begun_in blocks here; blocks = opened blocks atomics; count = count }) sum)
 
-  word_comes : (thread : Option ℕ) (blocks : List OpenBlock) (w : Option Word) (args : List (List ℕ)) → worded_line (from thread blocks) w args ≡ Ok t → Comes thread blocks w args
+  word_comes : (thread : Option ℕ) (blocks : List OpenBlock) (first : List ℕ) (w : Option Word) (args : List (List ℕ)) → worded_line (from thread blocks) first w args ≡ Ok t → Comes thread blocks w args
   unfolding worded_line
-  word_comes thread blocks None args e = absurd cc
-  word_comes thread blocks (Some word.Thread) args e = thread_comes thread blocks args e
-  word_comes thread blocks (Some word.Atomic) args e = atomic_comes thread blocks args e
-  word_comes thread blocks (Some word.Or) args e = or_comes thread blocks args e
-  word_comes thread blocks (Some word.End) args e = end_comes thread blocks args e
-  word_comes thread blocks (Some (word.Declare k)) args e = declared_comes thread blocks k args e
-  word_comes thread blocks (Some (word.Say v)) args e = said_comes thread blocks v args e
+  word_comes thread blocks first None args e = ap (λ (x : State). context_of x atomics) (unknown_comes (from thread blocks) t first args e)
+  word_comes thread blocks first (Some word.Thread) args e = thread_comes thread blocks args e
+  word_comes thread blocks first (Some word.Atomic) args e = atomic_comes thread blocks args e
+  word_comes thread blocks first (Some word.Or) args e = or_comes thread blocks args e
+  word_comes thread blocks first (Some word.End) args e = end_comes thread blocks args e
+  word_comes thread blocks first (Some (word.Declare k)) args e = declared_comes thread blocks k args e
+  word_comes thread blocks first (Some (word.Say v)) args e = said_comes thread blocks v args e
 
 pub line_comes : (s t : State) (atomics : List ℕ) (n : ℕ) (line : Line) → content_line s line ≡ Ok t → context_of t (atomics_after s.begun atomics n line) ≡ next (context_of s atomics) n line
 unfolding content_line header_line
 line_comes s t atomics n [] e = absurd cc
 line_comes s t atomics n (first ∷ args) e = by s.begun e where
-  by : (b : Bool) → cond b (worded_line s (word_of first) args) (header_line s (first ∷ args)) ≡ Ok t → context_of t (cond b (atomics_behind atomics n (word_of first)) atomics) ≡ cond b (behind_word (context_of s atomics) n (word_of first) args) (record (context_of s atomics) { begun = true })
-  by true e = word_comes s.whole s.begun s.objects s.threads s.place.here s.place.count atomics n t s.thread s.place.open_blocks (word_of first) args e
+  by : (b : Bool) → cond b (worded_line s first (word_of first) args) (header_line s (first ∷ args)) ≡ Ok t → context_of t (cond b (atomics_behind atomics n (word_of first)) atomics) ≡ cond b (behind_word (context_of s atomics) n (word_of first) args) (record (context_of s atomics) { begun = true; version = version_or (version_of (word_at args 0)) })
+  by true e = word_comes s.whole s.begun s.version s.objects s.threads s.place.here s.place.count atomics n t s.thread s.place.open_blocks first (word_of first) args e
   by false e =
       let h = header_read s t (first ∷ args) e in
-      subst (λ (x : State). context_of x atomics ≡ record (context_of s atomics) { begun = true }) h.1 refl
+      ap (λ (x : State). context_of x atomics) (sym h.is) ∙ ap (λ (v : Version). record (context_of s atomics) { begun = true; version = v }) (sym (ap version_or h.said))
 
 -- ---- lines of open blocks
 
@@ -351,20 +339,20 @@ more_lines c = by (is_open c.blocks) where
   by true = refl
   by false = refl
 
-word_lines : (c : Context) (atomics : List ℕ) (n : ℕ) (w : Option Word) (args : List (List ℕ)) → first_failing (word_tests c w args) ≡ None → lines_in c.blocks ≡ atomics → lines_in (behind_word c n w args).blocks ≡ atomics_behind atomics n w
-word_lines c atomics n None args e h = h
-word_lines c atomics n (Some word.Thread) args e h = none_open c.blocks atomics (first_true _ UnclosedBlock ((c.whole, StrayWord) ∷ (args_tests c.names [] args ++ limit_tests c word.Thread args)) e) h
-word_lines c atomics n (Some word.Atomic) args e h = ap (λ (rest : List ℕ). n ∷ rest) h
-word_lines c atomics n (Some word.Or) args e h = deeper_lines c.blocks ∙ h
-word_lines c atomics n (Some word.End) args e h = ended_lines c c.blocks refl ∙ ap (drop 1) h
-word_lines c atomics n (Some (word.Declare k)) args e h = h
-word_lines c atomics n (Some (word.Say v)) args e h = more_lines c ∙ h
+word_lines : (c : Context) (atomics : List ℕ) (n : ℕ) (first : List ℕ) (w : Option Word) (args : List (List ℕ)) → first_failing (word_tests c first w args) ≡ None → lines_in c.blocks ≡ atomics → lines_in (behind_word c n w args).blocks ≡ atomics_behind atomics n w
+word_lines c atomics n first None args e h = h
+word_lines c atomics n first (Some word.Thread) args e h = none_open c.blocks atomics (first_true _ UnclosedBlock ((c.whole, StrayWord) ∷ (args_tests c.names [] args ++ limit_tests c word.Thread args)) e) h
+word_lines c atomics n first (Some word.Atomic) args e h = ap (λ (rest : List ℕ). n ∷ rest) h
+word_lines c atomics n first (Some word.Or) args e h = deeper_lines c.blocks ∙ h
+word_lines c atomics n first (Some word.End) args e h = ended_lines c c.blocks refl ∙ ap (drop 1) h
+word_lines c atomics n first (Some (word.Declare k)) args e h = h
+word_lines c atomics n first (Some (word.Say v)) args e h = more_lines c ∙ h
 
 line_lines : (c : Context) (atomics : List ℕ) (n : ℕ) (line : Line) → first_failing (tests c line) ≡ None → lines_in c.blocks ≡ atomics → lines_in (next c n line).blocks ≡ atomics_after c.begun atomics n line
 line_lines c atomics n [] e h = h
 line_lines c atomics n (first ∷ args) e h = by c.begun e where
-  by : (b : Bool) → first_failing (cond b (word_tests c (word_of first) args) ((is_header (first ∷ args), Header) ∷ [])) ≡ None → lines_in (cond b (behind_word c n (word_of first) args) (record c { begun = true })).blocks ≡ cond b (atomics_behind atomics n (word_of first)) atomics
-  by true e = word_lines c atomics n (word_of first) args e h
+  by : (b : Bool) → first_failing (cond b (word_tests c first (word_of first) args) ((is_header (first ∷ args), Header) ∷ [])) ≡ None → lines_in (cond b (behind_word c n (word_of first) args) (record c { begun = true; version = version_or (version_of (word_at args 0)) })).blocks ≡ cond b (atomics_behind atomics n (word_of first)) atomics
+  by true e = word_lines c atomics n first (word_of first) args e h
   by false e = h
 
 -- ---- the line of a fault

@@ -17,6 +17,7 @@ use Rattle.kc_script.proofs.Took.{outside, inside}
 use Rattle.kc_script.specs.FirstFault.{Fault, Context, start, next, first_fault_from}
 use Rattle.kc_script.specs.Parts.{SpellsParts, PartFault, in_part, behind_lines, in_file, first_fault_in_files, first_fault_in_parts, PartsSpellNone, PartsRefused}
 use Rattle.kc_script.specs.Reading.{State, opening, nowhere, begun_thread, script_at, content_line, any_line, all_lines, atomics_after, then_read, part_read, of_part, files_read, parts_read, spelled_parts, PartsSpelled}
+use Rattle.kc_script.specs.declared.reader.Version.{Version}
 
 -- ---- behind a setup
 
@@ -40,12 +41,12 @@ behind_is (text ∷ texts) s t atomics n e =
         (r.0, ap (λ (c : Context). behind_lines c (n + 1) texts) (sym (line_comes s middle atomics n (words text) f)) ∙ r.1)
 
 -- the context behind a setup
-abbrev behind : Names → Context
-behind names = context_of (outside false names) []
+abbrev behind : Version → Names → Context
+behind ver names = context_of (outside ver false names) []
 
-setup_behind : (setup : List ℕ) (t : State) (names : Names) → part_read (opening false) setup ≡ Ok t → outside false names ≡ t → behind_lines (start false) 1 (lines setup) ≡ behind names
+setup_behind : (setup : List ℕ) (t : State) (ver : Version) (names : Names) → part_read (opening false) setup ≡ Ok t → outside ver false names ≡ t → behind_lines (start false) 1 (lines setup) ≡ behind ver names
 unfolding next_from
-setup_behind setup t names e f =
+setup_behind setup t ver names e f =
     let r = behind_is (lines setup) (opening false) t [] 1 (part_is (opening false) setup t e).all in
     r.1 ∙ ap (λ (x : State). context_of x r.0) (sym f)
 
@@ -56,17 +57,17 @@ part_or : {A B : Type 0} (part : ℕ) (r : Result A Fault) (first : Option Fault
 part_or part (Ok x) first f others e more = more x refl ∙ ap (λ (o : Option Fault). option_or (in_part part o) others) e
 part_or part (Err fault) first f others e more = ap (λ (o : Option Fault). option_or (in_part part o) others) e
 
-file_first : (names : Names) (threads : List (List Command)) (thread : ℕ) (file : List ℕ) → fault_at (part_read (inside false names threads thread nowhere) file) ≡ first_fault_from (in_file (behind names) thread) 1 (lines file)
-file_first names threads thread file = part_first (inside false names threads thread nowhere) (file_makes names threads thread) refl file
+file_first : (ver : Version) (names : Names) (threads : List (List Command)) (thread : ℕ) (file : List ℕ) → fault_at (part_read (inside ver false names threads thread nowhere) file) ≡ first_fault_from (in_file (behind ver names) thread) 1 (lines file)
+file_first ver names threads thread file = part_first (inside ver false names threads thread nowhere) (file_makes ver names threads thread) refl file
 
-files_first : (files : List (List ℕ)) (names : Names) (threads : List (List Command)) (thread : ℕ) (s : State) → Stands s names threads thread → fault_at (files_read s thread files) ≡ first_fault_in_files (behind names) thread files
+files_first : (ver : Version) (files : List (List ℕ)) (names : Names) (threads : List (List Command)) (thread : ℕ) (s : State) → Stands ver s names threads thread → fault_at (files_read s thread files) ≡ first_fault_in_files (behind ver names) thread files
 unfolding files_read first_fault_in_files
-files_first [] names threads thread s stands = refl
-files_first (file ∷ files) names threads thread s stands =
-    part_or (thread + 1) (part_read (begun_thread s thread) file) (first_fault_from (in_file (behind names) thread) 1 (lines file)) (λ (t : State). files_read t (thread + 1) files) (first_fault_in_files (behind names) (thread + 1) files)
-    (ap (λ (x : State). fault_at (part_read x file)) stands.ready ∙ file_first names threads thread file)
-    (λ t e. let read = file_read names threads thread file t (ap (λ (x : State). part_read x file) (sym stands.ready) ∙ e) in
-    files_first files names (threads ++ read.commands ∷ []) (thread + 1) t read.stands)
+files_first ver [] names threads thread s stands = refl
+files_first ver (file ∷ files) names threads thread s stands =
+    part_or (thread + 1) (part_read (begun_thread s thread) file) (first_fault_from (in_file (behind ver names) thread) 1 (lines file)) (λ (t : State). files_read t (thread + 1) files) (first_fault_in_files (behind ver names) (thread + 1) files)
+    (ap (λ (x : State). fault_at (part_read x file)) stands.ready ∙ file_first ver names threads thread file)
+    (λ t e. let read = file_read ver names threads thread file t (ap (λ (x : State). part_read x file) (sym stands.ready) ∙ e) in
+    files_first ver files names (threads ++ read.commands ∷ []) (thread + 1) t read.stands)
 
 -- ---- all parts
 
@@ -76,7 +77,7 @@ reads_first setup files =
     part_or 0 (part_read (opening false) setup) (first_fault_from (start false) 1 (lines setup)) (λ (s : State). files_read s 0 files) (first_fault_in_files (behind_lines (start false) 1 (lines setup)) 0 files)
     (opening_first false setup)
     (λ t e. let r = setup_read setup t e in
-    files_first files r.names [] 0 t r.stands ∙ ap (λ (c : Context). first_fault_in_files c 0 files) (sym (setup_behind setup t r.names e r.ends)))
+    files_first r.ver files r.names [] 0 t r.stands ∙ ap (λ (c : Context). first_fault_in_files c 0 files) (sym (setup_behind setup t r.ver r.names e r.ends)))
 
 parts_first : (setup : List ℕ) (files : List (List ℕ)) → fault_at (spelled_parts setup files) ≡ first_fault_in_parts setup files
 unfolding spelled_parts

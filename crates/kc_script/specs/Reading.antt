@@ -1,5 +1,5 @@
 -- Reading line by line, as the parser does it; private to this crate.
-use Rattle.std.specs.Prelude.{◌≡◌, ℕ, ◌+◌, Bool, true, false, not, List, [], ◌∷◌, ◌++◌, length, drop, map, reverse, codes, Option, Some, None, is_some, Result, Ok, Err, nat_lt, ◌==◌, if◌then◌else◌}
+use Rattle.std.specs.Prelude.{◌≡◌, ℕ, ◌+◌, Bool, true, false, not, List, [], ◌∷◌, ◌++◌, length, drop, map, reverse, codes, Option, Some, None, is_some, Result, Ok, Err, nat_lt, ◌&&◌, ◌==◌, if◌then◌else◌}
 use Rattle.std.specs.Str.{bytes_eq}
 use Rattle.std.specs.Global.{Vec}
 use Rattle.kc_script_lines.specs.declared.complaint.Complaint.{Complaint}
@@ -14,7 +14,7 @@ use Rattle.kc_script_bundle.specs.declared.bundle.TheConstants.{MOST_THREADS}
 use Rattle.kc_script_bundle.specs.declared.object.Object.{Object}
 use Rattle.kc_script_bundle.specs.declared.operation.Command.{Command}
 use Rattle.kc_script_bundle.specs.declared.operation.Op.{Op}
-use Rattle.kc_script_lines.specs.Tests.{◌>>=◌, wants, found, counted, word_at}
+use Rattle.kc_script_lines.specs.Tests.{◌>>=◌, wants, found, counted, positive_to, word_at}
 use Rattle.kc_script_lines.specs.Words.{lines, words, is_skipped}
 use Rattle.kc_script_verbs.specs.declared.verb.Verb.{Verb}
 use Rattle.kc_script_verbs.specs.declared.word.Kind.{Kind}
@@ -22,6 +22,7 @@ use Rattle.kc_script_verbs.specs.declared.word.Word.{Word}
 use Rattle.kc_term.specs.Tree.{Tree}
 use Rattle.kc_script_verbs.specs.declared.word.Word.TheVariants as word
 use Rattle.kc_script.specs.FirstFault.{Fault}
+use Rattle.kc_script.specs.Version.{is_new, knows_limit, version_of, limit_of}
 use Rattle.kc_script.specs.Parts.{PartFault}
 use Rattle.kc_script.specs.declared.part_error.PartError.{PartError}
 use Rattle.kc_script_verbs.specs.Declaring.{declare}
@@ -29,6 +30,9 @@ use Rattle.kc_script_verbs.specs.Saying.{say}
 use Rattle.kc_script_verbs.specs.Words.{word_of}
 use Rattle.kc_script.specs.declared.part_error.PartError.TheVariants as part_error
 use Rattle.kc_script.specs.Blocks.{OpenBlock, Place, in_block, op_line, atomic_line, or_at, end_at}
+use Rattle.kc_model.specs.declared.footprint.TheConstants.{MOST}
+use Rattle.kc_script.specs.declared.reader.Version.{Version}
+use Rattle.kc_script.specs.declared.reader.Version.TheVariants as version
 use Rattle.kc_script.specs.declared.reader.Open.{Open}
 use Rattle.kc_script.specs.declared.reader.Reader.{Reader}
 use Rattle.kc_script.specs.declared.reader.Thread.{Thread}
@@ -39,6 +43,7 @@ pub record State : Type 0 where
   -- a whole script is read, in which threads begin
   pub whole : Bool
   pub begun : Bool
+  pub version : Version
   pub objects : Names
   -- the threads before the one that is open
   pub threads : List (List Command)
@@ -59,6 +64,7 @@ abbrev pub state_of : Reader → State
 state_of r = record {
   whole = r.whole;
   begun = r.begun;
+  version = r.version;
   objects = names_of r.objects;
   threads = map (λ commands. commands.items) r.threads.items;
   thread = r.thread;
@@ -69,7 +75,7 @@ abbrev pub nowhere : Place
 nowhere = record { here = []; open_blocks = []; count = 0 }
 
 abbrev pub opening : Bool → State
-opening whole = record { whole = whole; begun = false; objects = []; threads = []; thread = None; place = nowhere }
+opening whole = record { whole = whole; begun = false; version = version.Old; objects = []; threads = []; thread = None; place = nowhere }
 
 -- ---- lines
 
@@ -122,26 +128,45 @@ thread_line s args = do
   room ← wants (nat_lt (next_thread s.thread) MOST_THREADS) (TooMany Threads)
   Ok (begun_thread s (next_thread s.thread))
 
-unfoldable pub worded_line : State → Option Word → List (List ℕ) → Result State Why
-worded_line s None args = Err UnknownWord
-worded_line s (Some word.Thread) args = thread_line s args
-worded_line s (Some word.Atomic) args = begun_block s args
-worded_line s (Some word.Or) args = placed s (or_at s.place s.place.open_blocks args)
-worded_line s (Some word.End) args = placed s (end_at s.place s.place.open_blocks args)
-worded_line s (Some (word.Declare k)) args = declared_line s k args
-worded_line s (Some (word.Say v)) args = said_line s v args
+abbrev pub no_names : Names → Bool
+no_names [] = true
+no_names (entry ∷ names) = false
+
+-- the limit stands directly behind the header of version 2
+abbrev pub can_limit : State → Bool
+can_limit s = not (is_some s.thread) && no_names s.objects && is_new s.version
+
+unfoldable pub limit_line : State → List (List ℕ) → Result State Why
+limit_line s args = do
+  here ← wants (can_limit s) StrayWord
+  one ← counted 1 args
+  n ← positive_to MOST (word_at args 0)
+  Ok (record s { version = version.Limited n })
+
+-- a line whose first word is no other
+unfoldable pub unknown_line : State → List ℕ → List (List ℕ) → Result State Why
+unknown_line s first args = wants (knows_limit s.version first) UnknownWord >>= λ known. limit_line s args
+
+unfoldable pub worded_line : State → List ℕ → Option Word → List (List ℕ) → Result State Why
+worded_line s first None args = unknown_line s first args
+worded_line s first (Some word.Thread) args = thread_line s args
+worded_line s first (Some word.Atomic) args = begun_block s args
+worded_line s first (Some word.Or) args = placed s (or_at s.place s.place.open_blocks args)
+worded_line s first (Some word.End) args = placed s (end_at s.place s.place.open_blocks args)
+worded_line s first (Some (word.Declare k)) args = declared_line s k args
+worded_line s first (Some (word.Say v)) args = said_line s v args
 
 unfoldable pub header_line : State → List (List ℕ) → Result State Why
 header_line s words = do
   count ← wants (length words == 2) Header
   first ← wants (bytes_eq (word_at words 0) (codes "kcas")) Header
-  second ← wants (bytes_eq (word_at words 1) (codes "1")) Header
-  Ok (record s { begun = true })
+  v ← found (version_of (word_at words 1)) Header
+  Ok (record s { begun = true; version = v })
 
 -- a line that isn't skipped
 unfoldable pub content_line : State → List (List ℕ) → Result State Why
 content_line s [] = Err UnknownWord
-content_line s (first ∷ args) = if s.begun then worded_line s (word_of first) args else header_line s (first ∷ args)
+content_line s (first ∷ args) = if s.begun then worded_line s first (word_of first) args else header_line s (first ∷ args)
 
 unfoldable pub any_line : State → List (List ℕ) → Result State Why
 any_line s words = if is_skipped words then Ok s else content_line s words
@@ -160,7 +185,7 @@ ended s = do
 
 -- the script that was read
 abbrev pub script_at : State → Script
-script_at s = record { objects = s.objects; threads = (closed s).threads }
+script_at s = record { limit = limit_of s.version; objects = s.objects; threads = (closed s).threads }
 
 -- ---- with the numbers of lines
 

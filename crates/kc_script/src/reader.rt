@@ -10,6 +10,9 @@ use kc_script_bundle::{Command, Object, Op};
 use kc_term::Term;
 use std::alloc::Global;
 
+/// The limit of the commands of a script of version 1.
+pub const FIRST_LIMIT: u32 = 64;
+
 /// A block that is open.
 #[derive(Drop)]
 pub struct Open {
@@ -33,6 +36,17 @@ pub struct Thread {
     ghost few: { count ≤ MOST_OPERATIONS },
 }
 
+/// The version that the header has, and what a line behind it has said of the limit of a command.
+#[derive(Drop, Clone, Copy)]
+pub enum Version {
+    /// The first, in which no line says a limit.
+    Old,
+    /// The second, and no line has said a limit.
+    New,
+    /// The second, and a line has said this limit.
+    Limited(u32),
+}
+
 /// What the lines so far have declared and said.
 #[derive(Drop)]
 pub struct Reader {
@@ -41,6 +55,7 @@ pub struct Reader {
     pub whole: bool,
     /// Whether the header was read.
     pub begun: bool,
+    pub version: Version,
     pub objects: IndexMap<String, Object>,
     /// The first location that no object has.
     pub next: u32,

@@ -7,16 +7,19 @@ ghost use Rattle.kc_script_lines.specs.Gives.{Arrives, Reaches};
 ghost use Rattle.kc_script_verbs.specs.Objects.{object_of};
 ghost use Rattle.kc_script_verbs.specs.Declaring.{IsAt};
 ghost use Rattle.kc_script.specs.Blocks.{in_block};
-ghost use Rattle.kc_script.specs.Reading.{state_of, opening, with_object, closed, begun_thread, next_thread, no_block, placed, declared_line, said_line, begun_block, thread_line, worded_line, header_line, content_line, any_line, ended, script_at, atomics_behind, atomics_after, atomics_next, nearest, at_line, read_from, part_read, spelled, files_read, parts_read, spelled_parts, of_part, in_a_part, complained, Comes, Ends, Spelled, PartComes, PartsSpelled};
+ghost use Rattle.kc_script.specs.Version.{knows_limit, version_of, limit_of};
+ghost use Rattle.kc_script.specs.Reading.{state_of, opening, with_object, closed, begun_thread, next_thread, no_block, placed, declared_line, said_line, begun_block, thread_line, can_limit, limit_line, unknown_line, worded_line, header_line, content_line, any_line, ended, script_at, atomics_behind, atomics_after, atomics_next, nearest, at_line, read_from, part_read, spelled, files_read, parts_read, spelled_parts, of_part, in_a_part, complained, Comes, Ends, Spelled, PartComes, PartsSpelled};
 
 use crate::blocks::{atomic_line, begin_thread, end_line, in_block, op_line, or_line};
 use crate::parser::MOST_BYTES;
 use crate::part_error::PartError;
-use crate::reader::Reader;
+use crate::reader::{FIRST_LIMIT, Reader, Version};
 use indexmap::IndexMap;
+use kc_model::MOST;
 use kc_script_bundle::{Bundle, MOST_THREADS, Object, cells};
 use kc_script_lines::{
-    Complaint, Limit, ScriptError, Why, counted, is_skipped, lines_of, wants, word_at, words_of,
+    Complaint, Limit, ScriptError, Why, counted, is_skipped, lines_of, positive_to, wants, word_at,
+    words_of,
 };
 use kc_script_verbs::{Kind, Verb, Word, add, declare, say, word_of};
 use std::alloc::{AllocError, Global};
@@ -30,6 +33,7 @@ fn open(alloc: Global, whole: bool) -> Reader
         alloc,
         whole,
         begun: false,
+        version: Version::Old,
         objects: IndexMap::new(alloc),
         next: 1,
         threads: Vec::new(alloc),
@@ -129,12 +133,87 @@ fn thread_line(reader: &mut Reader, args: &[&[u8]]) -> Result<(), Complaint>
     Ok(())
 }
 
+// Whether this word is that of a limit. It is no word of version 1.
+fn knows_limit(version: Version, word: &[u8]) -> bool
+    ensures { result ≡ knows_limit version word.now }
+{
+    word == b"limit".as_slice()
+        && match version {
+            Version::Old => false,
+            _ => true,
+        }
+}
+
+// Whether the limit can stand here, directly behind the header.
+fn can_limit(reader: &Reader) -> bool
+    ensures { result ≡ can_limit (state_of reader.now) }
+{
+    reader.thread.is_none()
+        && reader.objects.is_empty()
+        && match reader.version {
+            Version::New => true,
+            _ => false,
+        }
+}
+
+#[tactic(auto, unfolding(crate::specs::Reading::limit_line))]
+fn limit_line(reader: &mut Reader, args: &[&[u8]]) -> Result<(), Why>
+    ensures { Arrives (state_of reader.new) result (limit_line (state_of reader.old) (map (λ word. word.now) args.now)) }
+{
+    wants(can_limit(reader), Why::StrayWord)?;
+    counted(1, args)?;
+    let limit = positive_to(MOST as u32, word_at(args, 0))?;
+    reader.version = Version::Limited(limit);
+    Ok(())
+}
+
+// A line whose first word is no other.
+#[tactic(auto, unfolding(crate::specs::Reading::unknown_line))]
+fn unknown_line(reader: &mut Reader, first: &[u8], args: &[&[u8]]) -> Result<(), Why>
+    ensures { Arrives (state_of reader.new) result (unknown_line (state_of reader.old) first.now (map (λ word. word.now) args.now)) }
+{
+    wants(knows_limit(reader.version, first), Why::UnknownWord)?;
+    limit_line(reader, args)
+}
+
+// What a header with this word says.
+fn version_of(word: &[u8]) -> Option<Version>
+    ensures { result ≡ version_of word.now }
+{
+    if word == b"1".as_slice() {
+        Some(Version::Old)
+    } else if word == b"2".as_slice() {
+        Some(Version::New)
+    } else {
+        None
+    }
+}
+
+// The limit of the commands.
+fn limit_of(version: Version) -> u32
+    ensures { result ≡ limit_of version }
+{
+    match version {
+        Version::Limited(limit) => limit,
+        Version::New => MOST as u32,
+        Version::Old => FIRST_LIMIT,
+    }
+}
+
 #[tactic(auto, unfolding(crate::specs::Reading::worded_line))]
-fn worded_line(reader: &mut Reader, word: Option<Word>, args: &[&[u8]]) -> Result<(), Complaint>
-    ensures { Reaches (state_of reader.new) result (worded_line (state_of reader.old) word (map (λ word. word.now) args.now)) }
+fn worded_line(
+    reader: &mut Reader,
+    first: &[u8],
+    word: Option<Word>,
+    args: &[&[u8]],
+) -> Result<(), Complaint>
+    ensures { Reaches (state_of reader.new) result (worded_line (state_of reader.old) first.now word (map (λ word. word.now) args.now)) }
 {
     match word {
-        None => Err(Complaint::Here(Why::UnknownWord)),
+        None => {
+            unknown_line(reader, first, args)?;
+            Ok(())
+        }
         Some(Word::Thread) => thread_line(reader, args),
         Some(Word::Atomic) => begun_block(reader, args),
         Some(Word::Or) => or_line(reader.alloc, &mut reader.place, args),
@@ -150,8 +229,11 @@ fn header_line(reader: &mut Reader, words: &[&[u8]]) -> Result<(), Why>
 {
     wants(words.len() == 2, Why::Header)?;
     wants(word_at(words, 0) == b"kcas".as_slice(), Why::Header)?;
-    wants(word_at(words, 1) == b"1".as_slice(), Why::Header)?;
+    let Some(version) = version_of(word_at(words, 1)) else {
+        return Err(Why::Header);
+    };
     reader.begun = true;
+    reader.version = version;
     Ok(())
 }
 
@@ -184,7 +266,7 @@ fn content_line(
         [first, args @ ..] => {
             if reader.begun {
                 let word = word_of(first);
-                worded_line(reader, word, args)?;
+                worded_line(reader, first, word, args)?;
                 keep_atomics(atomics, line, word)?;
             } else {
                 header_line(reader, words)?;
@@ -294,7 +376,9 @@ fn bundle_of(mut reader: Reader) -> Result<Bundle, AllocError>
     ensures { IfOk result (λ bundle. script_of bundle ≡ script_at (state_of reader)) }
 {
     close_thread(&mut reader)?;
+    let limit = limit_of(reader.version);
     Ok(Bundle {
+        limit,
         objects: reader.objects,
         threads: reader.threads,
     })

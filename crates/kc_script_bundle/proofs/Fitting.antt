@@ -1,19 +1,16 @@
--- Commands on objects that lie in order may be run, and spare location 0.
-use Rattle.std.proofs.Common.{◌≡◌, ℕ, ◌≤◌, List, [], ◌∷◌, arith}
-use Rattle.std.specs.Prelude.{None}
+-- Commands on objects that lie in order may be run.
+use Rattle.std.proofs.Common.{◌≤◌, List, [], ◌∷◌, arith}
 use Rattle.kc_model.specs.declared.plain_store.TheConstants.{MOST_LOCATIONS}
 use Rattle.kc_script_bundle.specs.declared.operation.Command.{Command}
 use Rattle.kc_script_bundle.specs.declared.operation.Op.{Op}
-use Rattle.kc_term.proofs.Closed.{term_leaves_alone}
 use Rattle.kc_term.specs.Fit.{Each}
 use Rattle.kc_term.specs.Meaning.{greatest_end}
 use Rattle.kc_term.specs.Tree.{operations}
-use Rattle.kc_xt.proofs.Stay.{stays_one, stays_unwritten}
-use Rattle.kc_xt.specs.Meaning.{last_written}
+use Rattle.kc_xt.proofs.Stay.{stays_one}
 use Rattle.kc_xt.specs.Program.{replies}
 use Rattle.kc_script_bundle.specs.declared.operation.Command.TheVariants as command
-use Rattle.kc_script_bundle.proofs.Own.{first_of, behind_of, op_stays, op_within, op_end_within, op_fits}
-use Rattle.kc_script_bundle.specs.Meaning.{op_program, op_meaning, op_end, command_meaning, command_end, CommandIsFit}
+use Rattle.kc_script_bundle.proofs.Own.{first_of, behind_of, op_stays, op_end_within, op_fits}
+use Rattle.kc_script_bundle.specs.Meaning.{op_program, op_end, command_end, CommandIsFit}
 use Rattle.kc_script_bundle.specs.On.{IsOn, AllOn, CommandIsOn}
 use Rattle.kc_script_bundle.specs.Script.{Names, LieFrom, next_from}
 
@@ -37,12 +34,3 @@ module _ (names : Names) (lie : LieFrom 1 names) where
     each = each_on names (op_fits names lie within) (operations t) on.1;
     single = each_on names (λ o h. stays_one (first_of o) (behind_of o) (op_program o replies) (op_stays o)) (operations t) on.1;
   }
-
-  -- ---- location 0
-
-  op_spares_zero : (o : Op) → IsOn names o → (n : ℕ) (m : ℕ → ℕ) (ks : List ℕ) → last_written (op_meaning o n m ks).touches 0 ≡ None
-  op_spares_zero o on n m ks = stays_unwritten (first_of o) (behind_of o) (op_program o replies) (op_stays o) n m ks 0 (λ l lo hi e. let p = op_within names lie o on in omega (arith, p.0, lo, e))
-
-  pub command_spares_zero : (c : Command) (n : ℕ) (m : ℕ → ℕ) (ks : List ℕ) → CommandIsOn names c → last_written (command_meaning c n m ks).touches 0 ≡ None
-  command_spares_zero (command.One o) n m ks on = op_spares_zero o on n m ks
-  command_spares_zero (command.Block t) n m ks on = term_leaves_alone op_meaning 0 t (each_on names op_spares_zero (operations t) on.1) n m ks

@@ -104,3 +104,6 @@ module _ (names : Names) (lie : LieFrom 1 names) where
   op_keeps (op.Acc o) n m ks on well ne = object_keeps names lie (op.Acc o) (object.Acc o.acc) on on refl refl n m ks (λ h. (number _, (_, refl, refl))) well
   op_keeps (op.Hash o) n m ks on well ne = object_keeps names lie (op.Hash o) (object.Hash o.hash) on on refl (omega arith) n m ks (λ (c, (ps, h, e)). (pairs _, (_, (hash_means o ps n m ks h ne).1, refl))) well
   op_keeps (op.Cache o) n m ks on well ne = object_keeps names lie (op.Cache o) (object.Cache o.cache) on on refl (omega arith) n m ks (λ (c, (ps, h, e)). (pairs _, (_, (cache_means o ps n m ks h ne).1, refl))) well
+  op_keeps (op.Cancel c) n m ks on well ne =
+      let same = stays_outside c.live.0 (c.live.0 + 1) (op_program (op.Cancel c) replies) (op_stays (op.Cancel c)) n m ks in
+      all_same 1 names m _ lie (λ l le. sym (same l (λ k lo hi e. omega (arith, on.0, le, hi, e)))) well

@@ -6,5 +6,7 @@ pub mod Opened
 pub mod Own
 pub mod Keeping
 pub mod Fitting
+pub mod Flags
+pub mod Alive
 pub mod Commands
 pub mod Listed

@@ -26,7 +26,8 @@ use Rattle.kc_script_bundle.specs.declared.object.Object.TheVariants as object
 use Rattle.kc_script_bundle.specs.declared.operation.Op.{Op}
 use Rattle.kc_script_bundle.specs.declared.operation.Op.TheVariants as op
 use Rattle.kc_script_bundle.proofs.Having.{has_place}
-use Rattle.kc_script_bundle.specs.Meaning.{op_program, op_end, OpIsFit}
+use Rattle.kc_script_bundle.proofs.Places.{next_from-above}
+use Rattle.kc_script_bundle.specs.Meaning.{cancel_op, op_program, op_end, OpIsFit}
 use Rattle.kc_script_bundle.specs.On.{IsLocation, LocIsOn, IsOn}
 use Rattle.kc_script_bundle.specs.Script.{Names, LieFrom, next_from}
 
@@ -40,6 +41,7 @@ first_of (op.Promise o) = o.promise.base.0
 first_of (op.Acc o) = o.acc.base.0
 first_of (op.Hash o) = o.hash.base.0
 first_of (op.Cache o) = o.cache.base.0
+first_of (op.Cancel c) = c.live.0
 
 abbrev pub behind_of : Op → ℕ
 behind_of (op.Loc o) = loc_last o + 1
@@ -50,6 +52,12 @@ behind_of (op.Promise o) = promise_cells_end o.promise
 behind_of (op.Acc o) = acc_cells_end o.acc
 behind_of (op.Hash o) = hash_cells_end o.hash
 behind_of (op.Cache o) = cache_cells_end o.cache
+behind_of (op.Cancel c) = c.live.0 + 1
+
+-- it is no cancel
+abbrev pub IsOnObject : Op → Type 0
+IsOnObject (op.Cancel c) = ⊥
+IsOnObject _ = Unit {0}
 
 -- it keeps to these
 pub op_stays : (o : Op) → Stays (first_of o) (behind_of o) (op_program o replies)
@@ -61,6 +69,7 @@ op_stays (op.Promise o) = promise_stays o
 op_stays (op.Acc o) = acc_stays o
 op_stays (op.Hash o) = hash_stays o
 op_stays (op.Cache o) = cache_stays o
+op_stays (op.Cancel c) = loc_stays (cancel_op c)
 
 module _ (names : Names) (lie : LieFrom 1 names) where
   -- a location's place
@@ -84,29 +93,31 @@ module _ (names : Names) (lie : LieFrom 1 names) where
   loc_within (loc.Check l r k) on = loc_place l on
 
   -- its cells lie behind location 0, and before the next one
-  pub op_within : (o : Op) → IsOn names o → (1 ≤ first_of o) × (behind_of o ≤ next_from 1 names)
-  op_within (op.Loc o) on = loc_within o on
-  op_within (op.Stack o) on = let p = has_place 1 names (object.Stack o.stack) lie on in (p.0, omega (arith, p.1))
-  op_within (op.Queue o) on = let p = has_place 1 names (object.Queue o.queue) lie on in (p.0, omega (arith, p.1))
-  op_within (op.Mvar o) on = has_place 1 names (object.Mvar o.mvar) lie on
-  op_within (op.Promise o) on = has_place 1 names (object.Promise o.promise) lie on
-  op_within (op.Acc o) on = has_place 1 names (object.Acc o.acc) lie on
-  op_within (op.Hash o) on = let p = has_place 1 names (object.Hash o.hash) lie on in (p.0, omega (arith, p.1))
-  op_within (op.Cache o) on = let p = has_place 1 names (object.Cache o.cache) lie on in (p.0, omega (arith, p.1))
+  pub op_within : (o : Op) → IsOnObject o → IsOn names o → (1 ≤ first_of o) × (behind_of o ≤ next_from 1 names)
+  op_within (op.Loc o) is on = loc_within o on
+  op_within (op.Stack o) is on = let p = has_place 1 names (object.Stack o.stack) lie on in (p.0, omega (arith, p.1))
+  op_within (op.Queue o) is on = let p = has_place 1 names (object.Queue o.queue) lie on in (p.0, omega (arith, p.1))
+  op_within (op.Mvar o) is on = has_place 1 names (object.Mvar o.mvar) lie on
+  op_within (op.Promise o) is on = has_place 1 names (object.Promise o.promise) lie on
+  op_within (op.Acc o) is on = has_place 1 names (object.Acc o.acc) lie on
+  op_within (op.Hash o) is on = let p = has_place 1 names (object.Hash o.hash) lie on in (p.0, omega (arith, p.1))
+  op_within (op.Cache o) is on = let p = has_place 1 names (object.Cache o.cache) lie on in (p.0, omega (arith, p.1))
+  op_within (op.Cancel c) is on = absurd is
 
   pub op_end_within : (o : Op) → IsOn names o → op_end o ≤ next_from 1 names
-  op_end_within (op.Loc o) on = let p = op_within (op.Loc o) on in omega (arith, p.1)
-  op_end_within (op.Stack o) on = (op_within (op.Stack o) on).1
-  op_end_within (op.Queue o) on = (op_within (op.Queue o) on).1
-  op_end_within (op.Mvar o) on = (op_within (op.Mvar o) on).1
-  op_end_within (op.Promise o) on = (op_within (op.Promise o) on).1
-  op_end_within (op.Acc o) on = (op_within (op.Acc o) on).1
-  op_end_within (op.Hash o) on = let p = op_within (op.Hash o) on in omega (arith, p.1)
-  op_end_within (op.Cache o) on = let p = op_within (op.Cache o) on in omega (arith, p.1)
+  op_end_within (op.Loc o) on = let p = op_within (op.Loc o) tt on in omega (arith, p.1)
+  op_end_within (op.Stack o) on = (op_within (op.Stack o) tt on).1
+  op_end_within (op.Queue o) on = (op_within (op.Queue o) tt on).1
+  op_end_within (op.Mvar o) on = (op_within (op.Mvar o) tt on).1
+  op_end_within (op.Promise o) on = (op_within (op.Promise o) tt on).1
+  op_end_within (op.Acc o) on = (op_within (op.Acc o) tt on).1
+  op_end_within (op.Hash o) on = let p = op_within (op.Hash o) tt on in omega (arith, p.1)
+  op_end_within (op.Cache o) on = let p = op_within (op.Cache o) tt on in omega (arith, p.1)
+  op_end_within (op.Cancel c) on = omega (arith, on.0, next_from-above 1 names)
 
   module _ (within : next_from 1 names ≤ MOST_LOCATIONS) where
     pub op_fits : (o : Op) → IsOn names o → OpIsFit o
-    op_fits (op.Loc o) on = omega (arith, within, (op_within (op.Loc o) on).1)
+    op_fits (op.Loc o) on = omega (arith, within, (op_within (op.Loc o) tt on).1)
     op_fits (op.Stack o) on = tt
     op_fits (op.Queue o) on = tt
     op_fits (op.Mvar o) on = tt
@@ -114,3 +125,4 @@ module _ (names : Names) (lie : LieFrom 1 names) where
     op_fits (op.Acc o) on = tt
     op_fits (op.Hash o) on = tt
     op_fits (op.Cache o) on = tt
+    op_fits (op.Cancel c) on = (omega (arith, on.0), on.1)

@@ -1,10 +1,12 @@
 -- On which objects commands work.
-use Rattle.std.specs.Prelude.{ℕ, ◌≤◌, List, [], ◌∷◌, length}
+use Rattle.std.specs.Prelude.{◌≡◌, ℕ, ◌≤◌, List, [], ◌∷◌, length}
 use Rattle.kc_loc.specs.declared.operation.LocOp.{LocOp}
 use Rattle.kc_model.specs.declared.footprint.Loc.{Loc}
 use Rattle.kc_loc.specs.declared.operation.LocOp.TheVariants as loc
 use Rattle.kc_term.specs.Tree.{operations}
 use Rattle.kc_term.specs.declared.term.TheConstants.{MOST_OPERATIONS}
+use Rattle.kc_script_bundle.specs.Live.{IsThreadNumber}
+use Rattle.kc_script_bundle.specs.declared.cancel.Cancel.{Cancel}
 use Rattle.kc_script_bundle.specs.declared.object.Object.TheVariants as object
 use Rattle.kc_script_bundle.specs.declared.operation.Op.{Op}
 use Rattle.kc_script_bundle.specs.declared.operation.Op.TheVariants as op
@@ -29,7 +31,11 @@ LocIsOn names (loc.Update l f) = IsLocation names l
 LocIsOn names (loc.Modify l f) = IsLocation names l
 LocIsOn names (loc.Check l r n) = IsLocation names l
 
--- an operation works on an object of these names
+-- a cancel is at location 0, and of a thread that may be there
+abbrev pub CancelIsOn : Cancel → Type 0
+CancelIsOn c = (c.live.0 ≡ 0) × IsThreadNumber c.thread
+
+-- an operation works on an object of these names, or cancels
 abbrev pub IsOn : Names → Op → Type 0
 IsOn names (op.Loc o) = LocIsOn names o
 IsOn names (op.Stack o) = HasObject names (object.Stack o.stack)
@@ -39,6 +45,7 @@ IsOn names (op.Promise o) = HasObject names (object.Promise o.promise)
 IsOn names (op.Acc o) = HasObject names (object.Acc o.acc)
 IsOn names (op.Hash o) = HasObject names (object.Hash o.hash)
 IsOn names (op.Cache o) = HasObject names (object.Cache o.cache)
+IsOn names (op.Cancel c) = CancelIsOn c
 
 abbrev pub AllOn : Names → List Op → Type 0
 AllOn names [] = Unit {0}

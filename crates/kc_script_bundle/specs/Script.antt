@@ -23,6 +23,7 @@ abbrev pub Names : Type 0
 Names = List (List ℕ × Object)
 
 pub record Script : Type 0 where
+  pub limit : ℕ
   pub objects : Names
   pub threads : List (List Command)
 
@@ -38,7 +39,7 @@ abbrev pub names_of : Objects → Names
 names_of objects = map named objects.entries
 
 abbrev pub script_of : Bundle → Script
-script_of b = record { objects = names_of b.objects; threads = map (λ commands. commands.items) b.threads.items }
+script_of b = record { limit = b.limit; objects = names_of b.objects; threads = map (λ commands. commands.items) b.threads.items }
 
 -- ---- where its cells lie
 
@@ -94,7 +95,7 @@ pub record LiesInOrder (s : Script) : Type 0 where
   pub lie : LieFrom 1 s.objects
   pub within : next_from 1 s.objects ≤ MOST_LOCATIONS
 
--- its cells lie behind location 0, which counts the live threads, and below this number
+-- its cells lie behind location 0, which is that of live threads, and below this number
 abbrev pub IsWithin : ℕ → Object → Type 0
 IsWithin n o = (1 ≤ base o) × (base o + cells o ≤ n)
 

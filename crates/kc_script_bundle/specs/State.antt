@@ -39,7 +39,7 @@ values_from f i (suc n) = f i ∷ values_from f (i + 1) n
 abbrev pub opening_cells : Object → List ℕ
 opening_cells o = values_from (opening_value o) 0 (cells o)
 
--- location 0 counts the threads; the cells of the objects follow
+-- location 0 has the number of threads and no flag; the cells of the objects follow
 abbrev pub opening_values : Script → List ℕ
 opening_values s = length s.threads ∷ flat_map (λ entry. opening_cells entry.1) s.objects
 

@@ -2,17 +2,18 @@
 
 ghost use Rattle.kc_script_bundle.specs.Meaning.{op_meaning, op_end, OpIsFit, command_meaning, command_end, CommandIsFit};
 
+use crate::cancel::Cancel;
 use kc_cache::CacheOp;
 use kc_cells::{AccOp, MvarOp, PromiseOp};
 use kc_hash::HashOp;
 use kc_loc::LocOp;
-use kc_model::Reply;
+use kc_model::{MOST, Reply};
 use kc_queue::QueueOp;
 use kc_stack::StackOp;
 use kc_term::Term;
 use kc_xt::{Peek, Stop, Transact, Xt};
 
-/// An operation on an object.
+/// An operation on an object, or a cancel.
 #[derive(Clone, Copy, Debug, PartialEq, Eq)]
 pub enum Op {
     Loc(LocOp),
@@ -23,6 +24,7 @@ pub enum Op {
     Acc(AccOp),
     Hash(HashOp),
     Cache(CacheOp),
+    Cancel(Cancel),
 }
 
 impl Transact for Op {
@@ -42,7 +44,12 @@ impl Transact for Op {
             Op::Acc(op) => op.bound(),
             Op::Hash(op) => op.bound(),
             Op::Cache(op) => op.bound(),
+            Op::Cancel(op) => op.bound(),
         }
+    }
+
+    fn limit(&self) -> u32 {
+        MOST as u32
     }
 
     fn run<P: Peek>(&self, xt: &mut Xt<P>) -> Result<Reply, Stop> {
@@ -55,6 +62,7 @@ impl Transact for Op {
             Op::Acc(op) => op.run(xt),
             Op::Hash(op) => op.run(xt),
             Op::Cache(op) => op.run(xt),
+            Op::Cancel(op) => op.run(xt),
         }
     }
 }
@@ -78,6 +86,10 @@ impl Transact for Command {
             Command::One(op) => op.bound(),
             Command::Block(term) => term.bound(),
         }
+    }
+
+    fn limit(&self) -> u32 {
+        MOST as u32
     }
 
     fn run<P: Peek>(&self, xt: &mut Xt<P>) -> Result<Reply, Stop> {

@@ -6,7 +6,7 @@ use indexmap::IndexMap;
 use kc_cache::Cache;
 use kc_cells::{Accumulator, Mvar, Promise};
 use kc_hash::Hash;
-use kc_model::{FrailSink, Loc, PlainStore, Reply};
+use kc_model::{FrailSink, Loc, MOST, PlainStore, Reply};
 use kc_queue::Queue;
 use kc_stack::{Stack, StackAct, StackOp};
 use kc_term::Term;
@@ -21,6 +21,7 @@ fn bundle_of(rt: &HostRuntime, object: Object) -> Result<Bundle, Fail>
     let mut objects = IndexMap::new(rt.alloc());
     objects.insert(String::from_str(rt.alloc(), "o")?, object)?;
     Ok(Bundle {
+        limit: 64,
         objects,
         threads: Vec::new(rt.alloc()),
     })
@@ -138,7 +139,7 @@ fn a_command_is_one_operation_or_a_block(rt: HostRuntime) -> Result<(), Fail> {
         return Err(Fail::from("too few locations"));
     }
     let mut room = Room::new();
-    let mut xt = Xt::new(PlainPeek::new(&store), &mut room);
+    let mut xt = Xt::new(PlainPeek::new(&store), &mut room, MOST as u32);
     let stack = Stack::layout(Loc(1), 2);
     let op = |act: StackAct| Op::Stack(StackOp { stack, act });
     let push = Command::One(op(StackAct::Push(4)));
@@ -148,5 +149,31 @@ fn a_command_is_one_operation_or_a_block(rt: HostRuntime) -> Result<(), Fail> {
     assert_eq!(rt; pop.run(&mut xt), Err(Stop::Retry));
     assert_eq!(rt; push.run(&mut xt), Ok(Reply::Unit));
     assert_eq!(rt; pop.run(&mut xt), Ok(Reply::Value(4)));
+    Ok(())
+}
+
+#[test]
+fn a_cancel_sets_the_flag_of_its_thread(rt: HostRuntime) -> Result<(), Fail> {
+    let Ok(store) = PlainStore::open(rt.alloc(), &[3, 7]) else {
+        return Err(Fail::from("no memory"));
+    };
+    if store.len() < 2 {
+        return Err(Fail::from("too few locations"));
+    }
+    let mut room = Room::new();
+    let mut xt = Xt::new(PlainPeek::new(&store), &mut room, MOST as u32);
+    let live = Loc(0);
+    let first = Op::Cancel(Cancel { live, thread: 1 });
+    let last = Command::One(Op::Cancel(Cancel { live, thread: 16 }));
+    assert_eq!(rt; last.bound(), 1);
+    assert_eq!(rt; first.run(&mut xt), Ok(Reply::Unit));
+    assert_eq!(rt; last.run(&mut xt), Ok(Reply::Unit));
+    assert_eq!(rt; first.run(&mut xt), Ok(Reply::Unit));
+    let value = 3 + (1 << 16) + (1 << 31);
+    assert_eq!(rt; xt.get(live), Ok(value));
+    assert_eq!(rt; live_threads(value), 3);
+    assert!(rt; is_flagged(1, value) && !is_flagged(2, value) && is_flagged(16, value));
+    assert_eq!(rt; cleared(16, value), 3 + (1 << 16));
+    assert_eq!(rt; cleared(2, value), value);
     Ok(())
 }

@@ -1,9 +1,9 @@
 -- The first test that fails, and the chain of tests that stops there.
-use Rattle.std.proofs.Common.{◌≡◌, ℕ, Bool, true, false, ◌&&◌, cond, leb, ltb, List, [], ◌∷◌, ◌++◌, length, Some, None, Result, Ok, Err, refl, sym, ◌∙◌, arith}
-use Rattle.std.proofs.lemmas.Bool.{le-leb}
+use Rattle.std.proofs.Common.{◌≡◌, ℕ, ◌≤◌, Bool, true, false, ◌&&◌, cond, leb, ltb, List, [], ◌∷◌, ◌++◌, length, Some, None, Result, Ok, Err, refl, sym, ap, ◌∙◌, arith}
+use Rattle.std.proofs.lemmas.Bool.{le-leb, leb-true}
 use Rattle.std.proofs.lemmas.Bool.Decides.{nat_tests}
-use Rattle.kc_script_lines.proofs.Given.{given}
-use Rattle.kc_script_lines.specs.Tests.{◌>>=◌, wants, found, counted, number_to, first_failing, fault_of, count_tests, is_number}
+use Rattle.kc_script_lines.proofs.Given.{given, bind_ok, ok_is, wants_ok}
+use Rattle.kc_script_lines.specs.Tests.{◌>>=◌, wants, found, counted, number_to, positive_to, first_failing, fault_of, count_tests, is_number}
 use Rattle.kc_script_lines.specs.Words.{is_numeral, value_on, number}
 use Rattle.kc_script_lines.specs.declared.fault.Why.{Why}
 use Rattle.kc_script_lines.specs.declared.fault.Why.TheVariants.{BadNumber, MissingWord, ExtraWord}
@@ -54,6 +54,17 @@ number_fault most word = record { same = by (is_numeral word) (leb 0 (value_on 0
   by false some b h = refl
   by true false b h = absurd cc
 
+-- a number from 1 on
+pub positive_fault : (most : ℕ) (word : List ℕ) → Tested (positive_to most word) ((is_number 1 most word, BadNumber) ∷ [])
+unfolding positive_to number_to number
+positive_fault most word = record { same = by (is_numeral word) (leb 1 (value_on 0 word)) (leb (value_on 0 word) most) refl } where
+  by : (a some b : Bool) → leb 1 (value_on 0 word) ≡ some → fault_of (found (cond (a && b) (Some (value_on 0 word)) None) BadNumber >>= λ n. wants (leb 1 n) BadNumber >>= λ some. given n) ≡ first_failing ((a && some && b, BadNumber) ∷ [])
+  by true true true e = rw e refl
+  by true false true e = rw e refl
+  by true true false e = refl
+  by true false false e = refl
+  by false some b e = refl
+
 pub counted_length : (count : ℕ) (args : List (List ℕ)) (x : Unit {0}) → counted count args ≡ Ok x → length args ≡ count
 counted_length count args x = by (length args) where
   by : (n : ℕ) → cond (ltb n count) (Err MissingWord) (cond (ltb count n) (Err ExtraWord) (given (tt {0}))) ≡ Ok x → n ≡ count
@@ -67,3 +78,20 @@ number_value most word n e = by (is_numeral word) (leb (value_on 0 word) most) e
   by true true e = (cc, refl, refl)
   by true false e = absurd cc
   by false b e = absurd cc
+
+pub positive_value : (most : ℕ) (word : List ℕ) (n : ℕ) → positive_to most word ≡ Ok n → (n ≡ value_on 0 word) × (1 ≤ n) × (n ≤ most)
+unfolding positive_to
+positive_value most word n e =
+    let last = λ (m : ℕ). wants (leb 1 m) BadNumber >>= λ some. given m in
+    let a = bind_ok (number_to most word) last n e in
+    let b = bind_ok (wants (leb 1 a.0) BadNumber) (λ some. given a.0) n a.2 in
+    let same : a.0 ≡ n = ok_is _ _ b.2 in
+    let v = number_value most word a.0 a.1 in
+    (sym same ∙ v.0, omega (arith, same, leb-true 1 a.0 (wants_ok (leb 1 a.0) BadNumber b.0 b.1)), omega (arith, same, v.0, leb-true (value_on 0 word) most v.2))
+
+passes : (test : Bool) (why : Why) → first_failing ((test, why) ∷ []) ≡ None → test ≡ true
+passes true why e = refl
+passes false why e = absurd cc
+
+pub positive_passes : (most : ℕ) (word : List ℕ) (n : ℕ) → positive_to most word ≡ Ok n → is_number 1 most word ≡ true
+positive_passes most word n e = passes (is_number 1 most word) BadNumber (sym (positive_fault most word).same ∙ ap fault_of e)

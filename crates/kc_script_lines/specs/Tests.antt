@@ -29,6 +29,13 @@ word_at args i = get_or args i []
 unfoldable pub number_to : ℕ → List ℕ → Result ℕ Why
 number_to most word = found (number most word) BadNumber
 
+-- a number from 1 up to this one
+unfoldable pub positive_to : ℕ → List ℕ → Result ℕ Why
+positive_to most word = do
+  n ← number_to most word
+  some ← wants (nat_le 1 n) BadNumber
+  Ok n
+
 -- ---- tests as a list
 
 -- what is wrong: the reason of the first test that fails

@@ -8,5 +8,5 @@ mod words;
 
 pub use complaint::Complaint;
 pub use fault::{LONGEST_WORDS, Limit, ScriptError, Why};
-pub use line::{counted, number_to, wants, word_at};
+pub use line::{counted, number_to, positive_to, wants, word_at};
 pub use words::{as_name, is_skipped, lines_of, number_of, words_of};

@@ -1,7 +1,7 @@
 //! The tests of a line that look at its words alone.
 
-ghost use Rattle.std.specs.Prelude.{◌≡◌, ◌<◌, Err, map, length, OnOk};
-ghost use Rattle.kc_script_lines.specs.Tests.{wants, counted, word_at, number_to};
+ghost use Rattle.std.specs.Prelude.{◌≡◌, ◌≤◌, ◌<◌, Err, map, length, IfOk, OnOk};
+ghost use Rattle.kc_script_lines.specs.Tests.{wants, counted, word_at, number_to, positive_to};
 
 use crate::fault::Why;
 use crate::words::number_of;
@@ -38,10 +38,23 @@ pub fn word_at<'a>(args: &[&'a [u8]], i: usize) -> &'a [u8]
 /// The number that the word spells, up to this one.
 #[tactic(auto, unfolding(crate::specs::Tests::number_to))]
 pub fn number_to(most: u32, word: &[u8]) -> Result<u32, Why>
-    ensures { result ≡ number_to most word.now }
+    ensures gives { result ≡ number_to most word.now }
+    ensures most { IfOk result (λ n. n ≤ most) }
 {
     match number_of(word, most) {
         Some(n) => Ok(n),
         None => Err(Why::BadNumber),
     }
+}
+
+/// The number that the word spells, from 1 up to this one.
+#[tactic(auto, unfolding(crate::specs::Tests::positive_to))]
+pub fn positive_to(most: u32, word: &[u8]) -> Result<u32, Why>
+    ensures gives { result ≡ positive_to most word.now }
+    ensures some { IfOk result (λ n. 1 ≤ n) }
+    ensures most { IfOk result (λ n. n ≤ most) }
+{
+    let n = number_to(most, word)?;
+    wants(n >= 1, Why::BadNumber)?;
+    Ok(n)
 }

@@ -7,7 +7,7 @@ ghost use Rattle.kc_script_verbs.specs.Canonical.{fun_words, rel_word, loc_words
 ghost use Rattle.kc_script.specs.Canonical.{line_of, op_line, line_text};
 
 use crate::naming::name_at;
-use crate::shapes::{put_choice, put_named, put_number, put_numbers};
+use crate::shapes::{put_choice, put_named, put_number, put_numbers, put_numeral};
 use indexmap::IndexMap;
 use kc_cache::{CacheAct, CacheOp};
 use kc_cells::{AccAct, AccOp, MvarAct, MvarOp, PromiseAct, PromiseOp};
@@ -188,5 +188,6 @@ pub fn put_op<K: Sink>(pen: &mut Pen<K>, objects: &IndexMap<String, Object>, ope
         Op::Acc(operation) => put_acc(pen, objects, operation),
         Op::Hash(operation) => put_table(pen, objects, operation),
         Op::Cache(operation) => put_cache(pen, objects, operation),
+        Op::Cancel(operation) => put_numeral(pen, b"cancel", operation.thread),
     }
 }

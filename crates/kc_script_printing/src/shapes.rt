@@ -14,6 +14,15 @@ pub fn put_named<K: Sink>(pen: &mut Pen<K>, word: &[u8], name: &[u8])
     pen.put(name);
 }
 
+/// A word and a number.
+pub fn put_numeral<K: Sink>(pen: &mut Pen<K>, word: &[u8], number: u32)
+    ensures { Puts K.written K.faults K.write_gives pen.old pen.new (word.now ++ 32 ∷ decimal number) }
+{
+    pen.put(word);
+    pen.put(b" ");
+    pen.put_number(number);
+}
+
 /// A word, a name and a number.
 pub fn put_number<K: Sink>(pen: &mut Pen<K>, word: &[u8], name: &[u8], number: u32)
     ensures { Puts K.written K.faults K.write_gives pen.old pen.new (word.now ++ 32 ∷ (name.now ++ 32 ∷ decimal number)) }

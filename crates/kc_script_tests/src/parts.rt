@@ -56,6 +56,17 @@ fn a_fault_of_parts_has_its_part(rt: HostRuntime) {
         (x, "loc y 0\nincr y", "", Some((1, 1, Why::StrayWord))),
         (x, "", "mvar 1", Some((2, 1, Why::StrayWord))),
         (x, "kcas 1", "", Some((1, 1, Why::UnknownWord))),
+        (x, "limit 5", "", Some((1, 1, Why::UnknownWord))),
+        (
+            "kcas 2\nlimit 5",
+            "",
+            "limit 5",
+            Some((2, 1, Why::StrayWord)),
+        ),
+        ("kcas 2", "limit 5", "", Some((1, 1, Why::StrayWord))),
+        ("kcas 2\nlimit 0", "", "", Some((0, 2, Why::BadNumber))),
+        (x, "cancel 17", "", Some((1, 1, Why::BadNumber))),
+        (x, "cancel 16", "atomic\ncancel 1\nend", None),
         (x, "or", "", Some((1, 1, Why::StrayWord))),
         (x, "", "end", Some((2, 1, Why::StrayWord))),
         (
@@ -112,7 +123,7 @@ fn op_in(bundle: &Bundle, thread: usize, i: usize) -> Option<Op> {
 
 #[test]
 fn a_file_is_a_thread(rt: HostRuntime) {
-    let setup = "# demo\nkcas 1\nloc x 0\nacc a 2\n";
+    let setup = "# demo\nkcas 2\nlimit 5\nloc x 0\nacc a 2\n";
     let Ok(bundle) = read_two(&rt, setup, "bump a 5", "get x\nbump a 6\n") else {
         panic!(rt; "they spell one");
     };
@@ -126,6 +137,7 @@ fn a_file_is_a_thread(rt: HostRuntime) {
     assert!(rt; op_in(&bundle, 1, 0) == Some(Op::Loc(LocOp::Get(Loc(1)))));
     assert!(rt; op_in(&bundle, 1, 1) == bump(1, 6));
     assert_eq!(rt; bundle.threads.len(), 2);
+    assert_eq!(rt; bundle.limit, 5);
 }
 
 #[test]

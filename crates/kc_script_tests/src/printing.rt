@@ -32,7 +32,7 @@ fn what_makes_no_difference_is_not_printed(rt: HostRuntime) {
         prints(
             &rt,
             text,
-            "kcas 1\nloc x 5\nthread\nget x\nset x 7\nadd x 1\n"
+            "kcas 2\nlimit 64\nloc x 5\nthread\nget x\nset x 7\nadd x 1\n"
         )
     );
 }
@@ -47,6 +47,7 @@ fn each_command_is_printed(rt: HostRuntime) {
         "push s 1\npop s\npopw s\ntop s\nlen s\nenq q 2\ndeq q\ndeqw q\nfront q\nlen q\n",
         "put t 1 2\nfind t 1\ndel t 1\nlen t\nmput m 3\nmtake m\nmpeek m\n",
         "resolve p 4\nawait p\nresolved p\nbump a 5\ntotal a\n",
+        "cancel 1\natomic\ncancel 16\nget x\nor\ncancel 2\nend\n",
     ];
     for lines in rows {
         assert!(rt; stays(&rt, lines), "{lines}");
@@ -54,27 +55,42 @@ fn each_command_is_printed(rt: HostRuntime) {
 }
 
 #[test]
+fn a_limit_is_printed_where_it_is_not_the_greatest(rt: HostRuntime) {
+    let rows = [
+        ("kcas 1\nloc x 5", "kcas 2\nlimit 64\nloc x 5\n"),
+        ("kcas 2\nlimit 0064", "kcas 2\nlimit 64\n"),
+        ("kcas 2\nlimit 1\nthread", "kcas 2\nlimit 1\nthread\n"),
+        ("kcas 2\nlimit 255", "kcas 2\nlimit 255\n"),
+        ("kcas 2\nlimit 256", "kcas 2\n"),
+    ];
+    for (text, printed) in rows {
+        assert!(rt; prints(&rt, text, printed), "{text}");
+        assert!(rt; prints(&rt, printed, printed), "{printed}");
+    }
+}
+
+#[test]
 fn commands_on_a_cache_are_printed(rt: HostRuntime) {
     let text =
-        "kcas 1\nmvar zz_9\ncache c 2 3\nthread\ncput c 1 2\ncputw c 3 4\ncget c 1\ncdel c 3\nlen c\nmtake zz_9\n";
+        "kcas 2\nmvar zz_9\ncache c 2 3\nthread\ncput c 1 2\ncputw c 3 4\ncget c 1\ncdel c 3\nlen c\nmtake zz_9\n";
     assert!(rt; prints(&rt, text, text));
 }
 
 #[test]
 fn blocks_are_printed_as_they_are_nested(rt: HostRuntime) {
     let text =
-        "kcas 1\nloc x 1\nthread\natomic\nend\nthread\nget x\natomic\nget x\natomic\nset x 1\natomic\nend\nor\nend\nor\natomic\nor\nor\nset x 2\nend\nset x 3\nor\nend\nget x\nthread\n";
+        "kcas 2\nloc x 1\nthread\natomic\nend\nthread\nget x\natomic\nget x\natomic\nset x 1\natomic\nend\nor\nend\nor\natomic\nor\nor\nset x 2\nend\nset x 3\nor\nend\nget x\nthread\n";
     assert!(rt; prints(&rt, text, text));
 }
 
 #[test]
 fn a_bundle_may_be_bare(rt: HostRuntime) {
-    assert!(rt; prints(&rt, "kcas 1", "kcas 1\n"));
+    assert!(rt; prints(&rt, "kcas 2", "kcas 2\n"));
 }
 
 #[test]
 fn a_failed_write_is_said(rt: HostRuntime) -> Result<(), Fail> {
-    let text = "kcas 1\nloc first 1\nloc second 2\nthread\nswap first second";
+    let text = "kcas 2\nloc first 1\nloc second 2\nthread\nswap first second";
     let Ok(bundle) = read(&rt, text) else {
         panic!(rt; "it is spelled");
     };
@@ -82,6 +98,6 @@ fn a_failed_write_is_said(rt: HostRuntime) -> Result<(), Fail> {
     failing.push(2)?;
     let mut sink = FrailSink::new(rt.alloc(), 4096, failing)?;
     assert!(rt; print(&bundle, &mut sink).is_err());
-    assert_eq!(rt; sink.bytes(), b"kcas 1\nloc first".as_slice());
+    assert_eq!(rt; sink.bytes(), b"kcas 2\nloc first".as_slice());
     Ok(())
 }

@@ -10,14 +10,14 @@ use kc_loc::{Fun, LocOp, Rel};
 use kc_model::Loc;
 use kc_queue::{Queue, QueueAct, QueueOp};
 use kc_script::{MOST_BYTES, parse};
-use kc_script_bundle::{Bundle, Command, Object, Op};
+use kc_script_bundle::{Bundle, Cancel, Command, Object, Op};
 use kc_script_lines::{Limit, ScriptError, Why};
 use kc_stack::{Stack, StackAct, StackOp};
 use kc_term::{Node, Term};
 
 /// Declarations of each kind, and a thread that begins.
 pub const KINDS: &str =
-    "kcas 1\nloc x 5\nloc y 6\nstack s 3\nqueue q 4\ntable t 2 3\nmvar m\npromise p\nacc a 2\nthread\n";
+    "kcas 2\nloc x 5\nloc y 6\nstack s 3\nqueue q 4\ntable t 2 3\nmvar m\npromise p\nacc a 2\nthread\n";
 
 const X: Loc = Loc(1);
 
@@ -134,6 +134,31 @@ fn commands_on_tables_and_cells_are_read(rt: HostRuntime) {
 }
 
 #[test]
+fn cancels_are_read(rt: HostRuntime) {
+    let ops = [1, 2, 16].map(|thread| Op::Cancel(Cancel {
+        live: Loc(0),
+        thread,
+    }));
+    assert!(rt; says(&rt, "cancel 1\ncancel 02\ncancel 16", &ops));
+}
+
+#[test]
+fn a_bundle_has_the_limit_of_its_version_or_its_line(rt: HostRuntime) {
+    let rows = [
+        ("kcas 1", 64),
+        ("kcas 2", 256),
+        ("kcas 2\nlimit 1\nthread", 1),
+        ("# two\nkcas 2\n\n# a limit\nlimit 0256\nloc x 1", 256),
+    ];
+    for (text, limit) in rows {
+        assert!(rt;
+            read(&rt, text).is_ok_and(|bundle| bundle.limit == limit),
+            "{text}"
+        );
+    }
+}
+
+#[test]
 fn blanks_and_comments_make_no_difference(rt: HostRuntime) {
     let text = "# demo\r\nkcas\t1\r\n\r\n\tloc x 5\r\nthread\r\nget\tx \r\nset x 0000000007";
     let Ok(bundle) = read(&rt, text) else {
@@ -157,12 +182,25 @@ fn a_fault_has_its_line_and_its_reason(rt: HostRuntime) {
     let rows = [
         ("", 1, Why::Header),
         ("\n# only this\n", 1, Why::Header),
-        ("\n\nkcas 2\nfoo", 3, Why::Header),
+        ("\n\nkcas 3\nfoo", 3, Why::Header),
         ("kcas 1 2", 1, Why::Header),
         ("kcas 1\nfoo", 2, Why::UnknownWord),
         ("kcas 1\n\n# x\nfoo", 4, Why::UnknownWord),
         ("kcas 1\nloc x 1\n\u{ff}", 3, Why::UnknownWord),
         ("kcas 1\nlimit 64", 2, Why::UnknownWord),
+        ("kcas 2\nlimit", 2, Why::MissingWord),
+        ("kcas 2\nlimit 5 6", 2, Why::ExtraWord),
+        ("kcas 2\nlimit 0", 2, Why::BadNumber),
+        ("kcas 2\nlimit 257", 2, Why::BadNumber),
+        ("kcas 2\nloc x 1\nlimit 64", 3, Why::StrayWord),
+        ("kcas 2\nlimit 5\nlimit 6", 3, Why::StrayWord),
+        ("kcas 2\nthread\nlimit 5", 3, Why::StrayWord),
+        ("kcas 1\ncancel 0", 2, Why::StrayWord),
+        ("kcas 1\nthread\ncancel", 3, Why::MissingWord),
+        ("kcas 2\nthread\ncancel 17 1", 3, Why::ExtraWord),
+        ("kcas 1\nthread\ncancel 0", 3, Why::BadNumber),
+        ("kcas 1\nthread\natomic\ncancel 17", 4, Why::BadNumber),
+        ("kcas 1\nloc x 1\nthread\ncancel x", 4, Why::BadNumber),
         ("kcas 1\nget x", 2, Why::StrayWord),
         ("kcas 1\nloc x 1\nget x", 3, Why::StrayWord),
         ("kcas 1\natomic", 2, Why::StrayWord),

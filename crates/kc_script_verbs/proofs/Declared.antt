@@ -1,60 +1,28 @@
 -- Where a declared object lies, and its sizes.
-use Rattle.std.proofs.Common.{◌≡◌, ℕ, ◌≤◌, Bool, true, false, ◌&&◌, cond, List, [], ◌∷◌, Option, Some, None, Result, Ok, leb, refl, subst, arith}
-use Rattle.std.proofs.lemmas.Bool.{leb-true}
+use Rattle.std.proofs.Common.{◌≡◌, ℕ, ◌≤◌, List, [], ◌∷◌, Option, Some, None, Result, Ok, refl, subst, arith}
 use Rattle.kc_script_bundle.specs.Script.{Names, cells, next_from}
 use Rattle.kc_script_bundle.specs.declared.object.Object.{Object}
-use Rattle.kc_script_lines.proofs.Given.{given, bind_ok, wants_ok, ok_is, found_ok, when_some}
-use Rattle.kc_script_lines.proofs.NameText.{both}
-use Rattle.kc_script_lines.specs.Tests.{◌>>=◌, wants, counted, word_at, number_to}
-use Rattle.kc_script_lines.specs.Words.{is_numeral, value_on, number}
+use Rattle.kc_script_lines.proofs.Faults.{positive_value}
+use Rattle.kc_script_lines.proofs.Given.{given, bind_ok, ok_is}
+use Rattle.kc_script_lines.specs.Tests.{◌>>=◌, counted, word_at, number_to, positive_to}
 use Rattle.kc_script_lines.specs.declared.fault.Why.{Why}
-use Rattle.kc_script_lines.specs.declared.fault.Why.TheVariants.{BadNumber}
 use Rattle.kc_script_verbs.specs.declared.word.Kind.{Kind}
 use Rattle.kc_script_verbs.specs.declared.word.Kind.TheVariants as kind
 use Rattle.kc_script_verbs.specs.declared.word.Word.{Word}
 use Rattle.kc_script_verbs.specs.declared.word.Word.TheVariants as word
 use Rattle.kc_script_verbs.proofs.Placing.{few_made}
-use Rattle.kc_script_verbs.specs.Declaring.{fields, size_to, loc_at, stack_at, queue_at, table_at, cache_at, mvar_at, promise_at, acc_at, object_at, declare, declared_by, declared, IsAt, IsPlaced}
+use Rattle.kc_script_verbs.specs.Declaring.{fields, loc_at, stack_at, queue_at, table_at, cache_at, mvar_at, promise_at, acc_at, object_at, declare, declared_by, declared, IsAt, IsPlaced}
 use Rattle.kc_script_verbs.specs.Objects.{new_name}
 use Rattle.kc_script_verbs.specs.Words.{word_of}
-
--- ---- sizes
-
-when_true : {A : Type 0} (b : Bool) (r : Option A) (x : A) → cond b r None ≡ Some x → b ≡ true
-when_true true r x e = refl
-when_true false r x e = absurd cc
-
-some_is : {A : Type 0} (x y : A) (o : Option A) → o ≡ Some x → o ≡ Some y → x ≡ y
-some_is x y o e f = cc
-
--- a number is no greater than its limit
-number_most : (most : ℕ) (w : List ℕ) (n : ℕ) → number most w ≡ Some n → n ≤ most
-unfolding number
-number_most most w n e =
-    let test = when_true (is_numeral w && leb (value_on 0 w) most) (Some (value_on 0 w)) n e in
-    let same : value_on 0 w ≡ n = some_is (value_on 0 w) n (Some (value_on 0 w)) refl (when_some (is_numeral w && leb (value_on 0 w) most) (Some (value_on 0 w)) n e) in
-    omega (arith, leb-true (value_on 0 w) most (both (is_numeral w) (leb (value_on 0 w) most) test).1, same)
-
--- a size is in its range
-pub size_ok : (most : ℕ) (w : List ℕ) (n : ℕ) → size_to most w ≡ Ok n → (1 ≤ n) × (n ≤ most)
-unfolding size_to number_to
-size_ok most w n e =
-    let last = λ (m : ℕ). wants (leb 1 m) BadNumber >>= λ some. given m in
-    let a = bind_ok (number_to most w) last n e in
-    let b = bind_ok (wants (leb 1 a.0) BadNumber) (λ some. given a.0) n a.2 in
-    let same : a.0 ≡ n = ok_is _ _ b.2 in
-    let few = number_most most w a.0 (found_ok (number most w) BadNumber a.0 a.1) in
-    let some = leb-true 1 a.0 (wants_ok (leb 1 a.0) BadNumber b.0 b.1) in
-    (omega (arith, some, same), omega (arith, few, same))
 
 -- ---- an object
 
 -- an object of one size
-one_size : (at most : ℕ) (w : List ℕ) (made : ℕ → Result Object Why) (o : Object) → (size_to most w >>= made) ≡ Ok o → ((n : ℕ) → 1 ≤ n → n ≤ most → made n ≡ Ok o → IsAt at o) → IsAt at o
+one_size : (at most : ℕ) (w : List ℕ) (made : ℕ → Result Object Why) (o : Object) → (positive_to most w >>= made) ≡ Ok o → ((n : ℕ) → 1 ≤ n → n ≤ most → made n ≡ Ok o → IsAt at o) → IsAt at o
 one_size at most w made o e good =
-    let a = bind_ok (size_to most w) made o e in
-    let size = size_ok most w a.0 a.1 in
-    good a.0 size.0 size.1 a.2
+    let a = bind_ok (positive_to most w) made o e in
+    let size = positive_value most w a.0 a.1 in
+    good a.0 size.1 size.2 a.2
 
 loc_placed : (at value : ℕ) (o : Object) → loc_at at value ≡ Ok o → IsAt at o
 unfolding loc_at
@@ -108,8 +76,8 @@ unfolding object_at
 object_is_at at kind.Loc args o e = let a = bind_ok (number_to 4294967295 (word_at args 1)) (loc_at at) o e in loc_placed at a.0 o a.2
 object_is_at at kind.Stack args o e = one_size at 4096 (word_at args 1) (stack_at at) o e (λ n some few f. stack_placed at n o some few f)
 object_is_at at kind.Queue args o e = one_size at 4096 (word_at args 1) (queue_at at) o e (λ n some few f. queue_placed at n o some few f)
-object_is_at at kind.Table args o e = one_size at 1024 (word_at args 1) (λ b. size_to 4096 (word_at args 2) >>= table_at at b) o e (λ b some few f. one_size at 4096 (word_at args 2) (table_at at b) o f (λ n some' few' g. table_placed at b n o (some, few) some' few' g))
-object_is_at at kind.Cache args o e = one_size at 1024 (word_at args 1) (λ b. size_to 4096 (word_at args 2) >>= cache_at at b) o e (λ b some few f. one_size at 4096 (word_at args 2) (cache_at at b) o f (λ n some' few' g. cache_placed at b n o (some, few) some' few' g))
+object_is_at at kind.Table args o e = one_size at 1024 (word_at args 1) (λ b. positive_to 4096 (word_at args 2) >>= table_at at b) o e (λ b some few f. one_size at 4096 (word_at args 2) (table_at at b) o f (λ n some' few' g. table_placed at b n o (some, few) some' few' g))
+object_is_at at kind.Cache args o e = one_size at 1024 (word_at args 1) (λ b. positive_to 4096 (word_at args 2) >>= cache_at at b) o e (λ b some few f. one_size at 4096 (word_at args 2) (cache_at at b) o f (λ n some' few' g. cache_placed at b n o (some, few) some' few' g))
 object_is_at at kind.Mvar args o e = mvar_placed at o e
 object_is_at at kind.Promise args o e = promise_placed at o e
 object_is_at at kind.Acc args o e = one_size at 32 (word_at args 1) (acc_at at) o e (λ n some few f. acc_placed at n o some few f)

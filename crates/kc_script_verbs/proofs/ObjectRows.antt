@@ -1,7 +1,6 @@
 -- A line declares an object exactly where it is read as its declaration.
-use Rattle.std.proofs.Common.{◌≡◌, ℕ, suc, ◌+◌, ◌*◌, ◌≤◌, true, not, leb, List, [], ◌∷◌, length, Option, Some, None, Result, Ok, refl, sym, ap, subst, ◌∙◌, arith}
+use Rattle.std.proofs.Common.{◌≡◌, ℕ, suc, ◌+◌, ◌*◌, ◌≤◌, true, not, List, [], ◌∷◌, length, Option, Some, None, Result, Ok, refl, sym, ap, subst, ◌∙◌, arith}
 use Rattle.std.specs.Prelude.{is_some}
-use Rattle.std.proofs.lemmas.Bool.{le-leb}
 use Rattle.kc_cache.specs.declared.cache.Cache.{Cache}
 use Rattle.kc_cells.specs.declared.accumulator.Accumulator.{Accumulator}
 use Rattle.kc_cells.specs.declared.mvar.Mvar.{Mvar}
@@ -12,10 +11,10 @@ use Rattle.kc_queue.specs.declared.queue.Queue.{Queue}
 use Rattle.kc_script_bundle.specs.declared.object.Object.{Object}
 use Rattle.kc_script_lines.proofs.Faults.{counted_length}
 use Rattle.kc_script_lines.proofs.Given.{given, bind_ok, wants_ok, ok_is}
-use Rattle.kc_script_lines.specs.Tests.{◌>>=◌, wants, counted, word_at, number_to}
+use Rattle.kc_script_lines.specs.Tests.{◌>>=◌, wants, counted, word_at, number_to, positive_to}
 use Rattle.kc_script_lines.specs.Words.{is_name}
 use Rattle.kc_script_lines.specs.declared.fault.Why.{Why}
-use Rattle.kc_script_lines.specs.declared.fault.Why.TheVariants.{BadName, BadNumber, RepeatedName}
+use Rattle.kc_script_lines.specs.declared.fault.Why.TheVariants.{BadName, RepeatedName}
 use Rattle.kc_stack.specs.declared.stack.Stack.{Stack}
 use Rattle.kc_script_bundle.specs.declared.object.Object.TheVariants as object
 use Rattle.kc_script_bundle.specs.Script.{Names}
@@ -25,26 +24,12 @@ use Rattle.kc_script_verbs.specs.declared.word.Word.{Word}
 use Rattle.kc_script_verbs.specs.declared.word.Word.TheVariants as word
 use Rattle.kc_script_verbs.proofs.Declared.{declared_placed}
 use Rattle.kc_script_verbs.proofs.Placing.{few_is, few_made, stack_is, queue_is, mvar_is, promise_is, acc_is, hash_is, cache_is}
-use Rattle.kc_script_verbs.proofs.Rows.{At, at_respells, respells_at, number_is, number_back, counted_back}
+use Rattle.kc_script_verbs.proofs.Rows.{At, at_respells, respells_at, number_is, number_back, positive_is, positive_back, counted_back}
 use Rattle.kc_script_verbs.proofs.Texts.{kind_text, word_has, kind_read}
 use Rattle.kc_script_verbs.specs.Canonical.{Part, declaring, IsNumeral, Respells, Declares}
-use Rattle.kc_script_verbs.specs.Declaring.{fields, size_to, loc_at, stack_at, queue_at, table_at, cache_at, mvar_at, promise_at, acc_at, object_at, next, declare, declared_by, declared, IsAt, IsPlaced}
+use Rattle.kc_script_verbs.specs.Declaring.{fields, loc_at, stack_at, queue_at, table_at, cache_at, mvar_at, promise_at, acc_at, object_at, next, declare, declared_by, declared, IsAt, IsPlaced}
 use Rattle.kc_script_verbs.specs.Objects.{object_of, new_name}
 use Rattle.kc_script_verbs.specs.Words.{word_of}
-
--- ---- sizes
-
-size_is : (most : ℕ) (w : List ℕ) (n : ℕ) → most ≤ 4294967295 → size_to most w ≡ Ok n → IsNumeral n w
-unfolding size_to
-size_is most w n le e =
-    let last = λ (m : ℕ). wants (leb 1 m) BadNumber >>= λ some. given m in
-    let a = bind_ok (number_to most w) last n e in
-    let b = bind_ok (wants (leb 1 a.0) BadNumber) (λ some. given a.0) n a.2 in
-    subst (λ m. IsNumeral m w) (ok_is _ _ b.2) (number_is most w a.0 le a.1)
-
-size_back : (most : ℕ) (w : List ℕ) (n : ℕ) → 1 ≤ n → n ≤ most → IsNumeral n w → size_to most w ≡ Ok n
-unfolding size_to
-size_back most w n some le h = rw (number_back most w n le h, le-leb 1 n some) refl
 
 -- ---- what is read is declared
 
@@ -57,10 +42,10 @@ module _ (names : Names) (at : ℕ) (args : List (List ℕ)) (name : List ℕ) (
   abbrev Is : Kind → Object → Type 0
   Is k x = Row names args name k (declaring name x)
 
-  sized : {A P : Type 0} (most i : ℕ) (f : ℕ → Result A Why) (x : A) → most ≤ 4294967295 → (size_to most (word_at args i) >>= f) ≡ Ok x → ((n : ℕ) → IsNumeral n (word_at args i) → f n ≡ Ok x → P) → P
+  sized : {A P : Type 0} (most i : ℕ) (f : ℕ → Result A Why) (x : A) → most ≤ 4294967295 → (positive_to most (word_at args i) >>= f) ≡ Ok x → ((n : ℕ) → IsNumeral n (word_at args i) → f n ≡ Ok x → P) → P
   sized most i f x le e more =
-      let a = bind_ok (size_to most (word_at args i)) f x e in
-      more a.0 (size_is most (word_at args i) a.0 le a.1) a.2
+      let a = bind_ok (positive_to most (word_at args i)) f x e in
+      more a.0 (positive_is most (word_at args i) a.0 le a.1) a.2
 
   object_row : (k : Kind) → object_at at k args ≡ Ok o → Is k o
   unfolding object_at loc_at stack_at queue_at table_at cache_at mvar_at promise_at acc_at
@@ -70,8 +55,8 @@ module _ (names : Names) (at : ℕ) (args : List (List ℕ)) (name : List ℕ) (
       subst (Is kind.Loc) (ok_is _ _ f.1) (refl, refl, (number_is 4294967295 (word_at args 1) a.0 (omega arith) a.1, tt), refl)
   object_row kind.Stack e = sized 4096 1 (stack_at at) o (omega arith) e (λ n h f. let m = few_made _ _ _ _ o f in subst (Is kind.Stack) (ok_is _ _ m.1) (refl, refl, (h, tt), refl))
   object_row kind.Queue e = sized 4096 1 (queue_at at) o (omega arith) e (λ n h f. let g = few_made _ _ _ _ o f in let m = few_made _ _ _ _ o g.1 in subst (Is kind.Queue) (ok_is _ _ m.1) (refl, refl, (h, tt), refl))
-  object_row kind.Table e = sized 1024 1 (λ b. size_to 4096 (word_at args 2) >>= table_at at b) o (omega arith) e (λ b h f. sized 4096 2 (table_at at b) o (omega arith) f (λ n i g. let x = few_made _ _ _ _ o g in let y = few_made _ _ _ _ o x.1 in let m = few_made _ _ _ _ o y.1 in subst (Is kind.Table) (ok_is _ _ m.1) (refl, refl, (h, (i, tt)), refl)))
-  object_row kind.Cache e = sized 1024 1 (λ b. size_to 4096 (word_at args 2) >>= cache_at at b) o (omega arith) e (λ b h f. sized 4096 2 (cache_at at b) o (omega arith) f (λ n i g. let x = few_made _ _ _ _ o g in let y = few_made _ _ _ _ o x.1 in let m = few_made _ _ _ _ o y.1 in subst (Is kind.Cache) (ok_is _ _ m.1) (refl, refl, (h, (i, tt)), refl)))
+  object_row kind.Table e = sized 1024 1 (λ b. positive_to 4096 (word_at args 2) >>= table_at at b) o (omega arith) e (λ b h f. sized 4096 2 (table_at at b) o (omega arith) f (λ n i g. let x = few_made _ _ _ _ o g in let y = few_made _ _ _ _ o x.1 in let m = few_made _ _ _ _ o y.1 in subst (Is kind.Table) (ok_is _ _ m.1) (refl, refl, (h, (i, tt)), refl)))
+  object_row kind.Cache e = sized 1024 1 (λ b. positive_to 4096 (word_at args 2) >>= cache_at at b) o (omega arith) e (λ b h f. sized 4096 2 (cache_at at b) o (omega arith) f (λ n i g. let x = few_made _ _ _ _ o g in let y = few_made _ _ _ _ o x.1 in let m = few_made _ _ _ _ o y.1 in subst (Is kind.Cache) (ok_is _ _ m.1) (refl, refl, (h, (i, tt)), refl)))
   object_row kind.Mvar e = let m = few_made _ _ _ _ o e in subst (Is kind.Mvar) (ok_is _ _ m.1) (refl, refl, tt, refl)
   object_row kind.Promise e = let m = few_made _ _ _ _ o e in subst (Is kind.Promise) (ok_is _ _ m.1) (refl, refl, tt, refl)
   object_row kind.Acc e = sized 32 1 (acc_at at) o (omega arith) e (λ n h f. let g = few_made _ _ _ _ o f in let m = few_made _ _ _ _ o g.1 in subst (Is kind.Acc) (ok_is _ _ m.1) (refl, refl, (h, tt), refl))
@@ -134,25 +119,25 @@ module _ (names : Names) (args : List (List ℕ)) (at : ℕ) where
   unfolding object_at stack_at
   stack_back s p n =
       let room : at + 1 + s.cap ≤ 65536 = omega (arith, p.1) in
-      rw (size_back 4096 (word_at args 1) s.cap p.2.0 p.2.1 n) (few_is _ _ _ _ room ∙ ap (λ t. given (object.Stack t)) (stack_is s at s.cap room p.0 refl))
+      rw (positive_back 4096 (word_at args 1) s.cap p.2.0 p.2.1 n) (few_is _ _ _ _ room ∙ ap (λ t. given (object.Stack t)) (stack_is s at s.cap room p.0 refl))
 
   queue_back : (q : Queue) → IsAt at (object.Queue q) → IsNumeral q.cap (word_at args 1) → object_at at kind.Queue args ≡ Ok (object.Queue q)
   unfolding object_at queue_at
   queue_back q p n =
       let room : at + 2 + q.cap ≤ 65536 = omega (arith, p.1) in
-      rw (size_back 4096 (word_at args 1) q.cap p.2.0 p.2.1 n) (few_is _ _ _ _ p.2.0 ∙ few_is _ _ _ _ room ∙ ap (λ t. given (object.Queue t)) (queue_is q at q.cap p.2.0 room p.0 refl))
+      rw (positive_back 4096 (word_at args 1) q.cap p.2.0 p.2.1 n) (few_is _ _ _ _ p.2.0 ∙ few_is _ _ _ _ room ∙ ap (λ t. given (object.Queue t)) (queue_is q at q.cap p.2.0 room p.0 refl))
 
   table_back : (h : Hash) → IsAt at (object.Hash h) → IsNumeral h.buckets (word_at args 1) → IsNumeral h.cap (word_at args 2) → object_at at kind.Table args ≡ Ok (object.Hash h)
   unfolding object_at table_at
   table_back h p b n =
       let room : at + 2 + h.buckets + 3 * h.cap ≤ 65536 = omega (arith, p.1) in
-      rw (size_back 1024 (word_at args 1) h.buckets p.2.0 p.2.1 b, size_back 4096 (word_at args 2) h.cap p.2.2 p.2.3 n) (few_is _ _ _ _ p.2.0 ∙ few_is _ _ _ _ p.2.2 ∙ few_is _ _ _ _ room ∙ ap (λ t. given (object.Hash t)) (hash_is h at h.buckets h.cap p.2.0 p.2.2 room p.0 refl refl))
+      rw (positive_back 1024 (word_at args 1) h.buckets p.2.0 p.2.1 b, positive_back 4096 (word_at args 2) h.cap p.2.2 p.2.3 n) (few_is _ _ _ _ p.2.0 ∙ few_is _ _ _ _ p.2.2 ∙ few_is _ _ _ _ room ∙ ap (λ t. given (object.Hash t)) (hash_is h at h.buckets h.cap p.2.0 p.2.2 room p.0 refl refl))
 
   cache_back : (c : Cache) → IsAt at (object.Cache c) → IsNumeral c.buckets (word_at args 1) → IsNumeral c.cap (word_at args 2) → object_at at kind.Cache args ≡ Ok (object.Cache c)
   unfolding object_at cache_at
   cache_back c p b n =
       let room : at + 6 + c.buckets + 7 * c.cap ≤ 65536 = omega (arith, p.1) in
-      rw (size_back 1024 (word_at args 1) c.buckets p.2.0 p.2.1 b, size_back 4096 (word_at args 2) c.cap p.2.2 p.2.3 n) (few_is _ _ _ _ p.2.0 ∙ few_is _ _ _ _ p.2.2 ∙ few_is _ _ _ _ room ∙ ap (λ t. given (object.Cache t)) (cache_is c at c.buckets c.cap p.2.0 p.2.2 room p.0 refl refl))
+      rw (positive_back 1024 (word_at args 1) c.buckets p.2.0 p.2.1 b, positive_back 4096 (word_at args 2) c.cap p.2.2 p.2.3 n) (few_is _ _ _ _ p.2.0 ∙ few_is _ _ _ _ p.2.2 ∙ few_is _ _ _ _ room ∙ ap (λ t. given (object.Cache t)) (cache_is c at c.buckets c.cap p.2.0 p.2.2 room p.0 refl refl))
 
   mvar_back : (x : Mvar) → IsAt at (object.Mvar x) → object_at at kind.Mvar args ≡ Ok (object.Mvar x)
   unfolding object_at mvar_at
@@ -164,7 +149,7 @@ module _ (names : Names) (args : List (List ℕ)) (at : ℕ) where
 
   acc_back : (a : Accumulator) → IsAt at (object.Acc a) → IsNumeral a.cells (word_at args 1) → object_at at kind.Acc args ≡ Ok (object.Acc a)
   unfolding object_at acc_at
-  acc_back a p n = rw (size_back 32 (word_at args 1) a.cells p.2.0 p.2.1 n) (few_is _ _ _ _ p.2.0 ∙ few_is _ _ _ _ p.1 ∙ ap (λ t. given (object.Acc t)) (acc_is a at a.cells p.2.0 p.1 p.0 refl))
+  acc_back a p n = rw (positive_back 32 (word_at args 1) a.cells p.2.0 p.2.1 n) (few_is _ _ _ _ p.2.0 ∙ few_is _ _ _ _ p.1 ∙ ap (λ t. given (object.Acc t)) (acc_is a at a.cells p.2.0 p.1 p.0 refl))
 
 module _ (names : Names) (line : List (List ℕ)) (name : List ℕ) (good : is_name name ≡ true) (new : object_of names name ≡ None) where
   back : (k : Kind) (rest : List Part) (o : Object) → Respells names (Part.text (kind_text k) ∷ Part.text name ∷ rest) line → suc (length rest) ≡ fields k → ((args : List (List ℕ)) → At names args 1 rest → object_at (next names) k args ≡ Ok o) → declared names line ≡ Ok (name, o)

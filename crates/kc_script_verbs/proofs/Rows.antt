@@ -7,12 +7,12 @@ use Rattle.std.proofs.lemmas.Bool.Decides.{nat_tests}
 use Rattle.std.proofs.lemmas.Slice.Eq.{bytes_eq-Decides}
 use Rattle.kc_loc.specs.declared.operation.LocOp.{LocOp}
 use Rattle.kc_model.specs.declared.footprint.Loc.{Loc}
-use Rattle.kc_script_lines.proofs.Faults.{counted_length, number_value}
+use Rattle.kc_script_lines.proofs.Faults.{counted_length, number_value, positive_value}
 use Rattle.kc_script_lines.proofs.Given.{given, bind_ok, ok_is, found_ok}
-use Rattle.kc_script_lines.specs.Tests.{◌>>=◌, counted, word_at, number_to}
+use Rattle.kc_script_lines.specs.Tests.{◌>>=◌, wants, counted, word_at, number_to, positive_to}
 use Rattle.kc_script_lines.specs.Words.{is_name, value_on, number}
 use Rattle.kc_script_lines.specs.declared.fault.Why.{Why}
-use Rattle.kc_script_lines.specs.declared.fault.Why.TheVariants.{UnknownName, MissingWord, ExtraWord}
+use Rattle.kc_script_lines.specs.declared.fault.Why.TheVariants.{BadNumber, UnknownName, MissingWord, ExtraWord}
 use Rattle.kc_loc.specs.declared.operation.LocOp.TheVariants as loc
 use Rattle.kc_loc.specs.declared.kinds.Fun.{Fun}
 use Rattle.kc_loc.specs.declared.kinds.Fun.TheVariants as fun
@@ -39,6 +39,8 @@ use Rattle.kc_cells.specs.declared.promise.PromiseAct.TheVariants as promise
 use Rattle.kc_cells.specs.declared.accumulator.AccAct.{AccAct}
 use Rattle.kc_cells.specs.declared.accumulator.Accumulator.{Accumulator}
 use Rattle.kc_cells.specs.declared.accumulator.AccAct.TheVariants as acc
+use Rattle.kc_script_bundle.specs.declared.bundle.TheConstants.{MOST_THREADS}
+use Rattle.kc_script_bundle.specs.declared.cancel.Cancel.{Cancel}
 use Rattle.kc_script_bundle.specs.declared.object.Object.{Object}
 use Rattle.kc_script_bundle.specs.declared.object.Object.TheVariants as object
 use Rattle.kc_script_bundle.specs.declared.operation.Op.{Op}
@@ -62,17 +64,20 @@ use Rattle.kc_script_verbs.specs.declared.verb.AccWord.{AccWord}
 use Rattle.kc_script_verbs.specs.declared.verb.AccWord.TheVariants as acc_verb
 use Rattle.kc_script_verbs.specs.declared.named.FunWord.{FunWord}
 use Rattle.kc_script_verbs.specs.declared.named.FunWord.TheVariants as named
+use Rattle.kc_script_verbs.specs.declared.verb.ObjectVerb.{ObjectVerb}
+use Rattle.kc_script_verbs.specs.declared.verb.ObjectVerb.TheVariants as object_verb
 use Rattle.kc_script_verbs.specs.declared.verb.Verb.{Verb}
 use Rattle.kc_script_verbs.specs.declared.verb.Verb.TheVariants as verb
 use Rattle.kc_script_verbs.specs.declared.word.Word.{Word}
 use Rattle.kc_script_verbs.specs.declared.word.Word.TheVariants as word
-use Rattle.kc_script_bundle.specs.On.{IsOn}
+use Rattle.kc_script_bundle.specs.On.{CancelIsOn, IsOn}
 use Rattle.kc_script_verbs.proofs.Said.{said_on, stack_is, queue_is, table_is, cache_is, mvar_is, promise_is, acc_is}
-use Rattle.kc_script_verbs.proofs.Texts.{verb_text, word_has, verb_read}
-use Rattle.kc_script_verbs.specs.Canonical.{Part, fun_words, rel_word, loc_words, stack_words, queue_words, table_words, cache_words, mvar_words, promise_words, acc_words, words_of, IsNamed, IsNumeral, Stands, Respells, AddsIn, IsByThread, Says}
+use Rattle.kc_script_verbs.proofs.Texts.{object_verb_text, verb_text, word_has, verb_read}
+use Rattle.kc_script_verbs.specs.Canonical.{Part, fun_words, rel_word, loc_words, stack_words, queue_words, table_words, cache_words, mvar_words, promise_words, acc_words, cancel_words, words_of, IsNamed, IsNumeral, Stands, Respells, AddsIn, IsByThread, Says}
 use Rattle.kc_script_verbs.specs.Objects.{object_of, used, as_loc, as_stack, as_queue, as_table, as_cache, as_mvar, as_promise, as_acc}
-use Rattle.kc_script_verbs.specs.Saying.{arity, value_at, fun_named, fun_of, fun_at, rel_named, loc_named, loc_op, stack_act, queue_act, table_act, cache_act, mvar_act, promise_act, acc_act, length_of, op_on, say, said_by, said}
+use Rattle.kc_script_verbs.specs.Saying.{object_arity, arity, value_at, fun_named, fun_of, fun_at, rel_named, loc_named, loc_op, stack_act, queue_act, table_act, cache_act, mvar_act, promise_act, acc_act, length_of, op_on, op_of, say, said_by, said}
 use Rattle.kc_script_verbs.specs.Words.{word_of}
+use Rattle.kc_script_verbs.specs.declared.saying.TheConstants.{LIVE}
 
 -- ---- words by their places
 
@@ -115,6 +120,18 @@ unfolding number_to number
 number_back most word n le h =
     let small : leb (value_on 0 word) most ≡ true = le-leb (value_on 0 word) most (omega (arith, le, h.1)) in
     rw (h.0, small, h.1) refl
+
+pub positive_is : (most : ℕ) (word : List ℕ) (n : ℕ) → most ≤ 4294967295 → positive_to most word ≡ Ok n → IsNumeral n word
+unfolding positive_to
+positive_is most word n le e =
+    let last = λ (m : ℕ). wants (leb 1 m) BadNumber >>= λ some. given m in
+    let a = bind_ok (number_to most word) last n e in
+    let b = bind_ok (wants (leb 1 a.0) BadNumber) (λ some. given a.0) n a.2 in
+    subst (λ m. IsNumeral m word) (ok_is _ _ b.2) (number_is most word a.0 le a.1)
+
+pub positive_back : (most : ℕ) (word : List ℕ) (n : ℕ) → 1 ≤ n → n ≤ most → IsNumeral n word → positive_to most word ≡ Ok n
+unfolding positive_to
+positive_back most word n some le h = rw (number_back most word n le h, le-leb 1 n some) refl
 
 value_is : (args : List (List ℕ)) (i n : ℕ) → value_at args i ≡ Ok n → IsNumeral n (word_at args i)
 unfolding value_at
@@ -248,11 +265,11 @@ fun_back names args f h =
 -- ---- what is read is said
 
 -- what stands in an operation's row: the text of the word, its object's name, and the words behind it, as many as are wanted
-abbrev Row : Names → List (List ℕ) → Verb → Part → List Part → Type 0
-Row names args v on (Part.text t ∷ name ∷ rest) = (verb_text v ≡ t) × (name ≡ on) × At names args 1 rest × (suc (length rest) ≡ arity v)
+abbrev Row : Names → List (List ℕ) → ObjectVerb → Part → List Part → Type 0
+Row names args v on (Part.text t ∷ name ∷ rest) = (object_verb_text v ≡ t) × (name ≡ on) × At names args 1 rest × (suc (length rest) ≡ object_arity v)
 Row names args v on _ = ⊥
 
-row_respells : (names : Names) (v : Verb) (on : Part) (first : List ℕ) (args : List (List ℕ)) (parts : List Part) → Row names args v on parts → first ≡ verb_text v → Stands names on (word_at args 0) → length args ≡ arity v → Respells names parts (first ∷ args)
+row_respells : (names : Names) (v : ObjectVerb) (on : Part) (first : List ℕ) (args : List (List ℕ)) (parts : List Part) → Row names args v on parts → first ≡ object_verb_text v → Stands names on (word_at args 0) → length args ≡ object_arity v → Respells names parts (first ∷ args)
 row_respells names v on first args [] row e h count = absurd row
 row_respells names v on first args (Part.text t ∷ []) row e h count = absurd row
 row_respells names v on first args (Part.object_name o ∷ parts) row e h count = absurd row
@@ -279,7 +296,7 @@ module _ {A : Type 0} (args : List (List ℕ)) (P : A → Type 0) (a : A) where
 
 module _ (names : Names) (args : List (List ℕ)) where
   abbrev LocRow : LocWord → Loc → LocOp → Type 0
-  LocRow w x o = Row names args (verb.OnLoc w) (Part.place_name x) (loc_words o)
+  LocRow w x o = Row names args (object_verb.OnLoc w) (Part.place_name x) (loc_words o)
 
   loc_row : (w : LocWord) (x : Loc) (o : LocOp) → loc_op names w x args ≡ Ok o → LocRow w x o
   unfolding loc_op
@@ -308,7 +325,7 @@ module _ (names : Names) (args : List (List ℕ)) where
       subst (LocRow loc_verb.Check x) (ok_is _ _ v.2) (refl, refl, (rel_has (word_at args 1) r.0 r.1, (value_is args 2 v.0 v.1, tt)), refl)
 
   abbrev StackRow : StackWord → Stack → StackAct → Type 0
-  StackRow w s a = Row names args (verb.OnStack w) (Part.object_name (object.Stack s)) (stack_words s a)
+  StackRow w s a = Row names args (object_verb.OnStack w) (Part.object_name (object.Stack s)) (stack_words s a)
 
   stack_row : (w : StackWord) (s : Stack) (a : StackAct) → stack_act w args ≡ Ok a → StackRow w s a
   unfolding stack_act
@@ -318,7 +335,7 @@ module _ (names : Names) (args : List (List ℕ)) where
   stack_row stack_verb.Top s a e = of_none args (StackRow stack_verb.Top s) a _ e (refl, refl, tt, refl)
 
   abbrev QueueRow : QueueWord → Queue → QueueAct → Type 0
-  QueueRow w q a = Row names args (verb.OnQueue w) (Part.object_name (object.Queue q)) (queue_words q a)
+  QueueRow w q a = Row names args (object_verb.OnQueue w) (Part.object_name (object.Queue q)) (queue_words q a)
 
   queue_row : (w : QueueWord) (q : Queue) (a : QueueAct) → queue_act w args ≡ Ok a → QueueRow w q a
   unfolding queue_act
@@ -328,7 +345,7 @@ module _ (names : Names) (args : List (List ℕ)) where
   queue_row queue_verb.Front q a e = of_none args (QueueRow queue_verb.Front q) a _ e (refl, refl, tt, refl)
 
   abbrev TableRow : TableWord → Hash → HashAct → Type 0
-  TableRow w h a = Row names args (verb.OnTable w) (Part.object_name (object.Hash h)) (table_words h a)
+  TableRow w h a = Row names args (object_verb.OnTable w) (Part.object_name (object.Hash h)) (table_words h a)
 
   table_row : (w : TableWord) (h : Hash) (a : HashAct) → table_act w args ≡ Ok a → TableRow w h a
   unfolding table_act
@@ -337,7 +354,7 @@ module _ (names : Names) (args : List (List ℕ)) where
   table_row table_verb.Del h a e = of_one args (TableRow table_verb.Del h) a (λ k. table.Del k) e (λ k n. (refl, refl, (n, tt), refl))
 
   abbrev CacheRow : CacheWord → Cache → CacheAct → Type 0
-  CacheRow w c a = Row names args (verb.OnCache w) (Part.object_name (object.Cache c)) (cache_words c a)
+  CacheRow w c a = Row names args (object_verb.OnCache w) (Part.object_name (object.Cache c)) (cache_words c a)
 
   cache_row : (w : CacheWord) (c : Cache) (a : CacheAct) → cache_act w args ≡ Ok a → CacheRow w c a
   unfolding cache_act
@@ -347,7 +364,7 @@ module _ (names : Names) (args : List (List ℕ)) where
   cache_row cache_verb.CDel c a e = of_one args (CacheRow cache_verb.CDel c) a (λ k. cache.CDel k) e (λ k n. (refl, refl, (n, tt), refl))
 
   abbrev MvarRow : MvarWord → Mvar → MvarAct → Type 0
-  MvarRow w x a = Row names args (verb.OnMvar w) (Part.object_name (object.Mvar x)) (mvar_words x a)
+  MvarRow w x a = Row names args (object_verb.OnMvar w) (Part.object_name (object.Mvar x)) (mvar_words x a)
 
   mvar_row : (w : MvarWord) (x : Mvar) (a : MvarAct) → mvar_act w args ≡ Ok a → MvarRow w x a
   unfolding mvar_act
@@ -356,7 +373,7 @@ module _ (names : Names) (args : List (List ℕ)) where
   mvar_row mvar_verb.Peek x a e = of_none args (MvarRow mvar_verb.Peek x) a _ e (refl, refl, tt, refl)
 
   abbrev PromiseRow : PromiseWord → Promise → PromiseAct → Type 0
-  PromiseRow w p a = Row names args (verb.OnPromise w) (Part.object_name (object.Promise p)) (promise_words p a)
+  PromiseRow w p a = Row names args (object_verb.OnPromise w) (Part.object_name (object.Promise p)) (promise_words p a)
 
   promise_row : (w : PromiseWord) (p : Promise) (a : PromiseAct) → promise_act w args ≡ Ok a → PromiseRow w p a
   unfolding promise_act
@@ -365,7 +382,7 @@ module _ (names : Names) (args : List (List ℕ)) where
   promise_row promise_verb.IsResolved p a e = of_none args (PromiseRow promise_verb.IsResolved p) a _ e (refl, refl, tt, refl)
 
   abbrev AccRow : ℕ → AccWord → Accumulator → AccAct → Type 0
-  AccRow thread w x a = Row names args (verb.OnAcc w) (Part.object_name (object.Acc x)) (acc_words x a) × AddsIn thread a
+  AccRow thread w x a = Row names args (object_verb.OnAcc w) (Part.object_name (object.Acc x)) (acc_words x a) × AddsIn thread a
 
   acc_row : (thread : ℕ) (w : AccWord) (x : Accumulator) (a : AccAct) → acc_act thread w args ≡ Ok a → AccRow thread w x a
   unfolding acc_act
@@ -373,54 +390,63 @@ module _ (names : Names) (args : List (List ℕ)) where
   acc_row thread acc_verb.Total x a e = of_none args (AccRow thread acc_verb.Total x) a _ e ((refl, refl, tt, refl), tt)
 
   -- the row of what is done to an object, and the object's name
-  record Said (thread : ℕ) (v : Verb) (o : Op) : Type 0 where
+  record Said (thread : ℕ) (v : ObjectVerb) (o : Op) : Type 0 where
     on : Part
     row : Row names args v on (words_of o)
     named : Stands names on (word_at args 0)
     by : IsByThread thread o
 
-  length_said : (thread : ℕ) (x : Object) (o : Op) → length_of x ≡ Ok o → IsNamed names (word_at args 0) x → Said thread verb.Len o
+  length_said : (thread : ℕ) (x : Object) (o : Op) → length_of x ≡ Ok o → IsNamed names (word_at args 0) x → Said thread object_verb.Len o
   length_said thread (object.Loc at opens) o e h = absurd cc
-  length_said thread (object.Stack s) o e h = subst (Said thread verb.Len) (ok_is _ _ e) (record { on = Part.object_name (object.Stack s); row = (refl, refl, tt, refl); named = h; by = tt })
-  length_said thread (object.Queue q) o e h = subst (Said thread verb.Len) (ok_is _ _ e) (record { on = Part.object_name (object.Queue q); row = (refl, refl, tt, refl); named = h; by = tt })
+  length_said thread (object.Stack s) o e h = subst (Said thread object_verb.Len) (ok_is _ _ e) (record { on = Part.object_name (object.Stack s); row = (refl, refl, tt, refl); named = h; by = tt })
+  length_said thread (object.Queue q) o e h = subst (Said thread object_verb.Len) (ok_is _ _ e) (record { on = Part.object_name (object.Queue q); row = (refl, refl, tt, refl); named = h; by = tt })
   length_said thread (object.Mvar x) o e h = absurd cc
   length_said thread (object.Promise p) o e h = absurd cc
   length_said thread (object.Acc a) o e h = absurd cc
-  length_said thread (object.Hash x) o e h = subst (Said thread verb.Len) (ok_is _ _ e) (record { on = Part.object_name (object.Hash x); row = (refl, refl, tt, refl); named = h; by = tt })
-  length_said thread (object.Cache c) o e h = subst (Said thread verb.Len) (ok_is _ _ e) (record { on = Part.object_name (object.Cache c); row = (refl, refl, tt, refl); named = h; by = tt })
+  length_said thread (object.Hash x) o e h = subst (Said thread object_verb.Len) (ok_is _ _ e) (record { on = Part.object_name (object.Hash x); row = (refl, refl, tt, refl); named = h; by = tt })
+  length_said thread (object.Cache c) o e h = subst (Said thread object_verb.Len) (ok_is _ _ e) (record { on = Part.object_name (object.Cache c); row = (refl, refl, tt, refl); named = h; by = tt })
 
   -- on an object of a kind
-  kind_said : {K A : Type 0} (thread : ℕ) (v : Verb) (x : Object) (kinded : Result K Why) (act : Result A Why) (made : K → A → Op) (kind : K → Object) (o : Op) → (kinded >>= λ k. act >>= λ a. given (made k a)) ≡ Ok o → ((k : K) → kinded ≡ Ok k → kind k ≡ x) → IsNamed names (word_at args 0) x → ((k : K) (a : A) → act ≡ Ok a → Row names args v (Part.object_name (kind k)) (words_of (made k a)) × IsByThread thread (made k a)) → Said thread v o
+  kind_said : {K A : Type 0} (thread : ℕ) (v : ObjectVerb) (x : Object) (kinded : Result K Why) (act : Result A Why) (made : K → A → Op) (kind : K → Object) (o : Op) → (kinded >>= λ k. act >>= λ a. given (made k a)) ≡ Ok o → ((k : K) → kinded ≡ Ok k → kind k ≡ x) → IsNamed names (word_at args 0) x → ((k : K) (a : A) → act ≡ Ok a → Row names args v (Part.object_name (kind k)) (words_of (made k a)) × IsByThread thread (made k a)) → Said thread v o
   kind_said thread v x kinded act made kind o e is h rows =
       let k = bind_ok kinded (λ k. act >>= λ a. given (made k a)) o e in
       let a = bind_ok act (λ a. given (made k.0 a)) o k.2 in
       let r = rows k.0 a.0 a.1 in
       subst (Said thread v) (ok_is _ _ a.2) (record { on = Part.object_name (kind k.0); row = r.0; named = subst (IsNamed names (word_at args 0)) (sym (is k.0 k.1)) h; by = r.1 })
 
-  on_said : (thread : ℕ) (v : Verb) (x : Object) (o : Op) → op_on thread names v x args ≡ Ok o → IsNamed names (word_at args 0) x → Said thread v o
+  on_said : (thread : ℕ) (v : ObjectVerb) (x : Object) (o : Op) → op_on thread names v x args ≡ Ok o → IsNamed names (word_at args 0) x → Said thread v o
   unfolding op_on
-  on_said thread (verb.OnLoc w) x o e h =
+  on_said thread (object_verb.OnLoc w) x o e h =
       let l = bind_ok (as_loc x) (λ at. loc_op names w at args >>= λ y. given (op.Loc y)) o e in
       let y = bind_ok (loc_op names w l.0 args) (λ y. given (op.Loc y)) o l.2 in
-      subst (Said thread (verb.OnLoc w)) (ok_is _ _ y.2) (record { on = Part.place_name l.0; row = loc_row w l.0 y.0 y.1; named = place_is names (word_at args 0) x l.0 l.1 h; by = tt })
-  on_said thread (verb.OnStack w) x o e h = kind_said thread (verb.OnStack w) x (as_stack x) (stack_act w args) (λ k a. op.Stack (record { stack = k; act = a })) (λ k. object.Stack k) o e (stack_is x) h (λ k a f. (stack_row w k a f, tt))
-  on_said thread (verb.OnQueue w) x o e h = kind_said thread (verb.OnQueue w) x (as_queue x) (queue_act w args) (λ k a. op.Queue (record { queue = k; act = a })) (λ k. object.Queue k) o e (queue_is x) h (λ k a f. (queue_row w k a f, tt))
-  on_said thread (verb.OnTable w) x o e h = kind_said thread (verb.OnTable w) x (as_table x) (table_act w args) (λ k a. op.Hash (record { hash = k; act = a })) (λ k. object.Hash k) o e (table_is x) h (λ k a f. (table_row w k a f, tt))
-  on_said thread (verb.OnCache w) x o e h = kind_said thread (verb.OnCache w) x (as_cache x) (cache_act w args) (λ k a. op.Cache (record { cache = k; act = a })) (λ k. object.Cache k) o e (cache_is x) h (λ k a f. (cache_row w k a f, tt))
-  on_said thread (verb.OnMvar w) x o e h = kind_said thread (verb.OnMvar w) x (as_mvar x) (mvar_act w args) (λ k a. op.Mvar (record { mvar = k; act = a })) (λ k. object.Mvar k) o e (mvar_is x) h (λ k a f. (mvar_row w k a f, tt))
-  on_said thread (verb.OnPromise w) x o e h = kind_said thread (verb.OnPromise w) x (as_promise x) (promise_act w args) (λ k a. op.Promise (record { promise = k; act = a })) (λ k. object.Promise k) o e (promise_is x) h (λ k a f. (promise_row w k a f, tt))
-  on_said thread (verb.OnAcc w) x o e h = kind_said thread (verb.OnAcc w) x (as_acc x) (acc_act thread w args) (λ k a. op.Acc (record { acc = k; act = a })) (λ k. object.Acc k) o e (acc_is x) h (λ k a f. acc_row thread w k a f)
-  on_said thread verb.Len x o e h = length_said thread x o e h
+      subst (Said thread (object_verb.OnLoc w)) (ok_is _ _ y.2) (record { on = Part.place_name l.0; row = loc_row w l.0 y.0 y.1; named = place_is names (word_at args 0) x l.0 l.1 h; by = tt })
+  on_said thread (object_verb.OnStack w) x o e h = kind_said thread (object_verb.OnStack w) x (as_stack x) (stack_act w args) (λ k a. op.Stack (record { stack = k; act = a })) (λ k. object.Stack k) o e (stack_is x) h (λ k a f. (stack_row w k a f, tt))
+  on_said thread (object_verb.OnQueue w) x o e h = kind_said thread (object_verb.OnQueue w) x (as_queue x) (queue_act w args) (λ k a. op.Queue (record { queue = k; act = a })) (λ k. object.Queue k) o e (queue_is x) h (λ k a f. (queue_row w k a f, tt))
+  on_said thread (object_verb.OnTable w) x o e h = kind_said thread (object_verb.OnTable w) x (as_table x) (table_act w args) (λ k a. op.Hash (record { hash = k; act = a })) (λ k. object.Hash k) o e (table_is x) h (λ k a f. (table_row w k a f, tt))
+  on_said thread (object_verb.OnCache w) x o e h = kind_said thread (object_verb.OnCache w) x (as_cache x) (cache_act w args) (λ k a. op.Cache (record { cache = k; act = a })) (λ k. object.Cache k) o e (cache_is x) h (λ k a f. (cache_row w k a f, tt))
+  on_said thread (object_verb.OnMvar w) x o e h = kind_said thread (object_verb.OnMvar w) x (as_mvar x) (mvar_act w args) (λ k a. op.Mvar (record { mvar = k; act = a })) (λ k. object.Mvar k) o e (mvar_is x) h (λ k a f. (mvar_row w k a f, tt))
+  on_said thread (object_verb.OnPromise w) x o e h = kind_said thread (object_verb.OnPromise w) x (as_promise x) (promise_act w args) (λ k a. op.Promise (record { promise = k; act = a })) (λ k. object.Promise k) o e (promise_is x) h (λ k a f. (promise_row w k a f, tt))
+  on_said thread (object_verb.OnAcc w) x o e h = kind_said thread (object_verb.OnAcc w) x (as_acc x) (acc_act thread w args) (λ k a. op.Acc (record { acc = k; act = a })) (λ k. object.Acc k) o e (acc_is x) h (λ k a f. acc_row thread w k a f)
+  on_said thread object_verb.Len x o e h = length_said thread x o e h
 
 -- what is read of a command is said by its line
+op_says : (thread : ℕ) (names : Names) (v : Verb) (first : List ℕ) (args : List (List ℕ)) (o : Op) → first ≡ verb_text v → length args ≡ arity v → op_of thread names v args ≡ Ok o → Says thread names (first ∷ args) o
+op_says thread names (verb.On v) first args o f count e =
+    let a = bind_ok (used names (word_at args 0)) (λ (x : Object). op_on thread names v x args) o e in
+    let s = on_said names args thread v a.0 o a.2 (used_is names (word_at args 0) a.0 a.1) in
+    (row_respells names v s.on first args (words_of o) s.row f s.named count, s.by)
+op_says thread names verb.Cancel first args o f count e =
+    let word = word_at args 0 in
+    let a = bind_ok (positive_to MOST_THREADS word) (λ n. given (op.Cancel (record { live = LIVE; thread = n }))) o e in
+    let v = positive_value MOST_THREADS word a.0 a.1 in
+    let n = positive_is MOST_THREADS word a.0 (omega arith) a.1 in
+    subst (Says thread names (first ∷ args)) (ok_is _ _ a.2) ((f, at_respells names (Part.numeral a.0 ∷ []) args count (n, tt)), (refl, (v.1, v.2)))
+
 say_says : (thread : ℕ) (names : Names) (v : Verb) (first : List ℕ) (args : List (List ℕ)) (o : Op) → first ≡ verb_text v → say thread names v args ≡ Ok o → Says thread names (first ∷ args) o
 unfolding say
 say_says thread names v first args o f e =
-    let last = λ (x : Object). op_on thread names v x args in
-    let a = bind_ok (counted (arity v) args) (λ all. used names (word_at args 0) >>= last) o e in
-    let b = bind_ok (used names (word_at args 0)) last o a.2 in
-    let s = on_said names args thread v b.0 o b.2 (used_is names (word_at args 0) b.0 b.1) in
-    (row_respells names v s.on first args (words_of o) s.row f s.named (counted_length (arity v) args a.0 a.1), s.by)
+    let a = bind_ok (counted (arity v) args) (λ all. op_of thread names v args) o e in
+    op_says thread names v first args o f (counted_length (arity v) args a.0 a.1) a.2
 
 pub said_says : (thread : ℕ) (names : Names) (line : List (List ℕ)) (o : Op) → said thread names line ≡ Ok o → Says thread names line o
 said_says thread names [] o e = absurd cc
@@ -443,27 +469,27 @@ counted_back count args e = by (length args) e where
 
 module _ (thread : ℕ) (names : Names) (line : List (List ℕ)) where
   -- the words of a command, from its word on
-  abbrev Line : Verb → Part → List Part → Type 0
-  Line v on rest = Respells names (Part.text (verb_text v) ∷ on ∷ rest) line
+  abbrev Line : ObjectVerb → Part → List Part → Type 0
+  Line v on rest = Respells names (Part.text (object_verb_text v) ∷ on ∷ rest) line
 
-  back_on : (v : Verb) (on : Part) (rest : List Part) (o : Op) → Line v on rest → suc (length rest) ≡ arity v → ((args : List (List ℕ)) → Stands names on (word_at args 0) → At names args 1 rest → (used names (word_at args 0) >>= λ x. op_on thread names v x args) ≡ Ok o) → said thread names line ≡ Ok o
+  back_on : (v : ObjectVerb) (on : Part) (rest : List Part) (o : Op) → Line v on rest → suc (length rest) ≡ object_arity v → ((args : List (List ℕ)) → Stands names on (word_at args 0) → At names args 1 rest → (used names (word_at args 0) >>= λ x. op_on thread names v x args) ≡ Ok o) → said thread names line ≡ Ok o
   unfolding say
   back_on v on rest o h count act = by line h where
-    by : (line : List (List ℕ)) → Respells names (Part.text (verb_text v) ∷ on ∷ rest) line → said thread names line ≡ Ok o
+    by : (line : List (List ℕ)) → Respells names (Part.text (object_verb_text v) ∷ on ∷ rest) line → said thread names line ≡ Ok o
     by [] h = absurd h
     by (first ∷ args) h =
         let r = respells_at names (on ∷ rest) args h.1 in
-        let word : word_of first ≡ Some (word.Say v) = ap word_of h.0 ∙ verb_read v in
-        rw (word, counted_back (arity v) args (r.0 ∙ count)) (act args r.1.0 r.1.1)
+        let word : word_of first ≡ Some (word.Say (verb.On v)) = ap word_of h.0 ∙ verb_read (verb.On v) in
+        rw (word, counted_back (object_arity v) args (r.0 ∙ count)) (act args r.1.0 r.1.1)
 
   -- on an object
-  back : (v : Verb) (x : Object) (rest : List Part) (o : Op) → Line v (Part.object_name x) rest → suc (length rest) ≡ arity v → ((args : List (List ℕ)) → At names args 1 rest → op_on thread names v x args ≡ Ok o) → said thread names line ≡ Ok o
+  back : (v : ObjectVerb) (x : Object) (rest : List Part) (o : Op) → Line v (Part.object_name x) rest → suc (length rest) ≡ object_arity v → ((args : List (List ℕ)) → At names args 1 rest → op_on thread names v x args ≡ Ok o) → said thread names line ≡ Ok o
   back v x rest o h count act = back_on v (Part.object_name x) rest o h count (λ args n r. rw (used_back names (word_at args 0) x n) (act args r))
 
   -- on a location
-  loc_back : (w : LocWord) (x : Loc) (rest : List Part) (o : LocOp) → Line (verb.OnLoc w) (Part.place_name x) rest → suc (length rest) ≡ arity (verb.OnLoc w) → ((args : List (List ℕ)) → At names args 1 rest → loc_op names w x args ≡ Ok o) → said thread names line ≡ Ok (op.Loc o)
+  loc_back : (w : LocWord) (x : Loc) (rest : List Part) (o : LocOp) → Line (object_verb.OnLoc w) (Part.place_name x) rest → suc (length rest) ≡ object_arity (object_verb.OnLoc w) → ((args : List (List ℕ)) → At names args 1 rest → loc_op names w x args ≡ Ok o) → said thread names line ≡ Ok (op.Loc o)
   unfolding op_on
-  loc_back w x rest o h count act = back_on (verb.OnLoc w) (Part.place_name x) rest (op.Loc o) h count (λ args n r. rw (used_back names (word_at args 0) (object.Loc x n.0) n.1, act args r) refl)
+  loc_back w x rest o h count act = back_on (object_verb.OnLoc w) (Part.place_name x) rest (op.Loc o) h count (λ args n r. rw (used_back names (word_at args 0) (object.Loc x n.0) n.1, act args r) refl)
 
   loc_read : (o : LocOp) → Respells names (loc_words o) line → said thread names line ≡ Ok (op.Loc o)
   unfolding loc_op
@@ -481,51 +507,61 @@ module _ (thread : ℕ) (names : Names) (line : List (List ℕ)) where
 
   stack_read : (s : Stack) (a : StackAct) → Respells names (stack_words s a) line → said thread names line ≡ Ok (op.Stack (record { stack = s; act = a }))
   unfolding op_on stack_act
-  stack_read s (stack.Push v) h = back (verb.OnStack stack_verb.Push) (object.Stack s) (Part.numeral v ∷ []) _ h refl (λ args r. rw (value_back args 1 v r.0) refl)
-  stack_read s stack.Pop h = back (verb.OnStack stack_verb.Pop) (object.Stack s) [] _ h refl (λ args r. refl)
-  stack_read s stack.PopWait h = back (verb.OnStack stack_verb.PopWait) (object.Stack s) [] _ h refl (λ args r. refl)
-  stack_read s stack.Top h = back (verb.OnStack stack_verb.Top) (object.Stack s) [] _ h refl (λ args r. refl)
-  stack_read s stack.Len h = back verb.Len (object.Stack s) [] _ h refl (λ args r. refl)
+  stack_read s (stack.Push v) h = back (object_verb.OnStack stack_verb.Push) (object.Stack s) (Part.numeral v ∷ []) _ h refl (λ args r. rw (value_back args 1 v r.0) refl)
+  stack_read s stack.Pop h = back (object_verb.OnStack stack_verb.Pop) (object.Stack s) [] _ h refl (λ args r. refl)
+  stack_read s stack.PopWait h = back (object_verb.OnStack stack_verb.PopWait) (object.Stack s) [] _ h refl (λ args r. refl)
+  stack_read s stack.Top h = back (object_verb.OnStack stack_verb.Top) (object.Stack s) [] _ h refl (λ args r. refl)
+  stack_read s stack.Len h = back object_verb.Len (object.Stack s) [] _ h refl (λ args r. refl)
 
   queue_read : (q : Queue) (a : QueueAct) → Respells names (queue_words q a) line → said thread names line ≡ Ok (op.Queue (record { queue = q; act = a }))
   unfolding op_on queue_act
-  queue_read q (queue.Enq v) h = back (verb.OnQueue queue_verb.Enq) (object.Queue q) (Part.numeral v ∷ []) _ h refl (λ args r. rw (value_back args 1 v r.0) refl)
-  queue_read q queue.Deq h = back (verb.OnQueue queue_verb.Deq) (object.Queue q) [] _ h refl (λ args r. refl)
-  queue_read q queue.DeqWait h = back (verb.OnQueue queue_verb.DeqWait) (object.Queue q) [] _ h refl (λ args r. refl)
-  queue_read q queue.Front h = back (verb.OnQueue queue_verb.Front) (object.Queue q) [] _ h refl (λ args r. refl)
-  queue_read q queue.Len h = back verb.Len (object.Queue q) [] _ h refl (λ args r. refl)
+  queue_read q (queue.Enq v) h = back (object_verb.OnQueue queue_verb.Enq) (object.Queue q) (Part.numeral v ∷ []) _ h refl (λ args r. rw (value_back args 1 v r.0) refl)
+  queue_read q queue.Deq h = back (object_verb.OnQueue queue_verb.Deq) (object.Queue q) [] _ h refl (λ args r. refl)
+  queue_read q queue.DeqWait h = back (object_verb.OnQueue queue_verb.DeqWait) (object.Queue q) [] _ h refl (λ args r. refl)
+  queue_read q queue.Front h = back (object_verb.OnQueue queue_verb.Front) (object.Queue q) [] _ h refl (λ args r. refl)
+  queue_read q queue.Len h = back object_verb.Len (object.Queue q) [] _ h refl (λ args r. refl)
 
   table_read : (x : Hash) (a : HashAct) → Respells names (table_words x a) line → said thread names line ≡ Ok (op.Hash (record { hash = x; act = a }))
   unfolding op_on table_act
-  table_read x (table.Put k v) h = back (verb.OnTable table_verb.Put) (object.Hash x) (Part.numeral k ∷ Part.numeral v ∷ []) _ h refl (λ args r. rw (value_back args 1 k r.0, value_back args 2 v r.1.0) refl)
-  table_read x (table.Find k) h = back (verb.OnTable table_verb.Find) (object.Hash x) (Part.numeral k ∷ []) _ h refl (λ args r. rw (value_back args 1 k r.0) refl)
-  table_read x (table.Del k) h = back (verb.OnTable table_verb.Del) (object.Hash x) (Part.numeral k ∷ []) _ h refl (λ args r. rw (value_back args 1 k r.0) refl)
-  table_read x table.Len h = back verb.Len (object.Hash x) [] _ h refl (λ args r. refl)
+  table_read x (table.Put k v) h = back (object_verb.OnTable table_verb.Put) (object.Hash x) (Part.numeral k ∷ Part.numeral v ∷ []) _ h refl (λ args r. rw (value_back args 1 k r.0, value_back args 2 v r.1.0) refl)
+  table_read x (table.Find k) h = back (object_verb.OnTable table_verb.Find) (object.Hash x) (Part.numeral k ∷ []) _ h refl (λ args r. rw (value_back args 1 k r.0) refl)
+  table_read x (table.Del k) h = back (object_verb.OnTable table_verb.Del) (object.Hash x) (Part.numeral k ∷ []) _ h refl (λ args r. rw (value_back args 1 k r.0) refl)
+  table_read x table.Len h = back object_verb.Len (object.Hash x) [] _ h refl (λ args r. refl)
 
   mvar_read : (x : Mvar) (a : MvarAct) → Respells names (mvar_words x a) line → said thread names line ≡ Ok (op.Mvar (record { mvar = x; act = a }))
   unfolding op_on mvar_act
-  mvar_read x (mvar.Put v) h = back (verb.OnMvar mvar_verb.Put) (object.Mvar x) (Part.numeral v ∷ []) _ h refl (λ args r. rw (value_back args 1 v r.0) refl)
-  mvar_read x mvar.Take h = back (verb.OnMvar mvar_verb.Take) (object.Mvar x) [] _ h refl (λ args r. refl)
-  mvar_read x mvar.Peek h = back (verb.OnMvar mvar_verb.Peek) (object.Mvar x) [] _ h refl (λ args r. refl)
+  mvar_read x (mvar.Put v) h = back (object_verb.OnMvar mvar_verb.Put) (object.Mvar x) (Part.numeral v ∷ []) _ h refl (λ args r. rw (value_back args 1 v r.0) refl)
+  mvar_read x mvar.Take h = back (object_verb.OnMvar mvar_verb.Take) (object.Mvar x) [] _ h refl (λ args r. refl)
+  mvar_read x mvar.Peek h = back (object_verb.OnMvar mvar_verb.Peek) (object.Mvar x) [] _ h refl (λ args r. refl)
 
   promise_read : (p : Promise) (a : PromiseAct) → Respells names (promise_words p a) line → said thread names line ≡ Ok (op.Promise (record { promise = p; act = a }))
   unfolding op_on promise_act
-  promise_read p (promise.Resolve v) h = back (verb.OnPromise promise_verb.Resolve) (object.Promise p) (Part.numeral v ∷ []) _ h refl (λ args r. rw (value_back args 1 v r.0) refl)
-  promise_read p promise.Await h = back (verb.OnPromise promise_verb.Await) (object.Promise p) [] _ h refl (λ args r. refl)
-  promise_read p promise.IsResolved h = back (verb.OnPromise promise_verb.IsResolved) (object.Promise p) [] _ h refl (λ args r. refl)
+  promise_read p (promise.Resolve v) h = back (object_verb.OnPromise promise_verb.Resolve) (object.Promise p) (Part.numeral v ∷ []) _ h refl (λ args r. rw (value_back args 1 v r.0) refl)
+  promise_read p promise.Await h = back (object_verb.OnPromise promise_verb.Await) (object.Promise p) [] _ h refl (λ args r. refl)
+  promise_read p promise.IsResolved h = back (object_verb.OnPromise promise_verb.IsResolved) (object.Promise p) [] _ h refl (λ args r. refl)
 
   acc_read : (x : Accumulator) (a : AccAct) → Respells names (acc_words x a) line → AddsIn thread a → said thread names line ≡ Ok (op.Acc (record { acc = x; act = a }))
   unfolding op_on acc_act
-  acc_read x (acc.Bump cell v) h b = back (verb.OnAcc acc_verb.Bump) (object.Acc x) (Part.numeral v ∷ []) _ h refl (λ args r. rw (value_back args 1 v r.0, b) refl)
-  acc_read x acc.Total h b = back (verb.OnAcc acc_verb.Total) (object.Acc x) [] _ h refl (λ args r. refl)
+  acc_read x (acc.Bump cell v) h b = back (object_verb.OnAcc acc_verb.Bump) (object.Acc x) (Part.numeral v ∷ []) _ h refl (λ args r. rw (value_back args 1 v r.0, b) refl)
+  acc_read x acc.Total h b = back (object_verb.OnAcc acc_verb.Total) (object.Acc x) [] _ h refl (λ args r. refl)
 
   cache_read : (c : Cache) (a : CacheAct) → Respells names (cache_words c a) line → said thread names line ≡ Ok (op.Cache (record { cache = c; act = a }))
   unfolding op_on cache_act
-  cache_read c (cache.CPut k v) h = back (verb.OnCache cache_verb.CPut) (object.Cache c) (Part.numeral k ∷ Part.numeral v ∷ []) _ h refl (λ args r. rw (value_back args 1 k r.0, value_back args 2 v r.1.0) refl)
-  cache_read c (cache.CPutWait k v) h = back (verb.OnCache cache_verb.CPutWait) (object.Cache c) (Part.numeral k ∷ Part.numeral v ∷ []) _ h refl (λ args r. rw (value_back args 1 k r.0, value_back args 2 v r.1.0) refl)
-  cache_read c (cache.CGet k) h = back (verb.OnCache cache_verb.CGet) (object.Cache c) (Part.numeral k ∷ []) _ h refl (λ args r. rw (value_back args 1 k r.0) refl)
-  cache_read c (cache.CDel k) h = back (verb.OnCache cache_verb.CDel) (object.Cache c) (Part.numeral k ∷ []) _ h refl (λ args r. rw (value_back args 1 k r.0) refl)
-  cache_read c cache.Len h = back verb.Len (object.Cache c) [] _ h refl (λ args r. refl)
+  cache_read c (cache.CPut k v) h = back (object_verb.OnCache cache_verb.CPut) (object.Cache c) (Part.numeral k ∷ Part.numeral v ∷ []) _ h refl (λ args r. rw (value_back args 1 k r.0, value_back args 2 v r.1.0) refl)
+  cache_read c (cache.CPutWait k v) h = back (object_verb.OnCache cache_verb.CPutWait) (object.Cache c) (Part.numeral k ∷ Part.numeral v ∷ []) _ h refl (λ args r. rw (value_back args 1 k r.0, value_back args 2 v r.1.0) refl)
+  cache_read c (cache.CGet k) h = back (object_verb.OnCache cache_verb.CGet) (object.Cache c) (Part.numeral k ∷ []) _ h refl (λ args r. rw (value_back args 1 k r.0) refl)
+  cache_read c (cache.CDel k) h = back (object_verb.OnCache cache_verb.CDel) (object.Cache c) (Part.numeral k ∷ []) _ h refl (λ args r. rw (value_back args 1 k r.0) refl)
+  cache_read c cache.Len h = back object_verb.Len (object.Cache c) [] _ h refl (λ args r. refl)
+
+  cancel_read : (c : Cancel) → Respells names (cancel_words c) line → CancelIsOn c → said thread names line ≡ Ok (op.Cancel c)
+  unfolding say
+  cancel_read c h on = by line h where
+    by : (line : List (List ℕ)) → Respells names (cancel_words c) line → said thread names line ≡ Ok (op.Cancel c)
+    by [] h = absurd h
+    by (first ∷ args) h =
+        let r = respells_at names (Part.numeral c.thread ∷ []) args h.1 in
+        let word : word_of first ≡ Some (word.Say verb.Cancel) = ap word_of h.0 ∙ verb_read verb.Cancel in
+        rw (word, counted_back 1 args r.0, positive_back MOST_THREADS (word_at args 0) c.thread on.1.0 on.1.1 r.1.0) (ap (λ (at : ℕ). given (op.Cancel (record { live = record { 0 = at }; thread = c.thread }))) (sym on.0))
 
   says_read : (o : Op) → Says thread names line o → said thread names line ≡ Ok o
   says_read (op.Loc o) h = loc_read o h.0
@@ -536,6 +572,7 @@ module _ (thread : ℕ) (names : Names) (line : List (List ℕ)) where
   says_read (op.Acc o) h = acc_read o.acc o.act h.0 h.1
   says_read (op.Hash o) h = table_read o.hash o.act h.0
   says_read (op.Cache o) h = cache_read o.cache o.act h.0
+  says_read (op.Cancel c) h = cancel_read c h.0 h.1
 
 pub says_said : (thread : ℕ) (names : Names) (line : List (List ℕ)) (o : Op) → Says thread names line o → said thread names line ≡ Ok o
 says_said = says_read

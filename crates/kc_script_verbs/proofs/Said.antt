@@ -1,10 +1,11 @@
 -- The operation that a line says is on an object that has a name.
-use Rattle.std.proofs.Common.{◌≡◌, ℕ, Bool, true, false, cond, List, [], ◌∷◌, Option, Some, None, Result, Ok, sym, ap, subst, inl, inr}
+use Rattle.std.proofs.Common.{◌≡◌, ℕ, Bool, true, false, cond, List, [], ◌∷◌, Option, Some, None, Result, Ok, refl, sym, ap, subst, inl, inr}
 use Rattle.std.specs.Str.{bytes_eq}
 use Rattle.kc_loc.specs.declared.operation.LocOp.{LocOp}
 use Rattle.kc_model.specs.declared.footprint.Loc.{Loc}
+use Rattle.kc_script_lines.proofs.Faults.{positive_value}
 use Rattle.kc_script_lines.proofs.Given.{given, bind_ok, ok_is, found_ok, when_some}
-use Rattle.kc_script_lines.specs.Tests.{◌>>=◌, counted, word_at}
+use Rattle.kc_script_lines.specs.Tests.{◌>>=◌, counted, word_at, positive_to}
 use Rattle.kc_script_lines.specs.Words.{is_name}
 use Rattle.kc_script_lines.specs.declared.fault.Why.{Why}
 use Rattle.kc_script_lines.specs.declared.fault.Why.TheVariants.{UnknownName}
@@ -22,6 +23,7 @@ use Rattle.kc_hash.specs.declared.operation.HashAct.{HashAct}
 use Rattle.kc_loc.specs.declared.kinds.Rel.{Rel}
 use Rattle.kc_queue.specs.declared.operation.QueueAct.{QueueAct}
 use Rattle.kc_queue.specs.declared.queue.Queue.{Queue}
+use Rattle.kc_script_bundle.specs.declared.bundle.TheConstants.{MOST_THREADS}
 use Rattle.kc_script_bundle.specs.declared.object.Object.{Object}
 use Rattle.kc_stack.specs.declared.operation.StackAct.{StackAct}
 use Rattle.kc_stack.specs.declared.stack.Stack.{Stack}
@@ -32,13 +34,16 @@ use Rattle.kc_script_bundle.specs.On.{IsLocation, LocIsOn, IsOn}
 use Rattle.kc_script_bundle.specs.Script.{Names, HasObject}
 use Rattle.kc_script_verbs.specs.declared.verb.LocWord.{LocWord}
 use Rattle.kc_script_verbs.specs.declared.verb.LocWord.TheVariants as verb_on
+use Rattle.kc_script_verbs.specs.declared.verb.ObjectVerb.{ObjectVerb}
+use Rattle.kc_script_verbs.specs.declared.verb.ObjectVerb.TheVariants as object_verb
 use Rattle.kc_script_verbs.specs.declared.verb.Verb.{Verb}
 use Rattle.kc_script_verbs.specs.declared.verb.Verb.TheVariants as verb
 use Rattle.kc_script_verbs.specs.declared.word.Word.{Word}
 use Rattle.kc_script_verbs.specs.declared.word.Word.TheVariants as word
 use Rattle.kc_script_verbs.specs.Objects.{object_of, used, as_loc, as_stack, as_queue, as_table, as_cache, as_mvar, as_promise, as_acc}
-use Rattle.kc_script_verbs.specs.Saying.{arity, value_at, fun_at, rel_named, loc_named, loc_op, stack_act, queue_act, table_act, cache_act, mvar_act, promise_act, acc_act, length_of, op_on, say, said_by, said}
+use Rattle.kc_script_verbs.specs.Saying.{arity, value_at, fun_at, rel_named, loc_named, loc_op, stack_act, queue_act, table_act, cache_act, mvar_act, promise_act, acc_act, length_of, op_on, cancel_of, op_of, say, said_by, said}
 use Rattle.kc_script_verbs.specs.Words.{word_of}
+use Rattle.kc_script_verbs.specs.declared.saying.TheConstants.{LIVE}
 
 -- ---- names
 
@@ -191,29 +196,39 @@ length_on names (object.Acc a) x e h = absurd cc
 length_on names (object.Hash a) x e h = subst (IsOn names) (ok_is _ _ e) h
 length_on names (object.Cache a) x e h = subst (IsOn names) (ok_is _ _ e) h
 
-op_on_on : (thread : ℕ) (names : Names) (v : Verb) (o : Object) (args : List (List ℕ)) (x : Op) → op_on thread names v o args ≡ Ok x → HasObject names o → IsOn names x
+op_on_on : (thread : ℕ) (names : Names) (v : ObjectVerb) (o : Object) (args : List (List ℕ)) (x : Op) → op_on thread names v o args ≡ Ok x → HasObject names o → IsOn names x
 unfolding op_on
-op_on_on thread names (verb.OnLoc w) o args x e h =
+op_on_on thread names (object_verb.OnLoc w) o args x e h =
     let a = bind_ok (as_loc o) (λ at. loc_op names w at args >>= λ y. given (op.Loc y)) x e in
     let b = bind_ok (loc_op names w a.0 args) (λ y. given (op.Loc y)) x a.2 in
     subst (IsOn names) (ok_is _ _ b.2) (loc_op_on names w a.0 args b.0 b.1 (location_is names o a.0 a.1 h))
-op_on_on thread names (verb.OnStack w) o args x e h = kind_on names o (as_stack o) (stack_act w args) (λ (k : Stack) (a : StackAct). op.Stack (record { stack = k; act = a })) (λ k. object.Stack k) x e (stack_is o) (λ k a g. g) h
-op_on_on thread names (verb.OnQueue w) o args x e h = kind_on names o (as_queue o) (queue_act w args) (λ (k : Queue) (a : QueueAct). op.Queue (record { queue = k; act = a })) (λ k. object.Queue k) x e (queue_is o) (λ k a g. g) h
-op_on_on thread names (verb.OnTable w) o args x e h = kind_on names o (as_table o) (table_act w args) (λ (k : Hash) (a : HashAct). op.Hash (record { hash = k; act = a })) (λ k. object.Hash k) x e (table_is o) (λ k a g. g) h
-op_on_on thread names (verb.OnCache w) o args x e h = kind_on names o (as_cache o) (cache_act w args) (λ (k : Cache) (a : CacheAct). op.Cache (record { cache = k; act = a })) (λ k. object.Cache k) x e (cache_is o) (λ k a g. g) h
-op_on_on thread names (verb.OnMvar w) o args x e h = kind_on names o (as_mvar o) (mvar_act w args) (λ (k : Mvar) (a : MvarAct). op.Mvar (record { mvar = k; act = a })) (λ k. object.Mvar k) x e (mvar_is o) (λ k a g. g) h
-op_on_on thread names (verb.OnPromise w) o args x e h = kind_on names o (as_promise o) (promise_act w args) (λ (k : Promise) (a : PromiseAct). op.Promise (record { promise = k; act = a })) (λ k. object.Promise k) x e (promise_is o) (λ k a g. g) h
-op_on_on thread names (verb.OnAcc w) o args x e h = kind_on names o (as_acc o) (acc_act thread w args) (λ (k : Accumulator) (a : AccAct). op.Acc (record { acc = k; act = a })) (λ k. object.Acc k) x e (acc_is o) (λ k a g. g) h
-op_on_on thread names verb.Len o args x e h = length_on names o x e h
+op_on_on thread names (object_verb.OnStack w) o args x e h = kind_on names o (as_stack o) (stack_act w args) (λ (k : Stack) (a : StackAct). op.Stack (record { stack = k; act = a })) (λ k. object.Stack k) x e (stack_is o) (λ k a g. g) h
+op_on_on thread names (object_verb.OnQueue w) o args x e h = kind_on names o (as_queue o) (queue_act w args) (λ (k : Queue) (a : QueueAct). op.Queue (record { queue = k; act = a })) (λ k. object.Queue k) x e (queue_is o) (λ k a g. g) h
+op_on_on thread names (object_verb.OnTable w) o args x e h = kind_on names o (as_table o) (table_act w args) (λ (k : Hash) (a : HashAct). op.Hash (record { hash = k; act = a })) (λ k. object.Hash k) x e (table_is o) (λ k a g. g) h
+op_on_on thread names (object_verb.OnCache w) o args x e h = kind_on names o (as_cache o) (cache_act w args) (λ (k : Cache) (a : CacheAct). op.Cache (record { cache = k; act = a })) (λ k. object.Cache k) x e (cache_is o) (λ k a g. g) h
+op_on_on thread names (object_verb.OnMvar w) o args x e h = kind_on names o (as_mvar o) (mvar_act w args) (λ (k : Mvar) (a : MvarAct). op.Mvar (record { mvar = k; act = a })) (λ k. object.Mvar k) x e (mvar_is o) (λ k a g. g) h
+op_on_on thread names (object_verb.OnPromise w) o args x e h = kind_on names o (as_promise o) (promise_act w args) (λ (k : Promise) (a : PromiseAct). op.Promise (record { promise = k; act = a })) (λ k. object.Promise k) x e (promise_is o) (λ k a g. g) h
+op_on_on thread names (object_verb.OnAcc w) o args x e h = kind_on names o (as_acc o) (acc_act thread w args) (λ (k : Accumulator) (a : AccAct). op.Acc (record { acc = k; act = a })) (λ k. object.Acc k) x e (acc_is o) (λ k a g. g) h
+op_on_on thread names object_verb.Len o args x e h = length_on names o x e h
+
+cancel_on : (names : Names) (word : List ℕ) (x : Op) → cancel_of word ≡ Ok x → IsOn names x
+cancel_on names word x e =
+    let a = bind_ok (positive_to MOST_THREADS word) (λ n. given (op.Cancel (record { live = LIVE; thread = n }))) x e in
+    let v = positive_value MOST_THREADS word a.0 a.1 in
+    subst (IsOn names) (ok_is _ _ a.2) (refl, (v.1, v.2))
+
+op_of_on : (thread : ℕ) (names : Names) (v : Verb) (args : List (List ℕ)) (x : Op) → op_of thread names v args ≡ Ok x → IsOn names x
+op_of_on thread names (verb.On v) args x e =
+    let a = bind_ok (used names (word_at args 0)) (λ o. op_on thread names v o args) x e in
+    op_on_on thread names v a.0 args x a.2 (used_has names (word_at args 0) a.0 a.1)
+op_of_on thread names verb.Cancel args x e = cancel_on names (word_at args 0) x e
 
 -- the operation that a line says
 pub say_on : (thread : ℕ) (names : Names) (v : Verb) (args : List (List ℕ)) (x : Op) → say thread names v args ≡ Ok x → IsOn names x
 unfolding say
 say_on thread names v args x e =
-    let last = λ (o : Object). op_on thread names v o args in
-    let a = bind_ok (counted (arity v) args) (λ all. used names (word_at args 0) >>= last) x e in
-    let b = bind_ok (used names (word_at args 0)) last x a.2 in
-    op_on_on thread names v b.0 args x b.2 (used_has names (word_at args 0) b.0 b.1)
+    let a = bind_ok (counted (arity v) args) (λ all. op_of thread names v args) x e in
+    op_of_on thread names v args x a.2
 
 said_by_on : (thread : ℕ) (names : Names) (w : Option Word) (args : List (List ℕ)) (x : Op) → said_by thread names w args ≡ Ok x → IsOn names x
 said_by_on thread names None args x e = absurd cc

@@ -3,11 +3,12 @@ use Rattle.std.proofs.Common.{◌≡◌, ℕ, suc, ◌+◌, ◌≤◌, Bool, tru
 use Rattle.std.specs.Prelude.{is_some, codes}
 use Rattle.std.specs.Str.{bytes_eq}
 use Rattle.std.proofs.lemmas.Bool.{le-leb, leb-true}
+use Rattle.kc_script_bundle.specs.declared.bundle.TheConstants.{MOST_THREADS}
 use Rattle.kc_script_bundle.specs.declared.object.Object.{Object}
-use Rattle.kc_script_lines.proofs.Faults.{then_fault, Tested, made_fault, counted_fault, counted_length, number_fault, number_value}
-use Rattle.kc_script_lines.proofs.Given.{given, bind_ok, wants_ok, ok_is}
-use Rattle.kc_script_lines.specs.Tests.{◌>>=◌, wants, found, counted, word_at, number_to, first_failing, fault_of, count_tests, is_number}
-use Rattle.kc_script_lines.specs.Words.{is_name, is_numeral, value_on, number}
+use Rattle.kc_script_lines.proofs.Faults.{then_fault, Tested, made_fault, counted_fault, counted_length, number_fault, positive_fault, positive_value}
+use Rattle.kc_script_lines.proofs.Given.{given, bind_ok, ok_is}
+use Rattle.kc_script_lines.specs.Tests.{◌>>=◌, wants, found, counted, word_at, number_to, positive_to, first_failing, fault_of, count_tests, is_number}
+use Rattle.kc_script_lines.specs.Words.{is_name, value_on}
 use Rattle.kc_script_lines.specs.declared.fault.Limit.TheVariants.{Locations}
 use Rattle.kc_script_lines.specs.declared.fault.Why.{Why}
 use Rattle.kc_script_lines.specs.declared.fault.Why.TheVariants.{UnknownWord, UnknownName, RepeatedName, BadName, BadNumber, WrongKind, TooMany}
@@ -30,14 +31,16 @@ use Rattle.kc_script_verbs.specs.declared.verb.PromiseWord.{PromiseWord}
 use Rattle.kc_script_verbs.specs.declared.verb.PromiseWord.TheVariants as promise_verb
 use Rattle.kc_script_verbs.specs.declared.verb.AccWord.{AccWord}
 use Rattle.kc_script_verbs.specs.declared.verb.AccWord.TheVariants as acc_verb
+use Rattle.kc_script_verbs.specs.declared.verb.ObjectVerb.{ObjectVerb}
+use Rattle.kc_script_verbs.specs.declared.verb.ObjectVerb.TheVariants as object_verb
 use Rattle.kc_script_verbs.specs.declared.verb.Verb.{Verb}
 use Rattle.kc_script_verbs.specs.declared.verb.Verb.TheVariants as verb
 use Rattle.kc_script_verbs.specs.declared.word.Kind.{Kind}
 use Rattle.kc_script_verbs.specs.declared.word.Kind.TheVariants as kind
-use Rattle.kc_script_verbs.specs.Declaring.{fields, size_to, tested, at_most, laid, loc_at, stack_at, queue_at, table_at, cache_at, mvar_at, promise_at, acc_at, object_at, next, declare}
-use Rattle.kc_script_verbs.specs.Fields.{Field, kind_fields, number_at, size_of, is_loc, is_stack, is_queue, is_table, is_cache, is_mvar, is_promise, is_acc, has_length, loc_fields, stack_fields, queue_fields, table_fields, cache_fields, mvar_fields, promise_fields, acc_fields, verb_fields, Kinds, object_kind, kinds_of, kind_named, is_such, is_among, functions, relations, field_tests, word_tests, args_tests}
+use Rattle.kc_script_verbs.specs.Declaring.{fields, tested, at_most, laid, loc_at, stack_at, queue_at, table_at, cache_at, mvar_at, promise_at, acc_at, object_at, next, declare}
+use Rattle.kc_script_verbs.specs.Fields.{Field, kind_fields, number_at, size_of, is_loc, is_stack, is_queue, is_table, is_cache, is_mvar, is_promise, is_acc, has_length, loc_fields, stack_fields, queue_fields, table_fields, cache_fields, mvar_fields, promise_fields, acc_fields, object_fields, verb_fields, Kinds, object_kind, kinds_of, kind_named, is_such, is_among, functions, relations, field_tests, word_tests, args_tests}
 use Rattle.kc_script_verbs.specs.Objects.{object_of, new_name, used, as_loc, as_stack, as_queue, as_table, as_cache, as_mvar, as_promise, as_acc}
-use Rattle.kc_script_verbs.specs.Saying.{arity, value_at, fun_named, fun_at, rel_named, loc_named, loc_op, stack_act, queue_act, table_act, cache_act, mvar_act, promise_act, acc_act, length_of, op_on, say}
+use Rattle.kc_script_verbs.specs.Saying.{arity, value_at, fun_named, fun_at, rel_named, loc_named, loc_op, stack_act, queue_act, table_act, cache_act, mvar_act, promise_act, acc_act, length_of, op_on, op_of, say}
 
 -- ---- words by their places
 
@@ -92,25 +95,6 @@ used_fault {A} names has name f rest more = record { same = rw (kind_is names na
 value_fault : (args : List (List ℕ)) (i : ℕ) → Tested (value_at args i) ((is_number 0 4294967295 (word_at args i), BadNumber) ∷ [])
 unfolding value_at
 value_fault args i = number_fault 4294967295 (word_at args i)
-
-size_fault : (most : ℕ) (w : List ℕ) → Tested (size_to most w) ((is_number 1 most w, BadNumber) ∷ [])
-unfolding size_to number_to number
-size_fault most w = record { same = by (is_numeral w) (leb 1 (value_on 0 w)) (leb (value_on 0 w) most) refl } where
-  by : (a b d : Bool) → leb 1 (value_on 0 w) ≡ b → fault_of (found (cond (a && d) (Some (value_on 0 w)) None) BadNumber >>= λ n. wants (leb 1 n) BadNumber >>= λ some. given n) ≡ first_failing ((a && b && d, BadNumber) ∷ [])
-  by true true true e = rw e refl
-  by true false true e = rw e refl
-  by true true false e = refl
-  by true false false e = refl
-  by false b d e = refl
-
-size_value : (most : ℕ) (w : List ℕ) (n : ℕ) → size_to most w ≡ Ok n → (n ≡ value_on 0 w) × (1 ≤ n)
-unfolding size_to
-size_value most w n e =
-    let last = λ (m : ℕ). wants (leb 1 m) BadNumber >>= λ some. given m in
-    let a = bind_ok (number_to most w) last n e in
-    let b = bind_ok (wants (leb 1 a.0) BadNumber) (λ some. given a.0) n a.2 in
-    let same : a.0 ≡ n = ok_is _ _ b.2 in
-    (sym same ∙ (number_value most w a.0 a.1).0, omega (arith, same, leb-true 1 a.0 (wants_ok (leb 1 a.0) BadNumber b.0 b.1)))
 
 -- one of six words
 among : {A : Type 0} (a b d e f g : Bool) (va vb vd ve vf vg : A) → Tested (cond a (given va) (cond b (Ok vb) (cond d (Ok vd) (cond e (Ok ve) (cond f (Ok vf) (cond g (Ok vg) (Err UnknownWord))))))) ((cond a true (cond b true (cond d true (cond e true (cond f true (cond g true false))))), UnknownWord) ∷ [])
@@ -297,26 +281,30 @@ module _ (names : Names) (args : List (List ℕ)) where
   acc_fault thread acc_verb.Total = record { same = refl }
 
   -- what is done to the object of the first name
-  on_fault : (thread : ℕ) (v : Verb) → Tested (used names (word_at args 0) >>= λ o. op_on thread names v o args) (tests_from (kinds_of names) args 0 (verb_fields v))
+  on_fault : (thread : ℕ) (v : ObjectVerb) → Tested (used names (word_at args 0) >>= λ o. op_on thread names v o args) (tests_from (kinds_of names) args 0 (object_fields v))
   unfolding op_on
-  on_fault thread (verb.OnLoc w) = used_fault names is_loc (word_at args 0) _ _ (λ o. then_fault (as_loc o) _ _ _ (loc_kind o) (λ at e. made_fault (loc_op names w at args) _ _ (loc_fault w at)))
-  on_fault thread (verb.OnStack w) = used_fault names is_stack (word_at args 0) _ _ (λ o. then_fault (as_stack o) _ _ _ (stack_kind o) (λ s e. made_fault (stack_act w args) _ _ (stack_fault w)))
-  on_fault thread (verb.OnQueue w) = used_fault names is_queue (word_at args 0) _ _ (λ o. then_fault (as_queue o) _ _ _ (queue_kind o) (λ q e. made_fault (queue_act w args) _ _ (queue_fault w)))
-  on_fault thread (verb.OnTable w) = used_fault names is_table (word_at args 0) _ _ (λ o. then_fault (as_table o) _ _ _ (table_kind o) (λ h e. made_fault (table_act w args) _ _ (table_fault w)))
-  on_fault thread (verb.OnCache w) = used_fault names is_cache (word_at args 0) _ _ (λ o. then_fault (as_cache o) _ _ _ (cache_kind o) (λ c e. made_fault (cache_act w args) _ _ (cache_fault w)))
-  on_fault thread (verb.OnMvar w) = used_fault names is_mvar (word_at args 0) _ _ (λ o. then_fault (as_mvar o) _ _ _ (mvar_kind o) (λ x e. made_fault (mvar_act w args) _ _ (mvar_fault w)))
-  on_fault thread (verb.OnPromise w) = used_fault names is_promise (word_at args 0) _ _ (λ o. then_fault (as_promise o) _ _ _ (promise_kind o) (λ p e. made_fault (promise_act w args) _ _ (promise_fault w)))
-  on_fault thread (verb.OnAcc w) = used_fault names is_acc (word_at args 0) _ _ (λ o. then_fault (as_acc o) _ _ _ (acc_kind o) (λ x e. made_fault (acc_act thread w args) _ _ (acc_fault thread w)))
-  on_fault thread verb.Len = used_fault names has_length (word_at args 0) length_of [] length_kind
+  on_fault thread (object_verb.OnLoc w) = used_fault names is_loc (word_at args 0) _ _ (λ o. then_fault (as_loc o) _ _ _ (loc_kind o) (λ at e. made_fault (loc_op names w at args) _ _ (loc_fault w at)))
+  on_fault thread (object_verb.OnStack w) = used_fault names is_stack (word_at args 0) _ _ (λ o. then_fault (as_stack o) _ _ _ (stack_kind o) (λ s e. made_fault (stack_act w args) _ _ (stack_fault w)))
+  on_fault thread (object_verb.OnQueue w) = used_fault names is_queue (word_at args 0) _ _ (λ o. then_fault (as_queue o) _ _ _ (queue_kind o) (λ q e. made_fault (queue_act w args) _ _ (queue_fault w)))
+  on_fault thread (object_verb.OnTable w) = used_fault names is_table (word_at args 0) _ _ (λ o. then_fault (as_table o) _ _ _ (table_kind o) (λ h e. made_fault (table_act w args) _ _ (table_fault w)))
+  on_fault thread (object_verb.OnCache w) = used_fault names is_cache (word_at args 0) _ _ (λ o. then_fault (as_cache o) _ _ _ (cache_kind o) (λ c e. made_fault (cache_act w args) _ _ (cache_fault w)))
+  on_fault thread (object_verb.OnMvar w) = used_fault names is_mvar (word_at args 0) _ _ (λ o. then_fault (as_mvar o) _ _ _ (mvar_kind o) (λ x e. made_fault (mvar_act w args) _ _ (mvar_fault w)))
+  on_fault thread (object_verb.OnPromise w) = used_fault names is_promise (word_at args 0) _ _ (λ o. then_fault (as_promise o) _ _ _ (promise_kind o) (λ p e. made_fault (promise_act w args) _ _ (promise_fault w)))
+  on_fault thread (object_verb.OnAcc w) = used_fault names is_acc (word_at args 0) _ _ (λ o. then_fault (as_acc o) _ _ _ (acc_kind o) (λ x e. made_fault (acc_act thread w args) _ _ (acc_fault thread w)))
+  on_fault thread object_verb.Len = used_fault names has_length (word_at args 0) length_of [] length_kind
+
+  op_fault : (thread : ℕ) (v : Verb) → Tested (op_of thread names v args) (tests_from (kinds_of names) args 0 (verb_fields v))
+  op_fault thread (verb.On v) = on_fault thread v
+  op_fault thread verb.Cancel = made_fault (positive_to MOST_THREADS (word_at args 0)) _ _ (positive_fault MOST_THREADS (word_at args 0))
 
 -- ---- a command
 
 pub say_fault : (thread : ℕ) (names : Names) (v : Verb) (args : List (List ℕ)) → Tested (say thread names v args) (args_tests (kinds_of names) (verb_fields v) args)
 unfolding say
 say_fault thread names v args =
-    then_fault (counted (arity v) args) (λ all. used names (word_at args 0) >>= λ o. op_on thread names v o args) (count_tests (arity v) args) (word_tests (kinds_of names) (verb_fields v) args)
+    then_fault (counted (arity v) args) (λ all. op_of thread names v args) (count_tests (arity v) args) (word_tests (kinds_of names) (verb_fields v) args)
     (counted_fault (arity v) args)
-    (λ all e. subst (Tested (used names (word_at args 0) >>= λ o. op_on thread names v o args)) (placed_tests (kinds_of names) (verb_fields v) args (counted_length (arity v) args all e)) (on_fault names args thread v))
+    (λ all e. subst (Tested (op_of thread names v args)) (placed_tests (kinds_of names) (verb_fields v) args (counted_length (arity v) args all e)) (op_fault names args thread v))
 
 -- ---- a declaration
 
@@ -335,8 +323,8 @@ unfolding at_most
 some_fault n go rest some more = record { same = (tested_fault 1 n BadNumber go rest more (leb 1 n) refl).same ∙ ap (λ t. first_failing ((t, BadNumber) ∷ rest)) (le-leb 1 n some) }
 
 -- a size, and what follows it
-then_sized : {A : Type 0} (most : ℕ) (w : List ℕ) (f : ℕ → Result A Why) (rest : List (Bool × Why)) → ((n : ℕ) → n ≡ value_on 0 w → 1 ≤ n → Tested (f n) rest) → Tested (size_to most w >>= f) ((is_number 1 most w, BadNumber) ∷ rest)
-then_sized most w f rest more = then_fault (size_to most w) f _ rest (size_fault most w) (λ n e. let v = size_value most w n e in more n v.0 v.1)
+then_sized : {A : Type 0} (most : ℕ) (w : List ℕ) (f : ℕ → Result A Why) (rest : List (Bool × Why)) → ((n : ℕ) → n ≡ value_on 0 w → 1 ≤ n → Tested (f n) rest) → Tested (positive_to most w >>= f) ((is_number 1 most w, BadNumber) ∷ rest)
+then_sized most w f rest more = then_fault (positive_to most w) f _ rest (positive_fault most w) (λ n e. let v = positive_value most w n e in more n v.0 v.1)
 
 module _ (at : ℕ) (args : List (List ℕ)) where
   object_fault : (names : Kinds) (k : Kind) → Tested (object_at at k args) (tests_from names args 1 (drop 1 (kind_fields k)) ++ (leb (at + size_of k args) 65536, TooMany Locations) ∷ [])
@@ -392,10 +380,10 @@ module _ (at : ℕ) (args : List (List ℕ)) (o : Object) where
     by true h e = all (leb-true 1 n h) e
     by false h e = absurd cc
 
-  sized_is : {P : Type 0} (most i : ℕ) (f : ℕ → Result Object Why) → (size_to most (word_at args i) >>= f) ≡ Ok o → ((n : ℕ) → n ≡ number_at args i → f n ≡ Ok o → P) → P
+  sized_is : {P : Type 0} (most i : ℕ) (f : ℕ → Result Object Why) → (positive_to most (word_at args i) >>= f) ≡ Ok o → ((n : ℕ) → n ≡ number_at args i → f n ≡ Ok o → P) → P
   sized_is most i f e more =
-      let a = bind_ok (size_to most (word_at args i)) f o e in
-      more a.0 (size_value most (word_at args i) a.0 a.1).0 a.2
+      let a = bind_ok (positive_to most (word_at args i)) f o e in
+      more a.0 (positive_value most (word_at args i) a.0 a.1).0 a.2
 
   -- the kind and the size of an object
   abbrev Is : Kind → Object → Type 0

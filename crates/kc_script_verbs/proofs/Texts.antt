@@ -20,13 +20,15 @@ use Rattle.kc_script_verbs.specs.declared.verb.PromiseWord.{PromiseWord}
 use Rattle.kc_script_verbs.specs.declared.verb.PromiseWord.TheVariants as promise_verb
 use Rattle.kc_script_verbs.specs.declared.verb.AccWord.{AccWord}
 use Rattle.kc_script_verbs.specs.declared.verb.AccWord.TheVariants as acc_verb
+use Rattle.kc_script_verbs.specs.declared.verb.ObjectVerb.{ObjectVerb}
+use Rattle.kc_script_verbs.specs.declared.verb.ObjectVerb.TheVariants as object_verb
 use Rattle.kc_script_verbs.specs.declared.verb.Verb.{Verb}
 use Rattle.kc_script_verbs.specs.declared.verb.Verb.TheVariants as verb
 use Rattle.kc_script_verbs.specs.declared.word.Kind.{Kind}
 use Rattle.kc_script_verbs.specs.declared.word.Kind.TheVariants as kind
 use Rattle.kc_script_verbs.specs.declared.word.Word.{Word}
 use Rattle.kc_script_verbs.specs.declared.word.Word.TheVariants as word
-use Rattle.kc_script_verbs.specs.Words.{plain_loc_word, choosing_loc_word, stack_word, queue_word, table_word, cache_word, mvar_word, promise_word, acc_word, loc_word, verb_of, structure_word, kind_of, word_of}
+use Rattle.kc_script_verbs.specs.Words.{plain_loc_word, choosing_loc_word, stack_word, queue_word, table_word, cache_word, mvar_word, promise_word, acc_word, loc_word, object_verb_of, verb_of, structure_word, kind_of, word_of}
 
 abbrev pub loc_text : LocWord → List ℕ
 loc_text loc_verb.Get = codes "get"
@@ -78,16 +80,20 @@ abbrev pub acc_text : AccWord → List ℕ
 acc_text acc_verb.Bump = codes "bump"
 acc_text acc_verb.Total = codes "total"
 
+abbrev pub object_verb_text : ObjectVerb → List ℕ
+object_verb_text (object_verb.OnLoc w) = loc_text w
+object_verb_text (object_verb.OnStack w) = stack_text w
+object_verb_text (object_verb.OnQueue w) = queue_text w
+object_verb_text (object_verb.OnTable w) = table_text w
+object_verb_text (object_verb.OnCache w) = cache_text w
+object_verb_text (object_verb.OnMvar w) = mvar_text w
+object_verb_text (object_verb.OnPromise w) = promise_text w
+object_verb_text (object_verb.OnAcc w) = acc_text w
+object_verb_text object_verb.Len = codes "len"
+
 abbrev pub verb_text : Verb → List ℕ
-verb_text (verb.OnLoc w) = loc_text w
-verb_text (verb.OnStack w) = stack_text w
-verb_text (verb.OnQueue w) = queue_text w
-verb_text (verb.OnTable w) = table_text w
-verb_text (verb.OnCache w) = cache_text w
-verb_text (verb.OnMvar w) = mvar_text w
-verb_text (verb.OnPromise w) = promise_text w
-verb_text (verb.OnAcc w) = acc_text w
-verb_text verb.Len = codes "len"
+verb_text (verb.On v) = object_verb_text v
+verb_text verb.Cancel = codes "cancel"
 
 abbrev pub kind_text : Kind → List ℕ
 kind_text kind.Loc = codes "loc"
@@ -163,18 +169,22 @@ module _ (w : List ℕ) where
   unfolding acc_word
   acc_has = link acc_text acc_verb.Bump _ (link acc_text acc_verb.Total _ (none acc_text))
 
+  object_verb_has : Has object_verb_text (object_verb_of w)
+  unfolding object_verb_of
+  object_verb_has =
+      either object_verb_text _ _ (mapped object_verb_text (λ on. object_verb.OnLoc on) _ loc_has) (
+      either object_verb_text _ _ (mapped object_verb_text (λ on. object_verb.OnStack on) _ stack_has) (
+      either object_verb_text _ _ (mapped object_verb_text (λ on. object_verb.OnQueue on) _ queue_has) (
+      either object_verb_text _ _ (mapped object_verb_text (λ on. object_verb.OnTable on) _ table_has) (
+      either object_verb_text _ _ (mapped object_verb_text (λ on. object_verb.OnCache on) _ cache_has) (
+      either object_verb_text _ _ (mapped object_verb_text (λ on. object_verb.OnMvar on) _ mvar_has) (
+      either object_verb_text _ _ (mapped object_verb_text (λ on. object_verb.OnPromise on) _ promise_has) (
+      either object_verb_text _ _ (mapped object_verb_text (λ on. object_verb.OnAcc on) _ acc_has) (
+      link object_verb_text object_verb.Len _ (none object_verb_text)))))))))
+
   verb_has : Has verb_text (verb_of w)
   unfolding verb_of
-  verb_has =
-      either verb_text _ _ (mapped verb_text (λ on. verb.OnLoc on) _ loc_has) (
-      either verb_text _ _ (mapped verb_text (λ on. verb.OnStack on) _ stack_has) (
-      either verb_text _ _ (mapped verb_text (λ on. verb.OnQueue on) _ queue_has) (
-      either verb_text _ _ (mapped verb_text (λ on. verb.OnTable on) _ table_has) (
-      either verb_text _ _ (mapped verb_text (λ on. verb.OnCache on) _ cache_has) (
-      either verb_text _ _ (mapped verb_text (λ on. verb.OnMvar on) _ mvar_has) (
-      either verb_text _ _ (mapped verb_text (λ on. verb.OnPromise on) _ promise_has) (
-      either verb_text _ _ (mapped verb_text (λ on. verb.OnAcc on) _ acc_has) (
-      link verb_text verb.Len _ (none verb_text)))))))))
+  verb_has = either verb_text _ _ (mapped verb_text (λ on. verb.On on) _ object_verb_has) (link verb_text verb.Cancel _ (none verb_text))
 
   structure_has : Has text_of (structure_word w)
   unfolding structure_word
@@ -191,43 +201,48 @@ module _ (w : List ℕ) where
 
 -- ---- each text is its word's
 
+object_verb_read : (v : ObjectVerb) → word_of (object_verb_text v) ≡ Some (word.Say (verb.On v))
+unfolding word_of structure_word kind_of verb_of object_verb_of loc_word plain_loc_word choosing_loc_word stack_word queue_word table_word cache_word mvar_word promise_word acc_word
+object_verb_read (object_verb.OnLoc loc_verb.Get) = refl
+object_verb_read (object_verb.OnLoc loc_verb.Set) = refl
+object_verb_read (object_verb.OnLoc loc_verb.Exchange) = refl
+object_verb_read (object_verb.OnLoc loc_verb.Swap) = refl
+object_verb_read (object_verb.OnLoc loc_verb.Cas) = refl
+object_verb_read (object_verb.OnLoc loc_verb.FetchAdd) = refl
+object_verb_read (object_verb.OnLoc loc_verb.Incr) = refl
+object_verb_read (object_verb.OnLoc loc_verb.Decr) = refl
+object_verb_read (object_verb.OnLoc loc_verb.Update) = refl
+object_verb_read (object_verb.OnLoc loc_verb.Modify) = refl
+object_verb_read (object_verb.OnLoc loc_verb.Check) = refl
+object_verb_read (object_verb.OnStack stack_verb.Push) = refl
+object_verb_read (object_verb.OnStack stack_verb.Pop) = refl
+object_verb_read (object_verb.OnStack stack_verb.PopWait) = refl
+object_verb_read (object_verb.OnStack stack_verb.Top) = refl
+object_verb_read (object_verb.OnQueue queue_verb.Enq) = refl
+object_verb_read (object_verb.OnQueue queue_verb.Deq) = refl
+object_verb_read (object_verb.OnQueue queue_verb.DeqWait) = refl
+object_verb_read (object_verb.OnQueue queue_verb.Front) = refl
+object_verb_read (object_verb.OnTable table_verb.Put) = refl
+object_verb_read (object_verb.OnTable table_verb.Find) = refl
+object_verb_read (object_verb.OnTable table_verb.Del) = refl
+object_verb_read (object_verb.OnCache cache_verb.CPut) = refl
+object_verb_read (object_verb.OnCache cache_verb.CPutWait) = refl
+object_verb_read (object_verb.OnCache cache_verb.CGet) = refl
+object_verb_read (object_verb.OnCache cache_verb.CDel) = refl
+object_verb_read (object_verb.OnMvar mvar_verb.Put) = refl
+object_verb_read (object_verb.OnMvar mvar_verb.Take) = refl
+object_verb_read (object_verb.OnMvar mvar_verb.Peek) = refl
+object_verb_read (object_verb.OnPromise promise_verb.Resolve) = refl
+object_verb_read (object_verb.OnPromise promise_verb.Await) = refl
+object_verb_read (object_verb.OnPromise promise_verb.IsResolved) = refl
+object_verb_read (object_verb.OnAcc acc_verb.Bump) = refl
+object_verb_read (object_verb.OnAcc acc_verb.Total) = refl
+object_verb_read object_verb.Len = refl
+
 pub verb_read : (v : Verb) → word_of (verb_text v) ≡ Some (word.Say v)
-unfolding word_of structure_word kind_of verb_of loc_word plain_loc_word choosing_loc_word stack_word queue_word table_word cache_word mvar_word promise_word acc_word
-verb_read (verb.OnLoc loc_verb.Get) = refl
-verb_read (verb.OnLoc loc_verb.Set) = refl
-verb_read (verb.OnLoc loc_verb.Exchange) = refl
-verb_read (verb.OnLoc loc_verb.Swap) = refl
-verb_read (verb.OnLoc loc_verb.Cas) = refl
-verb_read (verb.OnLoc loc_verb.FetchAdd) = refl
-verb_read (verb.OnLoc loc_verb.Incr) = refl
-verb_read (verb.OnLoc loc_verb.Decr) = refl
-verb_read (verb.OnLoc loc_verb.Update) = refl
-verb_read (verb.OnLoc loc_verb.Modify) = refl
-verb_read (verb.OnLoc loc_verb.Check) = refl
-verb_read (verb.OnStack stack_verb.Push) = refl
-verb_read (verb.OnStack stack_verb.Pop) = refl
-verb_read (verb.OnStack stack_verb.PopWait) = refl
-verb_read (verb.OnStack stack_verb.Top) = refl
-verb_read (verb.OnQueue queue_verb.Enq) = refl
-verb_read (verb.OnQueue queue_verb.Deq) = refl
-verb_read (verb.OnQueue queue_verb.DeqWait) = refl
-verb_read (verb.OnQueue queue_verb.Front) = refl
-verb_read (verb.OnTable table_verb.Put) = refl
-verb_read (verb.OnTable table_verb.Find) = refl
-verb_read (verb.OnTable table_verb.Del) = refl
-verb_read (verb.OnCache cache_verb.CPut) = refl
-verb_read (verb.OnCache cache_verb.CPutWait) = refl
-verb_read (verb.OnCache cache_verb.CGet) = refl
-verb_read (verb.OnCache cache_verb.CDel) = refl
-verb_read (verb.OnMvar mvar_verb.Put) = refl
-verb_read (verb.OnMvar mvar_verb.Take) = refl
-verb_read (verb.OnMvar mvar_verb.Peek) = refl
-verb_read (verb.OnPromise promise_verb.Resolve) = refl
-verb_read (verb.OnPromise promise_verb.Await) = refl
-verb_read (verb.OnPromise promise_verb.IsResolved) = refl
-verb_read (verb.OnAcc acc_verb.Bump) = refl
-verb_read (verb.OnAcc acc_verb.Total) = refl
-verb_read verb.Len = refl
+unfolding word_of structure_word kind_of verb_of object_verb_of loc_word plain_loc_word choosing_loc_word stack_word queue_word table_word cache_word mvar_word promise_word acc_word
+verb_read (verb.On v) = object_verb_read v
+verb_read verb.Cancel = refl
 
 pub kind_read : (k : Kind) → word_of (kind_text k) ≡ Some (word.Declare k)
 unfolding word_of structure_word kind_of

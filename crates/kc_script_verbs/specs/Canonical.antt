@@ -29,10 +29,12 @@ use Rattle.kc_cells.specs.declared.promise.PromiseAct.TheVariants as promise
 use Rattle.kc_cells.specs.declared.accumulator.AccAct.{AccAct}
 use Rattle.kc_cells.specs.declared.accumulator.Accumulator.{Accumulator}
 use Rattle.kc_cells.specs.declared.accumulator.AccAct.TheVariants as acc
+use Rattle.kc_script_bundle.specs.declared.cancel.Cancel.{Cancel}
 use Rattle.kc_script_bundle.specs.declared.object.Object.{Object}
 use Rattle.kc_script_bundle.specs.declared.object.Object.TheVariants as object
 use Rattle.kc_script_bundle.specs.declared.operation.Op.{Op}
 use Rattle.kc_script_bundle.specs.declared.operation.Op.TheVariants as op
+use Rattle.kc_script_bundle.specs.On.{CancelIsOn}
 use Rattle.kc_script_bundle.specs.Script.{Names}
 use Rattle.kc_script_verbs.specs.Declaring.{IsPlaced}
 use Rattle.kc_script_verbs.specs.Objects.{object_of}
@@ -120,6 +122,9 @@ cache_words c (cache.CGet k) = Part.text (codes "cget") ∷ Part.object_name (ob
 cache_words c (cache.CDel k) = Part.text (codes "cdel") ∷ Part.object_name (object.Cache c) ∷ Part.numeral k ∷ []
 cache_words c cache.Len = Part.text (codes "len") ∷ Part.object_name (object.Cache c) ∷ []
 
+abbrev pub cancel_words : Cancel → List Part
+cancel_words c = Part.text (codes "cancel") ∷ Part.numeral c.thread ∷ []
+
 abbrev pub words_of : Op → List Part
 words_of (op.Loc o) = loc_words o
 words_of (op.Stack o) = stack_words o.stack o.act
@@ -129,6 +134,7 @@ words_of (op.Mvar o) = mvar_words o.mvar o.act
 words_of (op.Promise o) = promise_words o.promise o.act
 words_of (op.Acc o) = acc_words o.acc o.act
 words_of (op.Cache o) = cache_words o.cache o.act
+words_of (op.Cancel c) = cancel_words c
 
 -- ---- declarations
 
@@ -169,8 +175,10 @@ abbrev pub AddsIn : ℕ → AccAct → Type 0
 AddsIn thread (acc.Bump cell v) = cell ≡ thread
 AddsIn thread acc.Total = Unit {0}
 
+-- a cancel is at location 0, and numbers threads from 1 on
 abbrev pub IsByThread : ℕ → Op → Type 0
 IsByThread thread (op.Acc o) = AddsIn thread o.act
+IsByThread thread (op.Cancel c) = CancelIsOn c
 IsByThread thread _ = Unit {0}
 
 -- the line says the operation in this thread

@@ -6,7 +6,7 @@ use Rattle.kc_cache.proofs.Same.{table_laid, order_laid}
 use Rattle.kc_cells.specs.declared.accumulator.TheConstants.{MOST_CELLS}
 use Rattle.kc_model.specs.declared.plain_store.TheConstants.{MOST_LOCATIONS}
 use Rattle.kc_script_bundle.specs.declared.object.Object.{Object}
-use Rattle.kc_script_lines.specs.Tests.{◌>>=◌, wants, counted, word_at, number_to}
+use Rattle.kc_script_lines.specs.Tests.{◌>>=◌, counted, word_at, number_to, positive_to}
 use Rattle.kc_script_lines.specs.declared.fault.Limit.TheVariants.{Locations}
 use Rattle.kc_script_lines.specs.declared.fault.Why.{Why}
 use Rattle.kc_script_lines.specs.declared.fault.Why.TheVariants.{UnknownWord, BadNumber, TooMany}
@@ -24,13 +24,6 @@ use Rattle.kc_script_verbs.specs.Words.{word_of}
 -- how many words stand behind the first
 abbrev pub fields : Kind → ℕ
 fields k = length (kind_fields k)
-
--- a size from 1 to this one
-unfoldable pub size_to : ℕ → List ℕ → Result ℕ Why
-size_to most word = do
-  n ← number_to most word
-  some ← wants (nat_le 1 n) BadNumber
-  Ok n
 
 -- ---- objects, where all their cells are locations
 
@@ -73,13 +66,13 @@ acc_at at cells = at_most 1 cells BadNumber (λ some. laid (at + cells) (λ room
 -- the object that begins at a location, with the numbers behind its name
 unfoldable pub object_at : ℕ → Kind → List (List ℕ) → Result Object Why
 object_at at kind.Loc args = number_to 4294967295 (word_at args 1) >>= loc_at at
-object_at at kind.Stack args = size_to MOST_ITEMS (word_at args 1) >>= stack_at at
-object_at at kind.Queue args = size_to MOST_ITEMS (word_at args 1) >>= queue_at at
-object_at at kind.Table args = size_to MOST_BUCKETS (word_at args 1) >>= λ buckets. size_to MOST_ITEMS (word_at args 2) >>= table_at at buckets
-object_at at kind.Cache args = size_to MOST_BUCKETS (word_at args 1) >>= λ buckets. size_to MOST_ITEMS (word_at args 2) >>= cache_at at buckets
+object_at at kind.Stack args = positive_to MOST_ITEMS (word_at args 1) >>= stack_at at
+object_at at kind.Queue args = positive_to MOST_ITEMS (word_at args 1) >>= queue_at at
+object_at at kind.Table args = positive_to MOST_BUCKETS (word_at args 1) >>= λ buckets. positive_to MOST_ITEMS (word_at args 2) >>= table_at at buckets
+object_at at kind.Cache args = positive_to MOST_BUCKETS (word_at args 1) >>= λ buckets. positive_to MOST_ITEMS (word_at args 2) >>= cache_at at buckets
 object_at at kind.Mvar args = mvar_at at
 object_at at kind.Promise args = promise_at at
-object_at at kind.Acc args = size_to MOST_CELLS (word_at args 1) >>= acc_at at
+object_at at kind.Acc args = positive_to MOST_CELLS (word_at args 1) >>= acc_at at
 
 -- it begins at a location, with its last cell in a store, and is sized
 abbrev pub IsAt : ℕ → Object → Type 0

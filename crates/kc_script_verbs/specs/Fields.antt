@@ -2,6 +2,7 @@
 use Rattle.std.specs.Prelude.{ℕ, ◌+◌, ◌*◌, Bool, true, false, ◌&&◌, ◌||◌, not, List, [], ◌∷◌, ◌++◌, length, map, codes, Option, Some, None, is_some, if◌then◌else◌}
 use Rattle.std.specs.Str.{bytes_eq}
 use Rattle.kc_cells.specs.declared.accumulator.TheConstants.{MOST_CELLS}
+use Rattle.kc_script_bundle.specs.declared.bundle.TheConstants.{MOST_THREADS}
 use Rattle.kc_script_bundle.specs.declared.object.Object.{Object}
 use Rattle.kc_script_lines.specs.Tests.{count_tests, word_at, is_number}
 use Rattle.kc_script_lines.specs.Words.{is_name, value_on}
@@ -26,6 +27,8 @@ use Rattle.kc_script_verbs.specs.declared.verb.PromiseWord.{PromiseWord}
 use Rattle.kc_script_verbs.specs.declared.verb.PromiseWord.TheVariants as promise_verb
 use Rattle.kc_script_verbs.specs.declared.verb.AccWord.{AccWord}
 use Rattle.kc_script_verbs.specs.declared.verb.AccWord.TheVariants as acc_verb
+use Rattle.kc_script_verbs.specs.declared.verb.ObjectVerb.{ObjectVerb}
+use Rattle.kc_script_verbs.specs.declared.verb.ObjectVerb.TheVariants as object_verb
 use Rattle.kc_script_verbs.specs.declared.verb.Verb.{Verb}
 use Rattle.kc_script_verbs.specs.declared.verb.Verb.TheVariants as verb
 use Rattle.kc_script_verbs.specs.declared.word.Kind.{Kind}
@@ -161,16 +164,20 @@ abbrev pub acc_fields : AccWord → List Field
 acc_fields acc_verb.Bump = value ∷ []
 acc_fields acc_verb.Total = []
 
+abbrev pub object_fields : ObjectVerb → List Field
+object_fields (object_verb.OnLoc w) = Field.used is_loc ∷ loc_fields w
+object_fields (object_verb.OnStack w) = Field.used is_stack ∷ stack_fields w
+object_fields (object_verb.OnQueue w) = Field.used is_queue ∷ queue_fields w
+object_fields (object_verb.OnTable w) = Field.used is_table ∷ table_fields w
+object_fields (object_verb.OnCache w) = Field.used is_cache ∷ cache_fields w
+object_fields (object_verb.OnMvar w) = Field.used is_mvar ∷ mvar_fields w
+object_fields (object_verb.OnPromise w) = Field.used is_promise ∷ promise_fields w
+object_fields (object_verb.OnAcc w) = Field.used is_acc ∷ acc_fields w
+object_fields object_verb.Len = Field.used has_length ∷ []
+
 abbrev pub verb_fields : Verb → List Field
-verb_fields (verb.OnLoc w) = Field.used is_loc ∷ loc_fields w
-verb_fields (verb.OnStack w) = Field.used is_stack ∷ stack_fields w
-verb_fields (verb.OnQueue w) = Field.used is_queue ∷ queue_fields w
-verb_fields (verb.OnTable w) = Field.used is_table ∷ table_fields w
-verb_fields (verb.OnCache w) = Field.used is_cache ∷ cache_fields w
-verb_fields (verb.OnMvar w) = Field.used is_mvar ∷ mvar_fields w
-verb_fields (verb.OnPromise w) = Field.used is_promise ∷ promise_fields w
-verb_fields (verb.OnAcc w) = Field.used is_acc ∷ acc_fields w
-verb_fields verb.Len = Field.used has_length ∷ []
+verb_fields (verb.On v) = object_fields v
+verb_fields verb.Cancel = Field.number 1 MOST_THREADS ∷ []
 
 -- ---- tests
 

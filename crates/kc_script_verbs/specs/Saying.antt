@@ -4,7 +4,7 @@ use Rattle.std.specs.Prelude.{ℕ, suc, length, List, [], ◌∷◌, codes, Opti
 use Rattle.std.specs.Str.{bytes_eq}
 use Rattle.kc_loc.specs.declared.operation.LocOp.{LocOp}
 use Rattle.kc_model.specs.declared.footprint.Loc.{Loc}
-use Rattle.kc_script_lines.specs.Tests.{◌>>=◌, counted, word_at, number_to}
+use Rattle.kc_script_lines.specs.Tests.{◌>>=◌, counted, word_at, number_to, positive_to}
 use Rattle.kc_script_lines.specs.declared.fault.Why.{Why}
 use Rattle.kc_script_lines.specs.declared.fault.Why.TheVariants.{UnknownWord, WrongKind}
 use Rattle.kc_loc.specs.declared.operation.LocOp.TheVariants as loc
@@ -26,6 +26,7 @@ use Rattle.kc_cells.specs.declared.promise.PromiseAct.{PromiseAct}
 use Rattle.kc_cells.specs.declared.promise.PromiseAct.TheVariants as promise
 use Rattle.kc_cells.specs.declared.accumulator.AccAct.{AccAct}
 use Rattle.kc_cells.specs.declared.accumulator.AccAct.TheVariants as acc
+use Rattle.kc_script_bundle.specs.declared.bundle.TheConstants.{MOST_THREADS}
 use Rattle.kc_script_bundle.specs.declared.object.Object.{Object}
 use Rattle.kc_script_bundle.specs.declared.object.Object.TheVariants as object
 use Rattle.kc_script_bundle.specs.declared.operation.Op.{Op}
@@ -49,13 +50,16 @@ use Rattle.kc_script_verbs.specs.declared.verb.AccWord.{AccWord}
 use Rattle.kc_script_verbs.specs.declared.verb.AccWord.TheVariants as acc_verb
 use Rattle.kc_script_verbs.specs.declared.named.FunWord.{FunWord}
 use Rattle.kc_script_verbs.specs.declared.named.FunWord.TheVariants as named
+use Rattle.kc_script_verbs.specs.declared.verb.ObjectVerb.{ObjectVerb}
+use Rattle.kc_script_verbs.specs.declared.verb.ObjectVerb.TheVariants as object_verb
 use Rattle.kc_script_verbs.specs.declared.verb.Verb.{Verb}
 use Rattle.kc_script_verbs.specs.declared.verb.Verb.TheVariants as verb
 use Rattle.kc_script_verbs.specs.declared.word.Word.{Word}
 use Rattle.kc_script_verbs.specs.declared.word.Word.TheVariants as word
-use Rattle.kc_script_verbs.specs.Fields.{loc_fields, stack_fields, queue_fields, table_fields, cache_fields, mvar_fields, promise_fields, acc_fields, verb_fields}
+use Rattle.kc_script_verbs.specs.Fields.{loc_fields, stack_fields, queue_fields, table_fields, cache_fields, mvar_fields, promise_fields, acc_fields, object_fields, verb_fields}
 use Rattle.kc_script_verbs.specs.Objects.{used, as_loc, as_stack, as_queue, as_table, as_cache, as_mvar, as_promise, as_acc}
 use Rattle.kc_script_verbs.specs.Words.{word_of}
+use Rattle.kc_script_verbs.specs.declared.saying.TheConstants.{LIVE}
 
 -- ---- how many words stand behind the first
 
@@ -82,6 +86,9 @@ promise_arity w = suc (length (promise_fields w))
 
 abbrev pub acc_arity : AccWord → ℕ
 acc_arity w = suc (length (acc_fields w))
+
+abbrev pub object_arity : ObjectVerb → ℕ
+object_arity v = length (object_fields v)
 
 abbrev pub arity : Verb → ℕ
 arity v = length (verb_fields v)
@@ -198,23 +205,29 @@ length_of _ = Err WrongKind
 -- ---- an operation
 
 -- what a command does to the object of its first name
-unfoldable pub op_on : ℕ → Names → Verb → Object → List (List ℕ) → Result Op Why
-op_on thread names (verb.OnLoc w) o args = as_loc o >>= λ at. loc_op names w at args >>= λ x. Ok (op.Loc x)
-op_on thread names (verb.OnStack w) o args = as_stack o >>= λ s. stack_act w args >>= λ a. Ok (op.Stack (record { stack = s; act = a }))
-op_on thread names (verb.OnQueue w) o args = as_queue o >>= λ q. queue_act w args >>= λ a. Ok (op.Queue (record { queue = q; act = a }))
-op_on thread names (verb.OnTable w) o args = as_table o >>= λ h. table_act w args >>= λ a. Ok (op.Hash (record { hash = h; act = a }))
-op_on thread names (verb.OnCache w) o args = as_cache o >>= λ c. cache_act w args >>= λ a. Ok (op.Cache (record { cache = c; act = a }))
-op_on thread names (verb.OnMvar w) o args = as_mvar o >>= λ x. mvar_act w args >>= λ a. Ok (op.Mvar (record { mvar = x; act = a }))
-op_on thread names (verb.OnPromise w) o args = as_promise o >>= λ p. promise_act w args >>= λ a. Ok (op.Promise (record { promise = p; act = a }))
-op_on thread names (verb.OnAcc w) o args = as_acc o >>= λ x. acc_act thread w args >>= λ a. Ok (op.Acc (record { acc = x; act = a }))
-op_on thread names verb.Len o args = length_of o
+unfoldable pub op_on : ℕ → Names → ObjectVerb → Object → List (List ℕ) → Result Op Why
+op_on thread names (object_verb.OnLoc w) o args = as_loc o >>= λ at. loc_op names w at args >>= λ x. Ok (op.Loc x)
+op_on thread names (object_verb.OnStack w) o args = as_stack o >>= λ s. stack_act w args >>= λ a. Ok (op.Stack (record { stack = s; act = a }))
+op_on thread names (object_verb.OnQueue w) o args = as_queue o >>= λ q. queue_act w args >>= λ a. Ok (op.Queue (record { queue = q; act = a }))
+op_on thread names (object_verb.OnTable w) o args = as_table o >>= λ h. table_act w args >>= λ a. Ok (op.Hash (record { hash = h; act = a }))
+op_on thread names (object_verb.OnCache w) o args = as_cache o >>= λ c. cache_act w args >>= λ a. Ok (op.Cache (record { cache = c; act = a }))
+op_on thread names (object_verb.OnMvar w) o args = as_mvar o >>= λ x. mvar_act w args >>= λ a. Ok (op.Mvar (record { mvar = x; act = a }))
+op_on thread names (object_verb.OnPromise w) o args = as_promise o >>= λ p. promise_act w args >>= λ a. Ok (op.Promise (record { promise = p; act = a }))
+op_on thread names (object_verb.OnAcc w) o args = as_acc o >>= λ x. acc_act thread w args >>= λ a. Ok (op.Acc (record { acc = x; act = a }))
+op_on thread names object_verb.Len o args = length_of o
+
+-- the cancel of a thread by its number
+abbrev pub cancel_of : List ℕ → Result Op Why
+cancel_of word = positive_to MOST_THREADS word >>= λ n. Ok (op.Cancel (record { live = LIVE; thread = n }))
+
+-- what a command says with as many words as it has
+abbrev pub op_of : ℕ → Names → Verb → List (List ℕ) → Result Op Why
+op_of thread names (verb.On v) args = used names (word_at args 0) >>= λ o. op_on thread names v o args
+op_of thread names verb.Cancel args = cancel_of (word_at args 0)
 
 -- the operation that a line says in a thread
 unfoldable pub say : ℕ → Names → Verb → List (List ℕ) → Result Op Why
-say thread names v args = do
-  all ← counted (arity v) args
-  o ← used names (word_at args 0)
-  op_on thread names v o args
+say thread names v args = counted (arity v) args >>= λ all. op_of thread names v args
 
 -- a word that begins a command
 abbrev pub said_by : ℕ → Names → Option Word → List (List ℕ) → Result Op Why

@@ -18,6 +18,8 @@ use Rattle.kc_script_verbs.specs.declared.verb.PromiseWord.{PromiseWord}
 use Rattle.kc_script_verbs.specs.declared.verb.PromiseWord.TheVariants as promise_verb
 use Rattle.kc_script_verbs.specs.declared.verb.AccWord.{AccWord}
 use Rattle.kc_script_verbs.specs.declared.verb.AccWord.TheVariants as acc_verb
+use Rattle.kc_script_verbs.specs.declared.verb.ObjectVerb.{ObjectVerb}
+use Rattle.kc_script_verbs.specs.declared.verb.ObjectVerb.TheVariants as object_verb
 use Rattle.kc_script_verbs.specs.declared.verb.Verb.{Verb}
 use Rattle.kc_script_verbs.specs.declared.verb.Verb.TheVariants as verb
 use Rattle.kc_script_verbs.specs.declared.word.Kind.{Kind}
@@ -108,18 +110,22 @@ acc_word w =
 unfoldable pub loc_word : List ℕ → Option LocWord
 loc_word w = option_or (plain_loc_word w) (choosing_loc_word w)
 
+-- the word of a command on an object
+unfoldable pub object_verb_of : List ℕ → Option ObjectVerb
+object_verb_of w =
+    option_or (option_map (λ on. object_verb.OnLoc on) (loc_word w))
+    (option_or (option_map (λ on. object_verb.OnStack on) (stack_word w))
+    (option_or (option_map (λ on. object_verb.OnQueue on) (queue_word w))
+    (option_or (option_map (λ on. object_verb.OnTable on) (table_word w))
+    (option_or (option_map (λ on. object_verb.OnCache on) (cache_word w))
+    (option_or (option_map (λ on. object_verb.OnMvar on) (mvar_word w))
+    (option_or (option_map (λ on. object_verb.OnPromise on) (promise_word w))
+    (option_or (option_map (λ on. object_verb.OnAcc on) (acc_word w))
+    (if bytes_eq w (codes "len") then Some object_verb.Len else None))))))))
+
 -- the word of a command
 unfoldable pub verb_of : List ℕ → Option Verb
-verb_of w =
-    option_or (option_map (λ on. verb.OnLoc on) (loc_word w))
-    (option_or (option_map (λ on. verb.OnStack on) (stack_word w))
-    (option_or (option_map (λ on. verb.OnQueue on) (queue_word w))
-    (option_or (option_map (λ on. verb.OnTable on) (table_word w))
-    (option_or (option_map (λ on. verb.OnCache on) (cache_word w))
-    (option_or (option_map (λ on. verb.OnMvar on) (mvar_word w))
-    (option_or (option_map (λ on. verb.OnPromise on) (promise_word w))
-    (option_or (option_map (λ on. verb.OnAcc on) (acc_word w))
-    (if bytes_eq w (codes "len") then Some verb.Len else None))))))))
+verb_of w = option_or (option_map (λ on. verb.On on) (object_verb_of w)) (if bytes_eq w (codes "cancel") then Some verb.Cancel else None)
 
 -- the word of a line of a thread or a block
 unfoldable pub structure_word : List ℕ → Option Word

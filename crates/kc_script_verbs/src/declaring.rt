@@ -4,7 +4,7 @@ ghost use Rattle.std.specs.Prelude.{◌≡◌, ◌≤◌, map, length, None, IfO
 ghost use Rattle.kc_script_bundle.specs.Script.{names_of, next_from};
 ghost use Rattle.kc_script_lines.specs.Gives.{Reads};
 ghost use Rattle.kc_script_verbs.specs.Objects.{object_of, new_name};
-ghost use Rattle.kc_script_verbs.specs.Declaring.{fields, size_to, loc_at, stack_at, queue_at, table_at, cache_at, mvar_at, promise_at, acc_at, object_at, declare, IsAt};
+ghost use Rattle.kc_script_verbs.specs.Declaring.{fields, loc_at, stack_at, queue_at, table_at, cache_at, mvar_at, promise_at, acc_at, object_at, declare, IsAt};
 
 use crate::objects::find;
 use crate::word::Kind;
@@ -15,7 +15,7 @@ use kc_hash::Hash;
 use kc_model::{Loc, MOST_LOCATIONS};
 use kc_queue::Queue;
 use kc_script_bundle::Object;
-use kc_script_lines::{Limit, Why, as_name, counted, number_of, number_to, wants, word_at};
+use kc_script_lines::{Limit, Why, as_name, counted, number_to, positive_to, word_at};
 use kc_stack::Stack;
 use kc_xt::{MOST_BUCKETS, MOST_ITEMS};
 
@@ -45,22 +45,6 @@ fn new_name<'a>(objects: &IndexMap<String, Object>, word: &'a [u8]) -> Result<&'
         return Err(Why::RepeatedName);
     }
     Ok(name)
-}
-
-// A size from 1 to this one.
-#[tactic(auto, unfolding(crate::specs::Declaring::size_to, kc_script_lines::specs::Tests::number_to))]
-fn size_to(most: u32, word: &[u8]) -> Result<u32, Why>
-    ensures gives { result ≡ size_to most word.now }
-    ensures some { IfOk result (λ n. 1 ≤ n) }
-    ensures most { IfOk result (λ n. n ≤ most) }
-{
-    match number_of(word, most) {
-        Some(n) => {
-            wants(n >= 1, Why::BadNumber)?;
-            Ok(n)
-        }
-        None => Err(Why::BadNumber),
-    }
 }
 
 fn loc_at(at: Loc, value: u32) -> Result<Object, Why>
@@ -175,19 +159,19 @@ fn object_at(at: Loc, kind: Kind, args: &[&[u8]]) -> Result<Object, Why>
 {
     match kind {
         Kind::Loc => loc_at(at, number_to(u32::MAX, word_at(args, 1))?),
-        Kind::Stack => stack_at(at, size_to(MOST_ITEMS, word_at(args, 1))?),
-        Kind::Queue => queue_at(at, size_to(MOST_ITEMS, word_at(args, 1))?),
+        Kind::Stack => stack_at(at, positive_to(MOST_ITEMS, word_at(args, 1))?),
+        Kind::Queue => queue_at(at, positive_to(MOST_ITEMS, word_at(args, 1))?),
         Kind::Table => {
-            let buckets = size_to(MOST_BUCKETS, word_at(args, 1))?;
-            table_at(at, buckets, size_to(MOST_ITEMS, word_at(args, 2))?)
+            let buckets = positive_to(MOST_BUCKETS, word_at(args, 1))?;
+            table_at(at, buckets, positive_to(MOST_ITEMS, word_at(args, 2))?)
         }
         Kind::Cache => {
-            let buckets = size_to(MOST_BUCKETS, word_at(args, 1))?;
-            cache_at(at, buckets, size_to(MOST_ITEMS, word_at(args, 2))?)
+            let buckets = positive_to(MOST_BUCKETS, word_at(args, 1))?;
+            cache_at(at, buckets, positive_to(MOST_ITEMS, word_at(args, 2))?)
         }
         Kind::Mvar => mvar_at(at),
         Kind::Promise => promise_at(at),
-        Kind::Acc => acc_at(at, size_to(MOST_CELLS, word_at(args, 1))?),
+        Kind::Acc => acc_at(at, positive_to(MOST_CELLS, word_at(args, 1))?),
     }
 }
 

@@ -27,7 +27,7 @@ pub fn lines_declare_one()
     ensures { (names : Names) (line : List (List ℕ)) (a b : List ℕ × Object) → Declares names line a → Declares names line b → a ≡ b }
 {}
 
-/// The operation that a line says is on an object that has a name.
+/// The operation that a line says is on an object that has a name, or a cancel of a thread that a script may have.
 pub fn says_on_objects()
     ensures { (thread : ℕ) (names : Names) (line : List (List ℕ)) (o : Op) → Says thread names line o → IsOn names o }
 {}

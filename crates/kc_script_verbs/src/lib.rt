@@ -18,6 +18,7 @@ pub use laws::{
 pub use objects::add;
 pub use saying::say;
 pub use verb::{
-    AccWord, CacheWord, LocWord, MvarWord, PromiseWord, QueueWord, StackWord, TableWord, Verb,
+    AccWord, CacheWord, LocWord, MvarWord, ObjectVerb, PromiseWord, QueueWord, StackWord,
+    TableWord, Verb,
 };
 pub use word::{Kind, Word, word_of};

@@ -2,7 +2,7 @@
 
 ghost use Rattle.std.specs.Prelude.{◌≡◌, map, length};
 ghost use Rattle.kc_script_bundle.specs.Script.{names_of};
-ghost use Rattle.kc_script_verbs.specs.Saying.{loc_arity, stack_arity, queue_arity, table_arity, cache_arity, mvar_arity, promise_arity, acc_arity, arity, length_of, op_on, say};
+ghost use Rattle.kc_script_verbs.specs.Saying.{loc_arity, stack_arity, queue_arity, table_arity, cache_arity, mvar_arity, promise_arity, acc_arity, object_arity, arity, length_of, op_on, cancel_of, say};
 
 use crate::acts::{acc_act, cache_act, mvar_act, promise_act, queue_act, stack_act, table_act};
 use crate::objects::{
@@ -10,16 +10,21 @@ use crate::objects::{
 };
 use crate::on_loc::loc_op;
 use crate::verb::{
-    AccWord, CacheWord, LocWord, MvarWord, PromiseWord, QueueWord, StackWord, TableWord, Verb,
+    AccWord, CacheWord, LocWord, MvarWord, ObjectVerb, PromiseWord, QueueWord, StackWord,
+    TableWord, Verb,
 };
 use indexmap::IndexMap;
 use kc_cache::{CacheAct, CacheOp};
 use kc_cells::{AccOp, MvarOp, PromiseOp};
 use kc_hash::{HashAct, HashOp};
+use kc_model::Loc;
 use kc_queue::{QueueAct, QueueOp};
-use kc_script_bundle::{Object, Op};
-use kc_script_lines::{Why, counted, word_at};
+use kc_script_bundle::{Cancel, MOST_THREADS, Object, Op};
+use kc_script_lines::{Why, counted, positive_to, word_at};
 use kc_stack::{StackAct, StackOp};
+
+/// The location of live threads.
+const LIVE: Loc = Loc(0);
 
 fn loc_arity(word: LocWord) -> usize
     ensures { result ≡ loc_arity word }
@@ -94,20 +99,30 @@ fn acc_arity(word: AccWord) -> usize
     }
 }
 
+// How many words stand behind the first of a command on an object.
+fn object_arity(verb: ObjectVerb) -> usize
+    ensures { result ≡ object_arity verb }
+{
+    match verb {
+        ObjectVerb::OnLoc(word) => loc_arity(word),
+        ObjectVerb::OnStack(word) => stack_arity(word),
+        ObjectVerb::OnQueue(word) => queue_arity(word),
+        ObjectVerb::OnTable(word) => table_arity(word),
+        ObjectVerb::OnCache(word) => cache_arity(word),
+        ObjectVerb::OnMvar(word) => mvar_arity(word),
+        ObjectVerb::OnPromise(word) => promise_arity(word),
+        ObjectVerb::OnAcc(word) => acc_arity(word),
+        ObjectVerb::Len => 1,
+    }
+}
+
 // How many words stand behind the first.
 fn arity(verb: Verb) -> usize
     ensures { result ≡ arity verb }
 {
     match verb {
-        Verb::OnLoc(word) => loc_arity(word),
-        Verb::OnStack(word) => stack_arity(word),
-        Verb::OnQueue(word) => queue_arity(word),
-        Verb::OnTable(word) => table_arity(word),
-        Verb::OnCache(word) => cache_arity(word),
-        Verb::OnMvar(word) => mvar_arity(word),
-        Verb::OnPromise(word) => promise_arity(word),
-        Verb::OnAcc(word) => acc_arity(word),
-        Verb::Len => 1,
+        Verb::On(verb) => object_arity(verb),
+        Verb::Cancel => 1,
     }
 }
 
@@ -140,55 +155,63 @@ fn length_of(object: Object) -> Result<Op, Why>
 fn op_on(
     thread: u32,
     objects: &IndexMap<String, Object>,
-    verb: Verb,
+    verb: ObjectVerb,
     object: Object,
     args: &[&[u8]],
 ) -> Result<Op, Why>
-    requires { length args.now ≡ arity verb }
+    requires { length args.now ≡ object_arity verb }
     ensures { result ≡ op_on thread (names_of objects.now) verb object (map (λ word. word.now) args.now) }
 {
     match verb {
-        Verb::OnLoc(word) => {
+        ObjectVerb::OnLoc(word) => {
             let at = as_loc(object)?;
             Ok(Op::Loc(loc_op(objects, word, at, args)?))
         }
-        Verb::OnStack(word) => {
+        ObjectVerb::OnStack(word) => {
             let stack = as_stack(object)?;
             let act = stack_act(word, args)?;
             Ok(Op::Stack(StackOp { stack, act }))
         }
-        Verb::OnQueue(word) => {
+        ObjectVerb::OnQueue(word) => {
             let queue = as_queue(object)?;
             let act = queue_act(word, args)?;
             Ok(Op::Queue(QueueOp { queue, act }))
         }
-        Verb::OnTable(word) => {
+        ObjectVerb::OnTable(word) => {
             let hash = as_table(object)?;
             let act = table_act(word, args)?;
             Ok(Op::Hash(HashOp { hash, act }))
         }
-        Verb::OnCache(word) => {
+        ObjectVerb::OnCache(word) => {
             let cache = as_cache(object)?;
             let act = cache_act(word, args)?;
             Ok(Op::Cache(CacheOp { cache, act }))
         }
-        Verb::OnMvar(word) => {
+        ObjectVerb::OnMvar(word) => {
             let mvar = as_mvar(object)?;
             let act = mvar_act(word, args)?;
             Ok(Op::Mvar(MvarOp { mvar, act }))
         }
-        Verb::OnPromise(word) => {
+        ObjectVerb::OnPromise(word) => {
             let promise = as_promise(object)?;
             let act = promise_act(word, args)?;
             Ok(Op::Promise(PromiseOp { promise, act }))
         }
-        Verb::OnAcc(word) => {
+        ObjectVerb::OnAcc(word) => {
             let acc = as_acc(object)?;
             let act = acc_act(thread, word, args)?;
             Ok(Op::Acc(AccOp { acc, act }))
         }
-        Verb::Len => length_of(object),
+        ObjectVerb::Len => length_of(object),
     }
+}
+
+// The cancel of the thread whose number the word is.
+fn cancel_of(word: &[u8]) -> Result<Op, Why>
+    ensures { result ≡ cancel_of word.now }
+{
+    let thread = positive_to(MOST_THREADS as u32, word)?;
+    Ok(Op::Cancel(Cancel { live: LIVE, thread }))
 }
 
 /// The operation that a line says in a thread. Threads are numbered from 0 here.
@@ -202,6 +225,9 @@ pub fn say(
     ensures { result ≡ say thread (names_of objects.now) verb (map (λ word. word.now) args.now) }
 {
     counted(arity(verb), args)?;
-    let object = used(objects, word_at(args, 0))?;
-    op_on(thread, objects, verb, object, args)
+    let first = word_at(args, 0);
+    match verb {
+        Verb::On(verb) => op_on(thread, objects, verb, used(objects, first)?, args),
+        Verb::Cancel => cancel_of(first),
+    }
 }

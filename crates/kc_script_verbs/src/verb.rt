@@ -1,7 +1,7 @@
 //! The words of commands.
 
 ghost use Rattle.std.specs.Prelude.{◌≡◌};
-ghost use Rattle.kc_script_verbs.specs.Words.{plain_loc_word, choosing_loc_word, stack_word, queue_word, table_word, cache_word, mvar_word, promise_word, acc_word, loc_word, verb_of};
+ghost use Rattle.kc_script_verbs.specs.Words.{plain_loc_word, choosing_loc_word, stack_word, queue_word, table_word, cache_word, mvar_word, promise_word, acc_word, loc_word, object_verb_of, verb_of};
 
 /// A word of a command on locations.
 #[derive(Clone, Copy, Debug, PartialEq, Eq)]
@@ -77,9 +77,9 @@ pub enum AccWord {
     Total,
 }
 
-/// A word that begins a command, by the kind of the object that it is on.
+/// A word that begins a command on an object, by the object's kind.
 #[derive(Clone, Copy, Debug, PartialEq, Eq)]
-pub enum Verb {
+pub enum ObjectVerb {
     OnLoc(LocWord),
     OnStack(StackWord),
     OnQueue(QueueWord),
@@ -90,6 +90,15 @@ pub enum Verb {
     OnAcc(AccWord),
     /// Of a stack, a queue, a table or a cache.
     Len,
+}
+
+/// A word that begins a command.
+#[derive(Clone, Copy, Debug, PartialEq, Eq)]
+pub enum Verb {
+    /// On the object of the command's first name.
+    On(ObjectVerb),
+    /// Of a thread.
+    Cancel,
 }
 
 // The word of a command on a location that takes no function or relation.
@@ -277,37 +286,51 @@ fn loc_word(word: &[u8]) -> Option<LocWord>
     choosing_loc_word(word)
 }
 
+// The word of a command on an object.
+#[tactic(auto, unfolding(crate::specs::Words::object_verb_of))]
+fn object_verb_of(word: &[u8]) -> Option<ObjectVerb>
+    ensures { result ≡ object_verb_of word.now }
+{
+    if let Some(found) = loc_word(word) {
+        return Some(ObjectVerb::OnLoc(found));
+    }
+    if let Some(found) = stack_word(word) {
+        return Some(ObjectVerb::OnStack(found));
+    }
+    if let Some(found) = queue_word(word) {
+        return Some(ObjectVerb::OnQueue(found));
+    }
+    if let Some(found) = table_word(word) {
+        return Some(ObjectVerb::OnTable(found));
+    }
+    if let Some(found) = cache_word(word) {
+        return Some(ObjectVerb::OnCache(found));
+    }
+    if let Some(found) = mvar_word(word) {
+        return Some(ObjectVerb::OnMvar(found));
+    }
+    if let Some(found) = promise_word(word) {
+        return Some(ObjectVerb::OnPromise(found));
+    }
+    if let Some(found) = acc_word(word) {
+        return Some(ObjectVerb::OnAcc(found));
+    }
+    if word == b"len".as_slice() {
+        return Some(ObjectVerb::Len);
+    }
+    None
+}
+
 /// The word of a command.
 #[tactic(auto, unfolding(crate::specs::Words::verb_of))]
 pub fn verb_of(word: &[u8]) -> Option<Verb>
     ensures { result ≡ verb_of word.now }
 {
-    if let Some(found) = loc_word(word) {
-        return Some(Verb::OnLoc(found));
+    if let Some(found) = object_verb_of(word) {
+        return Some(Verb::On(found));
     }
-    if let Some(found) = stack_word(word) {
-        return Some(Verb::OnStack(found));
-    }
-    if let Some(found) = queue_word(word) {
-        return Some(Verb::OnQueue(found));
-    }
-    if let Some(found) = table_word(word) {
-        return Some(Verb::OnTable(found));
-    }
-    if let Some(found) = cache_word(word) {
-        return Some(Verb::OnCache(found));
-    }
-    if let Some(found) = mvar_word(word) {
-        return Some(Verb::OnMvar(found));
-    }
-    if let Some(found) = promise_word(word) {
-        return Some(Verb::OnPromise(found));
-    }
-    if let Some(found) = acc_word(word) {
-        return Some(Verb::OnAcc(found));
-    }
-    if word == b"len".as_slice() {
-        return Some(Verb::Len);
+    if word == b"cancel".as_slice() {
+        return Some(Verb::Cancel);
     }
     None
 }
