@@ -72,19 +72,19 @@ added k n (m ∷ ms) before (r ∷ rs) z (l, first, rest) =
 
 -- ---- all callers
 
-part_from : (n k : ℕ) (history : List Entry) (threads : List (List Command)) (records : List (List Record)) → AreRunBy GivesBehindLooks n k history threads records → IsBelowCallers (k + length threads) history
+part_from : (limit n k : ℕ) (history : List Entry) (threads : List (List Command)) (records : List (List Record)) → AreRunBy GivesBehindLooks limit n k history threads records → IsBelowCallers (k + length threads) history
     → (u : ℕ) → IsWithoutLooks (of_caller (k + u) history) (entries_of (k + u) 1 (slice_index_or records u []))
-part_from n k history [] [] h below u = subst (λ (l : List Entry). IsWithoutLooks l []) (sym (none_of (k + u) (k + 0) (omega arith) history below)) end
-part_from n k history [] (rs ∷ records) h below u = absurd h
-part_from n k history (cs ∷ threads) [] h below u = absurd h
-part_from n k history (cs ∷ threads) (rs ∷ records) h below zero =
+part_from limit n k history [] [] h below u = subst (λ (l : List Entry). IsWithoutLooks l []) (sym (none_of limit (k + u) (k + 0) (omega arith) history below)) end
+part_from limit n k history [] (rs ∷ records) h below u = absurd h
+part_from limit n k history (cs ∷ threads) [] h below u = absurd h
+part_from limit n k history (cs ∷ threads) (rs ∷ records) h below zero =
     let z : k ≡ k + 0 = omega arith in
-    let t = added k 1 (meanings cs) [] rs (of_caller k history) h.0.committed in
+    let t = added k 1 (meanings limit (k + 1) cs) [] rs (of_caller k history) h.0.committed in
     subst (λ (j : ℕ). IsWithoutLooks (of_caller j history) (entries_of j 1 rs)) z (subst (λ (l : List Entry). IsWithoutLooks l (entries_of k 1 rs)) (sym t.are) t.without)
-part_from n k history (cs ∷ threads) (rs ∷ records) h below (suc u) =
+part_from limit n k history (cs ∷ threads) (rs ∷ records) h below (suc u) =
     let z : suc k + u ≡ k + suc u = omega arith in
     let more : k + length (cs ∷ threads) ≡ suc k + length threads = omega arith in
-    subst (λ (j : ℕ). IsWithoutLooks (of_caller j history) (entries_of j 1 (slice_index_or records u []))) z (part_from n (suc k) history threads records h.1 (subst (λ (m : ℕ). IsBelowCallers m history) more below) u)
+    subst (λ (j : ℕ). IsWithoutLooks (of_caller j history) (entries_of j 1 (slice_index_or records u []))) z (part_from limit n (suc k) history threads records h.1 (subst (λ (m : ℕ). IsBelowCallers m history) more below) u)
 
 -- one list without looks, of which these are the callers' parts
 record Joined (history : List Entry) (part : ℕ → List Entry) : Type 0 where
@@ -130,17 +130,17 @@ joined (x ∷ xs) part parts = join_one x xs part (joined xs) parts (parted (sub
   ]
 
 -- the records are the commits of the history
-pub are_commits : (n : ℕ) (first last : Store) (history : List Entry) (threads : List (List Command)) (records : List (List Record)) → AreRunBy GivesBehindLooks n 0 history threads records → IsBelowCallers (length threads) history → IsLegal first history last
-    → AreCommitsOf n first history last threads records
-are_commits n first last history threads records run below legal =
+pub are_commits : (limit n : ℕ) (first last : Store) (history : List Entry) (threads : List (List Command)) (records : List (List Record)) → AreRunBy GivesBehindLooks limit n 0 history threads records → IsBelowCallers (length threads) history → IsLegal first history last
+    → AreCommitsOf limit n first history last threads records
+are_commits limit n first last history threads records run below legal =
     let part : ℕ → List Entry = λ u. entries_of u 1 (slice_index_or records u []) in
     let more : length threads ≡ 0 + length threads = omega arith in
     let here : (u : ℕ) → 0 + u ≡ u = λ u. omega arith in
     let whole = joined history part (λ u.
-    subst (λ (j : ℕ). IsWithoutLooks (of_caller j history) (entries_of j 1 (slice_index_or records u []))) (here u) (part_from n 0 history threads records run (subst (λ (m : ℕ). IsBelowCallers m history) more below) u)) in record {
+    subst (λ (j : ℕ). IsWithoutLooks (of_caller j history) (entries_of j 1 (slice_index_or records u []))) (here u) (part_from limit n 0 history threads records run (subst (λ (m : ℕ). IsBelowCallers m history) more below) u)) in record {
       commits = whole.entries;
       without = whole.without;
       legal = legal_without last whole.without first legal;
-      run = run_by_just GivesBehindLooks n 0 history whole.entries threads records run (λ u. subst (λ (j : ℕ). of_caller j whole.entries ≡ entries_of j 1 (slice_index_or records u [])) (sym (here u)) (whole.each u));
+      run = run_by_just limit GivesBehindLooks n 0 history whole.entries threads records run (λ u. subst (λ (j : ℕ). of_caller j whole.entries ≡ entries_of j 1 (slice_index_or records u [])) (sym (here u)) (whole.each u));
       nobody_else = below_without (length threads) whole.without below;
     }

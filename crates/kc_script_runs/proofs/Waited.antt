@@ -11,7 +11,7 @@ use Rattle.kc_model.specs.Store.{Store, Finds}
 use Rattle.kc_model.specs.declared.footprint.Entry.{Entry}
 use Rattle.kc_model.specs.declared.footprint.Footprint.{Footprint}
 use Rattle.kc_model.specs.declared.footprint.Seen.{Seen}
-use Rattle.kc_model.specs.declared.footprint.TheConstants.{LAST_VERSION}
+use Rattle.kc_model.specs.declared.footprint.TheConstants.{LAST_VERSION, MOST}
 use Rattle.kc_model.specs.declared.plain_store.Cell.{Cell}
 use Rattle.kc_script_bundle.specs.Meaning.{thread_meaning}
 use Rattle.kc_script_runs.specs.Looks.{GivesBehindLooks, IsLook}
@@ -20,18 +20,18 @@ use Rattle.kc_xt.specs.Commit.{Waits, run_on}
 use Rattle.kc_xt.specs.Meaning.{Makes, Meaning, Run, given_up, is_touched, last_written, retried, values}
 
 abbrev pub check : Meaning
-check = thread_meaning 0 waits_for_nine
+check = thread_meaning 0 2 waits_for_nine
 
 -- a map on which both locations are known
 abbrev known : (ℕ → ℕ) → ℕ → ℕ
 known v l = cond (l == 1) 8 (cond (l == 0) 2 (v l))
 
-comes : (v : ℕ → ℕ) → check 64 (known v) [] ≡ record { outcome = retried; touches = looks_at_x_and_live }
+comes : (v : ℕ → ℕ) → check MOST (known v) [] ≡ record { outcome = retried; touches = looks_at_x_and_live }
 unfolding loc_program
 comes v = refl
 
-checked : (v : ℕ → ℕ) → v 1 ≡ 8 → v 0 ≡ 2 → check 64 v [] ≡ record { outcome = retried; touches = looks_at_x_and_live }
-checked v at_x at_live = ap (λ (m : ℕ → ℕ). check 64 m []) (fun_ext same) ∙ comes v where
+checked : (v : ℕ → ℕ) → v 1 ≡ 8 → v 0 ≡ 2 → check MOST v [] ≡ record { outcome = retried; touches = looks_at_x_and_live }
+checked v at_x at_live = ap (λ (m : ℕ → ℕ). check MOST m []) (fun_ext same) ∙ comes v where
   same : (l : ℕ) → v l ≡ known v l
   same zero = at_live
   same (suc zero) = at_x

@@ -1,5 +1,5 @@
 -- What a run of a script is, and its text.
-use Rattle.std.specs.Prelude.{◌≡◌, ℕ, List, [], ◌∷◌, ◌++◌, Option, Some, codes, slice_get, slice_index_or}
+use Rattle.std.specs.Prelude.{◌≡◌, ℕ, ◌+◌, List, [], ◌∷◌, ◌++◌, Option, Some, codes, slice_get, slice_index_or}
 use Rattle.kc_history.specs.Order.{IsCanonical}
 use Rattle.kc_history.specs.Records.{record_at, footprint_at}
 use Rattle.kc_history.specs.Text.{records_text}
@@ -21,14 +21,15 @@ pub record IsCommit (m : Meaning) (s : Store) (r : Record) : Type 0 where
   pub finds : Finds r.footprint s
   pub answers : Answers m r.answer r.footprint
 
-abbrev pub meaning_at : List (List Command) → ℕ → ℕ → Option Meaning
-meaning_at threads thread index = slice_get (meanings (slice_index_or threads thread [])) index
+-- what the thread at this place commits there; threads are numbered from 1 on
+abbrev pub meaning_at : ℕ → List (List Command) → ℕ → ℕ → Option Meaning
+meaning_at limit threads thread index = slice_get (meanings limit (thread + 1) (slice_index_or threads thread [])) index
 
 -- replayed in this order from a store, each record is its command's commit there
-abbrev pub Replays : List (List Command) → List (List Record) → Store → List Place → Store → Type 0
-Replays threads records s [] e = e ≡ s
-Replays threads records s (p ∷ ps) e = (m : Meaning) × (r : Record) × (meaning_at threads p.thread p.index ≡ Some m) × (record_at records p.thread p.index ≡ Some r)
-    × IsCommit m s r × Replays threads records (after r.footprint s) ps e
+abbrev pub Replays : ℕ → List (List Command) → List (List Record) → Store → List Place → Store → Type 0
+Replays limit threads records s [] e = e ≡ s
+Replays limit threads records s (p ∷ ps) e = (m : Meaning) × (r : Record) × (meaning_at limit threads p.thread p.index ≡ Some m) × (record_at records p.thread p.index ≡ Some r)
+    × IsCommit m s r × Replays limit threads records (after r.footprint s) ps e
 
 -- the store with which a script opens
 abbrev pub opening_store : Script → Store
@@ -39,7 +40,7 @@ opening_store script = store_of (opened (opening_values script))
 pub record IsRun (script : Script) (records : List (List Record)) (order : List Place) (last : Store) : Type 0 where
   pub threads : AreThreads 1 script.threads records
   pub canonical : IsCanonical (footprint_at records) order
-  pub replays : Replays script.threads records (opening_store script) order last
+  pub replays : Replays script.limit script.threads records (opening_store script) order last
 
 -- ---- its text
 

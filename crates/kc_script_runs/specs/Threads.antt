@@ -9,11 +9,16 @@ use Rattle.kc_script_bundle.specs.Meaning.{thread_meaning, end_meaning}
 use Rattle.kc_script_bundle.specs.declared.operation.Command.{Command}
 use Rattle.kc_script_runs.specs.Labels.{label, labels}
 use Rattle.kc_xt.specs.Commit.{Answers}
-use Rattle.kc_xt.specs.Meaning.{Meaning}
+use Rattle.kc_model.specs.declared.footprint.TheConstants.{MOST}
+use Rattle.kc_xt.specs.Meaning.{Meaning, limited}
 
--- what a thread commits: its commands, and then its end; location 0 counts the live threads
-abbrev pub meanings : List Command → List Meaning
-meanings cs = map (thread_meaning 0) cs ++ end_meaning 0 ∷ []
+-- a command of this thread in a script whose commands touch at most so many locations; location 0 is that of live threads
+abbrev pub asked : ℕ → ℕ → Command → Meaning
+asked limit thread c = limited limit (thread_meaning 0 thread c)
+
+-- what this thread commits: its commands, and then its end
+abbrev pub meanings : ℕ → ℕ → List Command → List Meaning
+meanings limit thread cs = map (asked limit thread) cs ++ limited MOST (end_meaning 0) ∷ []
 
 -- Wherever the record's reads stand, its answer is the meaning's, and its footprint is the one that is made there. It lies in a store of so many locations.
 pub record IsAnswered (locations : ℕ) (m : Meaning) (r : Record) : Type 0 where
@@ -27,17 +32,17 @@ AreAnswered locations [] (r ∷ rs) = ⊥
 AreAnswered locations (m ∷ ms) [] = ⊥
 
 -- The records of a caller's thread on a store of so many locations: one for each command and then its end, each answered what it means, and their footprints are the caller's part of the history, in order.
-pub record IsThread (locations caller : ℕ) (history : List Entry) (commands : List Command) (records : List Record) : Type 0 where
+pub record IsThread (limit locations caller : ℕ) (history : List Entry) (commands : List Command) (records : List Record) : Type 0 where
   pub labelled : map label records ≡ labels (caller + 1) 1 commands
-  pub answered : AreAnswered locations (meanings commands) records
+  pub answered : AreAnswered locations (meanings limit (caller + 1) commands) records
   pub committed : of_caller caller history ≡ entries_of caller 1 records
 
 -- each thread's records, of the callers from this one on
-abbrev pub AreRun : ℕ → ℕ → List Entry → List (List Command) → List (List Record) → Type 0
-AreRun locations caller history [] [] = Unit {0}
-AreRun locations caller history (cs ∷ threads) (rs ∷ records) = IsThread locations caller history cs rs × AreRun locations (suc caller) history threads records
-AreRun locations caller history [] (rs ∷ records) = ⊥
-AreRun locations caller history (cs ∷ threads) [] = ⊥
+abbrev pub AreRun : ℕ → ℕ → ℕ → List Entry → List (List Command) → List (List Record) → Type 0
+AreRun limit locations caller history [] [] = Unit {0}
+AreRun limit locations caller history (cs ∷ threads) (rs ∷ records) = IsThread limit locations caller history cs rs × AreRun limit locations (suc caller) history threads records
+AreRun limit locations caller history [] (rs ∷ records) = ⊥
+AreRun limit locations caller history (cs ∷ threads) [] = ⊥
 
 -- ---- on a store whose commits may add more than their entry
 
@@ -58,14 +63,14 @@ module _ (gives : CommitGives) where
   AreGiven k (m ∷ ms) before [] after = ⊥
 
   -- The records of a caller's thread as above, and the caller's part of the history is what its commits make of an empty list.
-  pub record IsThreadBy (locations caller : ℕ) (history : List Entry) (commands : List Command) (records : List Record) : Type 0 where
+  pub record IsThreadBy (limit locations caller : ℕ) (history : List Entry) (commands : List Command) (records : List Record) : Type 0 where
     pub labelled : map label records ≡ labels (caller + 1) 1 commands
-    pub answered : AreAnswered locations (meanings commands) records
-    pub committed : AreGiven caller (meanings commands) [] records (of_caller caller history)
+    pub answered : AreAnswered locations (meanings limit (caller + 1) commands) records
+    pub committed : AreGiven caller (meanings limit (caller + 1) commands) [] records (of_caller caller history)
 
   -- each thread's records, of the callers from this one on
-  abbrev pub AreRunBy : ℕ → ℕ → List Entry → List (List Command) → List (List Record) → Type 0
-  AreRunBy locations caller history [] [] = Unit {0}
-  AreRunBy locations caller history (cs ∷ threads) (rs ∷ records) = IsThreadBy locations caller history cs rs × AreRunBy locations (suc caller) history threads records
-  AreRunBy locations caller history [] (rs ∷ records) = ⊥
-  AreRunBy locations caller history (cs ∷ threads) [] = ⊥
+  abbrev pub AreRunBy : ℕ → ℕ → ℕ → List Entry → List (List Command) → List (List Record) → Type 0
+  AreRunBy limit locations caller history [] [] = Unit {0}
+  AreRunBy limit locations caller history (cs ∷ threads) (rs ∷ records) = IsThreadBy limit locations caller history cs rs × AreRunBy limit locations (suc caller) history threads records
+  AreRunBy limit locations caller history [] (rs ∷ records) = ⊥
+  AreRunBy limit locations caller history (cs ∷ threads) [] = ⊥

@@ -1,10 +1,11 @@
 -- Worked scripts by hand, of one thread and of two, and a command that waits. The definitions are computed on them.
-use Rattle.std.specs.Prelude.{ℕ, List, [], ◌∷◌, codes, cond, ◌==◌, None}
+use Rattle.std.specs.Prelude.{ℕ, List, [], ◌∷◌, codes, cond, ◌==◌, Some, None}
 use Rattle.kc_model.specs.declared.footprint.Entry.{Entry}
 use Rattle.kc_model.specs.declared.footprint.Footprint.{Footprint}
 use Rattle.kc_model.specs.declared.footprint.Loc.{Loc}
 use Rattle.kc_model.specs.declared.footprint.Put.{Put}
 use Rattle.kc_model.specs.declared.footprint.Seen.{Seen}
+use Rattle.kc_model.specs.declared.reply.Reply.{Reply}
 use Rattle.kc_model.specs.declared.reply.Reply.TheVariants as reply
 use Rattle.kc_model.specs.declared.reply.Answer.TheVariants as answer
 use Rattle.kc_model.specs.Store.{Store}
@@ -13,7 +14,10 @@ use Rattle.kc_script_bundle.specs.declared.operation.Command.{Command}
 use Rattle.kc_script_bundle.specs.declared.operation.Command.TheVariants as command
 use Rattle.kc_loc.specs.declared.kinds.Rel.TheVariants as rel
 use Rattle.kc_xt.specs.Meaning.{Touch}
+use Rattle.kc_script_bundle.specs.declared.operation.Op.{Op}
 use Rattle.kc_script_bundle.specs.declared.operation.Op.TheVariants as op
+use Rattle.kc_term.specs.Tree.{seq, more, none}
+use Rattle.kc_term.specs.Tree as tree
 use Rattle.kc_loc.specs.declared.operation.LocOp.TheVariants as loc
 use Rattle.kc_script_bundle.specs.Script.{Script}
 use Rattle.kc_script_bundle.specs.State.{Content, number}
@@ -28,6 +32,7 @@ x = record { 0 = 1 }
 -- loc x 5, and a thread of get x, set x 7, add x 1
 abbrev pub first_script : Script
 first_script = record {
+  limit = 64;
   objects = (codes "x", object.Loc x 5) ∷ [];
   threads = (command.One (op.Loc (loc.Get x)) ∷ command.One (op.Loc (loc.Set x 7)) ∷ command.One (op.Loc (loc.FetchAdd x 1)) ∷ []) ∷ [];
 }
@@ -75,6 +80,7 @@ looks_at_x_and_live = record { cell = 1; wrote = None } ∷ record { cell = 0; w
 -- loc x 0, a thread of add x 1, and one of get x
 abbrev pub two_script : Script
 two_script = record {
+  limit = 64;
   objects = (codes "x", object.Loc x 0) ∷ [];
   threads = (command.One (op.Loc (loc.FetchAdd x 1)) ∷ []) ∷ (command.One (op.Loc (loc.Get x)) ∷ []) ∷ [];
 }
@@ -139,3 +145,59 @@ waited_history = entry_of 1 1 missed ∷ entry_of 0 1 made_nine ∷ entry_of 1 2
 
 abbrev pub commits_alone : List Entry
 commits_alone = entry_of 0 1 made_nine ∷ entry_of 1 1 met ∷ []
+
+-- ---- cancels
+
+-- location 0 with one live thread, and with the flag of thread 1 besides
+abbrev pub one_live : ℕ
+one_live = 1
+
+abbrev pub first_flagged : ℕ
+first_flagged = 65537
+
+-- cancel 1, and check x eq 1
+abbrev pub cancels_first : Op
+cancels_first = op.Cancel (record { live = live; thread = 1 })
+
+abbrev pub waits_for_one : Op
+waits_for_one = op.Loc (loc.Check x rel.Eq 1)
+
+-- loc x 0, and a thread of cancel 1, check x eq 1, get x, check x eq 1
+abbrev pub cancel_script : Script
+cancel_script = record {
+  limit = 64;
+  objects = (codes "x", object.Loc x 0) ∷ [];
+  threads = (command.One cancels_first ∷ command.One waits_for_one ∷ command.One (op.Loc (loc.Get x)) ∷ command.One waits_for_one ∷ []) ∷ [];
+}
+
+abbrev answered : ℕ → Reply → Footprint → Record
+answered i r f = record { thread = 1; mark = mark.Command i; answer = answer.Reply r; footprint = f }
+
+abbrev pub cancel_records : List (List Record)
+cancel_records =
+    (answered 1 reply.Unit (print (saw live 0 one_live ∷ []) (put live 0 first_flagged ∷ []))
+    ∷ answered 2 reply.Cancelled (print (saw live 1 first_flagged ∷ saw x 0 0 ∷ []) (put live 1 one_live ∷ []))
+    ∷ answered 3 (reply.Value 0) (print (saw x 0 0 ∷ []) [])
+    ∷ answered 4 reply.Stranded (print (saw live 2 one_live ∷ saw x 0 0 ∷ []) [])
+    ∷ record { thread = 1; mark = mark.End; answer = answer.Reply reply.Unit; footprint = print (saw live 2 one_live ∷ []) (put live 2 0 ∷ []) }
+    ∷ []) ∷ []
+
+abbrev pub cancel_order : List Place
+cancel_order = at 0 ∷ at 1 ∷ at 2 ∷ at 3 ∷ at 4 ∷ []
+
+abbrev pub cancel_contents : List Content
+cancel_contents = number 0 ∷ []
+
+-- a store in which x has 0, and location 0 this
+abbrev pub holding : ℕ → Store
+holding v l = cond (l == 1) (record { version = 0; value = 0 }) (record { version = 0; value = v })
+
+abbrev pub looks : ℕ → Touch
+looks l = record { cell = l; wrote = None }
+
+abbrev pub writes : ℕ → ℕ → Touch
+writes l v = record { cell = l; wrote = Some v }
+
+-- a block of cancel 1, check x eq 1
+abbrev pub cancels_and_waits : Command
+cancels_and_waits = command.Block (seq (more (tree.op cancels_first) (more (tree.op waits_for_one) none)))

@@ -1,6 +1,6 @@
 //! What holds of every run of a script.
 
-ghost use Rattle.std.specs.Prelude.{ℕ, List, [], length, slice_index_or};
+ghost use Rattle.std.specs.Prelude.{◌≡◌, ℕ, List, [], length, slice_index_or};
 ghost use Rattle.kc_model.specs.declared.footprint.Entry.{Entry};
 ghost use Rattle.kc_model.specs.Legal.{IsLegal};
 ghost use Rattle.kc_model.specs.Store.{Store};
@@ -32,24 +32,30 @@ pub fn runs_stay_well_formed()
     ensures { (script : Script) (records : List (List Record)) (order : List Place) (last : Store) → LieFrom 1 script.objects → ((t : ℕ) → CommandsAreOn script.objects (slice_index_or script.threads t [])) → IsRun script records order last → AreWellFormed script.objects (values last) }
 {}
 
+/// The order of a run determines its records, their footprints too, and its last store. So does a text, which shows the
+/// order.
+pub fn orders_determine_runs()
+    ensures { (script : Script) (records others : List (List Record)) (order : List Place) (last end : Store) → IsRun script records order last → IsRun script others order end → (records ≡ others) × (last ≡ end) }
+{}
+
 /// Where a legal history from the script's opening store has the records of its threads, each answered what it means,
 /// and nobody else's, it has just these records. They can be arranged, and in the canonical order they are a run of the
 /// script, with the history's last store.
 pub fn histories_are_runs()
-    ensures just { (script : Script) (n : ℕ) (history : List Entry) (records : List (List Record)) → AreRun n 0 history script.threads records → IsBelowCallers (length script.threads) history → HasJust records history }
-    ensures made { (script : Script) (n : ℕ) (history : List Entry) (records : List (List Record)) → AreRun n 0 history script.threads records → AllCanStandIn n (footprint_at records) }
-    ensures arranged { (script : Script) (n : ℕ) (history : List Entry) (records : List (List Record)) (last : Store) → AreRun n 0 history script.threads records → IsBelowCallers (length script.threads) history → IsLegal (opening_store script) history last → HasLegalList (footprint_at records) }
-    ensures run { (script : Script) (n : ℕ) (history : List Entry) (records : List (List Record)) (order : List Place) (last : Store) → AreRun n 0 history script.threads records → IsBelowCallers (length script.threads) history → IsLegal (opening_store script) history last → IsCanonical (footprint_at records) order → IsRun script records order last }
+    ensures just { (script : Script) (n : ℕ) (history : List Entry) (records : List (List Record)) → AreRun script.limit n 0 history script.threads records → IsBelowCallers (length script.threads) history → HasJust records history }
+    ensures made { (script : Script) (n : ℕ) (history : List Entry) (records : List (List Record)) → AreRun script.limit n 0 history script.threads records → AllCanStandIn n (footprint_at records) }
+    ensures arranged { (script : Script) (n : ℕ) (history : List Entry) (records : List (List Record)) (last : Store) → AreRun script.limit n 0 history script.threads records → IsBelowCallers (length script.threads) history → IsLegal (opening_store script) history last → HasLegalList (footprint_at records) }
+    ensures run { (script : Script) (n : ℕ) (history : List Entry) (records : List (List Record)) (order : List Place) (last : Store) → AreRun script.limit n 0 history script.threads records → IsBelowCallers (length script.threads) history → IsLegal (opening_store script) history last → IsCanonical (footprint_at records) order → IsRun script records order last }
 {}
 
 /// Where each commit gives one entry with the next number, 'run by' says what 'run' says.
 pub fn commits_of_one_entry_are_a_run()
-    ensures run { (n caller : ℕ) (history : List Entry) (threads : List (List Command)) (records : List (List Record)) → AreRunBy GivesOne n caller history threads records → AreRun n caller history threads records }
-    ensures by { (n caller : ℕ) (history : List Entry) (threads : List (List Command)) (records : List (List Record)) → AreRun n caller history threads records → AreRunBy GivesOne n caller history threads records }
+    ensures run { (limit n caller : ℕ) (history : List Entry) (threads : List (List Command)) (records : List (List Record)) → AreRunBy GivesOne limit n caller history threads records → AreRun limit n caller history threads records }
+    ensures by { (limit n caller : ℕ) (history : List Entry) (threads : List (List Command)) (records : List (List Record)) → AreRun limit n caller history threads records → AreRunBy GivesOne limit n caller history threads records }
 {}
 
 /// Where each commit gives one entry behind looks, and the history is legal and of these callers alone, the records are
 /// the commits of the history without its looks, which is as legal.
 pub fn looks_can_be_left_out()
-    ensures { (n : ℕ) (first last : Store) (history : List Entry) (threads : List (List Command)) (records : List (List Record)) → AreRunBy GivesBehindLooks n 0 history threads records → IsBelowCallers (length threads) history → IsLegal first history last → AreCommitsOf n first history last threads records }
+    ensures { (limit n : ℕ) (first last : Store) (history : List Entry) (threads : List (List Command)) (records : List (List Record)) → AreRunBy GivesBehindLooks limit n 0 history threads records → IsBelowCallers (length threads) history → IsLegal first history last → AreCommitsOf limit n first history last threads records }
 {}

@@ -1,4 +1,5 @@
 -- Operations that only add: what they come to, whatever the store holds.
+use Rattle.kc_script_runs.specs.Threads.{asked}
 use Rattle.std.proofs.Common.{◌≡◌, ℕ, ◌+◌, ◌^◌, ◌<◌, ◌==◌, Bool, true, false, cond, List, [], ◌∷◌, ◌++◌, Some, None, length, refl, sym, ap, ◌∙◌, arith, lit<}
 use Rattle.std.specs.Prelude.{sum_by}
 use Rattle.std.proofs.Math.Nat.{mod-add-mod, mod-lt, mod-eq_of_lt}
@@ -19,7 +20,7 @@ use Rattle.kc_script_bundle.specs.declared.operation.Op.{Op}
 use Rattle.kc_term.specs.Meaning.{items_of, parts_meaning}
 use Rattle.kc_term.specs.Tree.{op, seq, trees, none, more}
 use Rattle.kc_xt.proofs.Lines.{contains-insert}
-use Rattle.kc_xt.specs.Meaning.{Meaning, Run, Touch, replied, map_after, joined, then_run, touch, touched_after, contains_location, insert_location, put}
+use Rattle.kc_xt.specs.Meaning.{Meaning, Run, Touch, replied, map_after, joined, then_run, touch, touched_after, contains_location, insert_location, put, limited}
 use Rattle.kc_xt.specs.Program.{Program, read, write, replies, meaning, has_room, wrapped}
 use Rattle.kc_script_bundle.specs.declared.operation.Op.TheVariants as operation
 use Rattle.kc_script_bundle.specs.declared.operation.Command.{Command}
@@ -97,8 +98,8 @@ adding_adds at a = record {
 -- ---- a command of a thread
 
 -- a command that replies is all that the thread's command comes to
-in_thread : (c : Command) (adds : ℕ → ℕ) → Adds (command_meaning c) adds → Adds (thread_meaning 0 c) adds
-in_thread c adds h = record {
+in_thread : (thread : ℕ) (c : Command) (adds : ℕ → ℕ) → Adds (command_meaning c) adds → Adds (thread_meaning 0 thread c) adds
+in_thread thread c adds h = record {
   reply = h.reply;
   ok = h.ok;
   outcome = λ v. rw (h.outcome v) refl;
@@ -108,16 +109,16 @@ in_thread c adds h = record {
 abbrev adding_op : ℕ → ℕ → Op
 adding_op at a = operation.Loc (loc.Modify (record { 0 = at }) (fun.Add a))
 
-pub modify_adds : (at a : ℕ) → Adds (thread_meaning 0 (command.One (adding_op at a))) (at_cell at a)
+pub modify_adds : (thread at a : ℕ) → Adds (thread_meaning 0 thread (command.One (adding_op at a))) (at_cell at a)
 unfolding loc_program
-modify_adds at a = in_thread (command.One (adding_op at a)) (at_cell at a) (adding_adds at a)
+modify_adds thread at a = in_thread thread (command.One (adding_op at a)) (at_cell at a) (adding_adds at a)
 
-pub incr_adds : (at : ℕ) → Adds (thread_meaning 0 (command.One (operation.Loc (loc.Incr (record { 0 = at }))))) (at_cell at 1)
+pub incr_adds : (thread at : ℕ) → Adds (thread_meaning 0 thread (command.One (operation.Loc (loc.Incr (record { 0 = at }))))) (at_cell at 1)
 unfolding loc_program
-incr_adds at = in_thread (command.One (operation.Loc (loc.Incr (record { 0 = at })))) (at_cell at 1) (adding_adds at 1)
+incr_adds thread at = in_thread thread (command.One (operation.Loc (loc.Incr (record { 0 = at })))) (at_cell at 1) (adding_adds at 1)
 
-pub bump_adds : (x : Accumulator) (c a : ℕ) → Adds (thread_meaning 0 (command.One (operation.Acc (record { acc = x; act = act.Bump c a })))) (at_cell (bumped_cell x c) a)
-bump_adds x c a = in_thread (command.One (operation.Acc (record { acc = x; act = act.Bump c a }))) (at_cell (bumped_cell x c) a) (adding_adds (bumped_cell x c) a)
+pub bump_adds : (thread : ℕ) (x : Accumulator) (c a : ℕ) → Adds (thread_meaning 0 thread (command.One (operation.Acc (record { acc = x; act = act.Bump c a })))) (at_cell (bumped_cell x c) a)
+bump_adds thread x c a = in_thread thread (command.One (operation.Acc (record { acc = x; act = act.Bump c a }))) (at_cell (bumped_cell x c) a) (adding_adds (bumped_cell x c) a)
 
 -- the end of a thread adds to location 0, which goes round
 pub end_adds : Adds (end_meaning 0) (at_cell 0 4294967295)
@@ -150,8 +151,8 @@ both_runs at a to b v =
     let last : Run → Run = λ r. joined (touches_of at a v) (then_run r.outcome r.touches (λ x. meaning (replies (reply.Many (item.Unit ∷ items_of x))) MOST (map_after w r.touches) (touched_after ks r.touches))) in
     ap behind (adding_runs MOST at a v [] (lit< tt)) ∙ ap last (adding_runs MOST to b w ks (few_touched at))
 
-pub both_adds : (at a to b : ℕ) → Adds (thread_meaning 0 (both at a to b)) (command_adds (both at a to b))
-both_adds at a to b = in_thread (both at a to b) (command_adds (both at a to b)) (record {
+pub both_adds : (thread at a to b : ℕ) → Adds (thread_meaning 0 thread (both at a to b)) (command_adds (both at a to b))
+both_adds thread at a to b = in_thread thread (both at a to b) (command_adds (both at a to b)) (record {
   reply = reply.Many (item.Unit ∷ item.Unit ∷ []);
   ok = refl;
   outcome = λ v. ap (λ (r : Run). r.outcome) (both_runs at a to b v);
@@ -163,3 +164,14 @@ both_adds at a to b = in_thread (both at a to b) (command_adds (both at a to b))
       ∙ mod-add-mod (v l + at_cell at a l) (2 ^ 32) (at_cell to b l)
       ∙ ap wrapped (sum_of_two (v l) (λ (o : Op). op_adds o l) (adding_op at a) (adding_op to b));
 })
+
+-- ---- in a script whose commands may touch as many locations as any
+
+pub asked_adds : (thread : ℕ) (c : Command) (adds : ℕ → ℕ) → Adds (thread_meaning 0 thread c) adds → Adds (asked MOST thread c) adds
+asked_adds thread c adds h = record { reply = h.reply; ok = h.ok; outcome = h.outcome; leaves = h.leaves }
+
+abbrev pub ended : Meaning
+ended = limited MOST (end_meaning 0)
+
+pub ended_adds : Adds ended (at_cell 0 4294967295)
+ended_adds = let h = end_adds in record { reply = h.reply; ok = h.ok; outcome = h.outcome; leaves = h.leaves }

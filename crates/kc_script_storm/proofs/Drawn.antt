@@ -10,7 +10,7 @@ use Rattle.kc_script_bundle.specs.Meaning.{thread_meaning}
 use Rattle.kc_script_bundle.specs.State.{state_lines, state_text, opening_values}
 use Rattle.kc_script_bundle.specs.declared.operation.Command.{Command}
 use Rattle.kc_script_runs.specs.Run.{IsRun, opening_store}
-use Rattle.kc_script_storm.proofs.Adding.{Small, Adds, modify_adds, incr_adds, bump_adds, both_adds}
+use Rattle.kc_script_storm.proofs.Adding.{Small, Adds, modify_adds, incr_adds, bump_adds, both_adds, asked_adds}
 use Rattle.kc_script_storm.proofs.Ordered.{AllAdd, ThreadsAdd, sums_of, run_counts, run_values, threads_add}
 use Rattle.kc_script_storm.specs.State.{at_cell, command_adds, all_adds, storm_state}
 use Rattle.kc_script_storm.specs.Storm.{accumulator, first_place, other_place, amount, kind, high, next_draw, command_of, drawn_commands, storm_thread, storm_script, storm_objects}
@@ -20,16 +20,16 @@ use Rattle.kc_xt.specs.Program.{wrapped}
 
 -- ---- its threads
 
-drawn_adds : (thread x k : ℕ) → Adds (thread_meaning 0 (command_of thread x k)) (command_adds (command_of thread x k))
-drawn_adds thread x zero = modify_adds (first_place x + 1) (amount x)
-drawn_adds thread x (suc zero) = bump_adds accumulator (thread - 1) (amount x)
-drawn_adds thread x (suc (suc zero)) = both_adds (first_place x + 1) (amount x) (other_place x + 1) (2 ^ 32 - amount x)
-drawn_adds thread x (suc (suc (suc k))) = incr_adds (first_place x + 1)
+drawn_adds : (number thread x k : ℕ) → Adds (thread_meaning 0 number (command_of thread x k)) (command_adds (command_of thread x k))
+drawn_adds number thread x zero = modify_adds number (first_place x + 1) (amount x)
+drawn_adds number thread x (suc zero) = bump_adds number accumulator (thread - 1) (amount x)
+drawn_adds number thread x (suc (suc zero)) = both_adds number (first_place x + 1) (amount x) (other_place x + 1) (2 ^ 32 - amount x)
+drawn_adds number thread x (suc (suc (suc k))) = incr_adds number (first_place x + 1)
 
 commands_add : (thread count s : ℕ) → AllAdd (drawn_commands thread count s)
 unfolding drawn_commands
 commands_add thread zero s = tt
-commands_add thread (suc count) s = (drawn_adds thread (high (next_draw s)) (kind (high (next_draw s))), commands_add thread count (next_draw s))
+commands_add thread (suc count) s = (λ number. asked_adds number (command_of thread (high (next_draw s)) (kind (high (next_draw s)))) _ (drawn_adds number thread (high (next_draw s)) (kind (high (next_draw s)))), commands_add thread count (next_draw s))
 
 pub length-commands : (thread count s : ℕ) → length (drawn_commands thread count s) ≡ count
 unfolding drawn_commands
@@ -68,13 +68,13 @@ longer thread s = ap (λ (k : ℕ). k + 1) (length-commands thread 2000 s)
 
 module _ (n : ℕ) (records : List (List Record)) (order : List Place) (last : Store) (run : IsRun (storm_script n) records order last) where
   pub storm_commits : commits records ≡ 8004
-  storm_commits = (run_counts (storm_script n) records order last run (storm_adds n)).0 ∙ four (λ cs. length cs + 1) 2001 (storm_thread n 1) (storm_thread n 2) (storm_thread n 3) (storm_thread n 4) (longer 1 _) (longer 2 _) (longer 3 _) (longer 4 _)
+  storm_commits = (run_counts (storm_script n) records order last run (storm_adds n) refl).0 ∙ four (λ cs. length cs + 1) 2001 (storm_thread n 1) (storm_thread n 2) (storm_thread n 3) (storm_thread n 4) (longer 1 _) (longer 2 _) (longer 3 _) (longer 4 _)
 
   pub storm_oks : ok_commands records ≡ 8000
-  storm_oks = (run_counts (storm_script n) records order last run (storm_adds n)).1 ∙ four length 2000 (storm_thread n 1) (storm_thread n 2) (storm_thread n 3) (storm_thread n 4) (length-commands 1 2000 _) (length-commands 2 2000 _) (length-commands 3 2000 _) (length-commands 4 2000 _)
+  storm_oks = (run_counts (storm_script n) records order last run (storm_adds n) refl).1 ∙ four length 2000 (storm_thread n 1) (storm_thread n 2) (storm_thread n 3) (storm_thread n 4) (length-commands 1 2000 _) (length-commands 2 2000 _) (length-commands 3 2000 _) (length-commands 4 2000 _)
 
   pub storm_values : values last ≡ storm_state n
-  storm_values = run_values (storm_script n) records order last run (storm_adds n) (storm_opens n)
+  storm_values = run_values (storm_script n) records order last run (storm_adds n) refl (storm_opens n)
 
 pub summary_is : (n : ℕ) (records : List (List Record)) (text : List ℕ) → IsSummary n records text → text ≡ summary_text n
 summary_is n records text s =
@@ -121,5 +121,5 @@ opens_zero n (suc l) le = opened_zeros (0 ∷ 0 ∷ 0 ∷ 0 ∷ 0 ∷ 0 ∷ 0 �
 
 pub state_is_sum : (n l : ℕ) → 1 ≤ l → storm_state n l ≡ wrapped (all_adds (storm_script n).threads l)
 state_is_sum n l le =
-    threads_add (storm_script n).threads (storm_adds n) (values (opening_store (storm_script n))) (storm_opens n) l
+    threads_add 1 (storm_script n).threads (storm_adds n) (values (opening_store (storm_script n))) (storm_opens n) l
     ∙ ap wrapped (let a = opens_zero n l le in let b = threads_sum (storm_script n).threads l le in omega (arith, a, b))

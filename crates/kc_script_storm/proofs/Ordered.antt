@@ -1,4 +1,5 @@
 -- In every run of a script whose commands only add, all replies are `ok`, and the last store has the sums.
+use Rattle.kc_model.specs.declared.footprint.TheConstants.{MOST}
 use Rattle.std.proofs.Common.{◌≡◌, ◌≢◌, ◌⊎◌, inl, inr, ℕ, zero, suc, ◌+◌, ◌<◌, ◌≤◌, ◌^◌, true, cond, List, [], ◌∷◌, ◌++◌, Some, map, length, slice_index_or, refl, sym, ap, ap₂, subst, ◌∙◌, arith}
 use Rattle.std.specs.Prelude.{slice_get, count_by, sum_by}
 use Rattle.std.specs.Option.{option_map}
@@ -8,7 +9,6 @@ use Rattle.std.proofs.lemmas.List.Sums.{sum_by-cons}
 use Rattle.kc_model.specs.Store.{Store, after}
 use Rattle.kc_model.specs.declared.reply.Answer.{Answer}
 use Rattle.kc_model.specs.declared.reply.Answer.TheVariants as answer
-use Rattle.kc_script_bundle.specs.Meaning.{thread_meaning, end_meaning}
 use Rattle.kc_script_bundle.specs.Script.{Script}
 use Rattle.kc_script_bundle.specs.declared.operation.Command.{Command}
 use Rattle.kc_xt.specs.Commit.{kept, run_on}
@@ -24,18 +24,18 @@ use Rattle.kc_history.specs.declared.record.Record.{Record}
 use Rattle.kc_script_runs.proofs.Formed.{left_by, answered_reply}
 use Rattle.kc_script_runs.proofs.Legals.{run_legal}
 use Rattle.kc_script_runs.specs.Labels.{Label, label, labels, AreThreads}
-use Rattle.kc_script_runs.specs.Run.{IsCommit, IsRun, Replays, meaning_at, opening_store}
-use Rattle.kc_script_runs.specs.Threads.{meanings}
-use Rattle.kc_script_storm.proofs.Adding.{Small, Adds, end_adds, small_wrapped}
+use Rattle.kc_script_runs.specs.Run.{IsCommit, IsRun, Replays, opening_store}
+use Rattle.kc_script_runs.specs.Threads.{meanings, asked}
+use Rattle.kc_script_storm.proofs.Adding.{Small, Adds, ended, ended_adds, small_wrapped}
 use Rattle.kc_script_storm.proofs.Left.{left, left_step, left_none, left_all}
 use Rattle.kc_script_storm.specs.State.{at_cell, command_adds, made_by, made_by_all, thread_after_thread}
 use Rattle.kc_script_storm.specs.Summary.{all_ok, is_ok_command, commits, ok_commands}
 
--- ---- threads whose commands only add
+-- ---- threads whose commands only add, whatever their numbers
 
 abbrev pub AllAdd : List Command → Type 0
 AllAdd [] = Unit {0}
-AllAdd (c ∷ cs) = Adds (thread_meaning 0 c) (command_adds c) × AllAdd cs
+AllAdd (c ∷ cs) = ((thread : ℕ) → Adds (asked MOST thread c) (command_adds c)) × AllAdd cs
 
 abbrev pub ThreadsAdd : List (List Command) → Type 0
 ThreadsAdd [] = Unit {0}
@@ -70,18 +70,18 @@ record Found (fs : List (ℕ → ℕ)) (i : ℕ) (m : Meaning) : Type 0 where
   stands : slice_get fs i ≡ Some adds
   adding : Adds m adds
 
-found_in : (cs : List Command) → AllAdd cs → (i : ℕ) (m : Meaning) → slice_get (meanings cs) i ≡ Some m → Found (sums_of cs) i m
-found_in [] h zero m e = record { adds = at_cell 0 4294967295; stands = refl; adding = subst (λ (q : Meaning). Adds q (at_cell 0 4294967295)) (some_is (end_meaning 0) m e) end_adds }
-found_in [] h (suc i) m e = absurd (cc)
-found_in (c ∷ cs) h zero m e = record { adds = command_adds c; stands = refl; adding = subst (λ (q : Meaning). Adds q (command_adds c)) (some_is (thread_meaning 0 c) m e) h.0 }
-found_in (c ∷ cs) h (suc i) m e = let r = found_in cs h.1 i m e in record { adds = r.adds; stands = r.stands; adding = r.adding }
+found_in : (thread : ℕ) (cs : List Command) → AllAdd cs → (i : ℕ) (m : Meaning) → slice_get (meanings MOST thread cs) i ≡ Some m → Found (sums_of cs) i m
+found_in thread [] h zero m e = record { adds = at_cell 0 4294967295; stands = refl; adding = subst (λ (q : Meaning). Adds q (at_cell 0 4294967295)) (some_is ended m e) ended_adds }
+found_in thread [] h (suc i) m e = absurd (cc)
+found_in thread (c ∷ cs) h zero m e = record { adds = command_adds c; stands = refl; adding = subst (λ (q : Meaning). Adds q (command_adds c)) (some_is (asked MOST thread c) m e) (h.0 thread) }
+found_in thread (c ∷ cs) h (suc i) m e = let r = found_in thread cs h.1 i m e in record { adds = r.adds; stands = r.stands; adding = r.adding }
 
-found : (k : ℕ) (threads : List (List Command)) (records : List (List Record)) → AreThreads k threads records → ThreadsAdd threads → (t i : ℕ) (m : Meaning) (r : Record) → meaning_at threads t i ≡ Some m → record_at records t i ≡ Some r → Found (slice_index_or (map sums_of threads) t []) i m
-found k [] [] are h t i m r means stands = absurd (no_some r stands)
-found k [] (rs ∷ records) are h t i m r means stands = absurd are
-found k (cs ∷ threads) [] are h t i m r means stands = absurd are
-found k (cs ∷ threads) (rs ∷ records) are h zero i m r means stands = found_in cs h.0 i m means
-found k (cs ∷ threads) (rs ∷ records) are h (suc t) i m r means stands = found (k + 1) threads records are.1 h.1 t i m r means stands
+found : (k : ℕ) (threads : List (List Command)) (records : List (List Record)) → AreThreads k threads records → ThreadsAdd threads → (t i thread : ℕ) (m : Meaning) (r : Record) → slice_get (meanings MOST thread (slice_index_or threads t [])) i ≡ Some m → record_at records t i ≡ Some r → Found (slice_index_or (map sums_of threads) t []) i m
+found k [] [] are h t i thread m r means stands = absurd (no_some r stands)
+found k [] (rs ∷ records) are h t i thread m r means stands = absurd are
+found k (cs ∷ threads) [] are h t i thread m r means stands = absurd are
+found k (cs ∷ threads) (rs ∷ records) are h zero i thread m r means stands = found_in thread cs h.0 i m means
+found k (cs ∷ threads) (rs ∷ records) are h (suc t) i thread m r means stands = found (k + 1) threads records are.1 h.1 t i thread m r means stands
 
 -- ---- each thread has as many records as sums
 
@@ -128,14 +128,14 @@ none_longer records n none u = by (lt_or_le (n u) (length (slice_index_or record
 
 module _ (threads : List (List Command)) (records : List (List Record)) (are : AreThreads 1 threads records) (adding : ThreadsAdd threads) where
   -- the last values are the first ones and all that is left
-  last_values : (n : ℕ → ℕ) (s e a b : Store) (ps : List Place) → Legal (footprint_at records) n a ps b → Replays threads records s ps e → Small (values s) → (l : ℕ) → values e l ≡ wrapped (values s l + left (λ (f : ℕ → ℕ). f l) (map sums_of threads) n)
+  last_values : (n : ℕ → ℕ) (s e a b : Store) (ps : List Place) → Legal (footprint_at records) n a ps b → Replays MOST threads records s ps e → Small (values s) → (l : ℕ) → values e l ≡ wrapped (values s l + left (λ (f : ℕ → ℕ). f l) (map sums_of threads) n)
   last_values n s e a b [] legal replays small l =
       let none : left (λ (f : ℕ → ℕ). f l) (map sums_of threads) n ≡ 0 = left_none (λ (f : ℕ → ℕ). f l) (map sums_of threads) n (λ u. let long = none_longer records n legal.0 u in let same = same_lengths 1 threads records are u in omega (arith, long, same)) in
       let plus : values s l ≡ values s l + left (λ (f : ℕ → ℕ). f l) (map sums_of threads) n = omega (arith, none) in
       ap (λ (t : Store). values t l) replays ∙ sym (mod-eq_of_lt (small l)) ∙ ap wrapped plus
   last_values n s e a b (p ∷ ps) (f, next, finds, rest) (m, r, means, stands, commit, more_of) small l =
       let w : (ℕ → ℕ) → ℕ = λ f. f l in
-      let at = found 1 threads records are adding p.thread p.index m r means stands in
+      let at = found 1 threads records are adding p.thread p.index (p.thread + 1) m r means stands in
       let step : left w (map sums_of threads) n ≡ at.adds l + left w (map sums_of threads) (more p.thread n) = left_step w (map sums_of threads) n p.thread at.adds (subst (λ (i : ℕ). slice_get (slice_index_or (map sums_of threads) p.thread []) i ≡ Some at.adds) next.0 at.stands) in
       let whole : values s l + at.adds l + left w (map sums_of threads) (more p.thread n) ≡ values s l + left w (map sums_of threads) n = omega (arith, step) in
       last_values (more p.thread n) (after r.footprint s) e (after f a) b ps rest more_of (commit_small m at.adds at.adding s r commit small) l
@@ -144,14 +144,14 @@ module _ (threads : List (List Command)) (records : List (List Record)) (are : A
       ∙ ap wrapped whole
 
   -- each record that is left is answered `ok`
-  records_ok : (n : ℕ → ℕ) (s e a b : Store) (ps : List Place) → Legal (footprint_at records) n a ps b → Replays threads records s ps e → (u k : ℕ) (r : Record) → record_at records u k ≡ Some r → n u ≤ k → all_ok r.answer ≡ true
+  records_ok : (n : ℕ → ℕ) (s e a b : Store) (ps : List Place) → Legal (footprint_at records) n a ps b → Replays MOST threads records s ps e → (u k : ℕ) (r : Record) → record_at records u k ≡ Some r → n u ≤ k → all_ok r.answer ≡ true
   records_ok n s e a b [] legal replays u k r stands le = let over = legal.0 u k r.footprint (ap (option_map (λ (q : Record). q.footprint)) stands) in absurd (omega arith)
   records_ok n s e a b (p ∷ ps) (f, next, finds, rest) (m, q, means, is, commit, more_of) u k r stands le =
       by (records_ok (more p.thread n) (after q.footprint s) e (after f a) b ps rest more_of u k r stands) (same_or u p.thread) (same_or k p.index)
     where
       here : u ≡ p.thread → k ≡ p.index → all_ok r.answer ≡ true
       here eu ek =
-          let at = found 1 threads records are adding p.thread p.index m q means is in
+          let at = found 1 threads records are adding p.thread p.index (p.thread + 1) m q means is in
           let one : q ≡ r = some_is q r (sym is ∙ ap₂ (λ (i j : ℕ). record_at records i j) (sym eu) (sym ek) ∙ stands) in
           subst (λ (x : Record). all_ok x.answer ≡ true) one (commit_ok m at.adds at.adding s q commit)
 
@@ -217,48 +217,51 @@ made_small : (m : Meaning) (adds : ℕ → ℕ) → Adds m adds → (v : ℕ →
 made_small m adds h v small l = subst (λ (k : ℕ). k < 2 ^ 32) (sym (made_adds m adds h v small l)) (small_wrapped (v l + adds l))
 
 -- a thread's commits, one after another
-thread_adds : (cs : List Command) → AllAdd cs → (v : ℕ → ℕ) → Small v → Small (made_by_all (meanings cs) v) × ((l : ℕ) → made_by_all (meanings cs) v l ≡ wrapped (v l + sum_by (λ (f : ℕ → ℕ). f l) (sums_of cs)))
-thread_adds [] h v small = (
-  made_small (end_meaning 0) (at_cell 0 4294967295) end_adds v small,
-  λ l. made_adds (end_meaning 0) (at_cell 0 4294967295) end_adds v small l ∙ ap (λ (k : ℕ). wrapped (v l + k)) (let e = sum_by-cons (λ (f : ℕ → ℕ). f l) (at_cell 0 4294967295) [] in omega (arith, e)),
+thread_adds : (thread : ℕ) (cs : List Command) → AllAdd cs → (v : ℕ → ℕ) → Small v → Small (made_by_all (meanings MOST thread cs) v) × ((l : ℕ) → made_by_all (meanings MOST thread cs) v l ≡ wrapped (v l + sum_by (λ (f : ℕ → ℕ). f l) (sums_of cs)))
+thread_adds thread [] h v small = (
+  made_small ended (at_cell 0 4294967295) ended_adds v small,
+  λ l. made_adds ended (at_cell 0 4294967295) ended_adds v small l ∙ ap (λ (k : ℕ). wrapped (v l + k)) (let e = sum_by-cons (λ (f : ℕ → ℕ). f l) (at_cell 0 4294967295) [] in omega (arith, e)),
 )
-thread_adds (c ∷ cs) h v small =
-    let m = thread_meaning 0 c in
+thread_adds thread (c ∷ cs) h v small =
+    let m = asked MOST thread c in
     let w = made_by m v in
-    let rest = thread_adds cs h.1 w (made_small m (command_adds c) h.0 v small) in (
+    let rest = thread_adds thread cs h.1 w (made_small m (command_adds c) (h.0 thread) v small) in (
       rest.0,
       λ l.
           rest.1 l
-          ∙ ap (λ (k : ℕ). wrapped (k + sum_by (λ (f : ℕ → ℕ). f l) (sums_of cs))) (made_adds m (command_adds c) h.0 v small l)
+          ∙ ap (λ (k : ℕ). wrapped (k + sum_by (λ (f : ℕ → ℕ). f l) (sums_of cs))) (made_adds m (command_adds c) (h.0 thread) v small l)
           ∙ mod-add-mod (v l + command_adds c l) (2 ^ 32) (sum_by (λ (f : ℕ → ℕ). f l) (sums_of cs))
           ∙ ap wrapped (let e = sum_by-cons (λ (f : ℕ → ℕ). f l) (command_adds c) (sums_of cs) in omega (arith, e)),
     )
 
-pub threads_add : (threads : List (List Command)) → ThreadsAdd threads → (v : ℕ → ℕ) → Small v → (l : ℕ) → thread_after_thread threads v l ≡ wrapped (v l + sum_by (λ fs. sum_by (λ (f : ℕ → ℕ). f l) fs) (map sums_of threads))
-threads_add [] h v small l = let e : v l ≡ v l + 0 = omega arith in sym (mod-eq_of_lt (small l)) ∙ ap wrapped e
-threads_add (cs ∷ threads) h v small l =
-    let one = thread_adds cs h.0 v small in
-    let w = made_by_all (meanings cs) v in
+pub threads_add : (thread : ℕ) (threads : List (List Command)) → ThreadsAdd threads → (v : ℕ → ℕ) → Small v → (l : ℕ) → thread_after_thread thread threads v l ≡ wrapped (v l + sum_by (λ fs. sum_by (λ (f : ℕ → ℕ). f l) fs) (map sums_of threads))
+threads_add thread [] h v small l = let e : v l ≡ v l + 0 = omega arith in sym (mod-eq_of_lt (small l)) ∙ ap wrapped e
+threads_add thread (cs ∷ threads) h v small l =
+    let one = thread_adds thread cs h.0 v small in
+    let w = made_by_all (meanings MOST thread cs) v in
     let w_sum = sum_by (λ (f : ℕ → ℕ). f l) (sums_of cs) in
     let rest = sum_by (λ fs. sum_by (λ (f : ℕ → ℕ). f l) fs) (map sums_of threads) in
-    threads_add threads h.1 w one.0 l
+    threads_add (thread + 1) threads h.1 w one.0 l
     ∙ ap (λ (k : ℕ). wrapped (k + rest)) (one.1 l)
     ∙ mod-add-mod (v l + w_sum) (2 ^ 32) rest
     ∙ ap wrapped (let e = sum_by-cons (λ fs. sum_by (λ (f : ℕ → ℕ). f l) fs) (sums_of cs) (map sums_of threads) in omega (arith, e))
 
 -- ---- runs
 
-module _ (script : Script) (records : List (List Record)) (order : List Place) (last : Store) (run : IsRun script records order last) (adding : ThreadsAdd script.threads) where
+module _ (script : Script) (records : List (List Record)) (order : List Place) (last : Store) (run : IsRun script records order last) (adding : ThreadsAdd script.threads) (most : script.limit ≡ MOST) where
+  replays : Replays MOST script.threads records (opening_store script) order last
+  replays = subst (λ (n : ℕ). Replays n script.threads records (opening_store script) order last) most run.replays
+
   pub run_counts : (commits records ≡ sum_by (λ cs. length cs + 1) script.threads) × (ok_commands records ≡ sum_by length script.threads)
   run_counts = (
     commits_all 1 script.threads records run.threads,
-    counts_all 1 script.threads records run.threads (λ u i r at. records_ok script.threads records run.threads adding (λ _. 0) (opening_store script) last (opening_store script) last order (run_legal script records order last run) run.replays u i r at (omega arith)),
+    counts_all 1 script.threads records run.threads (λ u i r at. records_ok script.threads records run.threads adding (λ _. 0) (opening_store script) last (opening_store script) last order (run_legal script records order last run) replays u i r at (omega arith)),
   )
 
   -- whatever the order, the values are those of one thread after another
-  pub run_values : Small (values (opening_store script)) → values last ≡ thread_after_thread script.threads (values (opening_store script))
+  pub run_values : Small (values (opening_store script)) → values last ≡ thread_after_thread 1 script.threads (values (opening_store script))
   run_values small = fun_ext (λ l.
       let w : (ℕ → ℕ) → ℕ = λ f. f l in
-      last_values script.threads records run.threads adding (λ _. 0) (opening_store script) last (opening_store script) last order (run_legal script records order last run) run.replays small l
+      last_values script.threads records run.threads adding (λ _. 0) (opening_store script) last (opening_store script) last order (run_legal script records order last run) replays small l
       ∙ ap (λ (k : ℕ). wrapped (values (opening_store script) l + k)) (left_all w (map sums_of script.threads))
-      ∙ sym (threads_add script.threads adding (values (opening_store script)) small l))
+      ∙ sym (threads_add 1 script.threads adding (values (opening_store script)) small l))

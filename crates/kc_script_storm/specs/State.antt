@@ -1,5 +1,5 @@
 -- What a storm leaves: the values behind its threads, one after another on a plain store, and what its commands add.
-use Rattle.std.specs.Prelude.{ℕ, ◌==◌, cond, List, [], ◌∷◌, sum_by}
+use Rattle.std.specs.Prelude.{ℕ, ◌+◌, ◌==◌, cond, List, [], ◌∷◌, sum_by}
 use Rattle.kc_model.specs.declared.footprint.TheConstants.{MOST}
 use Rattle.kc_loc.specs.declared.kinds.Fun.TheVariants as fun
 use Rattle.kc_loc.specs.declared.operation.LocOp.{LocOp}
@@ -34,13 +34,13 @@ abbrev pub made_by_all : List Meaning → (ℕ → ℕ) → ℕ → ℕ
 made_by_all [] v = v
 made_by_all (m ∷ ms) v = made_by_all ms (made_by m v)
 
--- each thread to its end, before the next one begins
-abbrev pub thread_after_thread : List (List Command) → (ℕ → ℕ) → ℕ → ℕ
-thread_after_thread [] v = v
-thread_after_thread (commands ∷ threads) v = thread_after_thread threads (made_by_all (meanings commands) v)
+-- each thread to its end, before the next one begins; the first has this number
+abbrev pub thread_after_thread : ℕ → List (List Command) → (ℕ → ℕ) → ℕ → ℕ
+thread_after_thread thread [] v = v
+thread_after_thread thread (commands ∷ threads) v = thread_after_thread (thread + 1) threads (made_by_all (meanings MOST thread commands) v)
 
 abbrev pub storm_state : ℕ → ℕ → ℕ
-storm_state n = thread_after_thread (storm_script n).threads (values (opening_store (storm_script n)))
+storm_state n = thread_after_thread 1 (storm_script n).threads (values (opening_store (storm_script n)))
 
 -- ---- what commands add
 

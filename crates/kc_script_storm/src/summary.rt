@@ -8,9 +8,10 @@ ghost use Rattle.kc_xt.specs.Meaning.{values};
 ghost use Rattle.kc_script_bundle.specs.Script.{names_of, CellsWithin};
 ghost use Rattle.kc_script_bundle.specs.State.{state_text};
 ghost use Rattle.kc_history.specs.Records.{lists_of};
+ghost use Rattle.kc_history.specs.Text.{bare};
 ghost use Rattle.kc_script_storm.specs.Summary.{is_ok_item, all_ok, is_ok_command, commits, ok_commands, summary_lines};
 
-use kc_history::{Mark, Record};
+use kc_history::{Head, Mark, Records};
 use kc_model::{Answer, Failed, Item, Items, Pen, PlainStore, Reply, Sink};
 use kc_script_bundle::{Bundle, put_state};
 
@@ -20,7 +21,7 @@ use kc_script_bundle::{Bundle, put_state};
 pub fn write_summary<K: Sink>(
     number: u32,
     bundle: &Bundle,
-    records: &[Vec<Record>],
+    records: &[Records],
     store: &PlainStore,
     sink: &mut K,
 ) -> Result<(), Failed>
@@ -38,7 +39,7 @@ pub fn put_summary<K: Sink>(
     pen: &mut Pen<K>,
     number: u32,
     bundle: &Bundle,
-    records: &[Vec<Record>],
+    records: &[Records],
     store: &PlainStore,
 )
     requires cells { CellsWithin (length store.now) (names_of bundle.now.objects) }
@@ -56,7 +57,7 @@ pub fn put_summary<K: Sink>(
 }
 
 /// How many commits the records are of.
-pub fn commits(records: &[Vec<Record>]) -> u32
+pub fn commits(records: &[Records]) -> u32
     requires { commits (lists_of records.now) < 2 ^ 32 }
     ensures { result ≡ commits (lists_of records.now) }
 {
@@ -68,7 +69,7 @@ pub fn commits(records: &[Vec<Record>]) -> u32
 }
 
 /// How many commands replied `ok` alone.
-pub fn ok_commands(records: &[Vec<Record>]) -> u32
+pub fn ok_commands(records: &[Records]) -> u32
     requires { commits (lists_of records.now) < 2 ^ 32 }
     ensures { result ≡ ok_commands (lists_of records.now) }
 {
@@ -79,24 +80,24 @@ pub fn ok_commands(records: &[Vec<Record>]) -> u32
     count
 }
 
-fn ok_commands_of(list: &[Record]) -> u32
-    requires { length list.now < 2 ^ 32 }
-    ensures { result ≡ count_by is_ok_command list.now }
+fn ok_commands_of(list: &Records) -> u32
+    requires { length list.now.items < 2 ^ 32 }
+    ensures { result ≡ count_by is_ok_command list.now.items }
 {
     let mut count = 0;
-    for commit in list {
-        if is_ok_command(commit) {
+    for i in 0..list.len() {
+        if is_ok_command(list.head(i)) {
             count += 1;
         }
     }
     count
 }
 
-fn is_ok_command(commit: &Record) -> bool
-    ensures { result ≡ is_ok_command commit.now }
+fn is_ok_command(head: &Head) -> bool
+    ensures { result ≡ is_ok_command (bare head.now) }
 {
-    match commit.mark {
-        Mark::Command(_) => all_ok(&commit.answer),
+    match head.mark {
+        Mark::Command(_) => all_ok(&head.answer),
         Mark::End => false,
     }
 }
