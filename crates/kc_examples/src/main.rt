@@ -12,7 +12,7 @@ use std::thread::Threads;
 use std::{fs, io};
 
 // The name of each script, and its exit number.
-const EXAMPLES: [(&str, u8); 18] = [
+const EXAMPLES: [(&str, u8); 21] = [
     ("first", 0),
     ("locations", 0),
     ("several", 0),
@@ -30,11 +30,14 @@ const EXAMPLES: [(&str, u8); 18] = [
     ("tour", 0),
     ("handover", 0),
     ("apart", 0),
+    ("limit", 0),
+    ("shutdown", 0),
+    ("taken_back", 0),
     ("refused", 3),
 ];
 
 // The name of each script of `faults/`. Beside it stands its line on standard error.
-const FAULTS: [&str; 16] = [
+const FAULTS: [&str; 19] = [
     "header",
     "unknown_word",
     "unknown_name",
@@ -51,6 +54,9 @@ const FAULTS: [&str; 16] = [
     "commands",
     "block",
     "depth",
+    "limit",
+    "old_limit",
+    "cancel",
 ];
 
 // The parts of `files/`, the setup first. Beside them stands their text.

@@ -1,40 +1,38 @@
 -- From each thread's run to the run of all.
 use Rattle.std.proofs.Common.{◌≡◌, ℕ, zero, suc, ◌+◌, ◌<◌, List, [], ◌∷◌, ◌++◌, length, map, take, drop, get_or, refl, sym, ap, ◌∙◌, arith, subst}
-use Rattle.std.proofs.lemmas.List.{take_more, length-take-le, length-map}
+use Rattle.std.proofs.lemmas.List.{take_more, length-map}
 use Rattle.std.specs.Prelude.{All}
 use Rattle.std.specs.Global.{Vec}
 use Rattle.crossbeam_utils.specs.Padded.{padded_value}
 use Rattle.kc_history.specs.Callers.{of_caller}
 use Rattle.kc_history.specs.Records.{lists_of}
 use Rattle.kc_model.specs.declared.footprint.Entry.{Entry}
-use Rattle.kc_run.specs.Jobs.{Room, Rooms, paired, pass_of, list_of, row_at, Ready, Ran, JobRan, AllMayRun}
+use Rattle.kc_run.specs.Jobs.{Room, Rooms, empty_records, paired, pass_of, list_of, row_at, Ready, Ran, JobRan, AllMayRun}
 use Rattle.kc_run.specs.Shared.{count_from}
 use Rattle.kc_run.specs.declared.job.Job.{Job}
 use Rattle.kc_script_bundle.specs.declared.operation.Command.{Command}
-use Rattle.kc_script_runs.specs.Labels.{label, labels}
 use Rattle.kc_script_runs.specs.Threads.{CommitGives, AreGiven, AreRunBy, meanings}
 
 -- ---- rooms
 
-rooms_push : (k n : ℕ) (vs : List (Vec Command)) (rs : List Room) (v : Vec Command) (r : Room) → Rooms k vs rs → n ≡ k + length vs → map label (padded_value r).items ≡ labels (n + 1) 1 v.items → Rooms k (vs ++ v ∷ []) (rs ++ r ∷ [])
-rooms_push k n [] [] v r h at made = let here : n ≡ k = omega arith in (rw here at made, tt)
-rooms_push k n [] (x ∷ rs) v r h at made = absurd h
-rooms_push k n (w ∷ vs) [] v r h at made = absurd h
-rooms_push k n (w ∷ vs) (x ∷ rs) v r h at made = (h.0, rooms_push (suc k) n vs rs v r h.1 (omega arith) made)
+rooms_push : (limit : ℕ) (vs : List (Vec Command)) (rs : List Room) (v : Vec Command) (r : Room) → Rooms limit vs rs → padded_value r ≡ empty_records limit v.items → Rooms limit (vs ++ v ∷ []) (rs ++ r ∷ [])
+rooms_push limit [] [] v r h made = (made, tt)
+rooms_push limit [] (x ∷ rs) v r h made = absurd h
+rooms_push limit (w ∷ vs) [] v r h made = absurd h
+rooms_push limit (w ∷ vs) (x ∷ rs) v r h made = (h.0, rooms_push limit vs rs v r h.1 made)
 
 -- one room more
-pub rooms_next : (threads : List (Vec Command)) (i : ℕ) (v : Vec Command) (r : Room) (rs rs' : List Room) → i < length threads → v ≡ get_or threads i v → Rooms 0 (take i threads) rs → rs' ≡ rs ++ r ∷ []
-    → map label (padded_value r).items ≡ labels (i + 1) 1 v.items → Rooms 0 (take (i + 1) threads) rs'
-rooms_next threads i v r rs rs' lt is h pushed made =
+pub rooms_next : (limit : ℕ) (threads : List (Vec Command)) (i : ℕ) (v : Vec Command) (r : Room) (rs rs' : List Room) → i < length threads → v ≡ get_or threads i v → Rooms limit (take i threads) rs → rs' ≡ rs ++ r ∷ []
+    → padded_value r ≡ empty_records limit v.items → Rooms limit (take (i + 1) threads) rs'
+rooms_next limit threads i v r rs rs' lt is h pushed made =
     let more : take (i + 1) threads ≡ take i threads ++ v ∷ [] = take_more threads i v lt ∙ ap (λ (x : Vec Command). take i threads ++ x ∷ []) (sym is) in
-    let at : i ≡ 0 + length (take i threads) = (let e = length-take-le i threads (omega arith) in omega arith) in
-    subst (λ (x : List Room). Rooms 0 (take (i + 1) threads) x) (sym pushed) (subst (λ l. Rooms 0 l (rs ++ r ∷ [])) (sym more) (rooms_push 0 i (take i threads) rs v r h at made))
+    subst (λ (x : List Room). Rooms limit (take (i + 1) threads) x) (sym pushed) (subst (λ l. Rooms limit l (rs ++ r ∷ [])) (sym more) (rooms_push limit (take i threads) rs v r h made))
 
-pub rooms_length : (k : ℕ) (threads : List (Vec Command)) (rs : List Room) → Rooms k threads rs → length threads ≡ length rs
-rooms_length k [] [] h = refl
-rooms_length k [] (r ∷ rs) h = absurd h
-rooms_length k (v ∷ vs) [] h = absurd h
-rooms_length k (v ∷ vs) (r ∷ rs) h = ap suc (rooms_length (suc k) vs rs h.1)
+pub rooms_length : (limit : ℕ) (threads : List (Vec Command)) (rs : List Room) → Rooms limit threads rs → length threads ≡ length rs
+rooms_length limit [] [] h = refl
+rooms_length limit [] (r ∷ rs) h = absurd h
+rooms_length limit (v ∷ vs) [] h = absurd h
+rooms_length limit (v ∷ vs) (r ∷ rs) h = ap suc (rooms_length limit vs rs h.1)
 
 -- ---- lists
 
@@ -67,7 +65,7 @@ counted f (x ∷ xs) k h = λ j. (h 0 x (omega arith) ∙ (let e : k + 0 ≡ k =
 
 -- ---- jobs
 
-module _ {S P : Type 0} (belongs : S → P → Type 0) (number left : P → ℕ) (own : P → List Entry) (store : S) where
+module _ {S P : Type 0} (belongs : S → P → Type 0) (number left : P → ℕ) (own : P → List Entry) (store : S) (limit : ℕ) where
   may_length : (k : ℕ) (threads : List (Vec Command)) (ps : List P) → AllMayRun belongs number left own store k threads ps → length threads ≡ length ps
   may_length k [] [] h = refl
   may_length k [] (p ∷ ps) h = absurd h
@@ -79,13 +77,13 @@ module _ {S P : Type 0} (belongs : S → P → Type 0) (number left : P → ℕ)
   paired_length (p ∷ ps) [] e = absurd (omega arith)
   paired_length (p ∷ ps) (r ∷ rs) e = ap suc (paired_length ps rs (omega arith))
 
-  ready_all : (k : ℕ) (threads : List (Vec Command)) (ps : List P) (rs : List Room) → AllMayRun belongs number left own store k threads ps → Rooms k threads rs → (i : ℕ) (d : Job P) → i < length (paired ps rs)
-      → Ready belongs number left own store (k + i) (row_at threads i) (get_or (paired ps rs) i d)
+  ready_all : (k : ℕ) (threads : List (Vec Command)) (ps : List P) (rs : List Room) → AllMayRun belongs number left own store k threads ps → Rooms limit threads rs → (i : ℕ) (d : Job P) → i < length (paired ps rs)
+      → Ready belongs number left own limit store (k + i) (row_at threads i) (get_or (paired ps rs) i d)
   ready_all k [] [] rs m r i d lt = absurd (omega arith)
   ready_all k [] (p ∷ ps) rs m r i d lt = absurd m
   ready_all k (v ∷ vs) [] rs m r i d lt = absurd m
   ready_all k (v ∷ vs) (p ∷ ps) [] m r i d lt = absurd r
-  ready_all k (v ∷ vs) (p ∷ ps) (x ∷ xs) m r zero d lt = let e : k ≡ k + 0 = omega arith in rw (← e) (record { may = m.0; labelled = r.0 })
+  ready_all k (v ∷ vs) (p ∷ ps) (x ∷ xs) m r zero d lt = let e : k ≡ k + 0 = omega arith in rw (← e) (record { may = m.0; room = r.0 })
   ready_all k (v ∷ vs) (p ∷ ps) (x ∷ xs) m r (suc i) d lt = let e : suc k + i ≡ k + suc i = omega arith in rw (← e) (ready_all (suc k) vs ps xs m.1 r.1 i d (omega arith))
 
   -- before the run
@@ -93,25 +91,25 @@ module _ {S P : Type 0} (belongs : S → P → Type 0) (number left : P → ℕ)
     pub jobs : length threads ≡ length js
     pub rooms : length ps ≡ length rs
     pub passes : length threads ≡ length ps
-    pub each : (i : ℕ) (d : Job P) → i < length js → Ready belongs number left own store i (row_at threads i) (get_or js i d)
+    pub each : (i : ℕ) (d : Job P) → i < length js → Ready belongs number left own limit store i (row_at threads i) (get_or js i d)
 
-  pub jobs_ready : (threads : List (Vec Command)) (ps : List P) (rs : List Room) (js : List (Job P)) → AllMayRun belongs number left own store 0 threads ps → Rooms 0 threads rs → js ≡ paired ps rs → AreReady threads ps rs js
+  pub jobs_ready : (threads : List (Vec Command)) (ps : List P) (rs : List Room) (js : List (Job P)) → AllMayRun belongs number left own store 0 threads ps → Rooms limit threads rs → js ≡ paired ps rs → AreReady threads ps rs js
   jobs_ready threads ps rs js m r e =
       let a = may_length 0 threads ps m in
-      let b = rooms_length 0 threads rs r in
+      let b = rooms_length limit threads rs r in
       let l : length (paired ps rs) ≡ length ps = paired_length ps rs (sym a ∙ b) in record {
         jobs = a ∙ sym l ∙ sym (ap length e);
         rooms = sym a ∙ b;
         passes = a;
         each = λ i d lt.
-            subst (λ (xs : List (Job P)). Ready belongs number left own store i (row_at threads i) (get_or xs i d)) (sym e)
-            (let z : 0 + i ≡ i = omega arith in subst (λ n. Ready belongs number left own store n (row_at threads i) (get_or (paired ps rs) i d)) z (ready_all 0 threads ps rs m r i d (let q = ap length e in omega arith)));
+            subst (λ (xs : List (Job P)). Ready belongs number left own limit store i (row_at threads i) (get_or xs i d)) (sym e)
+            (let z : 0 + i ≡ i = omega arith in subst (λ n. Ready belongs number left own limit store n (row_at threads i) (get_or (paired ps rs) i d)) z (ready_all 0 threads ps rs m r i d (let q = ap length e in omega arith)));
       }
 
-module _ {S P : Type 0} (gives : CommitGives) (belongs : S → P → Type 0) (number left : P → ℕ) (own : P → List Entry) (opening : S → List ℕ) (store : S) where
+module _ {S P : Type 0} (limit : ℕ) (gives : CommitGives) (belongs : S → P → Type 0) (number left : P → ℕ) (own : P → List Entry) (opening : S → List ℕ) (store : S) where
   -- after the run
   abbrev AllRan : List (Vec Command) → List (Job P) → Type 0
-  AllRan threads js = (i : ℕ) (d : Job P) → i < length js → JobRan gives belongs number own opening store i (row_at threads i) (get_or js i d)
+  AllRan threads js = (i : ℕ) (d : Job P) → i < length js → JobRan limit gives belongs number own opening store i (row_at threads i) (get_or js i d)
 
   passes_belong : (threads : List (Vec Command)) (js : List (Job P)) → AllRan threads js → All (belongs store) (map pass_of js)
   passes_belong threads js ran = all_map pass_of (belongs store) js (λ i d lt. (ran i d lt).belongs_to)
@@ -122,22 +120,22 @@ module _ {S P : Type 0} (gives : CommitGives) (belongs : S → P → Type 0) (nu
     map_map [] = refl
     map_map (x ∷ xs) = ap (λ l. number x.pass ∷ l) (map_map xs)
 
-  run_from : (history : List Entry) (k : ℕ) (threads : List (Vec Command)) (js : List (Job P)) → length threads ≡ length js → ((i : ℕ) (d : Job P) → i < length js → JobRan gives belongs number own opening store (k + i) (row_at threads i) (get_or js i d))
-      → ((i : ℕ) (d : Job P) → i < length js → of_caller (number (get_or js i d).pass) history ≡ own (get_or js i d).pass) → AreRunBy gives (length (opening store)) k history (map (λ (v : Vec Command). v.items) threads) (lists_of (map list_of js))
+  run_from : (history : List Entry) (k : ℕ) (threads : List (Vec Command)) (js : List (Job P)) → length threads ≡ length js → ((i : ℕ) (d : Job P) → i < length js → JobRan limit gives belongs number own opening store (k + i) (row_at threads i) (get_or js i d))
+      → ((i : ℕ) (d : Job P) → i < length js → of_caller (number (get_or js i d).pass) history ≡ own (get_or js i d).pass) → AreRunBy gives limit (length (opening store)) k history (map (λ (v : Vec Command). v.items) threads) (lists_of (map list_of js))
   run_from history k [] [] len ran owns = tt
   run_from history k [] (j ∷ js) len ran owns = absurd (omega arith)
   run_from history k (v ∷ vs) [] len ran owns = absurd (omega arith)
   run_from history k (v ∷ vs) (j ∷ js) len ran owns =
       let z : k + 0 ≡ k = omega arith in
-      let r : Ran gives belongs number own opening store k v.items j.pass (padded_value j.records).items = subst (λ n. Ran gives belongs number own opening store n v.items j.pass (padded_value j.records).items) z (ran 0 j (omega arith)) in
+      let r : Ran limit gives belongs number own opening store k v.items j.pass (padded_value j.records).items = subst (λ n. Ran limit gives belongs number own opening store n v.items j.pass (padded_value j.records).items) z (ran 0 j (omega arith)) in
       let o : of_caller (number j.pass) history ≡ own j.pass = owns 0 j (omega arith) in (
-        record { labelled = r.labelled; answered = r.answered; committed = subst (AreGiven gives k (meanings v.items) [] (padded_value j.records).items) (sym (ap (λ n. of_caller n history) (sym r.number_is) ∙ o)) r.own_is },
-        run_from history (suc k) vs js (omega arith) (λ i d lt. let e : k + suc i ≡ suc k + i = omega arith in subst (λ n. Ran gives belongs number own opening store n (row_at vs i) (get_or js i d).pass (padded_value (get_or js i d).records).items) e (ran (suc i) d (omega arith))) (λ i d lt. owns (suc i) d (omega arith)),
+        record { labelled = r.labelled; answered = r.answered; committed = subst (AreGiven gives k (meanings limit (k + 1) v.items) [] (padded_value j.records).items) (sym (ap (λ n. of_caller n history) (sym r.number_is) ∙ o)) r.own_is },
+        run_from history (suc k) vs js (omega arith) (λ i d lt. let e : k + suc i ≡ suc k + i = omega arith in subst (λ n. Ran limit gives belongs number own opening store n (row_at vs i) (get_or js i d).pass (padded_value (get_or js i d).records).items) e (ran (suc i) d (omega arith))) (λ i d lt. owns (suc i) d (omega arith)),
       )
 
-  run_all : (history : List Entry) (threads : List (Vec Command)) (js : List (Job P)) → length threads ≡ length js → AllRan threads js → All (λ p. of_caller (number p) history ≡ own p) (map pass_of js) → AreRunBy gives (length (opening store)) 0 history (map (λ (v : Vec Command). v.items) threads) (lists_of (map list_of js))
+  run_all : (history : List Entry) (threads : List (Vec Command)) (js : List (Job P)) → length threads ≡ length js → AllRan threads js → All (λ p. of_caller (number p) history ≡ own p) (map pass_of js) → AreRunBy gives limit (length (opening store)) 0 history (map (λ (v : Vec Command). v.items) threads) (lists_of (map list_of js))
   run_all history threads js len ran owns =
-      run_from history 0 threads js len (λ i d lt. let z : i ≡ 0 + i = omega arith in subst (λ n. Ran gives belongs number own opening store n (row_at threads i) (get_or js i d).pass (padded_value (get_or js i d).records).items) z (ran i d lt))
+      run_from history 0 threads js len (λ i d lt. let z : i ≡ 0 + i = omega arith in subst (λ n. Ran limit gives belongs number own opening store n (row_at threads i) (get_or js i d).pass (padded_value (get_or js i d).records).items) z (ran i d lt))
       (λ i d lt. let p = pick js i lt in
       subst (λ (x : Job P). of_caller (number x.pass) history ≡ own x.pass) (sym (p.1 d)) (subst (λ q. of_caller (number q) history ≡ own q) (p.2 P pass_of p.0.pass) (owns i p.0.pass (let e = length-map js pass_of in omega arith))))
 
@@ -145,10 +143,10 @@ module _ {S P : Type 0} (gives : CommitGives) (belongs : S → P → Type 0) (nu
   pub record AreDone (threads : List (Vec Command)) (js : List (Job P)) (callers : ℕ) : Type 0 where
     pub belong : All (belongs store) (map pass_of js)
     pub numbered : map number (map pass_of js) ≡ count_from 0 callers
-    pub run : (history : List Entry) → All (λ p. of_caller (number p) history ≡ own p) (map pass_of js) → AreRunBy gives (length (opening store)) 0 history (map (λ (v : Vec Command). v.items) threads) (lists_of (map list_of js))
+    pub run : (history : List Entry) → All (λ p. of_caller (number p) history ≡ own p) (map pass_of js) → AreRunBy gives limit (length (opening store)) 0 history (map (λ (v : Vec Command). v.items) threads) (lists_of (map list_of js))
 
-  pub ran_done : (threads : List (Vec Command)) (ps : List P) (rs : List Room) (before js : List (Job P)) (callers : ℕ) → AreReady belongs number left own store threads ps rs before → length js ≡ length before
-      → ((i : ℕ) (d : Job P) → i < length before → JobRan gives belongs number own opening store i (row_at threads i) (get_or js i d)) → length threads ≡ callers → AreDone threads js callers
+  pub ran_done : (threads : List (Vec Command)) (ps : List P) (rs : List Room) (before js : List (Job P)) (callers : ℕ) → AreReady belongs number left own store limit threads ps rs before → length js ≡ length before
+      → ((i : ℕ) (d : Job P) → i < length before → JobRan limit gives belongs number own opening store i (row_at threads i) (get_or js i d)) → length threads ≡ callers → AreDone threads js callers
   ran_done threads ps rs before js callers ready len ran all =
       let here : AllRan threads js = λ i d lt. ran i d (omega (arith, len, lt)) in record {
         belong = passes_belong threads js here;

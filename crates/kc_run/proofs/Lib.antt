@@ -1,4 +1,4 @@
-pub mod Asks
+pub mod Limits
 pub mod Threads
 pub mod Jobs
 pub mod Dealt

@@ -1,19 +1,23 @@
 -- One thread's commits, one after another.
-use Rattle.std.proofs.Common.{◌≡◌, ℕ, suc, ◌+◌, ◌≤◌, ◌<◌, List, [], ◌∷◌, ◌++◌, length, map, take, drop, get_or, set, refl, sym, ap, subst, ◌∙◌, arith, length-set, append_assoc}
-use Rattle.std.proofs.lemmas.List.{take_more, take_more_set, drop_more, map-append, length-map, take_all}
-use Rattle.std.proofs.Math.Seq.{map-set_same}
+use Rattle.std.proofs.Common.{◌≡◌, ℕ, suc, ◌+◌, ◌-◌, ◌≤◌, ◌<◌, List, [], ◌∷◌, ◌++◌, length, map, take, drop, get_or, refl, sym, ap, subst, ◌∙◌, arith, append_assoc}
+use Rattle.std.proofs.lemmas.List.{take_more, drop_more, map-append, length-map}
 use Rattle.kc_model.specs.declared.footprint.Entry.{Entry}
 use Rattle.kc_script_bundle.specs.declared.operation.Command.{Command}
 use Rattle.kc_script_bundle.specs.declared.operation.Command.TheVariants as command
 use Rattle.kc_script_bundle.specs.declared.operation.Op.TheVariants as op
-use Rattle.kc_script_bundle.specs.Meaning.{thread_meaning, end_meaning}
+use Rattle.kc_script_bundle.specs.Meaning.{end_meaning}
+use Rattle.kc_model.specs.Footprint.{IsBelow}
+use Rattle.kc_model.specs.declared.footprint.TheConstants.{MOST}
 use Rattle.kc_loc.specs.declared.operation.LocOp.TheVariants as loc
+use Rattle.kc_history.specs.RecordsValue.{RecordsValue}
 use Rattle.kc_history.specs.declared.record.Record.{Record}
 use Rattle.kc_history.specs.declared.record.Mark.TheVariants as mark
+use Rattle.kc_run.specs.Jobs.{empty_records}
 use Rattle.kc_script_runs.specs.Labels.{Label, label, labels}
 use Rattle.kc_script_runs.proofs.Given.{given_more}
-use Rattle.kc_script_runs.specs.Threads.{CommitGives, AreAnswered, AreGiven, IsAnswered, meanings}
-use Rattle.kc_xt.specs.Meaning.{Meaning}
+use Rattle.kc_script_runs.specs.Threads.{asked, CommitGives, AreAnswered, AreGiven, IsAnswered, meanings}
+use Rattle.kc_xt.specs.Commit.{Answers}
+use Rattle.kc_xt.specs.Meaning.{limited, Meaning}
 
 -- ---- commits
 
@@ -23,41 +27,20 @@ answered_more [] (q ∷ rs) m r done next = absurd done
 answered_more (p ∷ ms) [] m r done next = absurd done
 answered_more (p ∷ ms) (q ∷ rs) m r done next = (done.0, answered_more ms rs m r done.1 next)
 
+-- a record is answered so, whose locations are those of the store
+pub is_answered : {n e : ℕ} (m : Meaning) (r : Record) → Answers m r.answer r.footprint → IsBelow e r.footprint → e ≤ n → IsAnswered n m r
+is_answered m r answers below le = record { answers = answers; within = λ q d. (let h = below q d in omega (arith, h, le)) }
+
 -- the end of a thread is committed last
-pub thread_ends : (gives : CommitGives) {locations : ℕ} (commands : List Command) (k j : ℕ) (before after : List Entry) (records : List Record) (r : Record) → AreGiven gives k (map (thread_meaning 0) commands) [] (take (length commands) records) before
-    → AreAnswered locations (map (thread_meaning 0) commands) (take (length commands) records) → j ≡ k → gives j (end_meaning 0) before r.footprint after → IsAnswered locations (end_meaning 0) r → length records ≡ length commands + 1
-    → AreGiven gives k (meanings commands) [] (set records (length commands) r) after × AreAnswered locations (meanings commands) (set records (length commands) r)
-thread_ends gives {locations} commands k j before after records r was done same now next room =
-    let n = length commands in
-    let all : take (n + 1) (set records n r) ≡ set records n r = take_all (n + 1) (set records n r) (omega (arith, length-set records n r)) in
-    let is : take n records ++ r ∷ [] ≡ set records n r = sym (take_more_set records n r (omega arith)) ∙ all in (
-      subst (λ (rs : List Record). AreGiven gives k (meanings commands) [] rs after) is (given_more gives k _ [] _ before after _ r was (subst (λ (i : ℕ). gives i (end_meaning 0) before r.footprint after) same now)),
-      subst (λ (rs : List Record). AreAnswered locations (meanings commands) rs) is (answered_more _ _ _ _ done next),
-    )
+pub thread_ends : (limit thread : ℕ) (gives : CommitGives) {locations : ℕ} (commands : List Command) (k j : ℕ) (before after : List Entry) (records : List Record) (r : Record) → AreGiven gives k (map (asked limit thread) commands) [] records before
+    → AreAnswered locations (map (asked limit thread) commands) records → j ≡ k → gives j (limited MOST (end_meaning 0)) before r.footprint after → IsAnswered locations (limited MOST (end_meaning 0)) r
+    → AreGiven gives k (meanings limit thread commands) [] (records ++ r ∷ []) after × AreAnswered locations (meanings limit thread commands) (records ++ r ∷ [])
+thread_ends limit thread gives commands k j before after records r was done same now next = (
+  given_more gives k _ [] _ before after _ r was (subst (λ (i : ℕ). gives i (limited MOST (end_meaning 0)) before r.footprint after) same now),
+  answered_more _ _ _ _ done next,
+)
 
-module _ {S P : Type 0} (gives : CommitGives) (belongs : S → P → Type 0) (number left : P → ℕ) (own : P → List Entry) (opening : S → List ℕ) where
-  -- the first i commands are committed
-  pub record RanTo (store : S) (commands : List Command) (first now : P) (old new : List Record) (i : ℕ) : Type 0 where
-    pub pass : belongs store now × (number now ≡ number first)
-    pub share : length commands + 1 ≤ left now + i
-    pub given : AreGiven gives (number first) (map (thread_meaning 0) (take i commands)) [] (take i new) (own now)
-    pub answered : AreAnswered (length (opening store)) (map (thread_meaning 0) (take i commands)) (take i new)
-    pub labels : map label new ≡ map label old
-
-  pub ran_more : (store : S) (commands : List Command) (first now next : P) (old new : List Record) (i : ℕ) (d : Command) (q r : Record) → RanTo store commands first now old new i → i < length commands → i < length new
-      → belongs store next × (number next ≡ number now) → left next + 1 ≡ left now → gives (number now) (thread_meaning 0 (get_or commands i d)) (own now) r.footprint (own next) → IsAnswered (length (opening store)) (thread_meaning 0 (get_or commands i d)) r
-      → label r ≡ label (get_or new i q) → RanTo store commands first next old (set new i r) (i + 1)
-  ran_more store commands first now next old new i d q r so_far lt room pass left_is own_next answers same = record {
-    pass = (pass.0, pass.1 ∙ so_far.pass.1);
-    share = omega (arith, so_far.share, left_is);
-    given =
-        rw (take_more commands i d lt, map-append (thread_meaning 0) (take i commands) (get_or commands i d ∷ []), take_more_set new i r room)
-        (given_more gives (number first) _ [] _ (own now) (own next) _ r so_far.given (subst (λ (k : ℕ). gives k (thread_meaning 0 (get_or commands i d)) (own now) r.footprint (own next)) so_far.pass.1 own_next));
-    answered = rw (take_more commands i d lt, map-append (thread_meaning 0) (take i commands) (get_or commands i d ∷ []), take_more_set new i r room) (answered_more _ _ _ _ so_far.answered answers);
-    labels = map-set_same label new i r q same ∙ so_far.labels;
-  }
-
--- ---- room
+-- ---- labels
 
 -- where a list has an element, any will do as what stands past its end
 abbrev no_command : Command
@@ -70,6 +53,43 @@ labels_more thread commands i records records' r total lt pushed by marked so_fa
     let same : label r ≡ record { thread = thread; mark = mark.Command (i + 1) } = rw (by, marked) refl in
     rw (pushed, map-append label records (r ∷ []), same) (append_assoc (map label records) (record { thread = thread; mark = mark.Command (i + 1) } ∷ []) (labels thread (i + 1 + 1) (drop (i + 1) commands))
     ∙ ap (λ (rest : List Command). map label records ++ labels thread (i + 1) rest) (sym (drop_more commands i no_command lt)) ∙ so_far)
+
+-- and the end's
+pub labels_end : (thread number : ℕ) (records : List Record) (r : Record) (total : List Label) → r.thread ≡ thread → r.mark ≡ mark.End → map label records ++ labels thread number [] ≡ total → map label (records ++ r ∷ []) ≡ total
+labels_end thread number records r total by marked so_far =
+    let same : label r ≡ record { thread = thread; mark = mark.End } = rw (by, marked) refl in
+    rw (map-append label records (r ∷ []), same) so_far
+
+-- ---- the run of a thread
+
+module _ {S P : Type 0} (limit thread : ℕ) (gives : CommitGives) (belongs : S → P → Type 0) (number left : P → ℕ) (own : P → List Entry) (opening : S → List ℕ) where
+  -- the first i commands are committed
+  pub record RanTo (store : S) (commands : List Command) (first now : P) (records : RecordsValue) (i : ℕ) : Type 0 where
+    pub pass : belongs store now × (number now ≡ number first)
+    pub share : length commands + 1 ≤ left now + i
+    pub given : AreGiven gives (number first) (map (asked limit thread) (take i commands)) [] records.items (own now)
+    pub answered : AreAnswered (length (opening store)) (map (asked limit thread) (take i commands)) records.items
+    pub labelled : map label records.items ++ labels thread (i + 1) (drop i commands) ≡ labels thread 1 commands
+    pub spare : records.spare + i ≡ length commands + 1
+    pub most : records.limit ≡ limit
+
+  pub ran_first : (store : S) (commands : List Command) (first : P) (records : RecordsValue) → belongs store first → length commands + 1 ≤ left first → own first ≡ [] → records ≡ empty_records limit commands → RanTo store commands first first records 0
+  ran_first store commands first records pass share fresh empty = subst (λ (v : RecordsValue). RanTo store commands first first v 0) (sym empty) (record { pass = (pass, refl); share = omega (arith, share); given = fresh; answered = tt; labelled = refl; spare = omega arith; most = refl })
+
+  pub ran_more : (store : S) (commands : List Command) (first now next : P) (before after : RecordsValue) (i : ℕ) (d : Command) (r : Record) → RanTo store commands first now before i → i < length commands
+      → belongs store next × (number next ≡ number now) → left next + 1 ≡ left now → gives (number now) (asked limit thread (get_or commands i d)) (own now) r.footprint (own next) → IsAnswered (length (opening store)) (asked limit thread (get_or commands i d)) r
+      → after.items ≡ before.items ++ r ∷ [] → after.spare ≡ before.spare - 1 → after.limit ≡ before.limit → r.thread ≡ thread → r.mark ≡ mark.Command (i + 1) → RanTo store commands first next after (i + 1)
+  ran_more store commands first now next before after i d r so_far lt pass left_is own_next answers added less same by marked = record {
+    pass = (pass.0, pass.1 ∙ so_far.pass.1);
+    share = omega (arith, so_far.share, left_is);
+    given =
+        rw (take_more commands i d lt, map-append (asked limit thread) (take i commands) (get_or commands i d ∷ []), added)
+        (given_more gives (number first) _ [] _ (own now) (own next) _ r so_far.given (subst (λ (k : ℕ). gives k (asked limit thread (get_or commands i d)) (own now) r.footprint (own next)) so_far.pass.1 own_next));
+    answered = rw (take_more commands i d lt, map-append (asked limit thread) (take i commands) (get_or commands i d ∷ []), added) (answered_more _ _ _ _ so_far.answered answers);
+    labelled = labels_more thread commands i before.items after.items r (labels thread 1 commands) lt added by marked so_far.labelled;
+    spare = omega (arith, so_far.spare, less, lt);
+    most = same ∙ so_far.most;
+  }
 
 length-labels : (thread number : ℕ) (cs : List Command) → length (labels thread number cs) ≡ length cs + 1
 length-labels thread number [] = refl

@@ -3,6 +3,7 @@ use Rattle.std.specs.Prelude.{◌≡◌, ℕ, zero, suc, ◌+◌, ◌≤◌, Lis
 use Rattle.std.specs.Global.{Vec}
 use Rattle.crossbeam_utils.specs.declared.cache_padded.CachePadded.{CachePadded}
 use Rattle.crossbeam_utils.specs.Padded.{padded_value}
+use Rattle.kc_history.specs.RecordsValue.{RecordsValue}
 use Rattle.kc_history.specs.declared.record.Record.{Record}
 use Rattle.kc_model.specs.declared.footprint.Entry.{Entry}
 use Rattle.kc_run.specs.declared.job.Job.{Job}
@@ -17,14 +18,18 @@ row_at (v ∷ vs) zero = v.items
 row_at (v ∷ vs) (suc i) = row_at vs i
 
 abbrev pub Room : Type 0
-Room = CachePadded (Vec Record)
+Room = CachePadded RecordsValue
 
--- a list for each thread, from this caller on, with a record for each of its commands and its end
+-- no record, and room for one for each of a thread's commands and its end, of at most so many locations
+abbrev pub empty_records : ℕ → List Command → RecordsValue
+empty_records limit commands = record { items = []; spare = length commands + 1; limit = limit }
+
+-- for each thread
 abbrev pub Rooms : ℕ → List (Vec Command) → List Room → Type 0
-Rooms k [] [] = Unit {0}
-Rooms k [] (r ∷ rs) = ⊥
-Rooms k (v ∷ vs) [] = ⊥
-Rooms k (v ∷ vs) (r ∷ rs) = (map label (padded_value r).items ≡ labels (k + 1) 1 v.items) × Rooms (suc k) vs rs
+Rooms limit [] [] = Unit {0}
+Rooms limit [] (r ∷ rs) = ⊥
+Rooms limit (v ∷ vs) [] = ⊥
+Rooms limit (v ∷ vs) (r ∷ rs) = (padded_value r ≡ empty_records limit v.items) × Rooms limit vs rs
 
 module _ {P : Type 0} where
   abbrev pub job : P → Room → Job P
@@ -38,7 +43,7 @@ module _ {P : Type 0} where
   abbrev pub pass_of : Job P → P
   pass_of j = j.pass
 
-  abbrev pub list_of : Job P → Vec Record
+  abbrev pub list_of : Job P → RecordsValue
   list_of j = padded_value j.records
 
 module _ {S P : Type 0} (belongs : S → P → Type 0) (number left : P → ℕ) (own : P → List Entry) where
@@ -56,19 +61,19 @@ module _ {S P : Type 0} (belongs : S → P → Type 0) (number left : P → ℕ)
   AllMayRun store k (v ∷ vs) [] = ⊥
   AllMayRun store k (v ∷ vs) (p ∷ ps) = MayRun store k v.items p × AllMayRun store (suc k) vs ps
 
-  -- the job has its pass, and a record for each command and its end
-  pub record Ready (store : S) (k : ℕ) (commands : List Command) (j : Job P) : Type 0 where
+  -- the job has its pass, and room for a record for each command and its end
+  pub record Ready (limit : ℕ) (store : S) (k : ℕ) (commands : List Command) (j : Job P) : Type 0 where
     pub may : MayRun store k commands j.pass
-    pub labelled : map label (padded_value j.records).items ≡ labels (k + 1) 1 commands
+    pub room : padded_value j.records ≡ empty_records limit commands
 
-module _ {S P : Type 0} (gives : CommitGives) (belongs : S → P → Type 0) (number : P → ℕ) (own : P → List Entry) (opening : S → List ℕ) where
+module _ {S P : Type 0} (limit : ℕ) (gives : CommitGives) (belongs : S → P → Type 0) (number : P → ℕ) (own : P → List Entry) (opening : S → List ℕ) where
   -- the pass's own list is what the commits of these records gave, which are those of the commands and the end
   pub record Ran (store : S) (k : ℕ) (commands : List Command) (p : P) (records : List Record) : Type 0 where
     pub belongs_to : belongs store p
     pub number_is : number p ≡ k
     pub labelled : map label records ≡ labels (k + 1) 1 commands
-    pub answered : AreAnswered (length (opening store)) (meanings commands) records
-    pub own_is : AreGiven gives k (meanings commands) [] records (own p)
+    pub answered : AreAnswered (length (opening store)) (meanings limit (k + 1) commands) records
+    pub own_is : AreGiven gives k (meanings limit (k + 1) commands) [] records (own p)
 
   abbrev pub JobRan : S → ℕ → List Command → Job P → Type 0
   JobRan store k commands j = Ran store k commands j.pass (padded_value j.records).items

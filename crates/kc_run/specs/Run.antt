@@ -1,9 +1,9 @@
 -- What a store can run.
 use Rattle.std.specs.Prelude.{ℕ, ◌≤◌, List, All, length}
-use Rattle.kc_run.specs.Ask.{ask_end}
 use Rattle.kc_script_bundle.specs.Meaning.{CommandIsFit}
 use Rattle.kc_script_bundle.specs.declared.bundle.TheConstants.{MOST_COMMANDS}
 use Rattle.kc_script_bundle.specs.declared.operation.Command.{Command}
+use Rattle.kc_script_runs.specs.Ask.{ask_end}
 
 -- a store of so many locations can run the command
 pub record CanRun (locations : ℕ) (c : Command) : Type 0 where

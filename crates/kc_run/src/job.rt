@@ -1,11 +1,11 @@
 //! Passes with their threads' records, and apart again.
 
-ghost use Rattle.std.specs.Prelude.{◌≡◌, ◌+◌, ◌≤◌, ◌<◌, [], length, map, vec_len, vec_capacity, All, IfOk};
-ghost use Rattle.kc_script_runs.specs.Labels.{label, labels};
-ghost use Rattle.kc_run.specs.Jobs.{Rooms, paired, pass_of, list_of};
+ghost use Rattle.std.specs.Prelude.{◌≡◌, ◌≤◌, [], length, map, vec_capacity, All, IfOk};
+ghost use Rattle.kc_model.specs.declared.footprint.TheConstants.{MOST};
+ghost use Rattle.kc_run.specs.Jobs.{Rooms, empty_records, paired, pass_of, list_of};
 
 use crossbeam_utils::CachePadded;
-use kc_history::{Mark, Record};
+use kc_history::Records;
 use kc_script_bundle::{Command, MOST_COMMANDS};
 use std::alloc::{AllocError, Global};
 
@@ -13,34 +13,31 @@ use std::alloc::{AllocError, Global};
 #[derive(Drop)]
 pub struct Job<P> {
     pub pass: P,
-    pub records: CachePadded<Vec<Record>>,
+    pub records: CachePadded<Records>,
 }
 
-/// A record for each command of a thread, and one for its end.
-fn room_for(alloc: Global, thread: u32, commands: &[Command]) -> Result<Vec<Record>, AllocError>
-    requires { length commands.now ≤ MOST_COMMANDS }
-    ensures { IfOk result (λ records. map label records.items ≡ labels thread 1 commands.now) }
+/// Room for a record for each command of a thread, and one for its end, of at most so many locations each.
+fn room_for(alloc: Global, commands: &[Command], limit: u32) -> Result<Records, AllocError>
+    requires few { length commands.now ≤ MOST_COMMANDS }
+    requires limit { limit ≤ MOST }
+    ensures { IfOk result (λ records. records ≡ empty_records limit commands.now) }
 {
-    let mut records = Vec::with_capacity(alloc, commands.len() + 1)?;
-    for i in 0..commands.len() {
-        records.push(Record::new(thread, Mark::Command(i as u32 + 1)))?;
-    }
-    records.push(Record::new(thread, Mark::End))?;
-    Ok(records)
+    Records::open(alloc, commands.len() as u32 + 1, limit)
 }
 
-/// The records of each thread.
+/// Room for the records of each thread.
 pub fn rooms(
     alloc: Global,
     threads: &[Vec<Command>],
-) -> Result<Vec<CachePadded<Vec<Record>>>, AllocError>
-    requires few { length threads.now ≤ 64 }
+    limit: u32,
+) -> Result<Vec<CachePadded<Records>>, AllocError>
+    requires limit { limit ≤ MOST }
     requires commands { All (λ v. length v.items ≤ MOST_COMMANDS) threads.now }
-    ensures { IfOk result (λ v. Rooms 0 threads.now v.items) }
+    ensures { IfOk result (λ v. Rooms limit threads.now v.items) }
 {
     let mut all = Vec::with_capacity(alloc, threads.len())?;
     for i in 0..threads.len() {
-        let list = room_for(alloc, i as u32 + 1, threads[i].as_slice())?;
+        let list = room_for(alloc, threads[i].as_slice(), limit)?;
         all.push(CachePadded::new(list))?;
     }
     Ok(all)
@@ -49,7 +46,7 @@ pub fn rooms(
 /// Each pass with its thread's records.
 pub fn pair<P: Drop>(
     passes: Vec<P>,
-    space: Vec<CachePadded<Vec<Record>>>,
+    space: Vec<CachePadded<Records>>,
     mut jobs: Vec<Job<P>>,
 ) -> Vec<Job<P>>
     requires same { length passes.items ≡ length space.items }
@@ -71,8 +68,8 @@ pub fn pair<P: Drop>(
 pub fn part<P: Drop>(
     jobs: Vec<Job<P>>,
     mut passes: Vec<P>,
-    mut records: Vec<Vec<Record>>,
-) -> (Vec<P>, Vec<Vec<Record>>)
+    mut records: Vec<Records>,
+) -> (Vec<P>, Vec<Records>)
     requires empty { (passes.items ≡ []) × (records.items ≡ []) }
     requires room { (length jobs.items ≤ vec_capacity passes) × (length jobs.items ≤ vec_capacity records) }
     ensures passes { result.0.items ≡ map pass_of jobs.items }

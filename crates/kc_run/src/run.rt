@@ -3,6 +3,8 @@
 ghost use Rattle.std.specs.Prelude.{◌≡◌, ◌+◌, ◌≤◌, ◌<◌, ℕ, All, length, map, slice_index_or, vec_capacity, IfOk, IfErr};
 ghost use Rattle.kc_history.specs.Callers.{IsBelowCallers, IsLegalFrom};
 ghost use Rattle.kc_history.specs.Records.{lists_of};
+ghost use Rattle.kc_model.specs.declared.footprint.TheConstants.{MOST};
+ghost use Rattle.kc_script_bundle.specs.declared.bundle.TheConstants.{MOST_THREADS};
 ghost use Rattle.kc_script_runs.specs.Labels.{AreThreads};
 ghost use Rattle.kc_script_runs.specs.Threads.{AreRunBy};
 ghost use Rattle.kc_run.specs.Run.{CanRunAll};
@@ -12,7 +14,7 @@ use crate::gate::Gate;
 use crate::job::{Job, pair, part, rooms};
 use crate::shared::Shared;
 use crate::thread::run_thread;
-use kc_history::Record;
+use kc_history::Records;
 use kc_script_bundle::Command;
 use std::alloc::Global;
 use std::sync::Wait;
@@ -36,33 +38,35 @@ pub fn run_threads<S: Shared, G: Gate, R: Threads + Wait + Sync>(
     rt: &R,
     alloc: Global,
     threads: &[Vec<Command>],
+    limit: u32,
     shared: S,
     passes: Vec<S::Pass>,
     gate: &G,
-) -> Result<(Vec<Vec<Record>>, S::Whole), RunRefused<S>>
+) -> Result<(Vec<Records>, S::Whole), RunRefused<S>>
+    requires limit { (0 < limit) × (limit ≤ MOST) }
     requires some { 0 < length threads.now }
-    requires few { length threads.now ≤ 64 }
+    requires few { length threads.now ≤ MOST_THREADS }
     requires callers { length threads.now ≡ S.callers shared }
     requires passes { AllMayRun S.belongs S.number S.left S.own shared 0 threads.now passes.items }
     requires locations { 0 < length (S.opening shared) }
     requires commands { All (λ v. CanRunAll (length (S.opening shared)) v.items) threads.now }
     ensures began { IfOk result (λ r. S.began r.1 ≡ S.opening shared) }
     ensures legal { IfOk result (λ r. IsLegalFrom (S.opening shared) (S.history r.1)) }
-    ensures run { IfOk result (λ r. AreRunBy S.gives (length (S.opening shared)) 0 (S.history r.1) (map (λ v. v.items) threads.now) (lists_of r.0.items)) }
+    ensures run { IfOk result (λ r. AreRunBy S.gives limit (length (S.opening shared)) 0 (S.history r.1) (map (λ v. v.items) threads.now) (lists_of r.0.items)) }
     ensures threads { IfOk result (λ r. AreThreads 1 (map (λ v. v.items) threads.now) (lists_of r.0.items)) }
     ensures nobody_else { IfOk result (λ r. IsBelowCallers (length threads.now) (S.history r.1)) }
     ensures refused { IfErr result (λ e. (e.shared ≡ shared) × (e.passes.items ≡ passes.items)) }
 {
     let n = threads.len();
     let (Ok(space), Ok(jobs), Ok(back), Ok(out)) = (
-        rooms(alloc, threads),
+        rooms(alloc, threads, limit),
         Vec::with_capacity(alloc, n),
         Vec::with_capacity(alloc, n),
         Vec::with_capacity(alloc, n),
     ) else {
         return Err(RunRefused { shared, passes });
     };
-    let jobs = run_jobs(rt, &shared, gate, threads, pair(passes, space, jobs));
+    let jobs = run_jobs(rt, &shared, gate, threads, limit, pair(passes, space, jobs));
     let (passes, records) = part(jobs, back, out);
     Ok((records, shared.finish(passes)))
 }
@@ -73,17 +77,19 @@ fn run_jobs<S: Shared, G: Gate, R: Threads + Wait + Sync>(
     shared: &S,
     gate: &G,
     threads: &[Vec<Command>],
+    limit: u32,
     mut jobs: Vec<Job<S::Pass>>,
 ) -> Vec<Job<S::Pass>>
-    requires threads { (length threads.now ≡ length jobs.items) × (length threads.now ≤ 64) }
+    requires limit { (0 < limit) × (limit ≤ MOST) }
+    requires threads { (length threads.now ≡ length jobs.items) × (length threads.now ≤ MOST_THREADS) }
     requires some { 0 < length jobs.items }
     requires locations { 0 < length (S.opening shared.now) }
     requires commands { All (λ v. CanRunAll (length (S.opening shared.now)) v.items) threads.now }
-    requires ready { (i : ℕ) (d : _) → i < length jobs.items → Ready S.belongs S.number S.left S.own shared.now i (row_at threads.now i) (slice_index_or jobs.items i d) }
+    requires ready { (i : ℕ) (d : _) → i < length jobs.items → Ready S.belongs S.number S.left S.own limit shared.now i (row_at threads.now i) (slice_index_or jobs.items i d) }
     ensures len { length result.items ≡ length jobs.items }
-    ensures ran { (i : ℕ) (d : _) → i < length jobs.items → JobRan S.gives S.belongs S.number S.own S.opening shared.now i (row_at threads.now i) (slice_index_or result.items i d) }
+    ensures ran { (i : ℕ) (d : _) → i < length jobs.items → JobRan limit S.gives S.belongs S.number S.own S.opening shared.now i (row_at threads.now i) (slice_index_or result.items i d) }
 {
-    run_each(rt, shared, gate, threads, jobs.as_mut_slice());
+    run_each(rt, shared, gate, threads, limit, jobs.as_mut_slice());
     jobs
 }
 
@@ -92,20 +98,22 @@ fn run_each<S: Shared, G: Gate, R: Threads + Wait + Sync>(
     shared: &S,
     gate: &G,
     threads: &[Vec<Command>],
+    limit: u32,
     jobs: &mut [Job<S::Pass>],
 )
-    requires threads { (length threads.now ≡ length jobs.old) × (length threads.now ≤ 64) }
+    requires limit { (0 < limit) × (limit ≤ MOST) }
+    requires threads { (length threads.now ≡ length jobs.old) × (length threads.now ≤ MOST_THREADS) }
     requires some { 0 < length jobs.old }
     requires locations { 0 < length (S.opening shared.now) }
     requires commands { All (λ v. CanRunAll (length (S.opening shared.now)) v.items) threads.now }
-    requires ready { (i : ℕ) (d : _) → i < length jobs.old → Ready S.belongs S.number S.left S.own shared.now i (row_at threads.now i) (slice_index_or jobs.old i d) }
-    ensures { (i : ℕ) (d : _) → i < length jobs.old → JobRan S.gives S.belongs S.number S.own S.opening shared.now i (row_at threads.now i) (slice_index_or jobs.new i d) }
+    requires ready { (i : ℕ) (d : _) → i < length jobs.old → Ready S.belongs S.number S.left S.own limit shared.now i (row_at threads.now i) (slice_index_or jobs.old i d) }
+    ensures { (i : ℕ) (d : _) → i < length jobs.old → JobRan limit S.gives S.belongs S.number S.own S.opening shared.now i (row_at threads.now i) (slice_index_or jobs.new i d) }
 {
     let count = jobs.len();
     let run = |i: usize, job: &mut Job<S::Pass>|
-        requires { (i < length threads.now) × (length threads.now ≤ 64) × (0 < length (S.opening shared.now)) × All (λ v. CanRunAll (length (S.opening shared.now)) v.items) threads.now × Ready S.belongs S.number S.left S.own shared.now i (row_at threads.now i) job.now }
-        ensures { JobRan S.gives S.belongs S.number S.own S.opening shared.entry.now i (row_at threads.entry.now i) job.exit.now }
-    { run_at(rt, shared, gate, threads, i, job) };
+        requires { (0 < limit) × (limit ≤ MOST) × (i < length threads.now) × (length threads.now ≤ MOST_THREADS) × (0 < length (S.opening shared.now)) × All (λ v. CanRunAll (length (S.opening shared.now)) v.items) threads.now × Ready S.belongs S.number S.left S.own limit shared.now i (row_at threads.now i) job.now }
+        ensures { JobRan limit S.gives S.belongs S.number S.own S.opening shared.entry.now i (row_at threads.entry.now i) job.exit.now }
+    { run_at(rt, shared, gate, threads, limit, i, job) };
     thread::for_each_mut(rt, jobs, count, &run);
 }
 
@@ -115,16 +123,26 @@ fn run_at<S: Shared, G: Gate, R: Wait>(
     shared: &S,
     gate: &G,
     threads: &[Vec<Command>],
+    limit: u32,
     i: usize,
     job: &mut Job<S::Pass>,
 )
-    requires thread { (i < length threads.now) × (length threads.now ≤ 64) }
+    requires limit { (0 < limit) × (limit ≤ MOST) }
+    requires thread { (i < length threads.now) × (length threads.now ≤ MOST_THREADS) }
     requires locations { 0 < length (S.opening shared.now) }
     requires commands { All (λ v. CanRunAll (length (S.opening shared.now)) v.items) threads.now }
-    requires ready { Ready S.belongs S.number S.left S.own shared.now i (row_at threads.now i) job.old }
-    ensures { JobRan S.gives S.belongs S.number S.own S.opening shared.now i (row_at threads.now i) job.new }
+    requires ready { Ready S.belongs S.number S.left S.own limit shared.now i (row_at threads.now i) job.old }
+    ensures { JobRan limit S.gives S.belongs S.number S.own S.opening shared.now i (row_at threads.now i) job.new }
 {
-    run_job(rt, shared, gate, i as u32, threads[i].as_slice(), job);
+    run_job(
+        rt,
+        shared,
+        gate,
+        i as u32,
+        threads[i].as_slice(),
+        limit,
+        job,
+    );
 }
 
 fn run_job<S: Shared, G: Gate, R: Wait>(
@@ -133,21 +151,24 @@ fn run_job<S: Shared, G: Gate, R: Wait>(
     gate: &G,
     caller: u32,
     commands: &[Command],
+    limit: u32,
     job: &mut Job<S::Pass>,
 )
-    requires caller { caller < 64 }
+    requires limit { (0 < limit) × (limit ≤ MOST) }
+    requires caller { caller < MOST_THREADS }
     requires locations { 0 < length (S.opening shared.now) }
     requires commands { CanRunAll (length (S.opening shared.now)) commands.now }
-    requires ready { Ready S.belongs S.number S.left S.own shared.now caller commands.now job.old }
-    ensures { JobRan S.gives S.belongs S.number S.own S.opening shared.now caller commands.now job.new }
+    requires ready { Ready S.belongs S.number S.left S.own limit shared.now caller commands.now job.old }
+    ensures { JobRan limit S.gives S.belongs S.number S.own S.opening shared.now caller commands.now job.new }
 {
-    let records = job.records.as_mut_slice();
+    let records = &mut *job.records;
     run_thread(
         rt,
         shared,
         gate,
         caller + 1,
         commands,
+        limit,
         &mut job.pass,
         records,
     );

@@ -1,6 +1,6 @@
 -- When a command on a store's objects may be asked for.
 use Rattle.std.proofs.Common.{ℕ, ◌<◌, ◌≤◌, arith}
-use Rattle.kc_run.specs.Ask.{ask_end}
+use Rattle.kc_script_runs.specs.Ask.{ask_end}
 use Rattle.kc_script_bundle.proofs.Fitting.{command_fits, command_within}
 use Rattle.kc_script_bundle.specs.Meaning.{CommandIsFit}
 use Rattle.kc_script_bundle.specs.On.{CommandIsOn}

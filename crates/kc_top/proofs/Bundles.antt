@@ -1,5 +1,5 @@
 -- A bundle's threads, its opening store, and room for its records.
-use Rattle.std.proofs.Common.{◌≡◌, ℕ, zero, suc, ◌+◌, ◌<◌, ◌≤◌, List, [], ◌∷◌, length, map, get_or, vec_len, refl, sym, ap, ◌∙◌, subst, arith}
+use Rattle.std.proofs.Common.{◌≡◌, ℕ, zero, suc, ◌+◌, ◌<◌, ◌≤◌, List, [], ◌∷◌, length, map, get_or, refl, sym, ap, ◌∙◌, subst, arith}
 use Rattle.std.specs.Prelude.{All, sum_by}
 use Rattle.std.proofs.lemmas.List.{length-map}
 use Rattle.std.proofs.lemmas.List.Sums.{sum_by-cons}
@@ -11,8 +11,8 @@ use Rattle.kc_history.specs.Ends.{AllCanStandIn}
 use Rattle.kc_history.specs.Moves.{placed_from}
 use Rattle.kc_history.specs.Order.{IsCanonical, Legal}
 use Rattle.kc_history.specs.Records.{footprint_at, lists_of}
+use Rattle.kc_history.specs.RecordsValue.{RecordsValue}
 use Rattle.kc_history.specs.declared.record.Place.{Place}
-use Rattle.kc_history.specs.declared.record.Record.{Record}
 use Rattle.kc_model.proofs.Stores.{opened_length}
 use Rattle.kc_run.proofs.Threads.{room_length}
 use Rattle.kc_run.specs.Run.{CanRunAll}
@@ -21,11 +21,13 @@ use Rattle.kc_script.proofs.Spelled.{spelled_lies, spelled_threads, spelled_thre
 use Rattle.kc_script.specs.Parts.{SpellsParts}
 use Rattle.kc_script.specs.Spells.{Spells}
 use Rattle.kc_script.specs.Threads.{AreThreads as AreOn}
+use Rattle.kc_script_bundle.specs.declared.bundle.TheConstants.{MOST_THREADS}
 use Rattle.kc_script_bundle.proofs.Places.{next_from-above, length-cells}
 use Rattle.kc_script_bundle.specs.Script.{Script, script_of, next_from}
 use Rattle.kc_script_bundle.specs.State.{opening_values}
 use Rattle.kc_script_bundle.specs.declared.bundle.Bundle.{Bundle}
 use Rattle.kc_script_bundle.specs.declared.operation.Command.{Command}
+use Rattle.kc_script.proofs.Again.{limit_fits}
 use Rattle.kc_script_runs.proofs.Replayed.{opened_zero, run_list, run_made, run_of_order, run_threads_are}
 use Rattle.kc_script_runs.specs.Labels.{AreThreads}
 use Rattle.kc_script_runs.specs.Run.{IsRun, opening_store}
@@ -44,7 +46,7 @@ store_length script cells e = ap length e ∙ opened_length (opening_values scri
 
 -- a script that bytes spell can be run
 pub runnable : {bytes : List ℕ} {s : Script} → Spells bytes s → IsRunnable s
-runnable spells = record { lies = spelled_lies spells; few = spelled_threads_few spells; threads = spelled_threads spells }
+runnable spells = record { limit = (let e = spells.limit in let fits = limit_fits spells.heading spells.version spells.begins in (omega (arith, e, fits.0), omega (arith, e, fits.1))); lies = spelled_lies spells; few = spelled_threads_few spells; threads = spelled_threads spells }
 
 -- so can one that parts spell
 pub runnable_parts : {setup : List ℕ} {files : List (List ℕ)} {s : Script} → SpellsParts setup files s → IsRunnable s
@@ -83,7 +85,7 @@ module _ (b : Bundle) (values : List ℕ) (ts : List (Vec Command)) (can : IsRun
   pub values_fit : (0 < length values) × (length values ≤ 65536)
   values_fit = let few = can.lies.within in (omega (arith, valued_size, next_from-above 1 (script_of b).objects), omega (arith, valued_size, few))
 
-  pub threads_fit : 0 < length b.threads.items → (0 < length ts) × (length ts ≤ 64)
+  pub threads_fit : 0 < length b.threads.items → (0 < length ts) × (length ts ≤ MOST_THREADS)
   threads_fit some =
       let same = ap length threaded in
       let long = length-map b.threads.items (λ (v : Vec Command). v.items) in
@@ -94,29 +96,28 @@ module _ (b : Bundle) (values : List ℕ) (ts : List (Vec Command)) (can : IsRun
 
 -- ---- room
 
-pub lists_length : (j : ℕ) (threads : List (Vec Command)) (records : List (Vec Record)) → AreThreads j (commands_of threads) (lists_of records) → length records ≡ length threads
+pub lists_length : (j : ℕ) (threads : List (Vec Command)) (records : List RecordsValue) → AreThreads j (commands_of threads) (lists_of records) → length records ≡ length threads
 lists_length j [] [] h = refl
 lists_length j [] (r ∷ rs) h = absurd h
 lists_length j (v ∷ vs) [] h = absurd h
 lists_length j (v ∷ vs) (r ∷ rs) h = ap suc (lists_length (j + 1) vs rs h.1)
 
 -- there are as many records as commands and ends
-pub records_counted : (j : ℕ) (threads : List (Vec Command)) (records : List (Vec Record)) → AreThreads j (commands_of threads) (lists_of records) → records_in records ≡ sum_by (λ (v : Vec Command). length v.items + 1) threads
+pub records_counted : (j : ℕ) (threads : List (Vec Command)) (records : List RecordsValue) → AreThreads j (commands_of threads) (lists_of records) → records_in records ≡ sum_by (λ (v : Vec Command). length v.items + 1) threads
 records_counted j [] [] h = refl
 records_counted j [] (r ∷ rs) h = absurd h
 records_counted j (v ∷ vs) [] h = absurd h
 records_counted j (v ∷ vs) (r ∷ rs) h =
-    let a = sum_by-cons (λ (w : Vec Record). vec_len w) r rs in
+    let a = sum_by-cons (λ (w : RecordsValue). length w.items) r rs in
     let b = sum_by-cons (λ (w : Vec Command). length w.items + 1) v vs in
     let c = records_counted (j + 1) vs rs h.1 in
     let d = room_length j v.items r.items h.0 in
-    let e = r.ok.0 in
-    omega (arith, a, b, c, d, e)
+    omega (arith, a, b, c, d)
 
 -- ---- from what ran to what is shown
 
 -- where a run opened and what its threads left: it can be settled, and is then a run of the script
-pub record Settles (script : Script) (threads : List (Vec Command)) (cells : List Cell) (vs : List (Vec Record)) : Type 0 where
+pub record Settles (script : Script) (threads : List (Vec Command)) (cells : List Cell) (vs : List RecordsValue) : Type 0 where
   pub made : AllCanStandIn (length cells) (footprint_at (lists_of vs))
   pub opens : (l : ℕ) → (store_of cells l).version ≡ 0
   pub legal : (places : List Place) × (last : Store) × Legal (footprint_at (lists_of vs)) (λ _. 0) (store_of cells) places last
@@ -124,16 +125,16 @@ pub record Settles (script : Script) (threads : List (Vec Command)) (cells : Lis
   pub counted : records_in vs ≡ sum_by (λ (v : Vec Command). length v.items + 1) threads
   pub run : (order : List Place) (last : Store) → IsCanonical (footprint_at (lists_of vs)) order → Legal (footprint_at (lists_of vs)) (λ _. 0) (store_of cells) order last → IsRun script (lists_of vs) order last
 
-pub settles : (b : Bundle) (cells : List Cell) (vs : List (Vec Record)) → cells ≡ opened (opening_values (script_of b)) → HaveCommits (script_of b) (lists_of vs) → Settles (script_of b) b.threads.items cells vs
+pub settles : (b : Bundle) (cells : List Cell) (vs : List RecordsValue) → cells ≡ opened (opening_values (script_of b)) → HaveCommits (script_of b) (lists_of vs) → Settles (script_of b) b.threads.items cells vs
 settles b cells vs stored have =
     let script = script_of b in
     let same : length (opening_values script) ≡ length cells = sym (ap length stored ∙ opened_length (opening_values script)) in
-    let run : AreRun (length cells) 0 have.commits script.threads (lists_of vs) = subst (λ (n : ℕ). AreRun n 0 have.commits script.threads (lists_of vs)) same have.run in
+    let run : AreRun script.limit (length cells) 0 have.commits script.threads (lists_of vs) = subst (λ (n : ℕ). AreRun script.limit n 0 have.commits script.threads (lists_of vs)) same have.run in
     let (last, found) = have.legal in
-    let labelled = run_threads_are (length cells) 0 1 refl have.commits script.threads (lists_of vs) run in
+    let labelled = run_threads_are script.limit (length cells) 0 1 refl have.commits script.threads (lists_of vs) run in
     let opening : opening_store script ≡ store_of cells = ap store_of (sym stored) in
     record {
-      made = run_made (length cells) have.commits script.threads (lists_of vs) run;
+      made = run_made script.limit (length cells) have.commits script.threads (lists_of vs) run;
       opens = λ l. subst (λ (x : List Cell). (store_of x l).version ≡ 0) (sym stored) (opened_zero (opening_values script) l);
       legal = (placed_from (λ _. 0) have.commits, last, subst (λ (x : Store). Legal (footprint_at (lists_of vs)) (λ _. 0) x (placed_from (λ _. 0) have.commits) last) opening (run_list script (length cells) have.commits (lists_of vs) run last have.nobody_else found));
       lists = lists_length 1 b.threads.items vs labelled;

@@ -3,6 +3,7 @@
 ghost use Rattle.std.specs.Prelude.{◌≡◌, ◌<◌, ◌≤◌, All, IfOk, length, map};
 ghost use Rattle.kc_history.specs.Callers.{IsBelowCallers, IsLegalFrom};
 ghost use Rattle.kc_history.specs.Records.{lists_of};
+ghost use Rattle.kc_model.specs.declared.footprint.TheConstants.{MOST};
 ghost use Rattle.kc_run.specs.Kcas.{values_in, history_in};
 ghost use Rattle.kc_run.specs.Run.{CanRunAll};
 ghost use Rattle.kc_script_bundle.specs.Script.{script_of};
@@ -14,11 +15,11 @@ ghost use Rattle.kc_top.specs.Served.{HaveCommits, IsServed};
 
 use crate::command_line::StoreName;
 use crate::served::Served;
-use kc_history::Record;
-use kc_locked::{LockPast, MOST_CALLERS};
+use kc_history::Records;
+use kc_locked::LockPast;
 use kc_model::{MOST_LOCATIONS, NoMemory};
 use kc_run::{Gate, Past, open_kcas, open_locked, run_threads};
-use kc_script_bundle::{Bundle, Command};
+use kc_script_bundle::{Bundle, Command, MOST_THREADS};
 use std::alloc::Global;
 use std::sync::Wait;
 use std::thread::Threads;
@@ -31,7 +32,7 @@ pub fn run_on_store<G: Gate, R: Threads + Wait + Sync>(
     bundle: &Bundle,
     values: &[u32],
     gate: &G,
-) -> Result<(Vec<Vec<Record>>, Served), NoMemory>
+) -> Result<(Vec<Records>, Served), NoMemory>
     requires can { IsRunnable (script_of bundle.now) }
     requires some { 0 < length bundle.now.threads.items }
     requires values { values.now ≡ opening_values (script_of bundle.now) }
@@ -40,11 +41,18 @@ pub fn run_on_store<G: Gate, R: Threads + Wait + Sync>(
 {
     match name {
         StoreName::Lock => {
-            let (records, past) = run_locked(rt, alloc, values, &bundle.threads, gate)?;
+            let (records, past) = run_locked(
+                rt,
+                alloc,
+                values,
+                &bundle.threads,
+                bundle.limit,
+                gate,
+            )?;
             Ok((records, Served::Lock(past)))
         }
         StoreName::Kcas => {
-            let (records, past) = run_kcas(rt, alloc, values, &bundle.threads, gate)?;
+            let (records, past) = run_kcas(rt, alloc, values, &bundle.threads, bundle.limit, gate)?;
             Ok((records, Served::Kcas(past)))
         }
     }
@@ -56,18 +64,20 @@ fn run_locked<G: Gate, R: Threads + Wait + Sync>(
     alloc: Global,
     values: &[u32],
     threads: &[Vec<Command>],
+    limit: u32,
     gate: &G,
-) -> Result<(Vec<Vec<Record>>, LockPast), NoMemory>
+) -> Result<(Vec<Records>, LockPast), NoMemory>
     requires values { (0 < length values.now) × (length values.now ≤ MOST_LOCATIONS) }
-    requires threads { (0 < length threads.now) × (length threads.now ≤ MOST_CALLERS) }
+    requires limit { (0 < limit) × (limit ≤ MOST) }
+    requires threads { (0 < length threads.now) × (length threads.now ≤ MOST_THREADS) }
     requires commands { All (λ v. CanRunAll (length values.now) v.items) threads.now }
     ensures opening { IfOk result (λ r. r.1.opening ≡ values.now) }
     ensures legal { IfOk result (λ r. IsLegalFrom values.now r.1.history) }
-    ensures run { IfOk result (λ r. AreRun (length values.now) 0 r.1.history (map (λ v. v.items) threads.now) (lists_of r.0.items)) }
+    ensures run { IfOk result (λ r. AreRun limit (length values.now) 0 r.1.history (map (λ v. v.items) threads.now) (lists_of r.0.items)) }
     ensures nobody_else { IfOk result (λ r. IsBelowCallers (length threads.now) r.1.history) }
 {
     let (store, passes) = open_locked(alloc, values, threads)?;
-    match run_threads(rt, alloc, threads, store, passes, gate) {
+    match run_threads(rt, alloc, threads, limit, store, passes, gate) {
         Ok(ran) => Ok(ran),
         Err(_) => Err(NoMemory),
     }
@@ -79,18 +89,20 @@ fn run_kcas<G: Gate, R: Threads + Wait + Sync>(
     alloc: Global,
     values: &[u32],
     threads: &[Vec<Command>],
+    limit: u32,
     gate: &G,
-) -> Result<(Vec<Vec<Record>>, Past), NoMemory>
+) -> Result<(Vec<Records>, Past), NoMemory>
     requires values { (0 < length values.now) × (length values.now ≤ MOST_LOCATIONS) }
-    requires threads { (0 < length threads.now) × (length threads.now ≤ MOST_CALLERS) }
+    requires limit { (0 < limit) × (limit ≤ MOST) }
+    requires threads { (0 < length threads.now) × (length threads.now ≤ MOST_THREADS) }
     requires commands { All (λ v. CanRunAll (length values.now) v.items) threads.now }
     ensures opening { IfOk result (λ r. values_in r.1 ≡ values.now) }
     ensures legal { IfOk result (λ r. IsLegalFrom values.now (history_in r.1)) }
-    ensures run { IfOk result (λ r. AreRunBy GivesBehindLooks (length values.now) 0 (history_in r.1) (map (λ v. v.items) threads.now) (lists_of r.0.items)) }
+    ensures run { IfOk result (λ r. AreRunBy GivesBehindLooks limit (length values.now) 0 (history_in r.1) (map (λ v. v.items) threads.now) (lists_of r.0.items)) }
     ensures nobody_else { IfOk result (λ r. IsBelowCallers (length threads.now) (history_in r.1)) }
 {
     let (store, passes) = open_kcas(alloc, values, threads)?;
-    match run_threads(rt, alloc, threads, store, passes, gate) {
+    match run_threads(rt, alloc, threads, limit, store, passes, gate) {
         Ok(ran) => Ok(ran),
         Err(_) => Err(NoMemory),
     }

@@ -2,7 +2,11 @@
 #![tactic(auto)]
 
 #[cfg(test)]
+mod cancels;
+#[cfg(test)]
 mod files;
+#[cfg(test)]
+mod limits;
 #[cfg(test)]
 mod runs;
 #[cfg(test)]

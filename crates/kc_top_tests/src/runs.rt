@@ -260,7 +260,9 @@ fn what_is_no_script_has_its_fault_and_writes_nothing(rt: HostRuntime) -> Result
     let rows = [
         ("", 1, Why::Header),
         ("# nothing\n", 1, Why::Header),
-        ("kcas 2\n", 1, Why::Header),
+        ("kcas 3\n", 1, Why::Header),
+        ("kcas 2\nlimit 257\n", 2, Why::BadNumber),
+        ("kcas 1\nthread\ncancel 17\n", 3, Why::BadNumber),
         ("kcas 1\nloc x\n", 2, Why::MissingWord),
         ("kcas 1\nthread\nget x\n", 3, Why::UnknownName),
         ("kcas 1\nloc x 5\nthread\nget y\n", 4, Why::UnknownName),

@@ -43,7 +43,7 @@ fn team(
 }
 
 // The text of a script that is longer than the others, with a store option.
-fn text_of<R: Threads + Wait + Sync>(
+pub(crate) fn text_of<R: Threads + Wait + Sync>(
     rt: &R,
     alloc: Global,
     option: &str,
