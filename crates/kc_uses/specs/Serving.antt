@@ -11,6 +11,7 @@ pub record IsServer (s : Server) : Type 0 where
   pub jobs : (s.jobs.base.0 ≡ 1) × (s.jobs.cap ≡ 8)
   pub urgent : (s.urgent.base.0 ≡ 11) × (s.urgent.cap ≡ 4)
   pub results : (s.results.base.0 ≡ 17) × (s.results.buckets ≡ 4) × (s.results.cap ≡ 16)
+  pub closed : s.closed.0 ≡ 139
 
 -- a store of so many locations has the server's cells
 abbrev pub HasServer : Server → ℕ → Type 0

@@ -9,6 +9,7 @@ ghost use Rattle.kc_term.specs.Tree.{first, op, operations};
 ghost use Rattle.kc_uses.specs.Serving.{HasServer};
 
 mod finish_job;
+mod finish_or_stop;
 mod server;
 mod shared;
 

@@ -10,17 +10,19 @@ use kc_store::{Caller, Store};
 use std::alloc::Global;
 use std::io;
 
-/// How many requests came, the jobs that wait, urgent ones apart, and the results of the jobs asked for last.
+/// How many requests came, the jobs that wait, urgent ones apart, the results of the jobs asked for last, and whether the
+/// server is closed: 0 while it isn't.
 #[derive(Clone, Copy)]
 pub struct Server {
     pub requests: Loc,
     pub jobs: Queue,
     pub urgent: Queue,
     pub results: Cache,
+    pub closed: Loc,
 }
 
 /// How many locations that takes.
-pub const CELLS: u32 = 139;
+pub const CELLS: u32 = 140;
 
 impl Server {
     /// A server with room for 8 jobs, 4 urgent ones and 16 results.
@@ -32,6 +34,7 @@ impl Server {
             jobs: Queue::layout(Loc(1), 8),
             urgent: Queue::layout(Loc(11), 4),
             results: Cache::layout(Loc(17), 4, 16),
+            closed: Loc(139),
         }
     }
 
@@ -79,7 +82,7 @@ impl Server {
         requires within { i < CELLS }
     {
         match i {
-            0 => 0,
+            0 | 139 => 0,
             1..11 => self.jobs.opening(i - 1),
             11..17 => self.urgent.opening(i - 11),
             _ => self.results.opening(i - 17),

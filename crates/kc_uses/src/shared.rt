@@ -4,9 +4,11 @@ ghost use Rattle.std.specs.Prelude.{◌≤◌};
 ghost use Rattle.kc_uses.specs.Serving.{HasServer, IsFree, IsServer};
 
 use crate::finish_job::FinishJob;
+use crate::finish_or_stop::FinishOrStop;
 use crate::server::Server;
 use kc_await::commit_waiting;
 use kc_cache::{CacheAct, CacheOp};
+use kc_loc::LocOp;
 use kc_model::Reply;
 use kc_queue::{QueueAct, QueueOp};
 use kc_store::{Caller, Outcome, Store};
@@ -21,7 +23,7 @@ use std::{io, thread};
 const JOBS: u32 = 3;
 
 /// The client queues jobs while the worker finishes each as it comes. Then the client learns what the worker knew, and
-/// reads the last result.
+/// reads the last result. At last the worker waits for another job, and the client closes the server, which ends the wait.
 pub fn serve<R: Print + Threads + Wait + Sync>(
     rt: &R,
     alloc: Global,
@@ -43,7 +45,33 @@ pub fn serve<R: Print + Threads + Wait + Sync>(
         act: CacheAct::CGet(JOBS),
     };
     let reply = run(rt, &store, &mut client, &last);
-    println!(rt; "the result of job {JOBS}, by another thread: {reply:?}")
+    println!(rt; "the result of job {JOBS}, by another thread: {reply:?}")?;
+    let (mut worker, _client) = thread::join(
+        rt,
+        move || wait_for_more(rt, shared, worker, server),
+        move || close(rt, shared, client, server),
+    );
+    let reply = run(rt, &store, &mut worker, &FinishOrStop::new(server));
+    println!(rt; "once the server is closed: {reply:?}")
+}
+
+// Waits for a job that never comes, until the server is closed.
+fn wait_for_more<R: Wait>(rt: &R, store: &Store, mut worker: Caller, server: &Server) -> Caller
+    requires worker { IsFree store.now worker }
+    requires server { HasServer server.now store.now.origin.locations }
+    ensures { IsFree store.now result }
+{
+    run(rt, store, &mut worker, &FinishOrStop::new(server));
+    worker
+}
+
+fn close<R: Wait>(rt: &R, store: &Store, mut client: Caller, server: &Server) -> Caller
+    requires client { IsFree store.now client }
+    requires server { HasServer server.now store.now.origin.locations }
+    ensures { IsFree store.now result }
+{
+    run(rt, store, &mut client, &LocOp::Set(server.closed, 1));
+    client
 }
 
 // Finishes as many jobs as the client queues, and waits where there is none.

@@ -1,13 +1,10 @@
-use Rattle.std.proofs.Common.{◌≡◌, arith, sym, ap, subst, ◌∙◌}
-use Rattle.kc_cache.specs.Meaning.{cache_meaning, cache_end}
-use Rattle.kc_model.specs.declared.reply.Reply.{Reply}
+use Rattle.std.proofs.Common.{◌≡◌, arith, sym, ◌∙◌}
+use Rattle.kc_cache.specs.Meaning.{cache_end}
 use Rattle.kc_queue.specs.Meaning.{queue_meaning, queue_end}
 use Rattle.kc_uses.specs.Finish.{next_job, kept_result, kept, number_of, finish_end}
 use Rattle.kc_xt.proofs.Chain.{does_reply}
 use Rattle.kc_xt.proofs.Composed.{obeys_then, obeys_then_stops, obeys_wider, obeys_exits}
 use Rattle.kc_xt.proofs.Laws.{law_of}
-use Rattle.kc_xt.specs.Law.{Obeys}
-use Rattle.kc_xt.specs.Program.{replies}
 use Rattle.kc_uses.proofs.finish_job.FinishJobTransact.run.Goals as goal
 
 pub returns-in_err-reply-clause-law : goal.returns-in_err-reply-clause-law
