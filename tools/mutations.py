@@ -30,6 +30,9 @@ DECLARATIONS = {
     b"acc": ["k"],
 }
 RANGES = {"v": (0, 4294967295), "c": (1, 4096), "b": (1, 1024), "k": (1, 32)}
+HEADERS = [[b"kcas", b"1"], [b"kcas", b"2"]]
+MOST_LIMIT = 256
+MOST_THREADS = 16
 SIZES = {
     b"loc": lambda n: 1,
     b"stack": lambda n: 1 + n[0],
@@ -50,6 +53,7 @@ promise: resolve N V, await N, resolved N
 acc: bump N V, total N
 cache: cput N V V, cputw N V V, cget N V, cdel N V
 stack queue table cache: len N
+: cancel T
 """
 FUNCTIONS = [b"add", b"max", b"min", b"and", b"or", b"xor"]
 RELATIONS = [b"eq", b"ne", b"lt", b"le", b"gt", b"ge"]
@@ -88,6 +92,8 @@ def is_name(word):
 class Reader:
     def __init__(self):
         self.header = False
+        self.version = 0
+        self.follows_header = False
         self.kinds = {}
         self.cells = 0
         self.threads = 0
@@ -97,10 +103,13 @@ class Reader:
 
     def line(self, n, words):
         if not self.header:
-            wants(words == [b"kcas", b"1"], n, "no header")
+            wants(words in HEADERS, n, "no header")
             self.header = True
+            self.version = int(words[1])
+            self.follows_header = True
             return
         word, args = words[0], words[1:]
+        follows_header, self.follows_header = self.follows_header, False
         if word in DECLARATIONS:
             self.declaration(n, word, args)
         elif word in TABLE:
@@ -111,6 +120,10 @@ class Reader:
             self.atomic(n, args)
         elif word in (b"or", b"end"):
             self.other(n, word, args)
+        elif word == b"limit" and self.version == 2:
+            wants(follows_header, n, "word out of place")
+            self.count(n, args, 1)
+            wants(is_number(args[0], 1, MOST_LIMIT), n, "bad number")
         else:
             wants(False, n, "unknown word")
 
@@ -150,6 +163,8 @@ class Reader:
                 wants(self.kinds[text] in kinds, n, "wrong kind")
             elif field == "V":
                 wants(is_number(text, 0, 4294967295), n, "bad number")
+            elif field == "T":
+                wants(is_number(text, 1, MOST_THREADS), n, "bad number")
             elif field == "F":
                 wants(text in FUNCTIONS, n, "unknown word")
             else:
@@ -160,7 +175,7 @@ class Reader:
         if self.blocks:
             wants(False, self.blocks[-1][1], "unclosed block")
         self.count(n, args, 0)
-        wants(self.threads < 16, n, "too many threads")
+        wants(self.threads < MOST_THREADS, n, "too many threads")
         self.threads += 1
         self.commands = 0
 
@@ -202,7 +217,7 @@ def first_fault(script):
 
 def made(rng):
     """A valid script with blocks, close to some limit."""
-    lines = [b"kcas 1"]
+    lines = list(rng.choice([[b"kcas 1"], [b"kcas 2"], [b"kcas 2", b"limit 0256"], [b"kcas 2", b"limit 1"]]))
     names = {}
     for kind, fields in DECLARATIONS.items():
         name = kind[:1].upper() + b"_" + str(rng.randrange(10)).encode()
@@ -220,6 +235,7 @@ def made(rng):
                 names[rng.choice(sorted(kinds))] if field == "N"
                 else rng.choice(FUNCTIONS) if field == "F"
                 else rng.choice(RELATIONS) if field == "R"
+                else rng.choice([b"1", b"016"]) if field == "T"
                 else rng.choice([b"0", b"7", b"0000000001", b"4294967295"])
             )
         return b" ".join(text)
@@ -267,7 +283,7 @@ def mutated(rng, script):
             words = lines[i].split()
             if words:
                 k = rng.randrange(len(words))
-                words[k] = rng.choice(sorted(TABLE) + sorted(DECLARATIONS) + [b"or", b"end", b"thread", b"atomic", b"4294967296", b"0", b"4097"] + words)
+                words[k] = rng.choice(sorted(TABLE) + sorted(DECLARATIONS) + [b"or", b"end", b"thread", b"atomic", b"4294967296", b"0", b"4097", b"limit", b"1", b"2", b"17", b"257"] + words)
                 lines[i] = b" ".join(words)
         elif way == 5:
             lines[i] = lines[i] + rng.choice([b" 1", b" x", b" #", b"\r", b" ", b"0"])

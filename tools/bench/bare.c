@@ -10,7 +10,7 @@
 #include <string.h>
 #include <time.h>
 
-enum { MOST_PUTS = 4, LOCATIONS = 512, COUNT = 8, BASE = LOCATIONS + 16 * COUNT, DESCRIPTOR = 136, POOL = 13 };
+enum { MOST_PUTS = 4, LOCATIONS = 512, COUNT = 8, BASE = LOCATIONS + 16 * COUNT, DESCRIPTOR = 520, POOL = 13 };
 static _Alignas(128) _Atomic uint64_t words[BASE + DESCRIPTOR * POOL];
 static int puts_, same;
 static uint64_t commits;

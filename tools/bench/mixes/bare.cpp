@@ -43,7 +43,7 @@ public:
 
 private:
     // Each location has two cache lines, with its awaiters behind its word; a descriptor has control, status, owner, and two words a line.
-    static constexpr uint64_t line_words = 16, descriptor_words = 136, descriptors = 3 * most_threads + 1;
+    static constexpr uint64_t line_words = 16, descriptor_words = 520, descriptors = 3 * most_threads + 1;
     static constexpr uint64_t reference = 1ull << 63, first_version = 1ull << 32, active = 0, succeeded = 256, failed = 512;
 
     struct Line {

@@ -1,0 +1,36 @@
+"""Lines 'ns NAME tenths' and 'bytes NAME number' on standard input; two tables in Markdown on standard output.
+
+The first has the least and the median of all rounds, in nanoseconds of one commit, the second bytes.
+"""
+
+import collections
+import statistics
+import sys
+
+CASES = {
+    "one": "one put",
+    "two": "two puts",
+    "eight": "eight reads and a put",
+    "either": "an alternative that is given up, and another",
+    "value": "one put, answered by value",
+    "hang": "a hang of one read and its leave",
+    "open": "opening a store of 16 locations for 4 callers",
+}
+
+times, sizes = collections.defaultdict(list), {}
+for line in sys.stdin:
+    kind, name, number = line.split()
+    if kind == "ns":
+        times[name].append(int(number) / 10)
+    else:
+        sizes[name] = int(number)
+
+print("| commit | least / median, ns |")
+print("|---|---|")
+for name, told in CASES.items():
+    if name in times:
+        print(f"| {told} | {min(times[name]):.0f} / {statistics.median(times[name]):.0f} |")
+print("\n| of | bytes |")
+print("|---|---|")
+for name, size in sizes.items():
+    print(f"| {name.replace('_', ' ')} | {size:,} |")
