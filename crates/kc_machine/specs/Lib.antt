@@ -10,3 +10,6 @@ pub mod Lists
 pub mod Machine
 pub mod Views
 pub mod Schedules
+pub use Rattle.kc_machine_commits.specs as kc_machine_commits
+pub use Rattle.kc_machine_steps.specs as kc_machine_steps
+pub use Rattle.kc_machine_words.specs as kc_machine_words

@@ -1,35 +1,35 @@
 -- Each step of an aid leaves fewer, and so does its way back.
-use Rattle.kc_machine.specs.Machine.{World, found_at, touched}
+use Rattle.kc_machine_answers.specs.kc_machine.Machine.{World, found_at, touched}
 use Rattle.kc_machine_alone.proofs.Left.{aid_left, is_active, is_last, leave_left, onward_left, pass_left}
 use Rattle.kc_machine_alone.proofs.PassFalls.{IsOut, NextFalls, install_below, pass_falls, release_falls, release_only}
-use Rattle.kc_machine_seats.specs.Fits.{AidFits, LoadsOn, StepFits}
-use Rattle.kc_machine_steps.specs.Aids.{after_pass, aid_access, aid_copy, aid_next, drop_or_release, load_next, owner_or_first}
-use Rattle.kc_machine_steps.specs.Lines.{joined}
-use Rattle.kc_machine_steps.specs.Passes.{from_install, from_release, pass_access, pass_next}
-use Rattle.kc_machine_steps.specs.declared.aid.AidNext.{AidNext}
-use Rattle.kc_machine_steps.specs.declared.aid.AidStep.{AidStep}
-use Rattle.kc_machine_steps.specs.declared.aid.Aided.{Aided}
+use Rattle.kc_machine_answers.specs.kc_machine_seats.Fits.{AidFits, LoadsOn, StepFits}
+use Rattle.kc_machine_answers.specs.kc_machine_steps.Aids.{after_pass, aid_access, aid_copy, aid_next, drop_or_release, load_next, owner_or_first}
+use Rattle.kc_machine_answers.specs.kc_machine_steps.Lines.{joined}
+use Rattle.kc_machine_answers.specs.kc_machine_steps.Passes.{from_install, from_release, pass_access, pass_next}
+use Rattle.kc_machine_answers.specs.kc_machine_steps.declared.aid.AidNext.{AidNext}
+use Rattle.kc_machine_answers.specs.kc_machine_steps.declared.aid.AidStep.{AidStep}
+use Rattle.kc_machine_answers.specs.kc_machine_steps.declared.aid.Aided.{Aided}
 use Rattle.kc_model.specs.declared.footprint.Line.{Line}
-use Rattle.kc_machine_steps.specs.declared.pass.PassNext.{PassNext}
-use Rattle.kc_machine_steps.specs.declared.pass.PassStep.{PassStep}
-use Rattle.kc_machine_words.specs.declared.access.Access.{Access}
-use Rattle.kc_machine_words.specs.declared.words.First.{First}
-use Rattle.kc_machine_words.specs.declared.words.Phase.{Phase}
-use Rattle.kc_machine_words.specs.declared.words.Phase.TheVariants.{Active, Crossed, Failed, Halted, Succeeded}
-use Rattle.kc_machine_words.specs.declared.words.Reference.{Reference}
-use Rattle.kc_machine_words.specs.declared.words.Second.{Second}
+use Rattle.kc_machine_answers.specs.kc_machine_steps.declared.pass.PassNext.{PassNext}
+use Rattle.kc_machine_answers.specs.kc_machine_steps.declared.pass.PassStep.{PassStep}
+use Rattle.kc_machine_answers.specs.kc_machine_words.declared.access.Access.{Access}
+use Rattle.kc_machine_answers.specs.kc_machine_words.declared.words.First.{First}
+use Rattle.kc_machine_answers.specs.kc_machine_words.declared.words.Phase.{Phase}
+use Rattle.kc_machine_answers.specs.kc_machine_words.declared.words.Phase.TheVariants.{Active, Crossed, Failed, Halted, Succeeded}
+use Rattle.kc_machine_answers.specs.kc_machine_words.declared.words.Reference.{Reference}
+use Rattle.kc_machine_answers.specs.kc_machine_words.declared.words.Second.{Second}
 use Rattle.kc_model.specs.declared.word.Word.TheVariants.{Ref}
 use Rattle.kc_model.specs.declared.footprint.TheConstants.{MOST}
 use Rattle.std.proofs.Common.{Bool, List, None, Option, Some, [], arith, false, if◌then◌else◌, length, refl, true, ℕ, ◌*◌, ◌++◌, ◌+◌, ◌-◌, ◌<◌, ◌==◌, ◌∷◌, ◌≡◌, ◌≤◌}
 use Rattle.std.proofs.lemmas.List.{length-append}
 use Rattle.std.specs.Prelude.{nat_lt}
 use borrow.Author.Tests.{eqb-false, eqb-true}
-use Rattle.kc_machine_words.specs.declared.access.Access.TheVariants as access
-use Rattle.kc_machine_steps.specs.declared.aid.AidStep.TheVariants as aid
-use Rattle.kc_machine_steps.specs.declared.aid.AidNext.TheVariants as aiding
-use Rattle.kc_machine_steps.specs.declared.pass.AfterCheck.TheVariants as checked
-use Rattle.kc_machine_words.specs.declared.access.Grip.TheVariants as grip
-use Rattle.kc_machine_steps.specs.declared.pass.PassNext.TheVariants as pass
+use Rattle.kc_machine_answers.specs.kc_machine_words.declared.access.Access.TheVariants as access
+use Rattle.kc_machine_answers.specs.kc_machine_steps.declared.aid.AidStep.TheVariants as aid
+use Rattle.kc_machine_answers.specs.kc_machine_steps.declared.aid.AidNext.TheVariants as aiding
+use Rattle.kc_machine_answers.specs.kc_machine_steps.declared.pass.AfterCheck.TheVariants as checked
+use Rattle.kc_machine_answers.specs.kc_machine_words.declared.access.Grip.TheVariants as grip
+use Rattle.kc_machine_answers.specs.kc_machine_steps.declared.pass.PassNext.TheVariants as pass
 
 -- what is left of an aid behind its step, on its way to the own line, or to the next aid
 abbrev pub AidGoes : World → Reference → Aided → ℕ → AidNext → Type 0

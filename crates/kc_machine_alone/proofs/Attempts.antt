@@ -1,6 +1,6 @@
 -- A whole attempt alone: its looks, its commits, and the steps of all of them.
-use Rattle.kc_machine.specs.Machine.{Opening, State, run}
-use Rattle.kc_machine.specs.Schedules.{IsSchedule, IsWellMadeTask}
+use Rattle.kc_machine_answers.specs.kc_machine.Machine.{Opening, State, run}
+use Rattle.kc_machine_answers.specs.kc_machine.Schedules.{IsSchedule, IsWellMadeTask}
 use Rattle.kc_machine_alone.proofs.Begun.{Begun, Idle, OthersRest, makes_run}
 use Rattle.kc_machine_alone.proofs.Ends.{square}
 use Rattle.kc_machine_alone.proofs.Tasks.{committed, cost, looks}
@@ -10,20 +10,19 @@ use Rattle.kc_machine_alone.proofs.Spares.{BothKept}
 use Rattle.kc_machine_alone.proofs.Starting.{fee, paid_few}
 use Rattle.kc_machine_alone.proofs.Within.{owned_at}
 use Rattle.kc_machine_alone.specs.Attempts as attempts
-use Rattle.kc_machine_alone.specs.Attempts.{AttemptsEnd, CanBeTaken, Commits, IsAttempt, IsToldBy, Looks, footprint_of, is_crossed, makes}
-use Rattle.kc_machine_claims.specs.Claims.{bound_alone, steps}
-use Rattle.kc_machine_steps.specs.declared.task.Event.{Event}
-use Rattle.kc_machine_steps.specs.declared.task.Task.TheVariants as task
-use Rattle.kc_machine_steps.specs.declared.task.Told.TheVariants as told
-use Rattle.kc_machine_traces.proofs.Others.{run_shape}
-use Rattle.kc_machine_words.specs.declared.words.Mode.{Mode}
+use Rattle.kc_machine_alone.specs.Attempts.{AttemptsEnd, CanBeTaken, Commits, IsAttempt, IsToldBy, Looks, is_crossed, makes}
+use Rattle.kc_machine_answers.specs.kc_machine_claims.Claims.{bound_alone, steps}
+use Rattle.kc_machine_answers.specs.kc_machine_steps.declared.task.Event.{Event}
+use Rattle.kc_machine_answers.specs.kc_machine_steps.declared.task.Task.TheVariants as task
+use Rattle.kc_machine_answers.specs.kc_machine_steps.declared.task.Told.TheVariants as told
+use Rattle.kc_machine_answers.proofs.kc_machine_traces.Others.{run_shape}
+use Rattle.kc_machine_answers.specs.kc_machine_words.declared.words.Mode.{Mode}
 use Rattle.kc_model.specs.declared.footprint.Footprint.{Footprint}
 use Rattle.kc_model.specs.declared.footprint.Loc.{Loc}
 use Rattle.kc_model.specs.declared.footprint.Seen.{Seen}
 use Rattle.kc_model.specs.declared.footprint.TheConstants.{LAST_VERSION, MOST}
-use Rattle.std.proofs.Common.{All, List, Some, [], ap, arith, length, map, refl, subst, sym, ℕ, ◌*◌, ◌++◌, ◌+◌, ◌-◌, ◌<◌, ◌∙◌, ◌∷◌, ◌≡◌, ◌≢◌, ◌≤◌}
+use Rattle.std.proofs.Common.{All, List, Some, [], arith, length, map, refl, subst, sym, ℕ, ◌*◌, ◌++◌, ◌+◌, ◌-◌, ◌<◌, ◌∙◌, ◌∷◌, ◌≡◌, ◌≢◌, ◌≤◌}
 use Rattle.std.proofs.lemmas.List.Elements.{All-cons, All-contains, All-head, All-nil, All-tail}
-use Rattle.std.proofs.lemmas.List.{length-map}
 
 -- ---- its looks
 
@@ -92,7 +91,7 @@ attempt_below n l =
     omega (arith, a, x, y, z)
 
 pub all_attempts_end : (o : Opening) (es : List Event) → IsSchedule o es → AttemptsEnd o es
-all_attempts_end o es w k d e ls puts l idle de cd ce low short made = (
+all_attempts_end o es w k d e ls plan l idle de cd ce low short made = (
   seen.1 + ended.0,
   (let a = seen.3 in let b = ended.1 in let c = attempt_below n (omega (arith, l)) in omega (arith, a, b, c, short)),
   record {
@@ -128,13 +127,13 @@ all_attempts_end o es w k d e ls puts l idle de cd ce low short made = (
     seen = all_look o k l d e ((run o es).world.control d).generation ((run o es).world.control e).generation ne d_there ls es at_first start (refl, refl) low
 
     f : Footprint
-    f = footprint_of puts seen.4.seen
+    f = plan seen.4.seen
 
     well_made : (m : Mode) → IsWellMadeTask o.locations (task.Commit f m)
     well_made m =
         let z = seen.4 in
-        let few : length z.seen ≤ MOST = let a = length-map z.seen (λ (r : Seen). r.loc) in let b = ap length z.at_them in omega (arith, a, b, short) in
-        (made z.seen z.at_them z.versions, λ r c. All-contains (λ (r : Seen). r.loc.0 < o.locations) z.seen r z.below c, few)
+        let p = made z.seen z.at_them z.versions in
+        (p.made, λ r c. All-contains (λ (r : Seen). r.loc.0 < o.locations) z.seen r z.below (p.reads r c), p.few)
 
     ended : (x : ℕ) × (x ≤ seen.2 + 2 * cost o k l) × Commits k (run o seen.0) f x
     ended = let z = seen.4 in committed o k l d e ne d_there e_there es idle cd ce seen.0 seen.2 f z.rest z.kept z.others well_made

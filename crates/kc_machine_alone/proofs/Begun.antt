@@ -1,24 +1,24 @@
 -- Where an idle seat begins a task and steps alone: what the others are, and what there is to pay.
-use Rattle.kc_machine.proofs.Functions.{put_here}
-use Rattle.kc_machine.specs.Machine.{Opening, State, event_of, run, run_from, with_seat}
-use Rattle.kc_machine.specs.Schedules.{BeginsWellMade, IsSchedule, IsWellMadeTask}
-use Rattle.kc_machine.specs.Seats.{begun_idle, is_idle}
-use Rattle.kc_machine.specs.Works as work
-use Rattle.kc_machine.specs.Works.{Work}
-use Rattle.kc_machine.specs.declared.seat.Seat.{Seat}
+use Rattle.kc_machine_answers.proofs.kc_machine.Functions.{put_here}
+use Rattle.kc_machine_answers.specs.kc_machine.Machine.{Opening, State, event_of, run, run_from, with_seat}
+use Rattle.kc_machine_answers.specs.kc_machine.Schedules.{BeginsWellMade, IsSchedule, IsWellMadeTask}
+use Rattle.kc_machine_answers.specs.kc_machine.Seats.{begun_idle, is_idle}
+use Rattle.kc_machine_answers.specs.kc_machine.Works as work
+use Rattle.kc_machine_answers.specs.kc_machine.Works.{Work}
+use Rattle.kc_machine_answers.specs.kc_machine.declared.seat.Seat.{Seat}
 use Rattle.kc_machine_alone.proofs.Clean.{Rests}
 use Rattle.kc_machine_alone.proofs.Within.{owned_at, work_hold}
 use Rattle.kc_machine_alone.specs.Attempts.{makes}
-use Rattle.kc_machine_claims.specs.Claims.{steps}
-use Rattle.kc_machine_effects.proofs.PoolLaws.{holds_counted}
-use Rattle.kc_machine_effects.specs.Holds.{NoHold, holds_on, total}
-use Rattle.kc_machine_effects.specs.Stands.{resting, stand, works}
-use Rattle.kc_machine_steps.specs.declared.task.Event.TheVariants.{Begin}
-use Rattle.kc_machine_steps.specs.declared.task.Event.{Event}
-use Rattle.kc_machine_steps.specs.declared.task.Task.{Task}
-use Rattle.kc_machine_traces.proofs.Joins.{run-append}
-use Rattle.kc_machine_traces.proofs.Others.{event_in, others_leave, run_shape}
-use Rattle.kc_machine_traces.specs.Parts.{NoneOf}
+use Rattle.kc_machine_answers.specs.kc_machine_claims.Claims.{steps}
+use Rattle.kc_machine_answers.proofs.kc_machine_effects.PoolLaws.{holds_counted}
+use Rattle.kc_machine_answers.specs.kc_machine_effects.Holds.{NoHold, holds_on, total}
+use Rattle.kc_machine_answers.specs.kc_machine_effects.Stands.{resting, stand, works}
+use Rattle.kc_machine_answers.specs.kc_machine_steps.declared.task.Event.TheVariants.{Begin}
+use Rattle.kc_machine_answers.specs.kc_machine_steps.declared.task.Event.{Event}
+use Rattle.kc_machine_answers.specs.kc_machine_steps.declared.task.Task.{Task}
+use Rattle.kc_machine_answers.proofs.kc_machine_traces.Joins.{run-append}
+use Rattle.kc_machine_answers.proofs.kc_machine_traces.Others.{event_in, others_leave, run_shape}
+use Rattle.kc_machine_answers.specs.kc_machine_traces.Parts.{NoneOf}
 use Rattle.std.proofs.Common.{Bool, List, [], ap, arith, false, if◌then◌else◌, refl, subst, suc, sym, true, zero, ℕ, ◌*◌, ◌++◌, ◌+◌, ◌<◌, ◌==◌, ◌∙◌, ◌∷◌, ◌≡◌, ◌≢◌}
 use Rattle.std.proofs.lemmas.List.Elements.{All-push}
 use borrow.Author.Tests.{eqb-false, eqb-true}

@@ -1,34 +1,34 @@
 -- No step of an aid leaves more rounds.
-use Rattle.kc_machine.specs.Machine.{World, found_at, touched}
+use Rattle.kc_machine_answers.specs.kc_machine.Machine.{World, found_at, touched}
 use Rattle.kc_machine_alone.proofs.Covers.{Lefts, aid_cover, all_of, cas_cases, check_cover, from_on, install_cover, left_of, left_word, next_cover, or_cases, or_left, or_mono, or_right, pass_cover, search_covers, search_of, status_cases}
 use Rattle.kc_machine_alone.proofs.Left.{is_active, is_last}
 use Rattle.kc_machine_alone.proofs.PassFalls.{one_after}
 use Rattle.kc_machine_alone.proofs.Rounds.{Calm, Cover, is_left, is_pending, nothing, place_of, refers_line}
-use Rattle.kc_machine_claims.proofs.ByPlace.{low}
-use Rattle.kc_machine_effects.proofs.Tests.{both}
-use Rattle.kc_machine_passes.proofs.Targets.{Target}
-use Rattle.kc_machine_passes.specs.Lines.{IsInstalledLine, IsLastLife}
-use Rattle.kc_machine_seats.specs.Fits.{AidFits, IsCheckedAt, IsInstalledAt, StepFits}
-use Rattle.kc_machine_steps.specs.Aids.{after_pass, aid_access, aid_copy, aid_next, drop_or_release, load_next, owner_or_first}
-use Rattle.kc_machine_steps.specs.Lines.{after_line, first_of, resolved_value, resolved_version, second_of, word_of}
-use Rattle.kc_machine_steps.specs.Looks.{reference_of}
-use Rattle.kc_machine_steps.specs.Passes.{check_access, check_drop_next, check_first_found, check_found, crossed_or_first, decide_access, decided_as, fits, from_check, from_install, from_release, install_access, install_found, pass_access, pass_next, refers_to, release_at, status}
-use Rattle.kc_machine_steps.specs.declared.aid.AidNext.{AidNext}
-use Rattle.kc_machine_steps.specs.declared.aid.AidStep.{AidStep}
-use Rattle.kc_machine_steps.specs.declared.aid.Aided.{Aided}
+use Rattle.kc_machine_answers.proofs.kc_machine_claims.ByPlace.{low}
+use Rattle.kc_machine_answers.proofs.kc_machine_effects.Tests.{both}
+use Rattle.kc_machine_answers.proofs.kc_machine_passes.Targets.{Target}
+use Rattle.kc_machine_answers.specs.kc_machine_passes.Lines.{IsInstalledLine, IsLastLife}
+use Rattle.kc_machine_answers.specs.kc_machine_seats.Fits.{AidFits, IsCheckedAt, IsInstalledAt, StepFits}
+use Rattle.kc_machine_answers.specs.kc_machine_steps.Aids.{after_pass, aid_access, aid_copy, aid_next, drop_or_release, load_next, owner_or_first}
+use Rattle.kc_machine_answers.specs.kc_machine_steps.Lines.{after_line, first_of, resolved_value, resolved_version, second_of, word_of}
+use Rattle.kc_machine_answers.specs.kc_machine_steps.Looks.{reference_of}
+use Rattle.kc_machine_answers.specs.kc_machine_steps.Passes.{check_access, check_drop_next, check_first_found, check_found, crossed_or_first, decide_access, decided_as, fits, from_check, from_install, from_release, install_access, install_found, pass_access, pass_next, refers_to, release_at, status}
+use Rattle.kc_machine_answers.specs.kc_machine_steps.declared.aid.AidNext.{AidNext}
+use Rattle.kc_machine_answers.specs.kc_machine_steps.declared.aid.AidStep.{AidStep}
+use Rattle.kc_machine_answers.specs.kc_machine_steps.declared.aid.Aided.{Aided}
 use Rattle.kc_model.specs.declared.footprint.Line.{Line}
-use Rattle.kc_machine_steps.specs.declared.pass.AfterCheck.{AfterCheck}
-use Rattle.kc_machine_steps.specs.declared.pass.PassNext.{PassNext}
-use Rattle.kc_machine_steps.specs.declared.pass.PassStep.{PassStep}
-use Rattle.kc_machine_steps.specs.declared.pass.PassStep.TheVariants.{Check, CheckDrop, CheckFirst, CheckHold, CheckStatus, Decide, Install, Release}
-use Rattle.kc_machine_words.specs.declared.access.Access.{Access}
-use Rattle.kc_machine_words.specs.declared.words.Control.{Control}
-use Rattle.kc_machine_words.specs.declared.words.Handle.{Handle}
-use Rattle.kc_machine_words.specs.declared.words.Mode.{Mode}
-use Rattle.kc_machine_words.specs.declared.words.Phase.{Phase}
-use Rattle.kc_machine_words.specs.declared.words.Phase.TheVariants.{Active, Crossed, Failed, Halted, Succeeded}
-use Rattle.kc_machine_words.specs.declared.words.Reference.{Reference}
-use Rattle.kc_machine_words.specs.declared.words.Status.{Status}
+use Rattle.kc_machine_answers.specs.kc_machine_steps.declared.pass.AfterCheck.{AfterCheck}
+use Rattle.kc_machine_answers.specs.kc_machine_steps.declared.pass.PassNext.{PassNext}
+use Rattle.kc_machine_answers.specs.kc_machine_steps.declared.pass.PassStep.{PassStep}
+use Rattle.kc_machine_answers.specs.kc_machine_steps.declared.pass.PassStep.TheVariants.{Check, CheckDrop, CheckFirst, CheckHold, CheckStatus, Decide, Install, Release}
+use Rattle.kc_machine_answers.specs.kc_machine_words.declared.access.Access.{Access}
+use Rattle.kc_machine_answers.specs.kc_machine_words.declared.words.Control.{Control}
+use Rattle.kc_machine_answers.specs.kc_machine_words.declared.words.Handle.{Handle}
+use Rattle.kc_machine_answers.specs.kc_machine_words.declared.words.Mode.{Mode}
+use Rattle.kc_machine_answers.specs.kc_machine_words.declared.words.Phase.{Phase}
+use Rattle.kc_machine_answers.specs.kc_machine_words.declared.words.Phase.TheVariants.{Active, Crossed, Failed, Halted, Succeeded}
+use Rattle.kc_machine_answers.specs.kc_machine_words.declared.words.Reference.{Reference}
+use Rattle.kc_machine_answers.specs.kc_machine_words.declared.words.Status.{Status}
 use Rattle.kc_model.specs.declared.footprint.Loc.{Loc}
 use Rattle.kc_model.specs.declared.word.Word.{Word}
 use Rattle.kc_model.specs.declared.word.Word.TheVariants.{Plain, Ref}
@@ -36,14 +36,14 @@ use Rattle.kc_model.specs.declared.footprint.TheConstants.{MOST}
 use Rattle.std.proofs.Common.{Bool, List, None, Option, Some, [], ap, arith, false, if◌then◌else◌, inl, inr, length, not, refl, subst, sym, true, ℕ, ◌&&◌, ◌+◌, ◌<◌, ◌==◌, ◌∙◌, ◌≡◌, ◌≢◌, ◌⊎◌}
 use Rattle.std.specs.Prelude.{nat_lt, slice_get, ◌||◌}
 use borrow.Author.Tests.{eq-eqb, eqb-false, eqb-true, ltb-false, ltb-true}
-use Rattle.kc_machine_words.specs.declared.access.Access.TheVariants as access
-use Rattle.kc_machine_steps.specs.declared.aid.AidStep.TheVariants as aid
-use Rattle.kc_machine_steps.specs.declared.aid.AidNext.TheVariants as aiding
-use Rattle.kc_machine_steps.specs.declared.pass.AfterCheck.TheVariants as checked
-use Rattle.kc_machine_words.specs.declared.access.Found.TheVariants as found
-use Rattle.kc_machine_words.specs.declared.access.Grip.TheVariants as grip
-use Rattle.kc_machine_steps.specs.declared.pass.PassNext.TheVariants as pass
-use Rattle.kc_machine_words.specs.declared.access.Touch.TheVariants as touch
+use Rattle.kc_machine_answers.specs.kc_machine_words.declared.access.Access.TheVariants as access
+use Rattle.kc_machine_answers.specs.kc_machine_steps.declared.aid.AidStep.TheVariants as aid
+use Rattle.kc_machine_answers.specs.kc_machine_steps.declared.aid.AidNext.TheVariants as aiding
+use Rattle.kc_machine_answers.specs.kc_machine_steps.declared.pass.AfterCheck.TheVariants as checked
+use Rattle.kc_machine_answers.specs.kc_machine_words.declared.access.Found.TheVariants as found
+use Rattle.kc_machine_answers.specs.kc_machine_words.declared.access.Grip.TheVariants as grip
+use Rattle.kc_machine_answers.specs.kc_machine_steps.declared.pass.PassNext.TheVariants as pass
+use Rattle.kc_machine_answers.specs.kc_machine_words.declared.access.Touch.TheVariants as touch
 
 false_of : (a b : Bool) → (a ≡ true → b ≡ true) → b ≡ false → a ≡ false
 false_of true b f e = let q = f refl in absurd (cc)

@@ -1,17 +1,17 @@
 -- Chains of aids: whose lines stand up to a location.
-use Rattle.kc_machine.specs.Machine.{World, touched}
-use Rattle.kc_machine.specs.Words.{status_is}
+use Rattle.kc_machine_answers.specs.kc_machine.Machine.{World, touched}
+use Rattle.kc_machine_answers.specs.kc_machine.Words.{status_is}
 use Rattle.kc_machine_alone.proofs.Covers.{cas_cases, or_cases, or_left, or_mono}
 use Rattle.kc_machine_alone.proofs.Rounds.{chain, in_line, is_above, is_live, place_of, refers_line, stands_to}
 use Rattle.kc_machine_alone.proofs.Tallies.{cond_le, cond_most, cond_one, every, every_all, every_at, total_le, total_lt, total_most}
-use Rattle.kc_machine_effects.proofs.Sums.{total_part}
-use Rattle.kc_machine_effects.proofs.Tests.{both}
-use Rattle.kc_machine_effects.specs.Holds.{Hold, NoHold, Proper, Stray}
-use Rattle.kc_machine_passes.specs.Lines.{IsInstalledLine}
-use Rattle.kc_machine_steps.specs.Lines.{word_of}
-use Rattle.kc_machine_steps.specs.Passes.{status}
-use Rattle.kc_machine_words.specs.declared.words.Handle.{Handle}
-use Rattle.kc_machine_words.specs.declared.words.Phase.TheVariants.{Active}
+use Rattle.kc_machine_answers.proofs.kc_machine_effects.Sums.{total_part}
+use Rattle.kc_machine_answers.proofs.kc_machine_effects.Tests.{both}
+use Rattle.kc_machine_answers.specs.kc_machine_effects.Holds.{Hold, NoHold, Proper, Stray}
+use Rattle.kc_machine_answers.specs.kc_machine_passes.Lines.{IsInstalledLine}
+use Rattle.kc_machine_answers.specs.kc_machine_steps.Lines.{word_of}
+use Rattle.kc_machine_answers.specs.kc_machine_steps.Passes.{status}
+use Rattle.kc_machine_answers.specs.kc_machine_words.declared.words.Handle.{Handle}
+use Rattle.kc_machine_answers.specs.kc_machine_words.declared.words.Phase.TheVariants.{Active}
 use Rattle.kc_model.specs.declared.footprint.Loc.{Loc}
 use Rattle.kc_model.specs.declared.word.Word.{Word}
 use Rattle.kc_model.specs.declared.word.Word.TheVariants.{Ref}
@@ -20,8 +20,8 @@ use Rattle.std.proofs.Common.{Bool, ap, arith, cond, false, inl, inr, not, refl,
 use Rattle.std.proofs.lemmas.Bool.{lt-ltb}
 use Rattle.std.specs.Prelude.{nat_lt, ◌||◌}
 use borrow.Author.Tests.{eq-eqb, eqb-false, eqb-true, ltb-false, ltb-true}
-use Rattle.kc_machine_words.specs.declared.access.Access.TheVariants as access
-use Rattle.kc_machine_words.specs.declared.access.Touch.TheVariants as touch
+use Rattle.kc_machine_answers.specs.kc_machine_words.declared.access.Access.TheVariants as access
+use Rattle.kc_machine_answers.specs.kc_machine_words.declared.access.Touch.TheVariants as touch
 
 pub refers_same : (d t g : ℕ) → refers_line d t (Ref g d t) ≡ true
 refers_same d t g = rw (eq-eqb d d refl, eq-eqb t t refl) refl

@@ -1,6 +1,6 @@
 -- A commit whose life nobody but its own pass decides: what it has to pay for rounds, its own lines counted as any other Active life's.
 use Rattle.kc_machine_alone.proofs.Tallies.{above_none, none_le}
-use Rattle.kc_machine.specs.Machine.{World, found_at, touched}
+use Rattle.kc_machine_answers.specs.kc_machine.Machine.{World, found_at, touched}
 use Rattle.kc_machine_alone.proofs.AidFalls.{AidGoes, IsBounded, aid_falls}
 use Rattle.kc_machine_alone.proofs.Calms.{aid_calm, goes_or_leaves, pass_calm}
 use Rattle.kc_machine_alone.proofs.Chains.{chain_most, in_line_is}
@@ -13,36 +13,36 @@ use Rattle.kc_machine_alone.proofs.Shut.{IsShut, aids_keep}
 use Rattle.kc_machine_alone.proofs.StanceSteps.{linked_at, met_other, stance_step}
 use Rattle.kc_machine_alone.proofs.Starting.{fee}
 use Rattle.kc_machine_alone.specs.Stretches.{step_begins}
-use Rattle.kc_machine_commits.specs.Commits.{after_own_pass, aid_or_back, finished, wake_or_drop}
-use Rattle.kc_machine_commits.specs.declared.commit.OwnStep.{OwnStep}
-use Rattle.kc_machine_commits.specs.declared.commit.OwnStep.TheVariants as own
-use Rattle.kc_machine_effects.proofs.Tests.{some_line}
-use Rattle.kc_machine_effects.specs.Holds.{Hold}
-use Rattle.kc_machine_passes.proofs.Targets.{Target}
-use Rattle.kc_machine_passes.specs.Phases.{StepKnows}
-use Rattle.kc_machine_pool.specs.Started.{line_of_words}
-use Rattle.kc_machine_seats.specs.Fits.{AidFits, FollowsOr, IsInstalledAt, StepFits}
-use Rattle.kc_machine_steps.specs.Aids.{aid_access, aid_copy, aid_next}
-use Rattle.kc_machine_steps.specs.Lines.{after_line, is_installed, joined, next_line, word_of}
-use Rattle.kc_machine_steps.specs.Passes.{check_access, decided_as, from_release, install_access, pass_access, pass_next, refers_to, release_or_finish, status}
-use Rattle.kc_machine_steps.specs.declared.aid.AidNext.{AidNext}
-use Rattle.kc_machine_steps.specs.declared.aid.AidNext.TheVariants as aiding
-use Rattle.kc_machine_steps.specs.declared.aid.AidStep.{AidStep}
-use Rattle.kc_machine_steps.specs.declared.aid.AidStep.TheVariants as aid
-use Rattle.kc_machine_steps.specs.declared.aid.Aided.{Aided}
-use Rattle.kc_machine_steps.specs.declared.line.Intent.{Intent}
+use Rattle.kc_machine_answers.specs.kc_machine_commits.Commits.{after_own_pass, aid_or_back, finished, wake_or_drop}
+use Rattle.kc_machine_answers.specs.kc_machine_commits.declared.commit.OwnStep.{OwnStep}
+use Rattle.kc_machine_answers.specs.kc_machine_commits.declared.commit.OwnStep.TheVariants as own
+use Rattle.kc_machine_answers.proofs.kc_machine_effects.Tests.{some_line}
+use Rattle.kc_machine_answers.specs.kc_machine_effects.Holds.{Hold}
+use Rattle.kc_machine_answers.proofs.kc_machine_passes.Targets.{Target}
+use Rattle.kc_machine_answers.specs.kc_machine_passes.Phases.{StepKnows}
+use Rattle.kc_machine_answers.specs.kc_machine_pool.Started.{line_of_words}
+use Rattle.kc_machine_answers.specs.kc_machine_seats.Fits.{AidFits, FollowsOr, IsInstalledAt, StepFits}
+use Rattle.kc_machine_answers.specs.kc_machine_steps.Aids.{aid_access, aid_copy, aid_next}
+use Rattle.kc_machine_answers.specs.kc_machine_steps.Lines.{after_line, is_installed, joined, next_line, word_of}
+use Rattle.kc_machine_answers.specs.kc_machine_steps.Passes.{check_access, decided_as, from_release, install_access, pass_access, pass_next, refers_to, release_or_finish, status}
+use Rattle.kc_machine_answers.specs.kc_machine_steps.declared.aid.AidNext.{AidNext}
+use Rattle.kc_machine_answers.specs.kc_machine_steps.declared.aid.AidNext.TheVariants as aiding
+use Rattle.kc_machine_answers.specs.kc_machine_steps.declared.aid.AidStep.{AidStep}
+use Rattle.kc_machine_answers.specs.kc_machine_steps.declared.aid.AidStep.TheVariants as aid
+use Rattle.kc_machine_answers.specs.kc_machine_steps.declared.aid.Aided.{Aided}
+use Rattle.kc_machine_answers.specs.kc_machine_steps.declared.line.Intent.{Intent}
 use Rattle.kc_model.specs.declared.footprint.Line.{Line}
-use Rattle.kc_machine_steps.specs.declared.line.Pick.TheVariants.{Installed, Put}
-use Rattle.kc_machine_steps.specs.declared.pass.AfterCheck.{AfterCheck}
-use Rattle.kc_machine_steps.specs.declared.pass.AfterCheck.TheVariants as checked
-use Rattle.kc_machine_steps.specs.declared.pass.PassNext.{PassNext}
-use Rattle.kc_machine_steps.specs.declared.pass.PassStep.{PassStep}
-use Rattle.kc_machine_steps.specs.declared.pass.PassStep.TheVariants.{Check, CheckDrop, CheckFirst, CheckHold, CheckStatus, Decide, Install, Release}
-use Rattle.kc_machine_words.specs.declared.words.Handle.{Handle}
-use Rattle.kc_machine_words.specs.declared.words.Phase.{Phase}
-use Rattle.kc_machine_words.specs.declared.words.Phase.TheVariants.{Active, Crossed, Failed, Halted, Succeeded}
-use Rattle.kc_machine_words.specs.declared.words.Reference.{Reference}
-use Rattle.kc_machine_words.specs.declared.words.Status.{Status}
+use Rattle.kc_machine_answers.specs.kc_machine_steps.declared.line.Pick.TheVariants.{Installed, Put}
+use Rattle.kc_machine_answers.specs.kc_machine_steps.declared.pass.AfterCheck.{AfterCheck}
+use Rattle.kc_machine_answers.specs.kc_machine_steps.declared.pass.AfterCheck.TheVariants as checked
+use Rattle.kc_machine_answers.specs.kc_machine_steps.declared.pass.PassNext.{PassNext}
+use Rattle.kc_machine_answers.specs.kc_machine_steps.declared.pass.PassStep.{PassStep}
+use Rattle.kc_machine_answers.specs.kc_machine_steps.declared.pass.PassStep.TheVariants.{Check, CheckDrop, CheckFirst, CheckHold, CheckStatus, Decide, Install, Release}
+use Rattle.kc_machine_answers.specs.kc_machine_words.declared.words.Handle.{Handle}
+use Rattle.kc_machine_answers.specs.kc_machine_words.declared.words.Phase.{Phase}
+use Rattle.kc_machine_answers.specs.kc_machine_words.declared.words.Phase.TheVariants.{Active, Crossed, Failed, Halted, Succeeded}
+use Rattle.kc_machine_answers.specs.kc_machine_words.declared.words.Reference.{Reference}
+use Rattle.kc_machine_answers.specs.kc_machine_words.declared.words.Status.{Status}
 use Rattle.kc_model.specs.declared.word.Word.TheVariants.{Ref}
 use Rattle.kc_model.specs.declared.footprint.TheConstants.{MOST}
 use Rattle.std.proofs.Common.{Bool, List, None, Option, Some, ap, arith, false, inl, inr, refl, subst, suc, sym, true, ℕ, ◌&&◌, ◌*◌, ◌+◌, ◌-◌, ◌<◌, ◌==◌, ◌∙◌, ◌≡◌, ◌≤◌, ◌⊎◌}

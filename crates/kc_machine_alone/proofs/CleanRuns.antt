@@ -1,11 +1,11 @@
 -- A commit that nobody else has met, step by step, until it is told.
-use Rattle.kc_machine.proofs.Functions.{put_here}
-use Rattle.kc_machine.specs.Machine.{Opening, State, World, found_at, run, touched}
-use Rattle.kc_machine.specs.Schedules.{IsSchedule}
-use Rattle.kc_machine.specs.Seats.{access_of, after, answer_by, answer_of, is_idle, work_access}
-use Rattle.kc_machine.specs.Works as work
-use Rattle.kc_machine.specs.Works.{Work}
-use Rattle.kc_machine.specs.declared.seat.Seat.{Seat}
+use Rattle.kc_machine_answers.proofs.kc_machine.Functions.{put_here}
+use Rattle.kc_machine_answers.specs.kc_machine.Machine.{Opening, State, World, found_at, run, touched}
+use Rattle.kc_machine_answers.specs.kc_machine.Schedules.{IsSchedule}
+use Rattle.kc_machine_answers.specs.kc_machine.Seats.{access_of, after, answer_by, answer_of, is_idle, work_access}
+use Rattle.kc_machine_answers.specs.kc_machine.Works as work
+use Rattle.kc_machine_answers.specs.kc_machine.Works.{Work}
+use Rattle.kc_machine_answers.specs.kc_machine.declared.seat.Seat.{Seat}
 use Rattle.kc_machine_alone.proofs.Clean.{Rests, Begins}
 use Rattle.kc_machine_alone.proofs.CleanSteps.{NextOn, StageHas, StageOn, StagePays, StageReady, stage_on}
 use Rattle.kc_machine_alone.proofs.Ends.{owned_else, owned_stays}
@@ -19,35 +19,35 @@ use Rattle.kc_machine_alone.proofs.Stretches.{comes_to, knows_at, longer}
 use Rattle.kc_machine_alone.proofs.Told.{StageBuilds, WorkBuilds}
 use Rattle.kc_machine_alone.proofs.Within.{HoldStays, built, grounded, hold_same, hold_stays, owned_at, stage_free, stage_hold, work_free, work_hold}
 use Rattle.kc_machine_alone.specs.Stretches.{begins_aid, stage_begins}
-use Rattle.kc_machine_claims.specs.Claims.{steps}
-use Rattle.kc_machine_commits.specs.Commits.{commit_access, gone_on, loaded, onward_by, stage_next}
-use Rattle.kc_machine_commits.specs.Halts.{unowned}
-use Rattle.kc_machine_commits.specs.Nexts as next
-use Rattle.kc_machine_commits.specs.Nexts.{Next}
-use Rattle.kc_machine_commits.specs.declared.commit.Commit.{Commit}
-use Rattle.kc_machine_commits.specs.declared.commit.OwnStep.TheVariants as own
-use Rattle.kc_machine_commits.specs.declared.commit.OwnStep.{OwnStep}
-use Rattle.kc_machine_commits.specs.declared.commit.Stage.TheVariants.{Own, Scan, Take}
-use Rattle.kc_machine_commits.specs.declared.commit.Stage.{Stage}
-use Rattle.kc_machine_effects.specs.Holds.{Hold, Proper}
-use Rattle.kc_machine_effects.specs.Stands as stands
-use Rattle.kc_machine_effects.specs.Stands.{Owns, Passing, Stand, owns, resting, stand, works}
-use Rattle.kc_machine_pool.proofs.LifeLaws.{active_owned, owners_differ}
-use Rattle.kc_machine_pool.specs.Owners.{OwnsLife, Undecided, fills}
-use Rattle.kc_machine_ranges.proofs.Runs.{seats_in, steps_happen}
-use Rattle.kc_machine_ranges.specs.Seats.{WorkIn, StageIn}
-use Rattle.kc_machine_seats.proofs.SeatedSteps.{seats_stay}
-use Rattle.kc_machine_seats.specs.Fits.{WorkFits}
-use Rattle.kc_machine_seats.specs.Formed.{WorkIsFormed}
-use Rattle.kc_machine_steps.specs.Passes.{status}
-use Rattle.kc_machine_steps.specs.declared.aid.Aided.{Aided}
-use Rattle.kc_machine_steps.specs.declared.line.Intent.{Intent}
-use Rattle.kc_machine_steps.specs.declared.task.Event.TheVariants.{Step}
-use Rattle.kc_machine_steps.specs.declared.task.Event.{Event}
-use Rattle.kc_machine_traces.proofs.Others.{run_shape}
-use Rattle.kc_machine_words.specs.declared.access.Found.{Found}
-use Rattle.kc_machine_words.specs.declared.words.Handle.{Handle}
-use Rattle.kc_machine_words.specs.declared.words.Phase.TheVariants.{Active}
+use Rattle.kc_machine_answers.specs.kc_machine_claims.Claims.{steps}
+use Rattle.kc_machine_answers.specs.kc_machine_commits.Commits.{commit_access, gone_on, loaded, onward_by, stage_next}
+use Rattle.kc_machine_answers.specs.kc_machine_commits.Halts.{unowned}
+use Rattle.kc_machine_answers.specs.kc_machine_commits.Nexts as next
+use Rattle.kc_machine_answers.specs.kc_machine_commits.Nexts.{Next}
+use Rattle.kc_machine_answers.specs.kc_machine_commits.declared.commit.Commit.{Commit}
+use Rattle.kc_machine_answers.specs.kc_machine_commits.declared.commit.OwnStep.TheVariants as own
+use Rattle.kc_machine_answers.specs.kc_machine_commits.declared.commit.OwnStep.{OwnStep}
+use Rattle.kc_machine_answers.specs.kc_machine_commits.declared.commit.Stage.TheVariants.{Own, Scan, Take}
+use Rattle.kc_machine_answers.specs.kc_machine_commits.declared.commit.Stage.{Stage}
+use Rattle.kc_machine_answers.specs.kc_machine_effects.Holds.{Hold, Proper}
+use Rattle.kc_machine_answers.specs.kc_machine_effects.Stands as stands
+use Rattle.kc_machine_answers.specs.kc_machine_effects.Stands.{Owns, Passing, Stand, owns, resting, stand, works}
+use Rattle.kc_machine_answers.proofs.kc_machine_pool.LifeLaws.{active_owned, owners_differ}
+use Rattle.kc_machine_answers.specs.kc_machine_pool.Owners.{OwnsLife, Undecided, fills}
+use Rattle.kc_machine_answers.proofs.kc_machine_ranges.Runs.{seats_in, steps_happen}
+use Rattle.kc_machine_answers.specs.kc_machine_ranges.Seats.{WorkIn, StageIn}
+use Rattle.kc_machine_answers.proofs.kc_machine_seats.SeatedSteps.{seats_stay}
+use Rattle.kc_machine_answers.specs.kc_machine_seats.Fits.{WorkFits}
+use Rattle.kc_machine_answers.specs.kc_machine_seats.Formed.{WorkIsFormed}
+use Rattle.kc_machine_answers.specs.kc_machine_steps.Passes.{status}
+use Rattle.kc_machine_answers.specs.kc_machine_steps.declared.aid.Aided.{Aided}
+use Rattle.kc_machine_answers.specs.kc_machine_steps.declared.line.Intent.{Intent}
+use Rattle.kc_machine_answers.specs.kc_machine_steps.declared.task.Event.TheVariants.{Step}
+use Rattle.kc_machine_answers.specs.kc_machine_steps.declared.task.Event.{Event}
+use Rattle.kc_machine_answers.proofs.kc_machine_traces.Others.{run_shape}
+use Rattle.kc_machine_answers.specs.kc_machine_words.declared.access.Found.{Found}
+use Rattle.kc_machine_answers.specs.kc_machine_words.declared.words.Handle.{Handle}
+use Rattle.kc_machine_answers.specs.kc_machine_words.declared.words.Phase.TheVariants.{Active}
 use Rattle.std.proofs.Common.{Bool, List, None, [], ap, append-nil, append_assoc, arith, false, if◌then◌else◌, inl, inr, refl, subst, suc, sym, true, zero, ℕ, ◌*◌, ◌++◌, ◌+◌, ◌<◌, ◌==◌, ◌∙◌, ◌∷◌, ◌≡◌, ◌≢◌, ◌≤◌, ◌⊎◌}
 use Rattle.std.specs.Option.{is_some}
 use borrow.Author.Tests.{eqb-false, eqb-true}

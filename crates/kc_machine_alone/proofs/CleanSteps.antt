@@ -1,6 +1,6 @@
 -- Each step of a commit that nobody else has met leaves less to pay and to do, or tells.
-use Rattle.kc_machine.proofs.Functions.{put_else, put_here}
-use Rattle.kc_machine.specs.Machine.{World, found_at, put, touched}
+use Rattle.kc_machine_answers.proofs.kc_machine.Functions.{put_else, put_here}
+use Rattle.kc_machine_answers.specs.kc_machine.Machine.{World, found_at, put, touched}
 use Rattle.kc_machine_alone.proofs.AidFalls.{IsBounded}
 use Rattle.kc_machine_alone.proofs.Clean.{Begins, Pays, PaysOn, Rests, aids, paid_for, passes}
 use Rattle.kc_machine_alone.proofs.Covers.{install_cover}
@@ -10,36 +10,36 @@ use Rattle.kc_machine_alone.proofs.Ranks.{Builds}
 use Rattle.kc_machine_alone.proofs.Rounds.{lives, nothing, rounds}
 use Rattle.kc_machine_alone.proofs.Starting.{paid_filled, paid_started, price_fee}
 use Rattle.kc_machine_alone.specs.Stretches.{stage_begins}
-use Rattle.kc_machine_commits.specs.Commits.{after_scan, aid_or_back, copy_by, copy_by_own, fill_first, fill_next, fill_or_start, fill_second, owed_next, own_access, own_next, stage_access, stage_next, wake_access, wake_next, wake_or_signal}
-use Rattle.kc_machine_commits.specs.Nexts as next
-use Rattle.kc_machine_commits.specs.Nexts.{Next}
-use Rattle.kc_machine_commits.specs.declared.commit.Commit.{Commit}
-use Rattle.kc_machine_commits.specs.declared.commit.OwnStep.TheVariants as own
-use Rattle.kc_machine_commits.specs.declared.commit.OwnStep.{OwnStep}
-use Rattle.kc_machine_commits.specs.declared.commit.Stage.TheVariants.{Own, Scan, Take}
-use Rattle.kc_machine_commits.specs.declared.commit.Stage.{Stage}
-use Rattle.kc_machine_effects.specs.Holds.{Hold, Proper}
-use Rattle.kc_machine_pool.specs.Owners.{fills}
-use Rattle.kc_machine_seats.specs.Fits.{AidFits, OwnFits, StageFits, StepFits}
-use Rattle.kc_machine_steps.specs.Aids.{aid_access, aid_copy, aid_next}
-use Rattle.kc_machine_steps.specs.Lines.{after_line, next_line}
-use Rattle.kc_machine_steps.specs.Passes.{status}
-use Rattle.kc_machine_steps.specs.declared.aid.AidStep.{AidStep}
-use Rattle.kc_machine_steps.specs.declared.aid.Aided.{Aided}
+use Rattle.kc_machine_answers.specs.kc_machine_commits.Commits.{after_scan, aid_or_back, copy_by, copy_by_own, fill_first, fill_next, fill_or_start, fill_second, owed_next, own_access, own_next, stage_access, stage_next, wake_access, wake_next, wake_or_signal}
+use Rattle.kc_machine_answers.specs.kc_machine_commits.Nexts as next
+use Rattle.kc_machine_answers.specs.kc_machine_commits.Nexts.{Next}
+use Rattle.kc_machine_answers.specs.kc_machine_commits.declared.commit.Commit.{Commit}
+use Rattle.kc_machine_answers.specs.kc_machine_commits.declared.commit.OwnStep.TheVariants as own
+use Rattle.kc_machine_answers.specs.kc_machine_commits.declared.commit.OwnStep.{OwnStep}
+use Rattle.kc_machine_answers.specs.kc_machine_commits.declared.commit.Stage.TheVariants.{Own, Scan, Take}
+use Rattle.kc_machine_answers.specs.kc_machine_commits.declared.commit.Stage.{Stage}
+use Rattle.kc_machine_answers.specs.kc_machine_effects.Holds.{Hold, Proper}
+use Rattle.kc_machine_answers.specs.kc_machine_pool.Owners.{fills}
+use Rattle.kc_machine_answers.specs.kc_machine_seats.Fits.{AidFits, OwnFits, StageFits, StepFits}
+use Rattle.kc_machine_answers.specs.kc_machine_steps.Aids.{aid_access, aid_copy, aid_next}
+use Rattle.kc_machine_answers.specs.kc_machine_steps.Lines.{after_line, next_line}
+use Rattle.kc_machine_answers.specs.kc_machine_steps.Passes.{status}
+use Rattle.kc_machine_answers.specs.kc_machine_steps.declared.aid.AidStep.{AidStep}
+use Rattle.kc_machine_answers.specs.kc_machine_steps.declared.aid.Aided.{Aided}
 use Rattle.kc_model.specs.declared.footprint.Line.{Line}
-use Rattle.kc_machine_steps.specs.declared.line.Pick.TheVariants.{Put}
-use Rattle.kc_machine_steps.specs.declared.pass.AfterCheck.TheVariants as checked
-use Rattle.kc_machine_steps.specs.declared.task.Told.TheVariants as told
-use Rattle.kc_machine_words.specs.declared.access.Access.TheVariants as access
-use Rattle.kc_machine_words.specs.declared.access.Access.{Access}
-use Rattle.kc_machine_words.specs.declared.access.Found.{Found}
-use Rattle.kc_machine_words.specs.declared.access.Grip.TheVariants as grip
-use Rattle.kc_machine_words.specs.declared.words.First.{First}
-use Rattle.kc_machine_words.specs.declared.words.Handle.{Handle}
-use Rattle.kc_machine_words.specs.declared.words.Owner.{Owner}
-use Rattle.kc_machine_words.specs.declared.words.Phase.TheVariants.{Active, Halted, Succeeded}
-use Rattle.kc_machine_words.specs.declared.words.Reference.{Reference}
-use Rattle.kc_machine_words.specs.declared.words.Second.{Second}
+use Rattle.kc_machine_answers.specs.kc_machine_steps.declared.line.Pick.TheVariants.{Put}
+use Rattle.kc_machine_answers.specs.kc_machine_steps.declared.pass.AfterCheck.TheVariants as checked
+use Rattle.kc_machine_answers.specs.kc_machine_steps.declared.task.Told.TheVariants as told
+use Rattle.kc_machine_answers.specs.kc_machine_words.declared.access.Access.TheVariants as access
+use Rattle.kc_machine_answers.specs.kc_machine_words.declared.access.Access.{Access}
+use Rattle.kc_machine_answers.specs.kc_machine_words.declared.access.Found.{Found}
+use Rattle.kc_machine_answers.specs.kc_machine_words.declared.access.Grip.TheVariants as grip
+use Rattle.kc_machine_answers.specs.kc_machine_words.declared.words.First.{First}
+use Rattle.kc_machine_answers.specs.kc_machine_words.declared.words.Handle.{Handle}
+use Rattle.kc_machine_answers.specs.kc_machine_words.declared.words.Owner.{Owner}
+use Rattle.kc_machine_answers.specs.kc_machine_words.declared.words.Phase.TheVariants.{Active, Halted, Succeeded}
+use Rattle.kc_machine_answers.specs.kc_machine_words.declared.words.Reference.{Reference}
+use Rattle.kc_machine_answers.specs.kc_machine_words.declared.words.Second.{Second}
 use Rattle.kc_model.specs.declared.word.Word.TheVariants.{Ref}
 use Rattle.kc_model.specs.declared.footprint.TheConstants.{MOST}
 use Rattle.std.proofs.Common.{Bool, List, None, Option, Some, arith, false, if◌then◌else◌, inl, inr, refl, subst, sym, true, ℕ, ◌+◌, ◌-◌, ◌<◌, ◌==◌, ◌∙◌, ◌≡◌, ◌≢◌, ◌≤◌, ◌⊎◌}

@@ -1,38 +1,38 @@
 -- Which references a pass is about to release, step by step.
-use Rattle.kc_machine.proofs.Functions.{put_else, put_here}
-use Rattle.kc_machine.specs.Machine.{World, put, put_some, touched}
-use Rattle.kc_machine.specs.Words.{status_is, word_is}
+use Rattle.kc_machine_answers.proofs.kc_machine.Functions.{put_else, put_here}
+use Rattle.kc_machine_answers.specs.kc_machine.Machine.{World, put, put_some, touched}
+use Rattle.kc_machine_answers.specs.kc_machine.Words.{status_is, word_is}
 use Rattle.kc_machine_alone.proofs.Left.{is_active}
 use Rattle.kc_machine_alone.proofs.PassFalls.{next_from}
 use Rattle.kc_machine_alone.proofs.Rounds.{Cover, is_left, nothing}
-use Rattle.kc_machine_effects.proofs.Tests.{both, plain_same, status_active, status_other}
-use Rattle.kc_machine_passes.proofs.Gone.{Next, next_skips}
-use Rattle.kc_machine_passes.proofs.Owing.{named}
-use Rattle.kc_machine_passes.proofs.Targets.{Target}
-use Rattle.kc_machine_passes.specs.Lines.{IsInstalledLine}
-use Rattle.kc_machine_steps.specs.Lines.{is_installed, next_line}
-use Rattle.kc_machine_steps.specs.Passes.{check_or_decide, decide_access, from_check, from_install, from_release, install_or_check, release_or_finish, status}
-use Rattle.kc_machine_steps.specs.declared.aid.AidStep.{AidStep}
+use Rattle.kc_machine_answers.proofs.kc_machine_effects.Tests.{both, plain_same, status_active, status_other}
+use Rattle.kc_machine_answers.proofs.kc_machine_passes.Gone.{Next, next_skips}
+use Rattle.kc_machine_answers.proofs.kc_machine_passes.Owing.{named}
+use Rattle.kc_machine_answers.proofs.kc_machine_passes.Targets.{Target}
+use Rattle.kc_machine_answers.specs.kc_machine_passes.Lines.{IsInstalledLine}
+use Rattle.kc_machine_answers.specs.kc_machine_steps.Lines.{is_installed, next_line}
+use Rattle.kc_machine_answers.specs.kc_machine_steps.Passes.{check_or_decide, decide_access, from_check, from_install, from_release, install_or_check, release_or_finish, status}
+use Rattle.kc_machine_answers.specs.kc_machine_steps.declared.aid.AidStep.{AidStep}
 use Rattle.kc_model.specs.declared.footprint.Line.{Line}
-use Rattle.kc_machine_steps.specs.declared.line.Pick.TheVariants.{Checked, Installed}
-use Rattle.kc_machine_steps.specs.declared.pass.PassNext.{PassNext}
-use Rattle.kc_machine_steps.specs.declared.pass.PassStep.{PassStep}
-use Rattle.kc_machine_steps.specs.declared.pass.PassStep.TheVariants.{Check, CheckDrop, CheckFirst, CheckHold, CheckStatus, Decide, Install, Release}
-use Rattle.kc_machine_words.specs.declared.words.Handle.{Handle}
-use Rattle.kc_machine_words.specs.declared.words.Mode.{Mode}
-use Rattle.kc_machine_words.specs.declared.words.Phase.{Phase}
-use Rattle.kc_machine_words.specs.declared.words.Phase.TheVariants.{Active}
-use Rattle.kc_machine_words.specs.declared.words.Status.{Status}
+use Rattle.kc_machine_answers.specs.kc_machine_steps.declared.line.Pick.TheVariants.{Checked, Installed}
+use Rattle.kc_machine_answers.specs.kc_machine_steps.declared.pass.PassNext.{PassNext}
+use Rattle.kc_machine_answers.specs.kc_machine_steps.declared.pass.PassStep.{PassStep}
+use Rattle.kc_machine_answers.specs.kc_machine_steps.declared.pass.PassStep.TheVariants.{Check, CheckDrop, CheckFirst, CheckHold, CheckStatus, Decide, Install, Release}
+use Rattle.kc_machine_answers.specs.kc_machine_words.declared.words.Handle.{Handle}
+use Rattle.kc_machine_answers.specs.kc_machine_words.declared.words.Mode.{Mode}
+use Rattle.kc_machine_answers.specs.kc_machine_words.declared.words.Phase.{Phase}
+use Rattle.kc_machine_answers.specs.kc_machine_words.declared.words.Phase.TheVariants.{Active}
+use Rattle.kc_machine_answers.specs.kc_machine_words.declared.words.Status.{Status}
 use Rattle.kc_model.specs.declared.footprint.Loc.{Loc}
 use Rattle.kc_model.specs.declared.word.Word.{Word}
 use Rattle.kc_model.specs.declared.word.Word.TheVariants.{Plain, Ref}
 use Rattle.std.proofs.Common.{Bool, List, None, Option, Some, ap, arith, false, if◌then◌else◌, inl, inr, not, refl, subst, sym, true, ℕ, ◌&&◌, ◌<◌, ◌==◌, ◌∙◌, ◌≡◌, ◌≢◌, ◌≤◌, ◌⊎◌}
 use Rattle.std.specs.Prelude.{nat_lt, slice_get, ◌||◌}
 use borrow.Author.Tests.{eq-eqb, eqb-false, eqb-true, ltb-false, ltb-true}
-use Rattle.kc_machine_words.specs.declared.access.Access.TheVariants as access
-use Rattle.kc_machine_steps.specs.declared.aid.AidStep.TheVariants as aid
-use Rattle.kc_machine_steps.specs.declared.pass.PassNext.TheVariants as pass
-use Rattle.kc_machine_words.specs.declared.access.Touch.TheVariants as touch
+use Rattle.kc_machine_answers.specs.kc_machine_words.declared.access.Access.TheVariants as access
+use Rattle.kc_machine_answers.specs.kc_machine_steps.declared.aid.AidStep.TheVariants as aid
+use Rattle.kc_machine_answers.specs.kc_machine_steps.declared.pass.PassNext.TheVariants as pass
+use Rattle.kc_machine_answers.specs.kc_machine_words.declared.access.Touch.TheVariants as touch
 
 abbrev pub all_of : ℕ → Cover
 all_of d e i = e == d

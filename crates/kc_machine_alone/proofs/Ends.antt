@@ -1,10 +1,10 @@
 -- A seat alone is told within the bound.
-use Rattle.kc_machine.proofs.Functions.{put_else, put_here}
-use Rattle.kc_machine.specs.Machine.{Opening, State, found_at, run}
-use Rattle.kc_machine.specs.Schedules.{IsSchedule}
-use Rattle.kc_machine.specs.Seats.{access_of, answer_of, is_idle}
-use Rattle.kc_machine.specs.Works.{Work}
-use Rattle.kc_machine.specs.declared.seat.Seat.{Seat}
+use Rattle.kc_machine_answers.proofs.kc_machine.Functions.{put_else, put_here}
+use Rattle.kc_machine_answers.specs.kc_machine.Machine.{Opening, State, found_at, run}
+use Rattle.kc_machine_answers.specs.kc_machine.Schedules.{IsSchedule}
+use Rattle.kc_machine_answers.specs.kc_machine.Seats.{access_of, answer_of, is_idle}
+use Rattle.kc_machine_answers.specs.kc_machine.Works.{Work}
+use Rattle.kc_machine_answers.specs.kc_machine.declared.seat.Seat.{Seat}
 use Rattle.kc_machine_alone.proofs.Left.{work_left}
 use Rattle.kc_machine_alone.proofs.Modes.{price}
 use Rattle.kc_machine_alone.proofs.Ranks.{top}
@@ -13,21 +13,21 @@ use Rattle.kc_machine_alone.proofs.Stretches.{comes_to, knows_at, longer, none_a
 use Rattle.kc_machine_alone.proofs.Told.{SeatRank, WorkRank, seat_ranks}
 use Rattle.kc_machine_alone.proofs.Within.{HoldStays, built, first_rank, hold_stays, owned_at, rank_free, work_hold}
 use Rattle.kc_machine_alone.specs.Stretches.{begins_aid, stage_begins}
-use Rattle.kc_machine_claims.specs.Claims.{AloneItIsTold, alone, bound_alone}
-use Rattle.kc_machine_commits.specs.Halts.{unowned}
-use Rattle.kc_machine_commits.specs.declared.commit.Stage.{Stage}
-use Rattle.kc_machine_commits.specs.declared.commit.Stage.TheVariants.{Own, Scan, Take}
-use Rattle.kc_machine_ranges.proofs.Runs.{steps_happen}
-use Rattle.kc_machine_ranges.specs.Possible.{one_step}
-use Rattle.kc_machine_seats.proofs.SeatedSteps.{searches_in_range, seats_stay}
-use Rattle.kc_machine_seats.specs.Seated.{WorkSearches}
-use Rattle.kc_machine_steps.specs.declared.task.Event.{Event}
-use Rattle.kc_machine_steps.specs.declared.task.Event.TheVariants.{Step}
-use Rattle.kc_machine_traces.proofs.Others.{run_shape}
+use Rattle.kc_machine_answers.specs.kc_machine_claims.Claims.{AloneItIsTold, alone, bound_alone}
+use Rattle.kc_machine_answers.specs.kc_machine_commits.Halts.{unowned}
+use Rattle.kc_machine_answers.specs.kc_machine_commits.declared.commit.Stage.{Stage}
+use Rattle.kc_machine_answers.specs.kc_machine_commits.declared.commit.Stage.TheVariants.{Own, Scan, Take}
+use Rattle.kc_machine_answers.proofs.kc_machine_ranges.Runs.{steps_happen}
+use Rattle.kc_machine_answers.specs.kc_machine_ranges.Possible.{one_step}
+use Rattle.kc_machine_answers.proofs.kc_machine_seats.SeatedSteps.{searches_in_range, seats_stay}
+use Rattle.kc_machine_answers.specs.kc_machine_seats.Seated.{WorkSearches}
+use Rattle.kc_machine_answers.specs.kc_machine_steps.declared.task.Event.{Event}
+use Rattle.kc_machine_answers.specs.kc_machine_steps.declared.task.Event.TheVariants.{Step}
+use Rattle.kc_machine_answers.proofs.kc_machine_traces.Others.{run_shape}
 use Rattle.std.proofs.Common.{Bool, List, [], ap, arith, false, inl, inr, refl, subst, suc, sym, true, zero, ℕ, ◌*◌, ◌++◌, ◌+◌, ◌-◌, ◌<◌, ◌==◌, ◌∙◌, ◌∷◌, ◌≡◌, ◌≢◌, ◌≤◌}
 use Rattle.std.specs.Option.{is_some}
 use borrow.Author.Tests.{eqb-false, eqb-true}
-use Rattle.kc_machine.specs.Works as work
+use Rattle.kc_machine_answers.specs.kc_machine.Works as work
 use Rattle.kc_model.specs.declared.footprint.TheConstants.{MOST}
 
 module _ (o : Opening) (k : ℕ) (l : k < o.callers) (e : ℕ) (there : e < 3 * o.callers + 1) where

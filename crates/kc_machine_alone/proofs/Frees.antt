@@ -1,19 +1,19 @@
 -- What leaves fewer rounds: a decision, and the release of a reference that was left.
-use Rattle.kc_machine.proofs.Functions.{put_cases, put_here}
-use Rattle.kc_machine.specs.Machine.{World, put, touched}
+use Rattle.kc_machine_answers.proofs.kc_machine.Functions.{put_cases, put_here}
+use Rattle.kc_machine_answers.specs.kc_machine.Machine.{World, put, touched}
 use Rattle.kc_machine_alone.proofs.Chains.{live_is, refers_same}
 use Rattle.kc_machine_alone.proofs.Covers.{or_false, or_left, or_right, status_cases}
 use Rattle.kc_machine_alone.proofs.Left.{is_active}
 use Rattle.kc_machine_alone.proofs.Rounds.{Calm, in_line, is_left, is_live, is_pending, life_le, life_left, line_left, lines_le, live_still, lives, nothing, own_le, own_line_left, place_of, refers_line, rounds, weight}
 use Rattle.kc_machine_alone.proofs.Tallies.{cond_le, cond_lt, total_le, total_lt, sum_lt_first, sum_lt_second}
-use Rattle.kc_machine_claims.proofs.ByPlace.{low}
-use Rattle.kc_machine_effects.proofs.Tests.{both, status_active}
-use Rattle.kc_machine_effects.specs.Holds.{Hold, Proper, total}
-use Rattle.kc_machine_steps.specs.Passes.{decide_access, status}
-use Rattle.kc_machine_words.specs.declared.words.Handle.{Handle}
-use Rattle.kc_machine_words.specs.declared.words.Phase.{Phase}
-use Rattle.kc_machine_words.specs.declared.words.Phase.TheVariants.{Active}
-use Rattle.kc_machine_words.specs.declared.words.Status.{Status}
+use Rattle.kc_machine_answers.proofs.kc_machine_claims.ByPlace.{low}
+use Rattle.kc_machine_answers.proofs.kc_machine_effects.Tests.{both, status_active}
+use Rattle.kc_machine_answers.specs.kc_machine_effects.Holds.{Hold, Proper, total}
+use Rattle.kc_machine_answers.specs.kc_machine_steps.Passes.{decide_access, status}
+use Rattle.kc_machine_answers.specs.kc_machine_words.declared.words.Handle.{Handle}
+use Rattle.kc_machine_answers.specs.kc_machine_words.declared.words.Phase.{Phase}
+use Rattle.kc_machine_answers.specs.kc_machine_words.declared.words.Phase.TheVariants.{Active}
+use Rattle.kc_machine_answers.specs.kc_machine_words.declared.words.Status.{Status}
 use Rattle.kc_model.specs.declared.word.Word.{Word}
 use Rattle.kc_model.specs.declared.word.Word.TheVariants.{Plain, Ref}
 use Rattle.kc_model.specs.declared.footprint.TheConstants.{MOST}

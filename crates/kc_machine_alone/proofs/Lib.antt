@@ -31,3 +31,12 @@ pub mod Tasks
 pub mod Attempts
 pub mod SwapRuns
 pub mod Swaps
+pub use Rattle.kc_machine_answers.proofs.kc_machine as kc_machine
+pub use Rattle.kc_machine_answers.proofs as kc_machine_answers
+pub use Rattle.kc_machine_answers.proofs.kc_machine_effects as kc_machine_effects
+pub use Rattle.kc_machine_answers.proofs.kc_machine_histories as kc_machine_histories
+pub use Rattle.kc_machine_answers.proofs.kc_machine_passes as kc_machine_passes
+pub use Rattle.kc_machine_answers.proofs.kc_machine_pool as kc_machine_pool
+pub use Rattle.kc_machine_answers.proofs.kc_machine_ranges as kc_machine_ranges
+pub use Rattle.kc_machine_answers.proofs.kc_machine_seats as kc_machine_seats
+pub use Rattle.kc_machine_answers.proofs.kc_machine_traces as kc_machine_traces

@@ -1,11 +1,11 @@
 -- A look, step by step, until it is told what it saw: it leaves what there is to pay for rounds, and all descriptors.
-use Rattle.kc_machine.proofs.Functions.{put_here}
-use Rattle.kc_machine.specs.Machine.{Opening, State, World, found_at, run, touched}
-use Rattle.kc_machine.specs.Schedules.{IsSchedule}
-use Rattle.kc_machine.specs.Seats.{access_of, after, answer_by, answer_of, is_idle, work_access}
-use Rattle.kc_machine.specs.Works as work
-use Rattle.kc_machine.specs.Works.{Work}
-use Rattle.kc_machine.specs.declared.seat.Seat.{Seat}
+use Rattle.kc_machine_answers.proofs.kc_machine.Functions.{put_here}
+use Rattle.kc_machine_answers.specs.kc_machine.Machine.{Opening, State, World, found_at, run, touched}
+use Rattle.kc_machine_answers.specs.kc_machine.Schedules.{IsSchedule}
+use Rattle.kc_machine_answers.specs.kc_machine.Seats.{access_of, after, answer_by, answer_of, is_idle, work_access}
+use Rattle.kc_machine_answers.specs.kc_machine.Works as work
+use Rattle.kc_machine_answers.specs.kc_machine.Works.{Work}
+use Rattle.kc_machine_answers.specs.kc_machine.declared.seat.Seat.{Seat}
 use Rattle.kc_machine_alone.proofs.Clean.{Rests}
 use Rattle.kc_machine_alone.proofs.CleanRuns.{comes_down}
 use Rattle.kc_machine_alone.proofs.Ends.{owned_stays}
@@ -14,24 +14,24 @@ use Rattle.kc_machine_alone.proofs.SeatFalls.{LookGoes, look_falls}
 use Rattle.kc_machine_alone.proofs.Spares.{BothKept, generation_stays, look_takes_none}
 use Rattle.kc_machine_alone.proofs.Stretches.{knows_at, longer}
 use Rattle.kc_machine_alone.proofs.Within.{owned_at, work_hold}
-use Rattle.kc_machine_claims.specs.Claims.{steps}
-use Rattle.kc_machine_effects.specs.Holds.{Hold, NoHold}
-use Rattle.kc_machine_ranges.proofs.Runs.{steps_happen, words_in}
-use Rattle.kc_machine_ranges.specs.Ranges.{WordIn, WorldIn}
-use Rattle.kc_machine_steps.specs.Lines.{next_version, resolved_version, succeeds}
-use Rattle.kc_machine_steps.specs.Looks as looks
-use Rattle.kc_machine_steps.specs.Looks.{look_access, look_next, looks_on, told_by}
-use Rattle.kc_machine_steps.specs.declared.look.Look.{Look}
-use Rattle.kc_machine_steps.specs.declared.look.LookNext.TheVariants as looking
-use Rattle.kc_machine_steps.specs.declared.look.LookNext.{LookNext}
-use Rattle.kc_machine_steps.specs.declared.look.LookStep.TheVariants as look
-use Rattle.kc_machine_steps.specs.declared.look.LookStep.{LookStep}
-use Rattle.kc_machine_steps.specs.declared.task.Event.TheVariants.{Step}
-use Rattle.kc_machine_steps.specs.declared.task.Event.{Event}
-use Rattle.kc_machine_steps.specs.declared.task.Told.TheVariants as told
-use Rattle.kc_machine_words.specs.declared.access.Found.TheVariants as found
-use Rattle.kc_machine_words.specs.declared.words.First.{First}
-use Rattle.kc_machine_words.specs.declared.words.Phase.{Phase}
+use Rattle.kc_machine_answers.specs.kc_machine_claims.Claims.{steps}
+use Rattle.kc_machine_answers.specs.kc_machine_effects.Holds.{Hold, NoHold}
+use Rattle.kc_machine_answers.proofs.kc_machine_ranges.Runs.{steps_happen, words_in}
+use Rattle.kc_machine_answers.specs.kc_machine_ranges.Ranges.{WordIn, WorldIn}
+use Rattle.kc_machine_answers.specs.kc_machine_steps.Lines.{next_version, resolved_version, succeeds}
+use Rattle.kc_machine_answers.specs.kc_machine_steps.Looks as looks
+use Rattle.kc_machine_answers.specs.kc_machine_steps.Looks.{look_access, look_next, looks_on, told_by}
+use Rattle.kc_machine_answers.specs.kc_machine_steps.declared.look.Look.{Look}
+use Rattle.kc_machine_answers.specs.kc_machine_steps.declared.look.LookNext.TheVariants as looking
+use Rattle.kc_machine_answers.specs.kc_machine_steps.declared.look.LookNext.{LookNext}
+use Rattle.kc_machine_answers.specs.kc_machine_steps.declared.look.LookStep.TheVariants as look
+use Rattle.kc_machine_answers.specs.kc_machine_steps.declared.look.LookStep.{LookStep}
+use Rattle.kc_machine_answers.specs.kc_machine_steps.declared.task.Event.TheVariants.{Step}
+use Rattle.kc_machine_answers.specs.kc_machine_steps.declared.task.Event.{Event}
+use Rattle.kc_machine_answers.specs.kc_machine_steps.declared.task.Told.TheVariants as told
+use Rattle.kc_machine_answers.specs.kc_machine_words.declared.access.Found.TheVariants as found
+use Rattle.kc_machine_answers.specs.kc_machine_words.declared.words.First.{First}
+use Rattle.kc_machine_answers.specs.kc_machine_words.declared.words.Phase.{Phase}
 use Rattle.kc_model.specs.declared.footprint.Loc.{Loc}
 use Rattle.kc_model.specs.declared.footprint.Seen.{Seen}
 use Rattle.kc_model.specs.declared.footprint.TheConstants.{LAST_VERSION}

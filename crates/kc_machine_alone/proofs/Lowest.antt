@@ -1,5 +1,5 @@
 -- To drop the lowest bit of a number leaves its next one the lowest.
-use Rattle.kc_machine_steps.specs.Passes.{fits}
+use Rattle.kc_machine_answers.specs.kc_machine_steps.Passes.{fits}
 use Rattle.std.proofs.Common.{Bool, ap, arith, false, refl, suc, sym, true, zero, ℕ, ◌%◌, ◌-◌, ◌/◌, ◌<◌, ◌∙◌, ◌≡◌, ◌≢◌, ◌≤◌}
 use Rattle.std.proofs.lemmas.Nat.{and_le_l}
 use Rattle.std.proofs.lemmas.Nat.Bits.{bit_at-suc, bit_at-trailing_zeros, bit_at-zero, bit_at_and, bit_at_lowest}

@@ -1,33 +1,33 @@
 -- An aid that steps alone keeps its way of standing, or has paid for what comes.
-use Rattle.kc_machine.specs.Machine.{World, found_at, put_some, touched}
-use Rattle.kc_machine.specs.Words.{stored_word}
+use Rattle.kc_machine_answers.specs.kc_machine.Machine.{World, found_at, put_some, touched}
+use Rattle.kc_machine_answers.specs.kc_machine.Words.{stored_word}
 use Rattle.kc_machine_alone.proofs.Left.{is_last}
 use Rattle.kc_machine_alone.proofs.Modes.{is_before, is_out, spare}
-use Rattle.kc_machine_seats.specs.Fits.{FollowsOr, IsInstalledAt}
-use Rattle.kc_machine_steps.specs.Aids.{after_pass}
-use Rattle.kc_machine_steps.specs.Lines.{after_line, next_line, word_of}
-use Rattle.kc_machine_steps.specs.Looks.{reference_of}
-use Rattle.kc_machine_steps.specs.Passes.{check_access, check_first_found, check_found, check_next, check_or_decide, crossed_or_first, fits, from_check, from_install, from_release, install_access, install_found, install_next, install_or_check, pass_access, pass_next, refers_to, release_or_finish}
+use Rattle.kc_machine_answers.specs.kc_machine_seats.Fits.{FollowsOr, IsInstalledAt}
+use Rattle.kc_machine_answers.specs.kc_machine_steps.Aids.{after_pass}
+use Rattle.kc_machine_answers.specs.kc_machine_steps.Lines.{after_line, next_line, word_of}
+use Rattle.kc_machine_answers.specs.kc_machine_steps.Looks.{reference_of}
+use Rattle.kc_machine_answers.specs.kc_machine_steps.Passes.{check_access, check_first_found, check_found, check_next, check_or_decide, crossed_or_first, fits, from_check, from_install, from_release, install_access, install_found, install_next, install_or_check, pass_access, pass_next, refers_to, release_or_finish}
 use Rattle.kc_model.specs.declared.footprint.Line.{Line}
-use Rattle.kc_machine_steps.specs.declared.line.Pick.TheVariants.{Checked, Installed}
-use Rattle.kc_machine_steps.specs.declared.pass.AfterCheck.{AfterCheck}
-use Rattle.kc_machine_steps.specs.declared.pass.PassNext.{PassNext}
-use Rattle.kc_machine_steps.specs.declared.pass.PassStep.{PassStep}
-use Rattle.kc_machine_steps.specs.declared.pass.PassStep.TheVariants.{Check, CheckDrop, CheckFirst, CheckHold, CheckStatus, Decide}
-use Rattle.kc_machine_words.specs.declared.words.Handle.{Handle}
-use Rattle.kc_machine_words.specs.declared.words.Mode.{Mode}
-use Rattle.kc_machine_words.specs.declared.words.Phase.{Phase}
-use Rattle.kc_machine_words.specs.declared.words.Phase.TheVariants.{Active, Crossed, Failed, Halted, Succeeded}
-use Rattle.kc_machine_words.specs.declared.words.Reference.{Reference}
+use Rattle.kc_machine_answers.specs.kc_machine_steps.declared.line.Pick.TheVariants.{Checked, Installed}
+use Rattle.kc_machine_answers.specs.kc_machine_steps.declared.pass.AfterCheck.{AfterCheck}
+use Rattle.kc_machine_answers.specs.kc_machine_steps.declared.pass.PassNext.{PassNext}
+use Rattle.kc_machine_answers.specs.kc_machine_steps.declared.pass.PassStep.{PassStep}
+use Rattle.kc_machine_answers.specs.kc_machine_steps.declared.pass.PassStep.TheVariants.{Check, CheckDrop, CheckFirst, CheckHold, CheckStatus, Decide}
+use Rattle.kc_machine_answers.specs.kc_machine_words.declared.words.Handle.{Handle}
+use Rattle.kc_machine_answers.specs.kc_machine_words.declared.words.Mode.{Mode}
+use Rattle.kc_machine_answers.specs.kc_machine_words.declared.words.Phase.{Phase}
+use Rattle.kc_machine_answers.specs.kc_machine_words.declared.words.Phase.TheVariants.{Active, Crossed, Failed, Halted, Succeeded}
+use Rattle.kc_machine_answers.specs.kc_machine_words.declared.words.Reference.{Reference}
 use Rattle.kc_model.specs.declared.word.Word.{Word}
 use Rattle.kc_model.specs.declared.word.Word.TheVariants.{Plain, Ref}
 use Rattle.kc_model.specs.declared.footprint.TheConstants.{MOST}
 use Rattle.std.proofs.Common.{Bool, List, None, Option, Some, false, if◌then◌else◌, inl, inr, refl, true, ℕ, ◌≡◌}
 use Rattle.std.specs.Prelude.{slice_get, ◌*◌}
-use Rattle.kc_machine_steps.specs.declared.pass.AfterCheck.TheVariants as checked
-use Rattle.kc_machine_words.specs.declared.access.Found.TheVariants as found
-use Rattle.kc_machine_steps.specs.declared.pass.PassNext.TheVariants as pass
-use Rattle.kc_machine_words.specs.declared.access.Touch.TheVariants as touch
+use Rattle.kc_machine_answers.specs.kc_machine_steps.declared.pass.AfterCheck.TheVariants as checked
+use Rattle.kc_machine_answers.specs.kc_machine_words.declared.access.Found.TheVariants as found
+use Rattle.kc_machine_answers.specs.kc_machine_steps.declared.pass.PassNext.TheVariants as pass
+use Rattle.kc_machine_answers.specs.kc_machine_words.declared.access.Touch.TheVariants as touch
 
 pub release_out : (m : Mode) (xs : List Line) (k : ℕ) (p : Phase) → is_out (after_pass (from_release m xs k p)) ≡ true
 release_out m xs k p = go (next_line Installed m xs k)

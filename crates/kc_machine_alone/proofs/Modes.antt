@@ -1,32 +1,32 @@
 -- How an aid stands alone, and what it has to pay for the rounds that are left.
-use Rattle.kc_machine.specs.Machine.{World}
+use Rattle.kc_machine_answers.specs.kc_machine.Machine.{World}
 use Rattle.kc_machine_alone.proofs.Chains.{Rises, chain_some, live_is, stands_all}
 use Rattle.kc_machine_alone.proofs.Covers.{aid_cover}
 use Rattle.kc_machine_alone.proofs.Frees.{freed}
 use Rattle.kc_machine_alone.proofs.Left.{aid_left, is_active}
 use Rattle.kc_machine_alone.proofs.Rounds.{Calm, Cover, chain, is_live, lives, lives_le, nothing, rounds, rounds_le, stands_to}
 use Rattle.kc_machine_alone.proofs.Tallies.{cond_one, every}
-use Rattle.kc_machine_effects.proofs.Sums.{total_part}
-use Rattle.kc_machine_effects.specs.Holds.{Hold, Proper}
-use Rattle.kc_machine_passes.specs.Lines.{IsInstalledLine, IsLastLife}
-use Rattle.kc_machine_steps.specs.Lines.{word_of}
-use Rattle.kc_machine_steps.specs.Passes.{status}
-use Rattle.kc_machine_steps.specs.declared.aid.AidNext.{AidNext}
-use Rattle.kc_machine_steps.specs.declared.aid.AidStep.{AidStep}
-use Rattle.kc_machine_steps.specs.declared.aid.Aided.{Aided}
-use Rattle.kc_machine_steps.specs.declared.pass.PassStep.{PassStep}
-use Rattle.kc_machine_steps.specs.declared.pass.PassStep.TheVariants.{Release}
-use Rattle.kc_machine_words.specs.declared.words.Control.{Control}
-use Rattle.kc_machine_words.specs.declared.words.Phase.{Phase}
-use Rattle.kc_machine_words.specs.declared.words.Phase.TheVariants.{Active, Crossed, Failed, Halted, Succeeded}
-use Rattle.kc_machine_words.specs.declared.words.Reference.{Reference}
-use Rattle.kc_machine_words.specs.declared.words.Status.{Status}
+use Rattle.kc_machine_answers.proofs.kc_machine_effects.Sums.{total_part}
+use Rattle.kc_machine_answers.specs.kc_machine_effects.Holds.{Hold, Proper}
+use Rattle.kc_machine_answers.specs.kc_machine_passes.Lines.{IsInstalledLine, IsLastLife}
+use Rattle.kc_machine_answers.specs.kc_machine_steps.Lines.{word_of}
+use Rattle.kc_machine_answers.specs.kc_machine_steps.Passes.{status}
+use Rattle.kc_machine_answers.specs.kc_machine_steps.declared.aid.AidNext.{AidNext}
+use Rattle.kc_machine_answers.specs.kc_machine_steps.declared.aid.AidStep.{AidStep}
+use Rattle.kc_machine_answers.specs.kc_machine_steps.declared.aid.Aided.{Aided}
+use Rattle.kc_machine_answers.specs.kc_machine_steps.declared.pass.PassStep.{PassStep}
+use Rattle.kc_machine_answers.specs.kc_machine_steps.declared.pass.PassStep.TheVariants.{Release}
+use Rattle.kc_machine_answers.specs.kc_machine_words.declared.words.Control.{Control}
+use Rattle.kc_machine_answers.specs.kc_machine_words.declared.words.Phase.{Phase}
+use Rattle.kc_machine_answers.specs.kc_machine_words.declared.words.Phase.TheVariants.{Active, Crossed, Failed, Halted, Succeeded}
+use Rattle.kc_machine_answers.specs.kc_machine_words.declared.words.Reference.{Reference}
+use Rattle.kc_machine_answers.specs.kc_machine_words.declared.words.Status.{Status}
 use Rattle.kc_model.specs.declared.word.Word.TheVariants.{Plain, Ref}
 use Rattle.kc_model.specs.declared.footprint.TheConstants.{MOST}
 use Rattle.std.proofs.Common.{Bool, None, Some, ap, arith, cond, false, if◌then◌else◌, mul-suc, refl, suc, sym, true, ℕ, ◌*◌, ◌+◌, ◌-◌, ◌<◌, ◌∙◌, ◌≡◌, ◌≤◌, ◌⊎◌}
 use Rattle.std.proofs.Math.Nat.{mul-le-mul_left}
-use Rattle.kc_machine_steps.specs.declared.aid.AidStep.TheVariants as aid
-use Rattle.kc_machine_steps.specs.declared.aid.AidNext.TheVariants as aiding
+use Rattle.kc_machine_answers.specs.kc_machine_steps.declared.aid.AidStep.TheVariants as aid
+use Rattle.kc_machine_answers.specs.kc_machine_steps.declared.aid.AidNext.TheVariants as aiding
 
 -- ---- the price of rounds and lives, each round b
 

@@ -1,31 +1,31 @@
 -- Each step of a commit leaves fewer, tells, or begins an aid.
-use Rattle.kc_machine.specs.Machine.{World, found_at, touched}
+use Rattle.kc_machine_answers.specs.kc_machine.Machine.{World, found_at, touched}
 use Rattle.kc_machine_alone.proofs.AidFalls.{AidGoes, IsBounded, aid_falls}
 use Rattle.kc_machine_alone.proofs.Left.{aid_left, own_left, pass_left}
 use Rattle.kc_machine_alone.proofs.Lowest.{lowest_rises}
 use Rattle.kc_machine_alone.proofs.PassFalls.{NextFalls, install_below, next_from, one_after, pass_falls}
 use Rattle.kc_machine_alone.specs.Stretches.{step_begins}
-use Rattle.kc_machine_claims.proofs.ByPlace.{low}
-use Rattle.kc_machine_commits.specs.Commits.{after_own_pass, aid_or_back, copy_by_own, fill_next, fill_or_start, fill_second, finished, onward_or_back, owed_next, own_access, own_next, wake_access, wake_next, wake_or_drop, wake_or_signal}
-use Rattle.kc_machine_commits.specs.declared.commit.Commit.{Commit}
-use Rattle.kc_machine_commits.specs.declared.commit.OwnStep.{OwnStep}
-use Rattle.kc_machine_seats.specs.Fits.{AidFits, OwnFits, StepFits}
-use Rattle.kc_machine_seats.specs.Formed.{OwnIsFormed, PutsAt}
-use Rattle.kc_machine_steps.specs.Aids.{aid_access, aid_copy, aid_next}
-use Rattle.kc_machine_steps.specs.Lines.{after_line, next_line}
-use Rattle.kc_machine_steps.specs.Passes.{pass_access, pass_next}
-use Rattle.kc_machine_steps.specs.declared.aid.AidNext.{AidNext}
-use Rattle.kc_machine_steps.specs.declared.aid.AidStep.{AidStep}
-use Rattle.kc_machine_steps.specs.declared.aid.Aided.{Aided}
+use Rattle.kc_machine_answers.proofs.kc_machine_claims.ByPlace.{low}
+use Rattle.kc_machine_answers.specs.kc_machine_commits.Commits.{after_own_pass, aid_or_back, copy_by_own, fill_next, fill_or_start, fill_second, finished, onward_or_back, owed_next, own_access, own_next, wake_access, wake_next, wake_or_drop, wake_or_signal}
+use Rattle.kc_machine_answers.specs.kc_machine_commits.declared.commit.Commit.{Commit}
+use Rattle.kc_machine_answers.specs.kc_machine_commits.declared.commit.OwnStep.{OwnStep}
+use Rattle.kc_machine_answers.specs.kc_machine_seats.Fits.{AidFits, OwnFits, StepFits}
+use Rattle.kc_machine_answers.specs.kc_machine_seats.Formed.{OwnIsFormed, PutsAt}
+use Rattle.kc_machine_answers.specs.kc_machine_steps.Aids.{aid_access, aid_copy, aid_next}
+use Rattle.kc_machine_answers.specs.kc_machine_steps.Lines.{after_line, next_line}
+use Rattle.kc_machine_answers.specs.kc_machine_steps.Passes.{pass_access, pass_next}
+use Rattle.kc_machine_answers.specs.kc_machine_steps.declared.aid.AidNext.{AidNext}
+use Rattle.kc_machine_answers.specs.kc_machine_steps.declared.aid.AidStep.{AidStep}
+use Rattle.kc_machine_answers.specs.kc_machine_steps.declared.aid.Aided.{Aided}
 use Rattle.kc_model.specs.declared.footprint.Line.{Line}
-use Rattle.kc_machine_steps.specs.declared.line.Pick.TheVariants.{Put}
-use Rattle.kc_machine_steps.specs.declared.pass.PassNext.{PassNext}
-use Rattle.kc_machine_steps.specs.declared.pass.PassStep.{PassStep}
-use Rattle.kc_machine_words.specs.declared.access.Access.{Access}
-use Rattle.kc_machine_words.specs.declared.words.Handle.{Handle}
-use Rattle.kc_machine_words.specs.declared.words.Phase.{Phase}
-use Rattle.kc_machine_words.specs.declared.words.Phase.TheVariants.{Active, Crossed, Failed, Halted, Succeeded}
-use Rattle.kc_machine_words.specs.declared.words.Reference.{Reference}
+use Rattle.kc_machine_answers.specs.kc_machine_steps.declared.line.Pick.TheVariants.{Put}
+use Rattle.kc_machine_answers.specs.kc_machine_steps.declared.pass.PassNext.{PassNext}
+use Rattle.kc_machine_answers.specs.kc_machine_steps.declared.pass.PassStep.{PassStep}
+use Rattle.kc_machine_answers.specs.kc_machine_words.declared.access.Access.{Access}
+use Rattle.kc_machine_answers.specs.kc_machine_words.declared.words.Handle.{Handle}
+use Rattle.kc_machine_answers.specs.kc_machine_words.declared.words.Phase.{Phase}
+use Rattle.kc_machine_answers.specs.kc_machine_words.declared.words.Phase.TheVariants.{Active, Crossed, Failed, Halted, Succeeded}
+use Rattle.kc_machine_answers.specs.kc_machine_words.declared.words.Reference.{Reference}
 use Rattle.kc_model.specs.declared.word.Word.TheVariants.{Ref}
 use Rattle.kc_model.specs.declared.footprint.TheConstants.{MOST}
 use Rattle.std.proofs.Common.{Bool, List, None, Option, Some, arith, false, if◌then◌else◌, inl, inr, length, refl, true, ℕ, ◌*◌, ◌+◌, ◌-◌, ◌<◌, ◌==◌, ◌≡◌, ◌≤◌, ◌⊎◌}
@@ -33,10 +33,10 @@ use Rattle.std.proofs.lemmas.Option.{slice_get_within}
 use Rattle.std.specs.Int.Count.{count_trailing_zeros}
 use Rattle.std.specs.Prelude.{bit_and, bit_or, slice_get, ◌^◌}
 use borrow.Author.Tests.{eqb-false}
-use Rattle.kc_machine_steps.specs.declared.aid.AidNext.TheVariants as aiding
-use Rattle.kc_machine_steps.specs.declared.pass.AfterCheck.TheVariants as checked
-use Rattle.kc_machine_commits.specs.declared.commit.OwnStep.TheVariants as own
-use Rattle.kc_machine_steps.specs.declared.pass.PassNext.TheVariants as pass
+use Rattle.kc_machine_answers.specs.kc_machine_steps.declared.aid.AidNext.TheVariants as aiding
+use Rattle.kc_machine_answers.specs.kc_machine_steps.declared.pass.AfterCheck.TheVariants as checked
+use Rattle.kc_machine_answers.specs.kc_machine_commits.declared.commit.OwnStep.TheVariants as own
+use Rattle.kc_machine_answers.specs.kc_machine_steps.declared.pass.PassNext.TheVariants as pass
 
 -- ---- the own descriptor
 

@@ -1,7 +1,7 @@
 -- An own pass alone, at an install.
-use Rattle.kc_machine.proofs.Functions.{put_cases}
-use Rattle.kc_machine.specs.Machine.{World, found_at, put, put_some, touched}
-use Rattle.kc_machine.specs.Words.{stored_word}
+use Rattle.kc_machine_answers.proofs.kc_machine.Functions.{put_cases}
+use Rattle.kc_machine_answers.specs.kc_machine.Machine.{World, found_at, put, put_some, touched}
+use Rattle.kc_machine_answers.specs.kc_machine.Words.{stored_word}
 use Rattle.kc_machine_alone.proofs.Chains.{chain_most, in_line_is, in_line_of}
 use Rattle.kc_machine_alone.proofs.Covers.{is_left_of, left_of, or_mono}
 use Rattle.kc_machine_alone.proofs.Frees.{freed, own_frees, ref_frees}
@@ -10,28 +10,28 @@ use Rattle.kc_machine_alone.proofs.Modes.{Frees, Ground, IsLive, Stance, each, g
 use Rattle.kc_machine_alone.proofs.PassFalls.{next_from, one_after}
 use Rattle.kc_machine_alone.proofs.Rounds.{chain, in_line, is_left, is_pending, life_by, life_left, lives, nothing, own_line_left, place_of, refers_line, rounds, weight, weight_le}
 use Rattle.kc_machine_alone.proofs.Tallies.{cond_most, total_le, sum_le, above_none, none_le}
-use Rattle.kc_machine_effects.proofs.Tests.{both, some_line}
-use Rattle.kc_machine_effects.specs.Holds.{Hold}
-use Rattle.kc_machine_passes.proofs.Gone.{Next, next_skips}
-use Rattle.kc_machine_passes.proofs.Owing.{named}
-use Rattle.kc_machine_passes.proofs.Targets.{Target}
-use Rattle.kc_machine_passes.specs.Lines.{IsInstalledLine, IsLastLife}
-use Rattle.kc_machine_pool.specs.Started.{line_of_words}
-use Rattle.kc_machine_seats.specs.Fits.{IsInstalledAt}
-use Rattle.kc_machine_steps.specs.Lines.{after_line, is_installed, next_line, word_of}
-use Rattle.kc_machine_steps.specs.Looks.{reference_of}
-use Rattle.kc_machine_steps.specs.Passes.{check_or_decide, fits, from_check, from_install, install_access, install_found, install_next, install_or_check, refers_to}
-use Rattle.kc_machine_steps.specs.declared.aid.Aided.{Aided}
+use Rattle.kc_machine_answers.proofs.kc_machine_effects.Tests.{both, some_line}
+use Rattle.kc_machine_answers.specs.kc_machine_effects.Holds.{Hold}
+use Rattle.kc_machine_answers.proofs.kc_machine_passes.Gone.{Next, next_skips}
+use Rattle.kc_machine_answers.proofs.kc_machine_passes.Owing.{named}
+use Rattle.kc_machine_answers.proofs.kc_machine_passes.Targets.{Target}
+use Rattle.kc_machine_answers.specs.kc_machine_passes.Lines.{IsInstalledLine, IsLastLife}
+use Rattle.kc_machine_answers.specs.kc_machine_pool.Started.{line_of_words}
+use Rattle.kc_machine_answers.specs.kc_machine_seats.Fits.{IsInstalledAt}
+use Rattle.kc_machine_answers.specs.kc_machine_steps.Lines.{after_line, is_installed, next_line, word_of}
+use Rattle.kc_machine_answers.specs.kc_machine_steps.Looks.{reference_of}
+use Rattle.kc_machine_answers.specs.kc_machine_steps.Passes.{check_or_decide, fits, from_check, from_install, install_access, install_found, install_next, install_or_check, refers_to}
+use Rattle.kc_machine_answers.specs.kc_machine_steps.declared.aid.Aided.{Aided}
 use Rattle.kc_model.specs.declared.footprint.Line.{Line}
-use Rattle.kc_machine_steps.specs.declared.line.Pick.TheVariants.{Checked, Installed}
-use Rattle.kc_machine_steps.specs.declared.pass.PassNext.{PassNext}
-use Rattle.kc_machine_steps.specs.declared.pass.PassStep.{PassStep}
-use Rattle.kc_machine_steps.specs.declared.pass.PassStep.TheVariants.{Decide, Install}
-use Rattle.kc_machine_words.specs.declared.words.Control.{Control}
-use Rattle.kc_machine_words.specs.declared.words.Handle.{Handle}
-use Rattle.kc_machine_words.specs.declared.words.Mode.{Mode}
-use Rattle.kc_machine_words.specs.declared.words.Phase.TheVariants.{Failed}
-use Rattle.kc_machine_words.specs.declared.words.Reference.{Reference}
+use Rattle.kc_machine_answers.specs.kc_machine_steps.declared.line.Pick.TheVariants.{Checked, Installed}
+use Rattle.kc_machine_answers.specs.kc_machine_steps.declared.pass.PassNext.{PassNext}
+use Rattle.kc_machine_answers.specs.kc_machine_steps.declared.pass.PassStep.{PassStep}
+use Rattle.kc_machine_answers.specs.kc_machine_steps.declared.pass.PassStep.TheVariants.{Decide, Install}
+use Rattle.kc_machine_answers.specs.kc_machine_words.declared.words.Control.{Control}
+use Rattle.kc_machine_answers.specs.kc_machine_words.declared.words.Handle.{Handle}
+use Rattle.kc_machine_answers.specs.kc_machine_words.declared.words.Mode.{Mode}
+use Rattle.kc_machine_answers.specs.kc_machine_words.declared.words.Phase.TheVariants.{Failed}
+use Rattle.kc_machine_answers.specs.kc_machine_words.declared.words.Reference.{Reference}
 use Rattle.kc_model.specs.declared.word.Word.{Word}
 use Rattle.kc_model.specs.declared.word.Word.TheVariants.{Plain, Ref}
 use Rattle.kc_model.specs.declared.footprint.TheConstants.{MOST}
@@ -39,10 +39,10 @@ use Rattle.std.proofs.Common.{Bool, List, None, Option, Some, ap, arith, cond, f
 use Rattle.std.proofs.lemmas.Option.{slice_get_within}
 use Rattle.std.specs.Prelude.{nat_lt, slice_get}
 use borrow.Author.Tests.{eq-eqb, eqb-false, eqb-true, ltb-false, ltb-true}
-use Rattle.kc_machine_steps.specs.declared.aid.AidStep.TheVariants as aid
-use Rattle.kc_machine_words.specs.declared.access.Found.TheVariants as found
-use Rattle.kc_machine_steps.specs.declared.pass.PassNext.TheVariants as pass
-use Rattle.kc_machine_words.specs.declared.access.Touch.TheVariants as touch
+use Rattle.kc_machine_answers.specs.kc_machine_steps.declared.aid.AidStep.TheVariants as aid
+use Rattle.kc_machine_answers.specs.kc_machine_words.declared.access.Found.TheVariants as found
+use Rattle.kc_machine_answers.specs.kc_machine_steps.declared.pass.PassNext.TheVariants as pass
+use Rattle.kc_machine_answers.specs.kc_machine_words.declared.access.Touch.TheVariants as touch
 
 -- what an own pass has to pay from its next step on, where the pass goes on
 abbrev pub OwnPaid : (n : ℕ) → (ℕ → Hold) → World → ℕ → ℕ → PassStep → Type 0

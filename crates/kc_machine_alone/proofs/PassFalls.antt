@@ -1,22 +1,22 @@
 -- Each step of a pass leaves fewer.
-use Rattle.kc_machine.specs.Machine.{World, found_at, touched}
+use Rattle.kc_machine_answers.specs.kc_machine.Machine.{World, found_at, touched}
 use Rattle.kc_machine_alone.proofs.Left.{drop_left, is_last, pass_left}
-use Rattle.kc_machine_seats.specs.Fits.{IsCheckedAt, StepFits}
-use Rattle.kc_machine_steps.specs.Lines.{after_line, next_among, next_line, picked, picks, resolved_version}
-use Rattle.kc_machine_steps.specs.Looks.{reference_of}
-use Rattle.kc_machine_steps.specs.Passes.{agrees_or_fails, check_access, check_first_found, check_found, check_or_decide, crossed_or_first, decide_access, decided_as, fits, from_check, from_install, from_release, install_access, install_found, install_or_check, pass_access, pass_next, refers_to, release_at, release_or_finish}
+use Rattle.kc_machine_answers.specs.kc_machine_seats.Fits.{IsCheckedAt, StepFits}
+use Rattle.kc_machine_answers.specs.kc_machine_steps.Lines.{after_line, next_among, next_line, picked, picks, resolved_version}
+use Rattle.kc_machine_answers.specs.kc_machine_steps.Looks.{reference_of}
+use Rattle.kc_machine_answers.specs.kc_machine_steps.Passes.{agrees_or_fails, check_access, check_first_found, check_found, check_or_decide, crossed_or_first, decide_access, decided_as, fits, from_check, from_install, from_release, install_access, install_found, install_or_check, pass_access, pass_next, refers_to, release_at, release_or_finish}
 use Rattle.kc_model.specs.declared.footprint.Line.{Line}
-use Rattle.kc_machine_steps.specs.declared.line.Pick.{Pick}
-use Rattle.kc_machine_steps.specs.declared.line.Pick.TheVariants.{Checked, Installed}
-use Rattle.kc_machine_steps.specs.declared.pass.AfterCheck.{AfterCheck}
-use Rattle.kc_machine_steps.specs.declared.pass.PassNext.{PassNext}
-use Rattle.kc_machine_steps.specs.declared.pass.PassStep.{PassStep}
-use Rattle.kc_machine_steps.specs.declared.pass.PassStep.TheVariants.{Check, CheckDrop, CheckFirst, CheckHold, CheckStatus, Decide, Install, Release}
-use Rattle.kc_machine_words.specs.declared.words.Handle.{Handle}
-use Rattle.kc_machine_words.specs.declared.words.Mode.{Mode}
-use Rattle.kc_machine_words.specs.declared.words.Phase.{Phase}
-use Rattle.kc_machine_words.specs.declared.words.Phase.TheVariants.{Active, Crossed, Failed, Halted, Succeeded}
-use Rattle.kc_machine_words.specs.declared.words.Reference.{Reference}
+use Rattle.kc_machine_answers.specs.kc_machine_steps.declared.line.Pick.{Pick}
+use Rattle.kc_machine_answers.specs.kc_machine_steps.declared.line.Pick.TheVariants.{Checked, Installed}
+use Rattle.kc_machine_answers.specs.kc_machine_steps.declared.pass.AfterCheck.{AfterCheck}
+use Rattle.kc_machine_answers.specs.kc_machine_steps.declared.pass.PassNext.{PassNext}
+use Rattle.kc_machine_answers.specs.kc_machine_steps.declared.pass.PassStep.{PassStep}
+use Rattle.kc_machine_answers.specs.kc_machine_steps.declared.pass.PassStep.TheVariants.{Check, CheckDrop, CheckFirst, CheckHold, CheckStatus, Decide, Install, Release}
+use Rattle.kc_machine_answers.specs.kc_machine_words.declared.words.Handle.{Handle}
+use Rattle.kc_machine_answers.specs.kc_machine_words.declared.words.Mode.{Mode}
+use Rattle.kc_machine_answers.specs.kc_machine_words.declared.words.Phase.{Phase}
+use Rattle.kc_machine_answers.specs.kc_machine_words.declared.words.Phase.TheVariants.{Active, Crossed, Failed, Halted, Succeeded}
+use Rattle.kc_machine_answers.specs.kc_machine_words.declared.words.Reference.{Reference}
 use Rattle.kc_model.specs.declared.word.Word.{Word}
 use Rattle.kc_model.specs.declared.word.Word.TheVariants.{Plain, Ref}
 use Rattle.kc_model.specs.declared.footprint.TheConstants.{MOST}
@@ -25,11 +25,11 @@ use Rattle.std.proofs.lemmas.Bool.{lt-ltb}
 use Rattle.std.proofs.lemmas.Option.{slice_get_within}
 use Rattle.std.specs.Prelude.{slice_get}
 use borrow.Author.Tests.{eq-eqb}
-use Rattle.kc_machine_words.specs.declared.access.Access.TheVariants as access
-use Rattle.kc_machine_steps.specs.declared.pass.AfterCheck.TheVariants as checked
-use Rattle.kc_machine_words.specs.declared.access.Found.TheVariants as found
-use Rattle.kc_machine_words.specs.declared.access.Grip.TheVariants as grip
-use Rattle.kc_machine_steps.specs.declared.pass.PassNext.TheVariants as pass
+use Rattle.kc_machine_answers.specs.kc_machine_words.declared.access.Access.TheVariants as access
+use Rattle.kc_machine_answers.specs.kc_machine_steps.declared.pass.AfterCheck.TheVariants as checked
+use Rattle.kc_machine_answers.specs.kc_machine_words.declared.access.Found.TheVariants as found
+use Rattle.kc_machine_answers.specs.kc_machine_words.declared.access.Grip.TheVariants as grip
+use Rattle.kc_machine_answers.specs.kc_machine_steps.declared.pass.PassNext.TheVariants as pass
 
 -- ---- the next line isn't before the one that was looked from
 

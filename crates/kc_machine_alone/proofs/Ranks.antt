@@ -1,5 +1,5 @@
 -- What a commit alone has to pay, and that each step leaves less to pay and to do.
-use Rattle.kc_machine.specs.Machine.{World, found_at, touched}
+use Rattle.kc_machine_answers.specs.kc_machine.Machine.{World, found_at, touched}
 use Rattle.kc_machine_alone.proofs.AidFalls.{AidGoes, IsBounded, aid_falls}
 use Rattle.kc_machine_alone.proofs.Calms.{goes_or_leaves}
 use Rattle.kc_machine_alone.proofs.Left.{aid_left, is_last, own_left}
@@ -10,44 +10,44 @@ use Rattle.kc_machine_alone.proofs.Rounds.{Cover, in_line, is_left, is_live, is_
 use Rattle.kc_machine_alone.proofs.StanceSteps.{hold_most, stance_step}
 use Rattle.kc_machine_alone.proofs.Tallies.{cond_most, total_most}
 use Rattle.kc_machine_alone.specs.Stretches.{step_begins}
-use Rattle.kc_machine_commits.specs.Commits.{after_own_pass, aid_or_back, copy_by_own, fill_next, fill_or_start, finished, onward_or_back, owed_next, own_access, own_next, wake_access, wake_next, wake_or_drop, wake_or_signal}
-use Rattle.kc_machine_commits.specs.declared.commit.Commit.{Commit}
-use Rattle.kc_machine_commits.specs.declared.commit.OwnStep.{OwnStep}
-use Rattle.kc_machine_commits.specs.declared.commit.Stage.{Stage}
-use Rattle.kc_machine_commits.specs.declared.commit.Stage.TheVariants.{Own, Scan, Take}
-use Rattle.kc_machine_effects.specs.Holds.{Hold, NoHold, Proper, Stray, total}
-use Rattle.kc_machine_passes.proofs.Targets.{Target}
-use Rattle.kc_machine_passes.specs.Phases.{StepKnows}
-use Rattle.kc_machine_seats.specs.Fits.{AidFits, IsInstalledAt, OwnFits, StepFits}
-use Rattle.kc_machine_steps.specs.Aids.{aid_access, aid_copy, aid_next}
-use Rattle.kc_machine_steps.specs.Lines.{after_line, next_line}
-use Rattle.kc_machine_steps.specs.Passes.{check_access, check_drop_next, check_first_found, check_found, check_or_decide, crossed_or_first, decided_as, fits, from_check, from_install, from_release, install_or_check, pass_access, pass_next, release_or_finish}
-use Rattle.kc_machine_steps.specs.declared.aid.AidNext.{AidNext}
-use Rattle.kc_machine_steps.specs.declared.aid.AidStep.{AidStep}
-use Rattle.kc_machine_steps.specs.declared.aid.Aided.{Aided}
-use Rattle.kc_machine_steps.specs.declared.line.Intent.{Intent}
+use Rattle.kc_machine_answers.specs.kc_machine_commits.Commits.{after_own_pass, aid_or_back, copy_by_own, fill_next, fill_or_start, finished, onward_or_back, owed_next, own_access, own_next, wake_access, wake_next, wake_or_drop, wake_or_signal}
+use Rattle.kc_machine_answers.specs.kc_machine_commits.declared.commit.Commit.{Commit}
+use Rattle.kc_machine_answers.specs.kc_machine_commits.declared.commit.OwnStep.{OwnStep}
+use Rattle.kc_machine_answers.specs.kc_machine_commits.declared.commit.Stage.{Stage}
+use Rattle.kc_machine_answers.specs.kc_machine_commits.declared.commit.Stage.TheVariants.{Own, Scan, Take}
+use Rattle.kc_machine_answers.specs.kc_machine_effects.Holds.{Hold, NoHold, Proper, Stray, total}
+use Rattle.kc_machine_answers.proofs.kc_machine_passes.Targets.{Target}
+use Rattle.kc_machine_answers.specs.kc_machine_passes.Phases.{StepKnows}
+use Rattle.kc_machine_answers.specs.kc_machine_seats.Fits.{AidFits, IsInstalledAt, OwnFits, StepFits}
+use Rattle.kc_machine_answers.specs.kc_machine_steps.Aids.{aid_access, aid_copy, aid_next}
+use Rattle.kc_machine_answers.specs.kc_machine_steps.Lines.{after_line, next_line}
+use Rattle.kc_machine_answers.specs.kc_machine_steps.Passes.{check_access, check_drop_next, check_first_found, check_found, check_or_decide, crossed_or_first, decided_as, fits, from_check, from_install, from_release, install_or_check, pass_access, pass_next, release_or_finish}
+use Rattle.kc_machine_answers.specs.kc_machine_steps.declared.aid.AidNext.{AidNext}
+use Rattle.kc_machine_answers.specs.kc_machine_steps.declared.aid.AidStep.{AidStep}
+use Rattle.kc_machine_answers.specs.kc_machine_steps.declared.aid.Aided.{Aided}
+use Rattle.kc_machine_answers.specs.kc_machine_steps.declared.line.Intent.{Intent}
 use Rattle.kc_model.specs.declared.footprint.Line.{Line}
-use Rattle.kc_machine_steps.specs.declared.line.Pick.TheVariants.{Checked, Installed, Put}
-use Rattle.kc_machine_steps.specs.declared.pass.AfterCheck.{AfterCheck}
-use Rattle.kc_machine_steps.specs.declared.pass.PassNext.{PassNext}
-use Rattle.kc_machine_steps.specs.declared.pass.PassStep.{PassStep}
-use Rattle.kc_machine_steps.specs.declared.pass.PassStep.TheVariants.{Check, CheckDrop, CheckFirst, CheckHold, CheckStatus, Decide, Install, Release}
-use Rattle.kc_machine_words.specs.declared.access.Access.{Access}
-use Rattle.kc_machine_words.specs.declared.words.Handle.{Handle}
-use Rattle.kc_machine_words.specs.declared.words.Mode.{Mode}
-use Rattle.kc_machine_words.specs.declared.words.Phase.{Phase}
-use Rattle.kc_machine_words.specs.declared.words.Phase.TheVariants.{Active, Crossed, Failed, Halted, Succeeded}
-use Rattle.kc_machine_words.specs.declared.words.Reference.{Reference}
+use Rattle.kc_machine_answers.specs.kc_machine_steps.declared.line.Pick.TheVariants.{Checked, Installed, Put}
+use Rattle.kc_machine_answers.specs.kc_machine_steps.declared.pass.AfterCheck.{AfterCheck}
+use Rattle.kc_machine_answers.specs.kc_machine_steps.declared.pass.PassNext.{PassNext}
+use Rattle.kc_machine_answers.specs.kc_machine_steps.declared.pass.PassStep.{PassStep}
+use Rattle.kc_machine_answers.specs.kc_machine_steps.declared.pass.PassStep.TheVariants.{Check, CheckDrop, CheckFirst, CheckHold, CheckStatus, Decide, Install, Release}
+use Rattle.kc_machine_answers.specs.kc_machine_words.declared.access.Access.{Access}
+use Rattle.kc_machine_answers.specs.kc_machine_words.declared.words.Handle.{Handle}
+use Rattle.kc_machine_answers.specs.kc_machine_words.declared.words.Mode.{Mode}
+use Rattle.kc_machine_answers.specs.kc_machine_words.declared.words.Phase.{Phase}
+use Rattle.kc_machine_answers.specs.kc_machine_words.declared.words.Phase.TheVariants.{Active, Crossed, Failed, Halted, Succeeded}
+use Rattle.kc_machine_answers.specs.kc_machine_words.declared.words.Reference.{Reference}
 use Rattle.kc_model.specs.declared.word.Word.{Word}
 use Rattle.kc_model.specs.declared.word.Word.TheVariants.{Plain, Ref}
 use Rattle.kc_model.specs.declared.footprint.TheConstants.{MOST}
 use Rattle.std.proofs.Common.{Bool, List, None, Option, Some, arith, cond, false, if◌then◌else◌, inl, inr, not, refl, subst, sym, true, ℕ, ◌&&◌, ◌*◌, ◌+◌, ◌-◌, ◌<◌, ◌==◌, ◌≡◌, ◌≤◌, ◌⊎◌}
 use Rattle.std.specs.Prelude.{bit_and, bit_or, nat_lt, slice_get}
-use Rattle.kc_machine_steps.specs.declared.aid.AidStep.TheVariants as aid
-use Rattle.kc_machine_steps.specs.declared.aid.AidNext.TheVariants as aiding
-use Rattle.kc_machine_steps.specs.declared.pass.AfterCheck.TheVariants as checked
-use Rattle.kc_machine_words.specs.declared.access.Found.TheVariants as found
-use Rattle.kc_machine_commits.specs.declared.commit.OwnStep.TheVariants as own
+use Rattle.kc_machine_answers.specs.kc_machine_steps.declared.aid.AidStep.TheVariants as aid
+use Rattle.kc_machine_answers.specs.kc_machine_steps.declared.aid.AidNext.TheVariants as aiding
+use Rattle.kc_machine_answers.specs.kc_machine_steps.declared.pass.AfterCheck.TheVariants as checked
+use Rattle.kc_machine_answers.specs.kc_machine_words.declared.access.Found.TheVariants as found
+use Rattle.kc_machine_answers.specs.kc_machine_commits.declared.commit.OwnStep.TheVariants as own
 
 abbrev pub top : ℕ → ℕ
 top n = price ((3 * MOST + 5) * n + 7) (MOST * n + 3 * MOST) n + 14 * MOST

@@ -1,14 +1,14 @@
 -- How many rounds are left: what a seat that steps alone may still meet.
-use Rattle.kc_machine.specs.Machine.{World}
-use Rattle.kc_machine.specs.Words.{status_is}
+use Rattle.kc_machine_answers.specs.kc_machine.Machine.{World}
+use Rattle.kc_machine_answers.specs.kc_machine.Words.{status_is}
 use Rattle.kc_machine_alone.proofs.Left.{is_active}
 use Rattle.kc_machine_alone.proofs.Tallies.{cond_le, every, total_le, sum_le}
-use Rattle.kc_machine_effects.proofs.Tests.{both, status_active}
-use Rattle.kc_machine_effects.specs.Holds.{Hold, NoHold, Proper, Stray, total}
-use Rattle.kc_machine_pool.specs.Started.{line_of_words}
-use Rattle.kc_machine_steps.specs.Lines.{is_installed, joined}
-use Rattle.kc_machine_steps.specs.Passes.{status}
-use Rattle.kc_machine_words.specs.declared.words.Phase.TheVariants.{Active}
+use Rattle.kc_machine_answers.proofs.kc_machine_effects.Tests.{both, status_active}
+use Rattle.kc_machine_answers.specs.kc_machine_effects.Holds.{Hold, NoHold, Proper, Stray, total}
+use Rattle.kc_machine_answers.specs.kc_machine_pool.Started.{line_of_words}
+use Rattle.kc_machine_answers.specs.kc_machine_steps.Lines.{is_installed, joined}
+use Rattle.kc_machine_answers.specs.kc_machine_steps.Passes.{status}
+use Rattle.kc_machine_answers.specs.kc_machine_words.declared.words.Phase.TheVariants.{Active}
 use Rattle.kc_model.specs.declared.word.Word.{Word}
 use Rattle.kc_model.specs.declared.word.Word.TheVariants.{Plain, Ref}
 use Rattle.kc_model.specs.declared.footprint.TheConstants.{MOST}

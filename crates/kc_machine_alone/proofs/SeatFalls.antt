@@ -1,52 +1,52 @@
 -- Each step of a seat leaves fewer, tells, or begins an aid.
-use Rattle.kc_machine_steps.specs.Swaps.{exchange_next, may_swap, onward_of as onward_of_swap, swap_access, swap_access_at, swap_next, swap_next_at, swaps_on}
-use Rattle.kc_machine_steps.specs.declared.swap.Swap.{Swap}
-use Rattle.kc_machine_steps.specs.declared.swap.SwapStep.{SwapStep}
-use Rattle.kc_machine_steps.specs.declared.swap.SwapStep.TheVariants as swap
-use Rattle.kc_machine_steps.specs.declared.swap.SwapNext.{SwapNext}
-use Rattle.kc_machine_steps.specs.declared.swap.SwapNext.TheVariants as swapping
-use Rattle.kc_machine.proofs.Functions.{put_here}
-use Rattle.kc_machine.specs.Hangs.{after_clear, after_set, clear_or_changed, hang_access, hang_access_of, hang_next, hangs_on, leave_access, leaves_on, look_goes_on, look_of, look_or_end, looked, next_read, onward_of, read_of, set_or_look, unblocks_or_tells}
-use Rattle.kc_machine.specs.Machine.{Opening, State, World, found_at, put_some, touched}
-use Rattle.kc_machine.specs.Seats.{access_of, after, answer_by, answer_of, is_idle, work_access}
-use Rattle.kc_machine.specs.Waits.{Hang, Leave}
-use Rattle.kc_machine.specs.Words.{control}
-use Rattle.kc_machine.specs.Works.{Work}
-use Rattle.kc_machine.specs.declared.hang.HangNext.{HangNext}
-use Rattle.kc_machine.specs.declared.hang.HangStep.{HangStep}
-use Rattle.kc_machine.specs.declared.hang.LeaveStep.{LeaveStep}
-use Rattle.kc_machine.specs.declared.seat.Seat.{Seat}
+use Rattle.kc_machine_answers.specs.kc_machine_steps.Swaps.{exchange_next, may_swap, onward_of as onward_of_swap, swap_access, swap_access_at, swap_next, swap_next_at, swaps_on}
+use Rattle.kc_machine_answers.specs.kc_machine_steps.declared.swap.Swap.{Swap}
+use Rattle.kc_machine_answers.specs.kc_machine_steps.declared.swap.SwapStep.{SwapStep}
+use Rattle.kc_machine_answers.specs.kc_machine_steps.declared.swap.SwapStep.TheVariants as swap
+use Rattle.kc_machine_answers.specs.kc_machine_steps.declared.swap.SwapNext.{SwapNext}
+use Rattle.kc_machine_answers.specs.kc_machine_steps.declared.swap.SwapNext.TheVariants as swapping
+use Rattle.kc_machine_answers.proofs.kc_machine.Functions.{put_here}
+use Rattle.kc_machine_answers.specs.kc_machine.Hangs.{after_clear, after_set, clear_or_changed, hang_access, hang_access_of, hang_next, hangs_on, leave_access, leaves_on, look_goes_on, look_of, look_or_end, looked, next_read, onward_of, read_of, set_or_look, unblocks_or_tells}
+use Rattle.kc_machine_answers.specs.kc_machine.Machine.{Opening, State, World, found_at, put_some, touched}
+use Rattle.kc_machine_answers.specs.kc_machine.Seats.{access_of, after, answer_by, answer_of, is_idle, work_access}
+use Rattle.kc_machine_answers.specs.kc_machine.Waits.{Hang, Leave}
+use Rattle.kc_machine_answers.specs.kc_machine.Words.{control}
+use Rattle.kc_machine_answers.specs.kc_machine.Works.{Work}
+use Rattle.kc_machine_answers.specs.kc_machine.declared.hang.HangNext.{HangNext}
+use Rattle.kc_machine_answers.specs.kc_machine.declared.hang.HangStep.{HangStep}
+use Rattle.kc_machine_answers.specs.kc_machine.declared.hang.LeaveStep.{LeaveStep}
+use Rattle.kc_machine_answers.specs.kc_machine.declared.seat.Seat.{Seat}
 use Rattle.kc_machine_alone.proofs.AidFalls.{IsBounded}
 use Rattle.kc_machine_alone.proofs.Left.{free_left, hang_left, is_last, look_left, own_left, round, stage_left, swap_left, takes, work_left}
 use Rattle.kc_machine_alone.proofs.Lowest.{lowest_low, lowest_rises}
 use Rattle.kc_machine_alone.proofs.OwnFalls.{OwnGoes, OwnTells, own_falls}
 use Rattle.kc_machine_alone.proofs.PassFalls.{one_after}
 use Rattle.kc_machine_alone.specs.Stretches.{begins_aid, stage_begins}
-use Rattle.kc_machine_claims.specs.Worked.{seen}
-use Rattle.kc_machine_commits.specs.Commits.{after_scan, commit_access, copy_by, copy_by_own, gone_on, loaded, onward_by, own_next, scan_next, stage_access, stage_next, take_next}
-use Rattle.kc_machine_commits.specs.Halts.{unowned}
-use Rattle.kc_machine_commits.specs.Nexts.{Next}
-use Rattle.kc_machine_commits.specs.declared.commit.Commit.{Commit}
-use Rattle.kc_machine_commits.specs.declared.commit.OwnStep.{OwnStep}
-use Rattle.kc_machine_commits.specs.declared.commit.Stage.{Stage}
-use Rattle.kc_machine_commits.specs.declared.commit.Stage.TheVariants.{Own, Scan, Take}
-use Rattle.kc_machine_pool.proofs.Filled.{is_there}
-use Rattle.kc_machine_ranges.specs.Possible.{one_step}
-use Rattle.kc_machine_ranges.specs.Ranges.{CallersIn, HandleIn}
-use Rattle.kc_machine_ranges.specs.Seats.{CopyIn, StageIn, SwapIn, WorkIn}
-use Rattle.kc_machine_seats.specs.Fits.{OwnFits, StageFits, WorkFits}
-use Rattle.kc_machine_seats.specs.Formed.{HangStands, IsCopy, IsWellFormed, LeaveIsFormed, OwnIsFormed, StageIsFormed, WorkIsFormed}
-use Rattle.kc_machine_seats.specs.Made.{IntentIsMade, IsWellMadeIntent, ReadsAreMade}
-use Rattle.kc_machine_seats.specs.Seated.{StageSearches, WorkSearches}
-use Rattle.kc_machine_steps.specs.Lines.{after_line}
-use Rattle.kc_machine_steps.specs.Looks.{look_access, look_next, looks_on, told_by}
-use Rattle.kc_machine_steps.specs.declared.aid.Aided.{Aided}
-use Rattle.kc_machine_steps.specs.declared.look.Look.{Look}
-use Rattle.kc_machine_steps.specs.declared.look.LookNext.{LookNext}
-use Rattle.kc_machine_steps.specs.declared.look.LookStep.{LookStep}
-use Rattle.kc_machine_words.specs.declared.access.Access.{Access}
-use Rattle.kc_machine_words.specs.declared.access.Found.{Found}
-use Rattle.kc_machine_words.specs.declared.words.Handle.{Handle}
+use Rattle.kc_machine_answers.specs.kc_machine_claims.Worked.{seen}
+use Rattle.kc_machine_answers.specs.kc_machine_commits.Commits.{after_scan, commit_access, copy_by, copy_by_own, gone_on, loaded, onward_by, own_next, scan_next, stage_access, stage_next, take_next}
+use Rattle.kc_machine_answers.specs.kc_machine_commits.Halts.{unowned}
+use Rattle.kc_machine_answers.specs.kc_machine_commits.Nexts.{Next}
+use Rattle.kc_machine_answers.specs.kc_machine_commits.declared.commit.Commit.{Commit}
+use Rattle.kc_machine_answers.specs.kc_machine_commits.declared.commit.OwnStep.{OwnStep}
+use Rattle.kc_machine_answers.specs.kc_machine_commits.declared.commit.Stage.{Stage}
+use Rattle.kc_machine_answers.specs.kc_machine_commits.declared.commit.Stage.TheVariants.{Own, Scan, Take}
+use Rattle.kc_machine_answers.proofs.kc_machine_pool.Filled.{is_there}
+use Rattle.kc_machine_answers.specs.kc_machine_ranges.Possible.{one_step}
+use Rattle.kc_machine_answers.specs.kc_machine_ranges.Ranges.{CallersIn, HandleIn}
+use Rattle.kc_machine_answers.specs.kc_machine_ranges.Seats.{CopyIn, StageIn, SwapIn, WorkIn}
+use Rattle.kc_machine_answers.specs.kc_machine_seats.Fits.{OwnFits, StageFits, WorkFits}
+use Rattle.kc_machine_answers.specs.kc_machine_seats.Formed.{HangStands, IsCopy, IsWellFormed, LeaveIsFormed, OwnIsFormed, StageIsFormed, WorkIsFormed}
+use Rattle.kc_machine_answers.specs.kc_machine_seats.Made.{IntentIsMade, IsWellMadeIntent, ReadsAreMade}
+use Rattle.kc_machine_answers.specs.kc_machine_seats.Seated.{StageSearches, WorkSearches}
+use Rattle.kc_machine_answers.specs.kc_machine_steps.Lines.{after_line}
+use Rattle.kc_machine_answers.specs.kc_machine_steps.Looks.{look_access, look_next, looks_on, told_by}
+use Rattle.kc_machine_answers.specs.kc_machine_steps.declared.aid.Aided.{Aided}
+use Rattle.kc_machine_answers.specs.kc_machine_steps.declared.look.Look.{Look}
+use Rattle.kc_machine_answers.specs.kc_machine_steps.declared.look.LookNext.{LookNext}
+use Rattle.kc_machine_answers.specs.kc_machine_steps.declared.look.LookStep.{LookStep}
+use Rattle.kc_machine_answers.specs.kc_machine_words.declared.access.Access.{Access}
+use Rattle.kc_machine_answers.specs.kc_machine_words.declared.access.Found.{Found}
+use Rattle.kc_machine_answers.specs.kc_machine_words.declared.words.Handle.{Handle}
 use Rattle.kc_model.specs.declared.footprint.Loc.{Loc}
 use Rattle.kc_model.specs.declared.footprint.Seen.{Seen}
 use Rattle.kc_model.specs.declared.word.Word.{Word}
@@ -59,19 +59,19 @@ use Rattle.std.specs.Int.Count.{count_trailing_zeros}
 use Rattle.std.specs.Option.{is_some}
 use Rattle.std.specs.Prelude.{nat_lt, slice_get, ◌^◌}
 use borrow.Author.Tests.{eq-eqb, eqb-false, eqb-true, ltb-false, ltb-true}
-use Rattle.kc_machine_words.specs.declared.access.Access.TheVariants as access
-use Rattle.kc_machine_words.specs.declared.access.Found.TheVariants as found
-use Rattle.kc_machine_words.specs.declared.access.Grip.TheVariants as grip
-use Rattle.kc_machine.specs.declared.hang.HangStep.TheVariants as hang
-use Rattle.kc_machine.specs.declared.hang.HangNext.TheVariants as hanging
-use Rattle.kc_machine.specs.declared.hang.LeaveStep.TheVariants as leave
-use Rattle.kc_machine_steps.specs.declared.look.LookStep.TheVariants as look
-use Rattle.kc_machine_steps.specs.declared.look.LookNext.TheVariants as looking
-use Rattle.kc_machine_steps.specs.Looks as looks
-use Rattle.kc_machine_commits.specs.Nexts as next
-use Rattle.kc_machine_commits.specs.declared.commit.OwnStep.TheVariants as own
-use Rattle.kc_machine_steps.specs.declared.task.Told.TheVariants as told
-use Rattle.kc_machine.specs.Works as work
+use Rattle.kc_machine_answers.specs.kc_machine_words.declared.access.Access.TheVariants as access
+use Rattle.kc_machine_answers.specs.kc_machine_words.declared.access.Found.TheVariants as found
+use Rattle.kc_machine_answers.specs.kc_machine_words.declared.access.Grip.TheVariants as grip
+use Rattle.kc_machine_answers.specs.kc_machine.declared.hang.HangStep.TheVariants as hang
+use Rattle.kc_machine_answers.specs.kc_machine.declared.hang.HangNext.TheVariants as hanging
+use Rattle.kc_machine_answers.specs.kc_machine.declared.hang.LeaveStep.TheVariants as leave
+use Rattle.kc_machine_answers.specs.kc_machine_steps.declared.look.LookStep.TheVariants as look
+use Rattle.kc_machine_answers.specs.kc_machine_steps.declared.look.LookNext.TheVariants as looking
+use Rattle.kc_machine_answers.specs.kc_machine_steps.Looks as looks
+use Rattle.kc_machine_answers.specs.kc_machine_commits.Nexts as next
+use Rattle.kc_machine_answers.specs.kc_machine_commits.declared.commit.OwnStep.TheVariants as own
+use Rattle.kc_machine_answers.specs.kc_machine_steps.declared.task.Told.TheVariants as told
+use Rattle.kc_machine_answers.specs.kc_machine.Works as work
 
 -- descriptor e is free
 abbrev pub IsFree : World → ℕ → Type 0

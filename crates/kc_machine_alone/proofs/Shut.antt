@@ -1,24 +1,24 @@
 -- A life that waits at one of its lines, while the chain of aids that this line began is aided, stays Active, and the line doesn't come to stand.
-use Rattle.kc_machine.specs.Machine.{World, touched}
+use Rattle.kc_machine_answers.specs.kc_machine.Machine.{World, touched}
 use Rattle.kc_machine_alone.proofs.Chains.{met_behind}
 use Rattle.kc_machine_alone.proofs.Covers.{cas_cases, status_cases}
 use Rattle.kc_machine_alone.proofs.Modes.{Ground, IsLive, Stance, Stands, all_stand, chained, freeing, is_before, is_out, leads, leaving, links, loose}
 use Rattle.kc_machine_alone.proofs.Rounds.{in_line, place_of, refers_line, stands_to}
 use Rattle.kc_machine_alone.proofs.Tallies.{every}
-use Rattle.kc_machine_effects.specs.Holds.{Hold}
-use Rattle.kc_machine_seats.specs.Fits.{AidFits, StepFits}
-use Rattle.kc_machine_steps.specs.Aids.{aid_access}
-use Rattle.kc_machine_steps.specs.Lines.{first_of, resolved_value, resolved_version, second_of, word_of}
-use Rattle.kc_machine_steps.specs.Passes.{check_access, decide_access, install_access, pass_access, release_at}
-use Rattle.kc_machine_steps.specs.declared.aid.AidStep.{AidStep}
-use Rattle.kc_machine_steps.specs.declared.aid.AidStep.TheVariants as aid
-use Rattle.kc_machine_steps.specs.declared.aid.Aided.{Aided}
+use Rattle.kc_machine_answers.specs.kc_machine_effects.Holds.{Hold}
+use Rattle.kc_machine_answers.specs.kc_machine_seats.Fits.{AidFits, StepFits}
+use Rattle.kc_machine_answers.specs.kc_machine_steps.Aids.{aid_access}
+use Rattle.kc_machine_answers.specs.kc_machine_steps.Lines.{first_of, resolved_value, resolved_version, second_of, word_of}
+use Rattle.kc_machine_answers.specs.kc_machine_steps.Passes.{check_access, decide_access, install_access, pass_access, release_at}
+use Rattle.kc_machine_answers.specs.kc_machine_steps.declared.aid.AidStep.{AidStep}
+use Rattle.kc_machine_answers.specs.kc_machine_steps.declared.aid.AidStep.TheVariants as aid
+use Rattle.kc_machine_answers.specs.kc_machine_steps.declared.aid.Aided.{Aided}
 use Rattle.kc_model.specs.declared.footprint.Line.{Line}
-use Rattle.kc_machine_steps.specs.declared.pass.AfterCheck.TheVariants as checked
-use Rattle.kc_machine_steps.specs.declared.pass.PassStep.{PassStep}
-use Rattle.kc_machine_steps.specs.declared.pass.PassStep.TheVariants.{Check, CheckDrop, CheckFirst, CheckHold, CheckStatus, Decide, Install, Release}
-use Rattle.kc_machine_words.specs.declared.words.Phase.{Phase}
-use Rattle.kc_machine_words.specs.declared.words.Reference.{Reference}
+use Rattle.kc_machine_answers.specs.kc_machine_steps.declared.pass.AfterCheck.TheVariants as checked
+use Rattle.kc_machine_answers.specs.kc_machine_steps.declared.pass.PassStep.{PassStep}
+use Rattle.kc_machine_answers.specs.kc_machine_steps.declared.pass.PassStep.TheVariants.{Check, CheckDrop, CheckFirst, CheckHold, CheckStatus, Decide, Install, Release}
+use Rattle.kc_machine_answers.specs.kc_machine_words.declared.words.Phase.{Phase}
+use Rattle.kc_machine_answers.specs.kc_machine_words.declared.words.Reference.{Reference}
 use Rattle.kc_model.specs.declared.word.Word.TheVariants.{Plain}
 use Rattle.kc_model.specs.declared.footprint.TheConstants.{MOST}
 use Rattle.std.proofs.Common.{Bool, None, Option, Some, arith, false, refl, subst, suc, sym, true, ℕ, ◌==◌, ◌<◌, ◌∙◌, ◌≡◌, ◌≤◌}

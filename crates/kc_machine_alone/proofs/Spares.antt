@@ -1,34 +1,34 @@
 -- Of two descriptors that can be taken a commit takes one at most, and leaves the generation of the other.
-use Rattle.kc_machine.proofs.Functions.{put_cases, put_else}
-use Rattle.kc_machine.specs.Machine.{World, found_at, put, put_some, touched}
-use Rattle.kc_machine.specs.Words.{control, gripped}
+use Rattle.kc_machine_answers.proofs.kc_machine.Functions.{put_cases, put_else}
+use Rattle.kc_machine_answers.specs.kc_machine.Machine.{World, found_at, put, put_some, touched}
+use Rattle.kc_machine_answers.specs.kc_machine.Words.{control, gripped}
 use Rattle.kc_machine_alone.proofs.Left.{takes}
-use Rattle.kc_machine_commits.specs.Commits.{after_scan, copy_by, fill_first, fill_second, own_access, stage_access, stage_next, wake_access}
-use Rattle.kc_machine_commits.specs.Nexts as next
-use Rattle.kc_machine_commits.specs.Nexts.{Next}
-use Rattle.kc_machine_commits.specs.declared.commit.Commit.{Commit}
-use Rattle.kc_machine_commits.specs.declared.commit.OwnStep.TheVariants as own
-use Rattle.kc_machine_commits.specs.declared.commit.OwnStep.{OwnStep}
-use Rattle.kc_machine_commits.specs.declared.commit.Stage.TheVariants.{Own, Scan, Take}
-use Rattle.kc_machine_commits.specs.declared.commit.Stage.{Stage}
-use Rattle.kc_machine_steps.specs.Aids.{aid_access}
-use Rattle.kc_machine_steps.specs.Looks.{look_access}
-use Rattle.kc_machine_steps.specs.Passes.{check_access, install_access, pass_access, release_at}
-use Rattle.kc_machine_steps.specs.declared.aid.AidStep.TheVariants as aid
-use Rattle.kc_machine_steps.specs.declared.aid.AidStep.{AidStep}
+use Rattle.kc_machine_answers.specs.kc_machine_commits.Commits.{after_scan, copy_by, fill_first, fill_second, own_access, stage_access, stage_next, wake_access}
+use Rattle.kc_machine_answers.specs.kc_machine_commits.Nexts as next
+use Rattle.kc_machine_answers.specs.kc_machine_commits.Nexts.{Next}
+use Rattle.kc_machine_answers.specs.kc_machine_commits.declared.commit.Commit.{Commit}
+use Rattle.kc_machine_answers.specs.kc_machine_commits.declared.commit.OwnStep.TheVariants as own
+use Rattle.kc_machine_answers.specs.kc_machine_commits.declared.commit.OwnStep.{OwnStep}
+use Rattle.kc_machine_answers.specs.kc_machine_commits.declared.commit.Stage.TheVariants.{Own, Scan, Take}
+use Rattle.kc_machine_answers.specs.kc_machine_commits.declared.commit.Stage.{Stage}
+use Rattle.kc_machine_answers.specs.kc_machine_steps.Aids.{aid_access}
+use Rattle.kc_machine_answers.specs.kc_machine_steps.Looks.{look_access}
+use Rattle.kc_machine_answers.specs.kc_machine_steps.Passes.{check_access, install_access, pass_access, release_at}
+use Rattle.kc_machine_answers.specs.kc_machine_steps.declared.aid.AidStep.TheVariants as aid
+use Rattle.kc_machine_answers.specs.kc_machine_steps.declared.aid.AidStep.{AidStep}
 use Rattle.kc_model.specs.declared.footprint.Line.{Line}
-use Rattle.kc_machine_steps.specs.declared.look.LookStep.TheVariants as look
-use Rattle.kc_machine_steps.specs.declared.look.LookStep.{LookStep}
-use Rattle.kc_machine_steps.specs.declared.pass.PassStep.TheVariants.{Check, CheckDrop, CheckFirst, CheckHold, CheckStatus, Decide, Install, Release}
-use Rattle.kc_machine_steps.specs.declared.pass.PassStep.{PassStep}
-use Rattle.kc_machine_words.specs.declared.access.Access.TheVariants as access
-use Rattle.kc_machine_words.specs.declared.access.Access.{Access}
-use Rattle.kc_machine_words.specs.declared.access.Grip.TheVariants as grip
-use Rattle.kc_machine_words.specs.declared.access.Grip.{Grip}
-use Rattle.kc_machine_words.specs.declared.words.Control.{Control}
-use Rattle.kc_machine_words.specs.declared.words.Handle.{Handle}
-use Rattle.kc_machine_words.specs.declared.words.Reference.{Reference}
-use Rattle.kc_machine_steps.specs.declared.task.Told.TheVariants as told
+use Rattle.kc_machine_answers.specs.kc_machine_steps.declared.look.LookStep.TheVariants as look
+use Rattle.kc_machine_answers.specs.kc_machine_steps.declared.look.LookStep.{LookStep}
+use Rattle.kc_machine_answers.specs.kc_machine_steps.declared.pass.PassStep.TheVariants.{Check, CheckDrop, CheckFirst, CheckHold, CheckStatus, Decide, Install, Release}
+use Rattle.kc_machine_answers.specs.kc_machine_steps.declared.pass.PassStep.{PassStep}
+use Rattle.kc_machine_answers.specs.kc_machine_words.declared.access.Access.TheVariants as access
+use Rattle.kc_machine_answers.specs.kc_machine_words.declared.access.Access.{Access}
+use Rattle.kc_machine_answers.specs.kc_machine_words.declared.access.Grip.TheVariants as grip
+use Rattle.kc_machine_answers.specs.kc_machine_words.declared.access.Grip.{Grip}
+use Rattle.kc_machine_answers.specs.kc_machine_words.declared.words.Control.{Control}
+use Rattle.kc_machine_answers.specs.kc_machine_words.declared.words.Handle.{Handle}
+use Rattle.kc_machine_answers.specs.kc_machine_words.declared.words.Reference.{Reference}
+use Rattle.kc_machine_answers.specs.kc_machine_steps.declared.task.Told.TheVariants as told
 use Rattle.kc_model.specs.declared.footprint.Loc.{Loc}
 use Rattle.std.proofs.Common.{Bool, List, None, Option, Some, ap, arith, false, if◌then◌else◌, inl, inr, refl, sym, true, ℕ, ◌+◌, ◌-◌, ◌==◌, ◌∙◌, ◌≡◌, ◌≢◌, ◌⊎◌}
 use Rattle.std.specs.Prelude.{nat_lt, slice_get}

@@ -1,6 +1,6 @@
 -- The steps of an aid alone, by how it stands.
-use Rattle.kc_machine.specs.Machine.{World, found_at, put_some, touched}
-use Rattle.kc_machine.specs.Words.{gripped, word_is}
+use Rattle.kc_machine_answers.specs.kc_machine.Machine.{World, found_at, put_some, touched}
+use Rattle.kc_machine_answers.specs.kc_machine.Words.{gripped, word_is}
 use Rattle.kc_machine_alone.proofs.Calms.{aid_calm, aid_next_cover, goes_or_leaves}
 use Rattle.kc_machine_alone.proofs.Chains.{chain_installs, chain_most, chain_shorter, in_line_is, met_behind}
 use Rattle.kc_machine_alone.proofs.Covers.{aid_cover, cas_cases, is_left_of, word_unequal}
@@ -9,29 +9,29 @@ use Rattle.kc_machine_alone.proofs.Left.{aid_left, is_active, is_last}
 use Rattle.kc_machine_alone.proofs.ModeSteps.{GoesBefore, InstallEnds, asks_on, checks_on, drops_on, goes, holds_on, install_before, installs_to, meets, reads_on, release_out, release_spare}
 use Rattle.kc_machine_alone.proofs.Modes.{Behind, Frees, Ground, IsLive, Linked, Stance, StanceGoes, Stands, all_paid, all_stand, chain_one, chained, each, freeing, goes_to, is_before, is_early, is_out, is_single, leads, leaving, links, lives_paid, loose, paid, paid_calm, price_life, price_round, spare}
 use Rattle.kc_machine_alone.proofs.Rounds.{chain, in_line, is_left, lives, nothing, place_of, refers_line, rounds, rounds_le}
-use Rattle.kc_machine_claims.proofs.ByPlace.{low}
-use Rattle.kc_machine_effects.proofs.Tests.{some_line}
-use Rattle.kc_machine_effects.specs.Holds.{Hold, Proper}
-use Rattle.kc_machine_passes.proofs.Targets.{Target}
-use Rattle.kc_machine_passes.specs.Lines.{IsInstalledLine, IsLastLife}
-use Rattle.kc_machine_passes.specs.Phases.{StepKnows}
-use Rattle.kc_machine_pool.specs.Started.{line_of_words}
-use Rattle.kc_machine_seats.specs.Fits.{AidFits, IsCheckedAt, IsInstalledAt}
-use Rattle.kc_machine_steps.specs.Aids.{after_pass, aid_access, aid_copy, aid_next, drop_or_release, load_next, owner_or_first}
-use Rattle.kc_machine_steps.specs.Lines.{after_line, first_of, is_installed, resolved_value, resolved_version, second_of, word_of}
-use Rattle.kc_machine_steps.specs.Passes.{check_access, decide_access, decided_as, from_install, from_release, install_access, install_next, pass_access, pass_next, refers_to}
-use Rattle.kc_machine_steps.specs.declared.aid.AidNext.{AidNext}
-use Rattle.kc_machine_steps.specs.declared.aid.AidStep.{AidStep}
-use Rattle.kc_machine_steps.specs.declared.aid.Aided.{Aided}
+use Rattle.kc_machine_answers.proofs.kc_machine_claims.ByPlace.{low}
+use Rattle.kc_machine_answers.proofs.kc_machine_effects.Tests.{some_line}
+use Rattle.kc_machine_answers.specs.kc_machine_effects.Holds.{Hold, Proper}
+use Rattle.kc_machine_answers.proofs.kc_machine_passes.Targets.{Target}
+use Rattle.kc_machine_answers.specs.kc_machine_passes.Lines.{IsInstalledLine, IsLastLife}
+use Rattle.kc_machine_answers.specs.kc_machine_passes.Phases.{StepKnows}
+use Rattle.kc_machine_answers.specs.kc_machine_pool.Started.{line_of_words}
+use Rattle.kc_machine_answers.specs.kc_machine_seats.Fits.{AidFits, IsCheckedAt, IsInstalledAt}
+use Rattle.kc_machine_answers.specs.kc_machine_steps.Aids.{after_pass, aid_access, aid_copy, aid_next, drop_or_release, load_next, owner_or_first}
+use Rattle.kc_machine_answers.specs.kc_machine_steps.Lines.{after_line, first_of, is_installed, resolved_value, resolved_version, second_of, word_of}
+use Rattle.kc_machine_answers.specs.kc_machine_steps.Passes.{check_access, decide_access, decided_as, from_install, from_release, install_access, install_next, pass_access, pass_next, refers_to}
+use Rattle.kc_machine_answers.specs.kc_machine_steps.declared.aid.AidNext.{AidNext}
+use Rattle.kc_machine_answers.specs.kc_machine_steps.declared.aid.AidStep.{AidStep}
+use Rattle.kc_machine_answers.specs.kc_machine_steps.declared.aid.Aided.{Aided}
 use Rattle.kc_model.specs.declared.footprint.Line.{Line}
-use Rattle.kc_machine_steps.specs.declared.pass.PassNext.{PassNext}
-use Rattle.kc_machine_steps.specs.declared.pass.PassStep.{PassStep}
-use Rattle.kc_machine_steps.specs.declared.pass.PassStep.TheVariants.{Check, CheckDrop, CheckFirst, CheckHold, CheckStatus, Decide, Install, Release}
-use Rattle.kc_machine_words.specs.declared.access.Access.{Access}
-use Rattle.kc_machine_words.specs.declared.words.Phase.{Phase}
-use Rattle.kc_machine_words.specs.declared.words.Phase.TheVariants.{Active, Crossed, Failed, Halted, Succeeded}
-use Rattle.kc_machine_words.specs.declared.words.Reference.{Reference}
-use Rattle.kc_machine_words.specs.declared.words.Status.{Status}
+use Rattle.kc_machine_answers.specs.kc_machine_steps.declared.pass.PassNext.{PassNext}
+use Rattle.kc_machine_answers.specs.kc_machine_steps.declared.pass.PassStep.{PassStep}
+use Rattle.kc_machine_answers.specs.kc_machine_steps.declared.pass.PassStep.TheVariants.{Check, CheckDrop, CheckFirst, CheckHold, CheckStatus, Decide, Install, Release}
+use Rattle.kc_machine_answers.specs.kc_machine_words.declared.access.Access.{Access}
+use Rattle.kc_machine_answers.specs.kc_machine_words.declared.words.Phase.{Phase}
+use Rattle.kc_machine_answers.specs.kc_machine_words.declared.words.Phase.TheVariants.{Active, Crossed, Failed, Halted, Succeeded}
+use Rattle.kc_machine_answers.specs.kc_machine_words.declared.words.Reference.{Reference}
+use Rattle.kc_machine_answers.specs.kc_machine_words.declared.words.Status.{Status}
 use Rattle.kc_model.specs.declared.word.Word.{Word}
 use Rattle.kc_model.specs.declared.word.Word.TheVariants.{Plain, Ref}
 use Rattle.kc_model.specs.declared.footprint.TheConstants.{MOST}
@@ -39,10 +39,10 @@ use Rattle.std.proofs.Common.{Bool, None, Option, Some, [], ap, arith, false, if
 use Rattle.std.proofs.lemmas.Option.{slice_get_within}
 use Rattle.std.specs.Prelude.{nat_lt, slice_get}
 use borrow.Author.Tests.{eq-eqb, eqb-true}
-use Rattle.kc_machine_steps.specs.declared.aid.AidStep.TheVariants as aid
-use Rattle.kc_machine_steps.specs.declared.aid.AidNext.TheVariants as aiding
-use Rattle.kc_machine_words.specs.declared.access.Found.TheVariants as found
-use Rattle.kc_machine_words.specs.declared.access.Grip.TheVariants as grip
+use Rattle.kc_machine_answers.specs.kc_machine_steps.declared.aid.AidStep.TheVariants as aid
+use Rattle.kc_machine_answers.specs.kc_machine_steps.declared.aid.AidNext.TheVariants as aiding
+use Rattle.kc_machine_answers.specs.kc_machine_words.declared.access.Found.TheVariants as found
+use Rattle.kc_machine_answers.specs.kc_machine_words.declared.access.Grip.TheVariants as grip
 
 pub phase_is_active : (p : Phase) → is_active p ≡ true → p ≡ Active
 phase_is_active Active e = refl

@@ -1,21 +1,21 @@
 -- What there is to pay for rounds before a life starts, at its start, and where a seat comes to own another life or none.
-use Rattle.kc_machine.proofs.Functions.{put_else}
-use Rattle.kc_machine.specs.Machine.{World, put}
+use Rattle.kc_machine_answers.proofs.kc_machine.Functions.{put_else}
+use Rattle.kc_machine_answers.specs.kc_machine.Machine.{World, put}
 use Rattle.kc_machine_alone.proofs.Covers.{all_of, left_word, or_mono}
 use Rattle.kc_machine_alone.proofs.Left.{is_active}
 use Rattle.kc_machine_alone.proofs.Modes.{each, paid, price, price_le}
 use Rattle.kc_machine_alone.proofs.Ranks.{life_most}
 use Rattle.kc_machine_alone.proofs.Rounds.{Cover, in_line, is_left, is_live, is_pending, life_left, line_left, lives, nothing, own_line_left, place_of, refers_line, rounds, weight, weight_le}
 use Rattle.kc_machine_alone.proofs.Tallies.{cond_le, cond_most, total_le, total_most, sum_le, sum_le_more, none_le}
-use Rattle.kc_machine_effects.proofs.Tests.{both, status_active}
-use Rattle.kc_machine_effects.specs.Holds.{Hold, NoHold, Proper, Stray, total}
-use Rattle.kc_machine_steps.specs.Lines.{is_installed, joined}
-use Rattle.kc_machine_steps.specs.Passes.{status}
-use Rattle.kc_machine_words.specs.declared.words.First.{First}
-use Rattle.kc_machine_words.specs.declared.words.Owner.{Owner}
-use Rattle.kc_machine_words.specs.declared.words.Phase.TheVariants.{Active}
-use Rattle.kc_machine_words.specs.declared.words.Second.{Second}
-use Rattle.kc_machine_words.specs.declared.words.Status.{Status}
+use Rattle.kc_machine_answers.proofs.kc_machine_effects.Tests.{both, status_active}
+use Rattle.kc_machine_answers.specs.kc_machine_effects.Holds.{Hold, NoHold, Proper, Stray, total}
+use Rattle.kc_machine_answers.specs.kc_machine_steps.Lines.{is_installed, joined}
+use Rattle.kc_machine_answers.specs.kc_machine_steps.Passes.{status}
+use Rattle.kc_machine_answers.specs.kc_machine_words.declared.words.First.{First}
+use Rattle.kc_machine_answers.specs.kc_machine_words.declared.words.Owner.{Owner}
+use Rattle.kc_machine_answers.specs.kc_machine_words.declared.words.Phase.TheVariants.{Active}
+use Rattle.kc_machine_answers.specs.kc_machine_words.declared.words.Second.{Second}
+use Rattle.kc_machine_answers.specs.kc_machine_words.declared.words.Status.{Status}
 use Rattle.kc_model.specs.declared.word.Word.{Word}
 use Rattle.kc_model.specs.declared.footprint.TheConstants.{MOST}
 use Rattle.std.proofs.Common.{Bool, ap, arith, cond, false, not, refl, subst, suc, sym, true, zero, ℕ, ◌&&◌, ◌*◌, ◌+◌, ◌<◌, ◌==◌, ◌∙◌, ◌≡◌, ◌≢◌, ◌≤◌, ◌⊎◌, inl, inr}

@@ -1,41 +1,41 @@
 -- A seat alone is told or begins an aid.
-use Rattle.kc_machine_steps.specs.declared.swap.SwapStep.{SwapStep}
-use Rattle.kc_machine_steps.specs.declared.swap.SwapStep.TheVariants as swap
-use Rattle.kc_machine.specs.Machine.{Opening, World, run}
-use Rattle.kc_machine.specs.Schedules.{BeginsWellMade, IsSchedule}
-use Rattle.kc_machine.specs.Seats.{is_idle}
-use Rattle.kc_machine.specs.Works.{Work}
-use Rattle.kc_machine.specs.declared.hang.HangStep.{HangStep}
-use Rattle.kc_machine.specs.declared.hang.LeaveStep.{LeaveStep}
+use Rattle.kc_machine_answers.specs.kc_machine_steps.declared.swap.SwapStep.{SwapStep}
+use Rattle.kc_machine_answers.specs.kc_machine_steps.declared.swap.SwapStep.TheVariants as swap
+use Rattle.kc_machine_answers.specs.kc_machine.Machine.{Opening, World, run}
+use Rattle.kc_machine_answers.specs.kc_machine.Schedules.{BeginsWellMade, IsSchedule}
+use Rattle.kc_machine_answers.specs.kc_machine.Seats.{is_idle}
+use Rattle.kc_machine_answers.specs.kc_machine.Works.{Work}
+use Rattle.kc_machine_answers.specs.kc_machine.declared.hang.HangStep.{HangStep}
+use Rattle.kc_machine_answers.specs.kc_machine.declared.hang.LeaveStep.{LeaveStep}
 use Rattle.kc_machine_alone.proofs.Left.{aid_left, free_left, hang_left, is_active, own_left, stage_left, swap_left, takes, work_left}
 use Rattle.kc_machine_alone.proofs.PassFalls.{pass_most}
 use Rattle.kc_machine_alone.proofs.SeatFalls.{Goes, IsFree, Knows, begins, falls, look_most, round_below, searches, seat_falls, tells}
 use Rattle.kc_machine_alone.specs.Stretches.{EndsStretch, StretchesEnd}
-use Rattle.kc_machine_claims.specs.Claims.{alone, steps}
-use Rattle.kc_machine_commits.specs.declared.commit.Commit.{Commit}
-use Rattle.kc_machine_commits.specs.declared.commit.OwnStep.{OwnStep}
-use Rattle.kc_machine_commits.specs.declared.commit.Stage.{Stage}
-use Rattle.kc_machine_commits.specs.declared.commit.Stage.TheVariants.{Own, Scan, Take}
-use Rattle.kc_machine_passes.proofs.Always.{references_fit}
-use Rattle.kc_machine_ranges.proofs.Runs.{seats_in, steps_happen}
-use Rattle.kc_machine_ranges.specs.Possible.{one_step}
-use Rattle.kc_machine_seats.proofs.FitSeats.{fit_always}
-use Rattle.kc_machine_seats.proofs.FormedSteps.{formed_always}
-use Rattle.kc_machine_seats.proofs.MadeSteps.{hangs_stand, intents_made, reads_made}
-use Rattle.kc_machine_seats.proofs.SeatedSteps.{searches_in_range, seats_stay}
-use Rattle.kc_machine_seats.specs.Seated.{StageSearches, WorkSearches}
-use Rattle.kc_machine_steps.specs.declared.aid.AidStep.{AidStep}
-use Rattle.kc_machine_steps.specs.declared.task.Event.{Event}
-use Rattle.kc_machine_steps.specs.declared.task.Event.TheVariants.{Step}
-use Rattle.kc_machine_traces.proofs.Others.{run_shape}
-use Rattle.kc_machine_words.specs.declared.words.Reference.{Reference}
+use Rattle.kc_machine_answers.specs.kc_machine_claims.Claims.{alone, steps}
+use Rattle.kc_machine_answers.specs.kc_machine_commits.declared.commit.Commit.{Commit}
+use Rattle.kc_machine_answers.specs.kc_machine_commits.declared.commit.OwnStep.{OwnStep}
+use Rattle.kc_machine_answers.specs.kc_machine_commits.declared.commit.Stage.{Stage}
+use Rattle.kc_machine_answers.specs.kc_machine_commits.declared.commit.Stage.TheVariants.{Own, Scan, Take}
+use Rattle.kc_machine_answers.proofs.kc_machine_passes.Always.{references_fit}
+use Rattle.kc_machine_answers.proofs.kc_machine_ranges.Runs.{seats_in, steps_happen}
+use Rattle.kc_machine_answers.specs.kc_machine_ranges.Possible.{one_step}
+use Rattle.kc_machine_answers.proofs.kc_machine_seats.FitSeats.{fit_always}
+use Rattle.kc_machine_answers.proofs.kc_machine_seats.FormedSteps.{formed_always}
+use Rattle.kc_machine_answers.proofs.kc_machine_seats.MadeSteps.{hangs_stand, intents_made, reads_made}
+use Rattle.kc_machine_answers.proofs.kc_machine_seats.SeatedSteps.{searches_in_range, seats_stay}
+use Rattle.kc_machine_answers.specs.kc_machine_seats.Seated.{StageSearches, WorkSearches}
+use Rattle.kc_machine_answers.specs.kc_machine_steps.declared.aid.AidStep.{AidStep}
+use Rattle.kc_machine_answers.specs.kc_machine_steps.declared.task.Event.{Event}
+use Rattle.kc_machine_answers.specs.kc_machine_steps.declared.task.Event.TheVariants.{Step}
+use Rattle.kc_machine_answers.proofs.kc_machine_traces.Others.{run_shape}
+use Rattle.kc_machine_answers.specs.kc_machine_words.declared.words.Reference.{Reference}
 use Rattle.std.proofs.Common.{Bool, List, None, Some, [], ap, append-nil, append_assoc, arith, false, if◌then◌else◌, inl, inr, refl, subst, suc, sym, true, zero, ℕ, ◌*◌, ◌++◌, ◌+◌, ◌-◌, ◌<◌, ◌∙◌, ◌∷◌, ◌≡◌, ◌≤◌}
 use Rattle.std.proofs.lemmas.List.Elements.{All-push}
-use Rattle.kc_machine_steps.specs.declared.aid.AidStep.TheVariants as aid
-use Rattle.kc_machine.specs.declared.hang.HangStep.TheVariants as hang
-use Rattle.kc_machine.specs.declared.hang.LeaveStep.TheVariants as leave
-use Rattle.kc_machine_commits.specs.declared.commit.OwnStep.TheVariants as own
-use Rattle.kc_machine.specs.Works as work
+use Rattle.kc_machine_answers.specs.kc_machine_steps.declared.aid.AidStep.TheVariants as aid
+use Rattle.kc_machine_answers.specs.kc_machine.declared.hang.HangStep.TheVariants as hang
+use Rattle.kc_machine_answers.specs.kc_machine.declared.hang.LeaveStep.TheVariants as leave
+use Rattle.kc_machine_answers.specs.kc_machine_commits.declared.commit.OwnStep.TheVariants as own
+use Rattle.kc_machine_answers.specs.kc_machine.Works as work
 use Rattle.kc_model.specs.declared.footprint.TheConstants.{MOST}
 
 -- ---- what is known at every state

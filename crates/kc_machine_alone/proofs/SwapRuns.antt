@@ -1,10 +1,10 @@
 -- A swap, step by step, until it is told: it leaves what there is to pay for rounds, and all descriptors.
-use Rattle.kc_machine.proofs.Functions.{put_here}
-use Rattle.kc_machine.specs.Machine.{Opening, State, World, found_at, run, touched}
-use Rattle.kc_machine.specs.Schedules.{IsSchedule}
-use Rattle.kc_machine.specs.Seats.{access_of, after, answer_by, answer_of, is_idle, work_access}
-use Rattle.kc_machine.specs.Works as work
-use Rattle.kc_machine.specs.declared.seat.Seat.{Seat}
+use Rattle.kc_machine_answers.proofs.kc_machine.Functions.{put_here}
+use Rattle.kc_machine_answers.specs.kc_machine.Machine.{Opening, State, World, found_at, run, touched}
+use Rattle.kc_machine_answers.specs.kc_machine.Schedules.{IsSchedule}
+use Rattle.kc_machine_answers.specs.kc_machine.Seats.{access_of, after, answer_by, answer_of, is_idle, work_access}
+use Rattle.kc_machine_answers.specs.kc_machine.Works as work
+use Rattle.kc_machine_answers.specs.kc_machine.declared.seat.Seat.{Seat}
 use Rattle.kc_machine_alone.proofs.Clean.{Rests}
 use Rattle.kc_machine_alone.proofs.CleanRuns.{comes_down}
 use Rattle.kc_machine_alone.proofs.Covers.{cas_cases}
@@ -16,22 +16,22 @@ use Rattle.kc_machine_alone.proofs.SeatFalls.{SwapGoes, swap_falls}
 use Rattle.kc_machine_alone.proofs.Spares.{BothKept, generation_stays, is_take}
 use Rattle.kc_machine_alone.proofs.Stretches.{knows_at, longer}
 use Rattle.kc_machine_alone.proofs.Within.{owned_at, work_hold}
-use Rattle.kc_machine_claims.specs.Claims.{steps}
-use Rattle.kc_machine_effects.specs.Holds.{Hold, NoHold}
-use Rattle.kc_machine_ranges.proofs.Runs.{steps_happen}
-use Rattle.kc_machine_ranges.specs.Ranges.{CallersIn}
-use Rattle.kc_machine_ranges.specs.Seats.{SwapIn, WorkIn}
-use Rattle.kc_machine_steps.specs.Swaps.{may_swap, onward_of, seen_word, swap_access, swap_access_at, swap_next, swaps_on, word_after}
-use Rattle.kc_machine_steps.specs.declared.swap.Swap.{Swap}
-use Rattle.kc_machine_steps.specs.declared.swap.SwapNext.{SwapNext}
-use Rattle.kc_machine_steps.specs.declared.swap.SwapNext.TheVariants as swapping
-use Rattle.kc_machine_steps.specs.declared.swap.SwapStep.{SwapStep}
-use Rattle.kc_machine_steps.specs.declared.swap.SwapStep.TheVariants as swap
-use Rattle.kc_machine_steps.specs.declared.task.Event.TheVariants.{Step}
-use Rattle.kc_machine_steps.specs.declared.task.Event.{Event}
-use Rattle.kc_machine_steps.specs.declared.task.Told.{Told}
-use Rattle.kc_machine_words.specs.declared.access.Access.TheVariants as access
-use Rattle.kc_machine_words.specs.declared.access.Touch.TheVariants.{CompareExchange, Load}
+use Rattle.kc_machine_answers.specs.kc_machine_claims.Claims.{steps}
+use Rattle.kc_machine_answers.specs.kc_machine_effects.Holds.{Hold, NoHold}
+use Rattle.kc_machine_answers.proofs.kc_machine_ranges.Runs.{steps_happen}
+use Rattle.kc_machine_answers.specs.kc_machine_ranges.Ranges.{CallersIn}
+use Rattle.kc_machine_answers.specs.kc_machine_ranges.Seats.{SwapIn, WorkIn}
+use Rattle.kc_machine_answers.specs.kc_machine_steps.Swaps.{may_swap, onward_of, seen_word, swap_access, swap_access_at, swap_next, swaps_on, word_after}
+use Rattle.kc_machine_answers.specs.kc_machine_steps.declared.swap.Swap.{Swap}
+use Rattle.kc_machine_answers.specs.kc_machine_steps.declared.swap.SwapNext.{SwapNext}
+use Rattle.kc_machine_answers.specs.kc_machine_steps.declared.swap.SwapNext.TheVariants as swapping
+use Rattle.kc_machine_answers.specs.kc_machine_steps.declared.swap.SwapStep.{SwapStep}
+use Rattle.kc_machine_answers.specs.kc_machine_steps.declared.swap.SwapStep.TheVariants as swap
+use Rattle.kc_machine_answers.specs.kc_machine_steps.declared.task.Event.TheVariants.{Step}
+use Rattle.kc_machine_answers.specs.kc_machine_steps.declared.task.Event.{Event}
+use Rattle.kc_machine_answers.specs.kc_machine_steps.declared.task.Told.{Told}
+use Rattle.kc_machine_answers.specs.kc_machine_words.declared.access.Access.TheVariants as access
+use Rattle.kc_machine_answers.specs.kc_machine_words.declared.access.Touch.TheVariants.{CompareExchange, Load}
 use Rattle.kc_model.specs.declared.footprint.Loc.{Loc}
 use Rattle.kc_model.specs.declared.footprint.Seen.{Seen}
 use Rattle.kc_model.specs.declared.word.Word.TheVariants.{Plain}

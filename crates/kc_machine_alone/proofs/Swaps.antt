@@ -1,7 +1,7 @@
 -- An attempt alone at one location: its look, its swap, its commits, and the steps of all of them.
-use Rattle.kc_machine.specs.Machine.{Opening, State, run}
-use Rattle.kc_machine.specs.Schedules.{IsSchedule, IsWellMadeTask}
-use Rattle.kc_machine.specs.Seats.{is_idle}
+use Rattle.kc_machine_answers.specs.kc_machine.Machine.{Opening, State, run}
+use Rattle.kc_machine_answers.specs.kc_machine.Schedules.{IsSchedule, IsWellMadeTask}
+use Rattle.kc_machine_answers.specs.kc_machine.Seats.{is_idle}
 use Rattle.kc_machine_alone.proofs.Attempts.{attempt_below}
 use Rattle.kc_machine_alone.proofs.Tasks.{Ended, Saw, committed, cost, looks, swaps_it}
 use Rattle.kc_machine_alone.proofs.Modes.{price}
@@ -10,16 +10,16 @@ use Rattle.kc_machine_alone.proofs.Spares.{BothKept}
 use Rattle.kc_machine_alone.proofs.Starting.{fee, paid_few}
 use Rattle.kc_machine_alone.proofs.Within.{owned_at}
 use Rattle.kc_machine_alone.specs.Attempts.{CanBeTaken, Commits, IsToldBy, is_crossed, makes}
-use Rattle.kc_machine_claims.specs.Claims.{steps}
-use Rattle.kc_machine_steps.specs.declared.task.Event.{Event}
-use Rattle.kc_machine_steps.specs.declared.task.Task.TheVariants as task
-use Rattle.kc_machine_steps.specs.declared.task.Task.{Task}
-use Rattle.kc_machine_steps.specs.declared.task.Told.TheVariants as told
+use Rattle.kc_machine_answers.specs.kc_machine_claims.Claims.{steps}
+use Rattle.kc_machine_answers.specs.kc_machine_steps.declared.task.Event.{Event}
+use Rattle.kc_machine_answers.specs.kc_machine_steps.declared.task.Task.TheVariants as task
+use Rattle.kc_machine_answers.specs.kc_machine_steps.declared.task.Task.{Task}
+use Rattle.kc_machine_answers.specs.kc_machine_steps.declared.task.Told.TheVariants as told
 use Rattle.kc_machine_alone.proofs.Begun.{Begun, Idle, OthersRest, makes_run}
 use Rattle.kc_machine_alone.specs.Swaps as swaps
 use Rattle.kc_machine_alone.specs.Swaps.{IsSwapAttempt, SwapAttemptsEnd, Swaps, put_of}
-use Rattle.kc_machine_traces.proofs.Others.{run_shape}
-use Rattle.kc_machine_words.specs.declared.words.Mode.{Mode}
+use Rattle.kc_machine_answers.proofs.kc_machine_traces.Others.{run_shape}
+use Rattle.kc_machine_answers.specs.kc_machine_words.declared.words.Mode.{Mode}
 use Rattle.kc_model.specs.Footprint.{IsRead, IsWellMade}
 use Rattle.kc_model.specs.declared.footprint.Loc.{Loc}
 use Rattle.kc_model.specs.declared.footprint.Put.{Put}

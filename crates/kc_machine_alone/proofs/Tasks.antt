@@ -1,8 +1,8 @@
 -- A task of an attempt alone, and the commits of one footprint: what they leave, and the steps of them.
-use Rattle.kc_machine.specs.Machine.{Opening, State, World, run}
-use Rattle.kc_machine.specs.Schedules.{IsWellMadeTask}
-use Rattle.kc_machine.specs.Seats.{committing, is_idle}
-use Rattle.kc_machine.specs.declared.seat.Seat.{Seat}
+use Rattle.kc_machine_answers.specs.kc_machine.Machine.{Opening, State, World, run}
+use Rattle.kc_machine_answers.specs.kc_machine.Schedules.{IsWellMadeTask}
+use Rattle.kc_machine_answers.specs.kc_machine.Seats.{committing, is_idle}
+use Rattle.kc_machine_answers.specs.kc_machine.declared.seat.Seat.{Seat}
 use Rattle.kc_machine_alone.proofs.CleanRuns.{runs_to_end}
 use Rattle.kc_machine_alone.proofs.Left.{round, work_left}
 use Rattle.kc_machine_alone.proofs.LookRuns.{IsSeenAt, looks_to_end}
@@ -11,20 +11,20 @@ use Rattle.kc_machine_alone.proofs.Spares.{BothKept, OneKept}
 use Rattle.kc_machine_alone.proofs.Starting.{fee}
 use Rattle.kc_machine_alone.specs.Attempts as attempts
 use Rattle.kc_machine_alone.specs.Attempts.{CanBeTaken, Commits, IsToldBy, is_crossed, makes}
-use Rattle.kc_machine_claims.specs.Claims.{steps}
-use Rattle.kc_machine_commits.specs.declared.commit.Stage.TheVariants.{Scan}
-use Rattle.kc_machine_steps.specs.Aids.{no_copy}
-use Rattle.kc_machine_steps.specs.Lines.{lines_of}
-use Rattle.kc_machine_steps.specs.declared.look.LookStep.TheVariants as look
-use Rattle.kc_machine_steps.specs.declared.swap.SwapStep.TheVariants as swap
-use Rattle.kc_machine_steps.specs.declared.task.Event.{Event}
-use Rattle.kc_machine_steps.specs.declared.task.Task.TheVariants as task
-use Rattle.kc_machine_steps.specs.declared.task.Told.TheVariants as told
-use Rattle.kc_machine_steps.specs.declared.task.Told.{Told}
+use Rattle.kc_machine_answers.specs.kc_machine_claims.Claims.{steps}
+use Rattle.kc_machine_answers.specs.kc_machine_commits.declared.commit.Stage.TheVariants.{Scan}
+use Rattle.kc_machine_answers.specs.kc_machine_steps.Aids.{no_copy}
+use Rattle.kc_machine_answers.specs.kc_machine_steps.Lines.{lines_of}
+use Rattle.kc_machine_answers.specs.kc_machine_steps.declared.look.LookStep.TheVariants as look
+use Rattle.kc_machine_answers.specs.kc_machine_steps.declared.swap.SwapStep.TheVariants as swap
+use Rattle.kc_machine_answers.specs.kc_machine_steps.declared.task.Event.{Event}
+use Rattle.kc_machine_answers.specs.kc_machine_steps.declared.task.Task.TheVariants as task
+use Rattle.kc_machine_answers.specs.kc_machine_steps.declared.task.Told.TheVariants as told
+use Rattle.kc_machine_answers.specs.kc_machine_steps.declared.task.Told.{Told}
 use Rattle.kc_machine_alone.proofs.Begun.{Begun, Idle, OthersRest, holds_rest, makes_run, others_rest, rests_begun, schedule_begun, seat_begun, world_begun}
 use Rattle.kc_machine_alone.proofs.SwapRuns.{swaps_to_end}
-use Rattle.kc_machine_words.specs.declared.words.Mode.TheVariants as mode
-use Rattle.kc_machine_words.specs.declared.words.Mode.{Mode}
+use Rattle.kc_machine_answers.specs.kc_machine_words.declared.words.Mode.TheVariants as mode
+use Rattle.kc_machine_answers.specs.kc_machine_words.declared.words.Mode.{Mode}
 use Rattle.kc_model.specs.declared.footprint.Footprint.{Footprint}
 use Rattle.kc_model.specs.declared.footprint.Loc.{Loc}
 use Rattle.kc_model.specs.declared.footprint.Seen.{Seen}

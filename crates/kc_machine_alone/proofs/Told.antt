@@ -1,53 +1,53 @@
 -- A seat alone is told within the bound.
-use Rattle.kc_machine_steps.specs.Swaps.{onward_of as onward_of_swap, swap_access, swap_next, swaps_on}
-use Rattle.kc_machine_steps.specs.declared.swap.Swap.{Swap}
-use Rattle.kc_machine_steps.specs.declared.swap.SwapNext.{SwapNext}
-use Rattle.kc_machine_steps.specs.declared.swap.SwapNext.TheVariants as swapping
-use Rattle.kc_machine.proofs.Functions.{put_here}
-use Rattle.kc_machine.specs.Hangs.{hang_access, hang_next, hangs_on, leave_access, leaves_on, next_read, onward_of, unblocks_or_tells}
-use Rattle.kc_machine.specs.Machine.{Opening, State, World, found_at, touched}
-use Rattle.kc_machine.specs.Seats.{access_of, after, answer_by, answer_of, is_idle, work_access}
-use Rattle.kc_machine.specs.Waits.{Hang, Leave}
-use Rattle.kc_machine.specs.Works.{Work}
-use Rattle.kc_machine.specs.declared.hang.HangNext.{HangNext}
-use Rattle.kc_machine.specs.declared.seat.Seat.{Seat}
+use Rattle.kc_machine_answers.specs.kc_machine_steps.Swaps.{onward_of as onward_of_swap, swap_access, swap_next, swaps_on}
+use Rattle.kc_machine_answers.specs.kc_machine_steps.declared.swap.Swap.{Swap}
+use Rattle.kc_machine_answers.specs.kc_machine_steps.declared.swap.SwapNext.{SwapNext}
+use Rattle.kc_machine_answers.specs.kc_machine_steps.declared.swap.SwapNext.TheVariants as swapping
+use Rattle.kc_machine_answers.proofs.kc_machine.Functions.{put_here}
+use Rattle.kc_machine_answers.specs.kc_machine.Hangs.{hang_access, hang_next, hangs_on, leave_access, leaves_on, next_read, onward_of, unblocks_or_tells}
+use Rattle.kc_machine_answers.specs.kc_machine.Machine.{Opening, State, World, found_at, touched}
+use Rattle.kc_machine_answers.specs.kc_machine.Seats.{access_of, after, answer_by, answer_of, is_idle, work_access}
+use Rattle.kc_machine_answers.specs.kc_machine.Waits.{Hang, Leave}
+use Rattle.kc_machine_answers.specs.kc_machine.Works.{Work}
+use Rattle.kc_machine_answers.specs.kc_machine.declared.hang.HangNext.{HangNext}
+use Rattle.kc_machine_answers.specs.kc_machine.declared.seat.Seat.{Seat}
 use Rattle.kc_machine_alone.proofs.AidFalls.{IsBounded}
 use Rattle.kc_machine_alone.proofs.Left.{free_left, hang_left, look_left, own_left, round, stage_left, swap_left, takes, work_left}
 use Rattle.kc_machine_alone.proofs.Modes.{Ground}
 use Rattle.kc_machine_alone.proofs.Ranks.{Builds, OwnRankGoes, OwnRanks, StageRank, own_ranks, top}
 use Rattle.kc_machine_alone.proofs.SeatFalls.{Knows}
 use Rattle.kc_machine_alone.specs.Stretches.{begins_aid, stage_begins}
-use Rattle.kc_machine_claims.specs.Worked.{seen}
-use Rattle.kc_machine_commits.specs.Commits.{after_scan, commit_access, copy_by, copy_by_own, gone_on, loaded, onward_by, own_access, own_next, stage_access, stage_next}
-use Rattle.kc_machine_commits.specs.Nexts.{Next}
-use Rattle.kc_machine_commits.specs.declared.commit.Commit.{Commit}
-use Rattle.kc_machine_commits.specs.declared.commit.OwnStep.{OwnStep}
-use Rattle.kc_machine_commits.specs.declared.commit.Stage.{Stage}
-use Rattle.kc_machine_commits.specs.declared.commit.Stage.TheVariants.{Own, Scan, Take}
-use Rattle.kc_machine_effects.specs.Holds.{Hold}
-use Rattle.kc_machine_ranges.specs.Possible.{one_step}
-use Rattle.kc_machine_ranges.specs.Seats.{WorkIn}
-use Rattle.kc_machine_seats.specs.Fits.{StageFits, WorkFits}
-use Rattle.kc_machine_seats.specs.Formed.{WorkIsFormed}
-use Rattle.kc_machine_steps.specs.Looks.{look_access, look_next, looks_on, told_by}
-use Rattle.kc_machine_steps.specs.declared.aid.Aided.{Aided}
-use Rattle.kc_machine_steps.specs.declared.look.Look.{Look}
-use Rattle.kc_machine_steps.specs.declared.look.LookNext.{LookNext}
-use Rattle.kc_machine_words.specs.declared.access.Found.{Found}
+use Rattle.kc_machine_answers.specs.kc_machine_claims.Worked.{seen}
+use Rattle.kc_machine_answers.specs.kc_machine_commits.Commits.{after_scan, commit_access, copy_by, copy_by_own, gone_on, loaded, onward_by, own_access, own_next, stage_access, stage_next}
+use Rattle.kc_machine_answers.specs.kc_machine_commits.Nexts.{Next}
+use Rattle.kc_machine_answers.specs.kc_machine_commits.declared.commit.Commit.{Commit}
+use Rattle.kc_machine_answers.specs.kc_machine_commits.declared.commit.OwnStep.{OwnStep}
+use Rattle.kc_machine_answers.specs.kc_machine_commits.declared.commit.Stage.{Stage}
+use Rattle.kc_machine_answers.specs.kc_machine_commits.declared.commit.Stage.TheVariants.{Own, Scan, Take}
+use Rattle.kc_machine_answers.specs.kc_machine_effects.Holds.{Hold}
+use Rattle.kc_machine_answers.specs.kc_machine_ranges.Possible.{one_step}
+use Rattle.kc_machine_answers.specs.kc_machine_ranges.Seats.{WorkIn}
+use Rattle.kc_machine_answers.specs.kc_machine_seats.Fits.{StageFits, WorkFits}
+use Rattle.kc_machine_answers.specs.kc_machine_seats.Formed.{WorkIsFormed}
+use Rattle.kc_machine_answers.specs.kc_machine_steps.Looks.{look_access, look_next, looks_on, told_by}
+use Rattle.kc_machine_answers.specs.kc_machine_steps.declared.aid.Aided.{Aided}
+use Rattle.kc_machine_answers.specs.kc_machine_steps.declared.look.Look.{Look}
+use Rattle.kc_machine_answers.specs.kc_machine_steps.declared.look.LookNext.{LookNext}
+use Rattle.kc_machine_answers.specs.kc_machine_words.declared.access.Found.{Found}
 use Rattle.kc_model.specs.declared.footprint.Seen.{Seen}
 use Rattle.kc_model.specs.declared.word.Word.TheVariants.{Ref}
 use Rattle.kc_model.specs.declared.footprint.TheConstants.{MOST}
 use Rattle.std.proofs.Common.{Bool, None, Option, Some, false, if◌then◌else◌, inl, inr, refl, subst, sym, true, ℕ, ◌+◌, ◌-◌, ◌<◌, ◌==◌, ◌≡◌, ◌≤◌, ◌⊎◌}
 use Rattle.std.specs.Option.{is_some}
 use Rattle.std.specs.Prelude.{nat_lt, slice_get, ◌*◌}
-use Rattle.kc_machine_words.specs.declared.access.Access.TheVariants as access
-use Rattle.kc_machine_words.specs.declared.access.Grip.TheVariants as grip
-use Rattle.kc_machine.specs.declared.hang.HangNext.TheVariants as hanging
-use Rattle.kc_machine_steps.specs.declared.look.LookNext.TheVariants as looking
-use Rattle.kc_machine_commits.specs.Nexts as next
-use Rattle.kc_machine_commits.specs.declared.commit.OwnStep.TheVariants as own
-use Rattle.kc_machine_steps.specs.declared.task.Told.TheVariants as told
-use Rattle.kc_machine.specs.Works as work
+use Rattle.kc_machine_answers.specs.kc_machine_words.declared.access.Access.TheVariants as access
+use Rattle.kc_machine_answers.specs.kc_machine_words.declared.access.Grip.TheVariants as grip
+use Rattle.kc_machine_answers.specs.kc_machine.declared.hang.HangNext.TheVariants as hanging
+use Rattle.kc_machine_answers.specs.kc_machine_steps.declared.look.LookNext.TheVariants as looking
+use Rattle.kc_machine_answers.specs.kc_machine_commits.Nexts as next
+use Rattle.kc_machine_answers.specs.kc_machine_commits.declared.commit.OwnStep.TheVariants as own
+use Rattle.kc_machine_answers.specs.kc_machine_steps.declared.task.Told.TheVariants as told
+use Rattle.kc_machine_answers.specs.kc_machine.Works as work
 
 -- ---- what a commit's step comes to
 

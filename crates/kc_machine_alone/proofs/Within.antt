@@ -1,64 +1,64 @@
 -- From any state, step by step.
-use Rattle.kc_machine_steps.specs.Swaps.{onward_of as onward_of_swap, swap_next, swaps_on}
-use Rattle.kc_machine_steps.specs.declared.swap.Swap.{Swap}
-use Rattle.kc_machine_steps.specs.declared.swap.SwapNext.{SwapNext}
-use Rattle.kc_machine_steps.specs.declared.swap.SwapNext.TheVariants as swapping
-use Rattle.kc_machine.specs.Hangs.{hang_step, hangs_on, leaves_on, next_read, onward_of, unblocks_or_tells}
-use Rattle.kc_machine.specs.Machine.{Opening, World, run}
-use Rattle.kc_machine.specs.Schedules.{IsSchedule}
-use Rattle.kc_machine.specs.Seats.{after, answer_by, answer_of}
-use Rattle.kc_machine.specs.Waits.{Hang, Leave}
-use Rattle.kc_machine.specs.Works.{Work}
-use Rattle.kc_machine.specs.declared.hang.HangNext.{HangNext}
-use Rattle.kc_machine.specs.declared.hang.HangStep.{HangStep}
-use Rattle.kc_machine.specs.declared.seat.Seat.{Seat}
+use Rattle.kc_machine_answers.specs.kc_machine_steps.Swaps.{onward_of as onward_of_swap, swap_next, swaps_on}
+use Rattle.kc_machine_answers.specs.kc_machine_steps.declared.swap.Swap.{Swap}
+use Rattle.kc_machine_answers.specs.kc_machine_steps.declared.swap.SwapNext.{SwapNext}
+use Rattle.kc_machine_answers.specs.kc_machine_steps.declared.swap.SwapNext.TheVariants as swapping
+use Rattle.kc_machine_answers.specs.kc_machine.Hangs.{hang_step, hangs_on, leaves_on, next_read, onward_of, unblocks_or_tells}
+use Rattle.kc_machine_answers.specs.kc_machine.Machine.{Opening, World, run}
+use Rattle.kc_machine_answers.specs.kc_machine.Schedules.{IsSchedule}
+use Rattle.kc_machine_answers.specs.kc_machine.Seats.{after, answer_by, answer_of}
+use Rattle.kc_machine_answers.specs.kc_machine.Waits.{Hang, Leave}
+use Rattle.kc_machine_answers.specs.kc_machine.Works.{Work}
+use Rattle.kc_machine_answers.specs.kc_machine.declared.hang.HangNext.{HangNext}
+use Rattle.kc_machine_answers.specs.kc_machine.declared.hang.HangStep.{HangStep}
+use Rattle.kc_machine_answers.specs.kc_machine.declared.seat.Seat.{Seat}
 use Rattle.kc_machine_alone.proofs.Covers.{aid_cover}
 use Rattle.kc_machine_alone.proofs.Modes.{Ground, loose, spare}
 use Rattle.kc_machine_alone.proofs.Ranks.{AidRank, Builds, InstallRank, PassRank, StageRank, paid_most, top}
 use Rattle.kc_machine_alone.proofs.Rounds.{nothing}
 use Rattle.kc_machine_alone.proofs.Told.{StageBuilds, WorkBuilds, WorkRank}
 use Rattle.kc_machine_answers.proofs.Puts.{lower}
-use Rattle.kc_machine_claims.specs.Worked.{seen}
-use Rattle.kc_machine_commits.specs.Commits.{gone_on, loaded, onward_by, stage_next, tells_or_goes}
-use Rattle.kc_machine_commits.specs.Nexts.{Next}
-use Rattle.kc_machine_commits.specs.declared.commit.Commit.{Commit}
-use Rattle.kc_machine_commits.specs.declared.commit.OwnStep.{OwnStep}
-use Rattle.kc_machine_commits.specs.declared.commit.Stage.{Stage}
-use Rattle.kc_machine_commits.specs.declared.commit.Stage.TheVariants.{Own, Scan, Take}
-use Rattle.kc_machine_effects.specs.Holds.{Hold, NoHold, Proper, own_hold}
-use Rattle.kc_machine_effects.specs.Stands.{Stand, Waits, aids, commits, hangs, owns, resting, stand, works}
-use Rattle.kc_machine_passes.proofs.Always.{installed_prefix, line_known, references_fit}
-use Rattle.kc_machine_passes.proofs.Targets.{Grounds, grounds}
-use Rattle.kc_machine_passes.specs.Phases.{AidKnows}
-use Rattle.kc_machine_pool.proofs.LifeLaws.{active_owned}
-use Rattle.kc_machine_pool.proofs.Started.{started_made}
-use Rattle.kc_machine_pool.specs.Started.{line_of_words, listed}
-use Rattle.kc_machine_seats.proofs.Searches.{scanned, taken}
-use Rattle.kc_machine_steps.specs.Looks.{look_next, looks_on, told_by}
-use Rattle.kc_machine_steps.specs.declared.aid.AidStep.{AidStep}
-use Rattle.kc_machine_steps.specs.declared.aid.Aided.{Aided}
-use Rattle.kc_machine_steps.specs.declared.line.Intent.{Intent}
+use Rattle.kc_machine_answers.specs.kc_machine_claims.Worked.{seen}
+use Rattle.kc_machine_answers.specs.kc_machine_commits.Commits.{gone_on, loaded, onward_by, stage_next, tells_or_goes}
+use Rattle.kc_machine_answers.specs.kc_machine_commits.Nexts.{Next}
+use Rattle.kc_machine_answers.specs.kc_machine_commits.declared.commit.Commit.{Commit}
+use Rattle.kc_machine_answers.specs.kc_machine_commits.declared.commit.OwnStep.{OwnStep}
+use Rattle.kc_machine_answers.specs.kc_machine_commits.declared.commit.Stage.{Stage}
+use Rattle.kc_machine_answers.specs.kc_machine_commits.declared.commit.Stage.TheVariants.{Own, Scan, Take}
+use Rattle.kc_machine_answers.specs.kc_machine_effects.Holds.{Hold, NoHold, Proper, own_hold}
+use Rattle.kc_machine_answers.specs.kc_machine_effects.Stands.{Stand, Waits, aids, commits, hangs, owns, resting, stand, works}
+use Rattle.kc_machine_answers.proofs.kc_machine_passes.Always.{installed_prefix, line_known, references_fit}
+use Rattle.kc_machine_answers.proofs.kc_machine_passes.Targets.{Grounds, grounds}
+use Rattle.kc_machine_answers.specs.kc_machine_passes.Phases.{AidKnows}
+use Rattle.kc_machine_answers.proofs.kc_machine_pool.LifeLaws.{active_owned}
+use Rattle.kc_machine_answers.proofs.kc_machine_pool.Started.{started_made}
+use Rattle.kc_machine_answers.specs.kc_machine_pool.Started.{line_of_words, listed}
+use Rattle.kc_machine_answers.proofs.kc_machine_seats.Searches.{scanned, taken}
+use Rattle.kc_machine_answers.specs.kc_machine_steps.Looks.{look_next, looks_on, told_by}
+use Rattle.kc_machine_answers.specs.kc_machine_steps.declared.aid.AidStep.{AidStep}
+use Rattle.kc_machine_answers.specs.kc_machine_steps.declared.aid.Aided.{Aided}
+use Rattle.kc_machine_answers.specs.kc_machine_steps.declared.line.Intent.{Intent}
 use Rattle.kc_model.specs.declared.footprint.Line.{Line}
-use Rattle.kc_machine_steps.specs.declared.look.Look.{Look}
-use Rattle.kc_machine_steps.specs.declared.look.LookNext.{LookNext}
-use Rattle.kc_machine_steps.specs.declared.pass.PassStep.{PassStep}
-use Rattle.kc_machine_steps.specs.declared.pass.PassStep.TheVariants.{Check, CheckDrop, CheckFirst, CheckHold, CheckStatus, Decide, Install, Release}
-use Rattle.kc_machine_steps.specs.declared.task.Event.{Event}
-use Rattle.kc_machine_traces.proofs.Copies.{copies_after}
-use Rattle.kc_machine_traces.proofs.Others.{run_shape}
-use Rattle.kc_machine_words.specs.declared.access.Found.{Found}
-use Rattle.kc_machine_words.specs.declared.words.Handle.{Handle}
-use Rattle.kc_machine_words.specs.declared.words.Reference.{Reference}
+use Rattle.kc_machine_answers.specs.kc_machine_steps.declared.look.Look.{Look}
+use Rattle.kc_machine_answers.specs.kc_machine_steps.declared.look.LookNext.{LookNext}
+use Rattle.kc_machine_answers.specs.kc_machine_steps.declared.pass.PassStep.{PassStep}
+use Rattle.kc_machine_answers.specs.kc_machine_steps.declared.pass.PassStep.TheVariants.{Check, CheckDrop, CheckFirst, CheckHold, CheckStatus, Decide, Install, Release}
+use Rattle.kc_machine_answers.specs.kc_machine_steps.declared.task.Event.{Event}
+use Rattle.kc_machine_answers.proofs.kc_machine_traces.Copies.{copies_after}
+use Rattle.kc_machine_answers.proofs.kc_machine_traces.Others.{run_shape}
+use Rattle.kc_machine_answers.specs.kc_machine_words.declared.access.Found.{Found}
+use Rattle.kc_machine_answers.specs.kc_machine_words.declared.words.Handle.{Handle}
+use Rattle.kc_machine_answers.specs.kc_machine_words.declared.words.Reference.{Reference}
 use Rattle.kc_model.specs.declared.footprint.Seen.{Seen}
 use Rattle.kc_model.specs.declared.footprint.TheConstants.{MOST}
 use Rattle.std.proofs.Common.{Bool, List, None, Option, Some, ap, arith, false, inl, inr, refl, suc, sym, true, zero, ℕ, ◌<◌, ◌∙◌, ◌≡◌, ◌≤◌, ◌⊎◌}
 use Rattle.std.specs.Prelude.{slice_get, ◌*◌}
-use Rattle.kc_machine_steps.specs.declared.aid.AidStep.TheVariants as aid
-use Rattle.kc_machine.specs.declared.hang.HangStep.TheVariants as hang
-use Rattle.kc_machine.specs.declared.hang.HangNext.TheVariants as hanging
-use Rattle.kc_machine_steps.specs.declared.look.LookNext.TheVariants as looking
-use Rattle.kc_machine_commits.specs.declared.commit.OwnStep.TheVariants as own
-use Rattle.kc_machine.specs.Works as work
+use Rattle.kc_machine_answers.specs.kc_machine_steps.declared.aid.AidStep.TheVariants as aid
+use Rattle.kc_machine_answers.specs.kc_machine.declared.hang.HangStep.TheVariants as hang
+use Rattle.kc_machine_answers.specs.kc_machine.declared.hang.HangNext.TheVariants as hanging
+use Rattle.kc_machine_answers.specs.kc_machine_steps.declared.look.LookNext.TheVariants as looking
+use Rattle.kc_machine_answers.specs.kc_machine_commits.declared.commit.OwnStep.TheVariants as own
+use Rattle.kc_machine_answers.specs.kc_machine.Works as work
 
 -- ---- what a seat owns
 

@@ -1,22 +1,21 @@
 -- A whole attempt of a seat that steps alone: a look at each location in turn, and then its commits.
-use Rattle.std.specs.Prelude.{◌≡◌, ℕ, ◌+◌, ◌<◌, ◌≤◌, All, List, [], ◌∷◌, Bool, true, false, Some, length, map}
-use Rattle.kc_machine_words.specs.declared.words.TheConstants.{LAST_GENERATION}
-use Rattle.kc_model.specs.Footprint.{IsWellMade}
+use Rattle.std.specs.Prelude.{◌≡◌, ℕ, ◌+◌, ◌<◌, ◌≤◌, All, Contains, List, [], ◌∷◌, Bool, true, false, Some, length, map}
+use Rattle.kc_machine_answers.specs.kc_machine_words.declared.words.TheConstants.{LAST_GENERATION}
+use Rattle.kc_model.specs.Footprint.{IsWellMade, Reads}
 use Rattle.kc_model.specs.declared.footprint.Footprint.{Footprint}
 use Rattle.kc_model.specs.declared.footprint.Loc.{Loc}
-use Rattle.kc_model.specs.declared.footprint.Put.{Put}
 use Rattle.kc_model.specs.declared.footprint.Seen.{Seen}
 use Rattle.kc_model.specs.declared.footprint.TheConstants.{MOST, LAST_VERSION}
-use Rattle.kc_machine_words.specs.declared.words.Mode.TheVariants as mode
-use Rattle.kc_machine_steps.specs.declared.task.Event.{Event}
-use Rattle.kc_machine_steps.specs.declared.task.Event.TheVariants.{Begin}
-use Rattle.kc_machine_steps.specs.declared.task.Task.{Task}
-use Rattle.kc_machine_steps.specs.declared.task.Task.TheVariants as task
-use Rattle.kc_machine_steps.specs.declared.task.Told.{Told}
-use Rattle.kc_machine_steps.specs.declared.task.Told.TheVariants as told
-use Rattle.kc_machine.specs.Machine.{State, Opening, event_of, run_from, run}
-use Rattle.kc_machine.specs.Seats.{is_idle}
-use Rattle.kc_machine_claims.specs.Claims.{steps, bound_alone}
+use Rattle.kc_machine_answers.specs.kc_machine_words.declared.words.Mode.TheVariants as mode
+use Rattle.kc_machine_answers.specs.kc_machine_steps.declared.task.Event.{Event}
+use Rattle.kc_machine_answers.specs.kc_machine_steps.declared.task.Event.TheVariants.{Begin}
+use Rattle.kc_machine_answers.specs.kc_machine_steps.declared.task.Task.{Task}
+use Rattle.kc_machine_answers.specs.kc_machine_steps.declared.task.Task.TheVariants as task
+use Rattle.kc_machine_answers.specs.kc_machine_steps.declared.task.Told.{Told}
+use Rattle.kc_machine_answers.specs.kc_machine_steps.declared.task.Told.TheVariants as told
+use Rattle.kc_machine_answers.specs.kc_machine.Machine.{State, Opening, event_of, run_from, run}
+use Rattle.kc_machine_answers.specs.kc_machine.Seats.{is_idle}
+use Rattle.kc_machine_answers.specs.kc_machine_claims.Claims.{steps, bound_alone}
 
 -- seat k has begun a task, and made n steps
 abbrev pub makes : State → ℕ → Task → ℕ → State
@@ -40,17 +39,19 @@ pub data Commits (k : ℕ) (m : State) (f : Footprint) : ℕ → Type 0 where
   once : (n : ℕ) (x : Told) → IsToldBy m k (task.Commit f mode.Light) n x → is_crossed x ≡ false → Commits k m f n
   twice : (n p : ℕ) (x y : Told) → IsToldBy m k (task.Commit f mode.Light) n x → is_crossed x ≡ true → IsToldBy (makes m k (task.Commit f mode.Light) n) k (task.Commit f mode.All) p y → Commits k m f (n + p)
 
--- what an attempt commits: what its looks were told, and what it puts there
-abbrev pub footprint_of : (List Seen → List Put) → List Seen → Footprint
-footprint_of puts rs = record { reads = record { items = rs }; puts = record { items = puts rs } }
+-- what an attempt commits of what its looks were told, in whatever order they were made: a well-made footprint that reads no more
+pub record IsPlanned (rs : List Seen) (f : Footprint) : Type 0 where
+  pub made : IsWellMade f
+  pub reads : (r : Seen) → Reads f r → Contains rs r
+  pub few : length f.reads.items ≤ MOST
 
-pub record IsAttempt (k : ℕ) (m : State) (ls : List Loc) (puts : List Seen → List Put) (n : ℕ) : Type 0 where
+pub record IsAttempt (k : ℕ) (m : State) (ls : List Loc) (plan : List Seen → Footprint) (n : ℕ) : Type 0 where
   pub seen : List Seen
   pub after : State
   pub looking : ℕ
   pub committing : ℕ
   pub looks : Looks k m ls seen looking after
-  pub commits : Commits k after (footprint_of puts seen) committing
+  pub commits : Commits k after (plan seen) committing
   pub counts : n ≡ looking + committing
 
 -- descriptor d can be taken
@@ -59,6 +60,6 @@ CanBeTaken m d = (d < m.descriptors) × ((m.world.control d).holds ≡ 0) × ((m
 
 -- an idle seat's attempt, made alone where two descriptors can be taken, ends within the bound of one task, whatever it puts that is well made
 abbrev pub AttemptsEnd : Opening → List Event → Type 0
-AttemptsEnd o es = (k d e : ℕ) (ls : List Loc) (puts : List Seen → List Put) → k < o.callers → is_idle ((run o es).seats k).work ≡ true → d < e → CanBeTaken (run o es) d → CanBeTaken (run o es) e
-    → All (λ l. l.0 < o.locations) ls → length ls ≤ MOST → ((rs : List Seen) → map (λ r. r.loc) rs ≡ ls → All (λ r. r.version ≤ LAST_VERSION) rs → IsWellMade (footprint_of puts rs))
-    → (n : ℕ) × (n ≤ bound_alone o.callers MOST) × IsAttempt k (run o es) ls puts n
+AttemptsEnd o es = (k d e : ℕ) (ls : List Loc) (plan : List Seen → Footprint) → k < o.callers → is_idle ((run o es).seats k).work ≡ true → d < e → CanBeTaken (run o es) d → CanBeTaken (run o es) e
+    → All (λ l. l.0 < o.locations) ls → length ls ≤ MOST → ((rs : List Seen) → map (λ r. r.loc) rs ≡ ls → All (λ r. r.version ≤ LAST_VERSION) rs → IsPlanned rs (plan rs))
+    → (n : ℕ) × (n ≤ bound_alone o.callers MOST) × IsAttempt k (run o es) ls plan n

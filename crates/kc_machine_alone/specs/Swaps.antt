@@ -4,15 +4,15 @@ use Rattle.kc_model.specs.declared.footprint.Footprint.{Footprint}
 use Rattle.kc_model.specs.declared.footprint.Loc.{Loc}
 use Rattle.kc_model.specs.declared.footprint.Seen.{Seen}
 use Rattle.kc_model.specs.declared.footprint.TheConstants.{MOST, LAST_VERSION}
-use Rattle.kc_machine_steps.specs.declared.task.Event.{Event}
-use Rattle.kc_machine_steps.specs.declared.task.Task.TheVariants as task
-use Rattle.kc_machine_steps.specs.declared.task.Told.{Told}
-use Rattle.kc_machine_steps.specs.declared.task.Told.TheVariants as told
-use Rattle.kc_machine.specs.Machine.{State, Opening, run}
-use Rattle.kc_machine.specs.Seats.{is_idle}
-use Rattle.kc_machine_claims.specs.Claims.{bound_alone}
-use Rattle.kc_machine_claims.specs.Histories.{footprint_of}
-use Rattle.kc_machine_claims.specs.Traces.{swap_line}
+use Rattle.kc_machine_answers.specs.kc_machine_steps.declared.task.Event.{Event}
+use Rattle.kc_machine_answers.specs.kc_machine_steps.declared.task.Task.TheVariants as task
+use Rattle.kc_machine_answers.specs.kc_machine_steps.declared.task.Told.{Told}
+use Rattle.kc_machine_answers.specs.kc_machine_steps.declared.task.Told.TheVariants as told
+use Rattle.kc_machine_answers.specs.kc_machine.Machine.{State, Opening, run}
+use Rattle.kc_machine_answers.specs.kc_machine.Seats.{is_idle}
+use Rattle.kc_machine_answers.specs.kc_machine_claims.Claims.{bound_alone}
+use Rattle.kc_machine_answers.specs.kc_machine_claims.Histories.{footprint_of}
+use Rattle.kc_machine_answers.specs.kc_machine_claims.Traces.{swap_line}
 use Rattle.kc_machine_alone.specs.Attempts.{makes, IsToldBy, is_crossed, Commits, CanBeTaken}
 
 -- what a swap reads and puts

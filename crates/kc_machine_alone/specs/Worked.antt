@@ -1,9 +1,9 @@
 -- Attempts, on which the definition is computed.
 use Rattle.std.specs.Prelude.{ℕ, List, [], ◌∷◌}
-use Rattle.kc_machine.specs.Machine.{Opening, opening}
+use Rattle.kc_machine_answers.specs.kc_machine.Machine.{Opening, opening}
 use Rattle.kc_model.specs.declared.footprint.Loc.{Loc}
-use Rattle.kc_model.specs.declared.footprint.Put.{Put}
-use Rattle.kc_machine_claims.specs.Worked.{two}
+use Rattle.kc_model.specs.declared.footprint.Footprint.{Footprint}
+use Rattle.kc_machine_answers.specs.kc_machine_claims.Worked.{two}
 use Rattle.kc_model.specs.declared.footprint.Seen.{Seen}
 use Rattle.kc_model.specs.declared.footprint.TheConstants.{LAST_VERSION}
 
@@ -11,13 +11,14 @@ use Rattle.kc_model.specs.declared.footprint.TheConstants.{LAST_VERSION}
 abbrev pub one : Opening
 one = opening (5 ∷ 6 ∷ []) 1
 
+-- the higher one first
 abbrev pub both : List Loc
-both = record { 0 = 0 } ∷ record { 0 = 1 } ∷ []
+both = record { 0 = 1 } ∷ record { 0 = 0 } ∷ []
 
--- 7 at location 0, in place of what was read there first
-abbrev pub seven : List Seen → List Put
-seven [] = []
-seven (r ∷ rs) = record { loc = record { 0 = 0 }; version = r.version; after = 7 } ∷ []
+-- 7 at location 0, in place of what was read there, and location 1 compared
+abbrev pub plan : List Seen → Footprint
+plan (x ∷ r ∷ rs) = record { reads = record { items = r ∷ x ∷ [] }; puts = record { items = record { loc = record { 0 = 0 }; version = r.version; after = 7 } ∷ [] } }
+plan rs = record { reads = record { items = [] }; puts = record { items = [] } }
 
 abbrev pub there : Loc
 there = record { 0 = 0 }

@@ -1,10 +1,10 @@
 //! What holds after every schedule of every opening. An empty body: the contract is the law.
 
 ghost use Rattle.std.specs.Prelude.{List};
-ghost use Rattle.kc_machine_steps.specs.declared.task.Event.{Event};
-ghost use Rattle.kc_machine.specs.Machine.{Opening};
-ghost use Rattle.kc_machine.specs.Schedules.{IsSchedule};
-ghost use Rattle.kc_machine_claims.specs.Claims.{AloneItIsTold};
+ghost use Rattle.kc_machine_answers.specs.kc_machine_steps.declared.task.Event.{Event};
+ghost use Rattle.kc_machine_answers.specs.kc_machine.Machine.{Opening};
+ghost use Rattle.kc_machine_answers.specs.kc_machine.Schedules.{IsSchedule};
+ghost use Rattle.kc_machine_answers.specs.kc_machine_claims.Claims.{AloneItIsTold};
 ghost use Rattle.kc_machine_alone.specs.Attempts.{AttemptsEnd};
 ghost use Rattle.kc_machine_alone.specs.Stretches.{StretchesEnd};
 ghost use Rattle.kc_machine_alone.specs.Swaps.{SwapAttemptsEnd};
@@ -23,7 +23,7 @@ pub fn stretches_end()
 {}
 
 /// Where the tasks are well made and two descriptors can be taken, a whole attempt of an idle seat that steps alone ends within the
-/// bound of one task: it looks at each location, commits in mode Light, and in mode All exactly where that was crossed.
+/// bound of one task: it looks at each location, in whatever order, commits in mode Light, and in mode All exactly where that was crossed.
 pub fn attempts_end()
     ensures { (o : Opening) (es : List Event) → IsSchedule o es → AttemptsEnd o es }
 {}

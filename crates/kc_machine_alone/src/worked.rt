@@ -1,15 +1,15 @@
 //! The definitions of an attempt, computed on some by hand.
 
 ghost use Rattle.std.specs.Prelude.{[]};
-ghost use Rattle.kc_machine.specs.Machine.{run};
-ghost use Rattle.kc_machine_claims.specs.Worked.{two, installed};
+ghost use Rattle.kc_machine_answers.specs.kc_machine.Machine.{run};
+ghost use Rattle.kc_machine_answers.specs.kc_machine_claims.Worked.{two, installed};
 ghost use Rattle.kc_machine_alone.specs.Attempts.{IsAttempt};
 ghost use Rattle.kc_machine_alone.specs.Swaps.{IsSwapAttempt};
-ghost use Rattle.kc_machine_alone.specs.Worked.{one, both, seven, there, nine, worn_out};
+ghost use Rattle.kc_machine_alone.specs.Worked.{one, both, plan, there, nine, worn_out};
 
-/// Two looks of a step each, and a commit in mode Light of one put and one comparison, of fourteen steps.
+/// Two looks of a step each, the higher location first, and a commit in mode Light of one put and one comparison, of fourteen steps.
 pub fn an_attempt_by_hand()
-    ensures { IsAttempt 0 (run one []) both seven 16 }
+    ensures { IsAttempt 0 (run one []) both plan 16 }
 {}
 
 /// A look of a step, and a swap of two: its exchange, and its wake.

@@ -1,72 +1,81 @@
 -- A commit that is told Crossed was crossed.
-use Rattle.kc_machine_steps.specs.Swaps.{ends_at_once, onward_of as onward_of_swap, swap_next_at, swap_onward}
-use Rattle.kc_machine_steps.specs.declared.swap.Swap.{Swap}
-use Rattle.kc_machine_steps.specs.declared.swap.SwapStep.{SwapStep}
-use Rattle.kc_machine_steps.specs.declared.swap.SwapStep.TheVariants as swap
-use Rattle.std.proofs.Common.{arith, ◌≡◌, ◌<◌, ◌⊎◌, inl, inr, ◌∙◌, ◌++◌, ◌==◌, ℕ, Bool, true, false, List, [], ◌∷◌, take, Option, None, Some, refl, sym, ap, subst, if◌then◌else◌}
+use Rattle.kc_machine_resolving.specs.kc_machine_steps.Swaps.{ends_at_once, exchange_next, may_swap, onward_of as onward_of_swap, swap_next_at, swap_onward}
+use Rattle.kc_machine_resolving.specs.kc_machine_steps.declared.swap.SwapNext.TheVariants as swapping
+use Rattle.kc_machine_resolving.specs.kc_machine_steps.declared.swap.TheConstants.{MOST_SWAPS}
+use Rattle.kc_machine_resolving.specs.kc_machine_steps.declared.swap.SwapStep.{SwapStep}
+use Rattle.kc_machine_resolving.specs.kc_machine_steps.declared.swap.SwapStep.TheVariants as swap
+use Rattle.std.proofs.Common.{arith, ◌≡◌, ◌<◌, ◌≤◌, ◌&&◌, length, ◌⊎◌, inl, inr, ◌∙◌, ◌++◌, ◌==◌, ℕ, Bool, true, false, List, [], ◌∷◌, take, Option, None, Some, refl, sym, ap, subst, if◌then◌else◌}
 use Rattle.std.specs.Prelude.{slice_get}
-use borrow.Author.Tests.{eqb-true, eqb-false}
-use Rattle.kc_machine_steps.specs.declared.line.Intent.{Intent}
+use Rattle.std.proofs.Math.Seq.{take-length}
+use Rattle.std.proofs.lemmas.List.{take-append-le}
+use borrow.Author.Tests.{eqb-true, eqb-false, ltb-false}
+use Rattle.kc_machine_resolving.specs.kc_machine_steps.declared.line.Intent.{Intent}
 use Rattle.kc_model.specs.declared.footprint.Line.{Line}
-use Rattle.kc_machine_steps.specs.declared.look.LookNext.{LookNext}
-use Rattle.kc_machine_steps.specs.declared.pass.PassStep.TheVariants.{Decide}
-use Rattle.kc_machine_words.specs.declared.access.Found.{Found}
-use Rattle.kc_machine_words.specs.declared.words.Handle.{Handle}
-use Rattle.kc_machine_words.specs.declared.words.Mode.{Mode}
-use Rattle.kc_machine_words.specs.declared.words.Phase.{Phase}
-use Rattle.kc_machine_words.specs.declared.words.Phase.TheVariants.{Active, Succeeded, Failed, Crossed, Halted}
-use Rattle.kc_machine_words.specs.declared.words.Status.{Status}
+use Rattle.kc_machine_resolving.specs.kc_machine_steps.declared.look.LookNext.{LookNext}
+use Rattle.kc_machine_resolving.specs.kc_machine_steps.declared.pass.PassStep.TheVariants.{Decide}
+use Rattle.kc_machine_resolving.specs.kc_machine_words.declared.access.Found.{Found}
+use Rattle.kc_machine_resolving.specs.kc_machine_words.declared.words.Handle.{Handle}
+use Rattle.kc_machine_resolving.specs.kc_machine_words.declared.words.Mode.{Mode}
+use Rattle.kc_machine_resolving.specs.kc_machine_words.declared.words.Phase.{Phase}
+use Rattle.kc_machine_resolving.specs.kc_machine_words.declared.words.Phase.TheVariants.{Active, Succeeded, Failed, Crossed, Halted}
+use Rattle.kc_machine_resolving.specs.kc_machine_words.declared.words.Status.{Status}
 use Rattle.kc_model.specs.declared.footprint.Footprint.{Footprint}
-use Rattle.kc_machine_steps.specs.declared.look.LookNext.TheVariants as looking
-use Rattle.kc_machine_commits.specs.declared.commit.Commit.{Commit}
-use Rattle.kc_machine_commits.specs.declared.commit.OwnStep.{OwnStep}
-use Rattle.kc_machine_commits.specs.declared.commit.Stage.{Stage}
-use Rattle.kc_machine_commits.specs.declared.commit.Stage.TheVariants.{Scan, Take, Own}
-use Rattle.kc_machine_commits.specs.declared.commit.OwnStep.TheVariants as own
-use Rattle.kc_machine_steps.specs.declared.task.Task.{Task}
-use Rattle.kc_machine_steps.specs.declared.task.Task.TheVariants as task
-use Rattle.kc_machine_steps.specs.declared.task.Told.TheVariants as told
-use Rattle.kc_machine_steps.specs.declared.task.Onward.{Onward}
-use Rattle.kc_machine_steps.specs.declared.task.Onward.TheVariants as onward
-use Rattle.kc_machine.specs.Hangs.{hang_onward, leave_onward}
-use Rattle.kc_machine.specs.Works.{Work}
-use Rattle.kc_machine_commits.specs.Commits.{intent_of, told_of, loaded, onward_by, stage_next, commit_onward}
-use Rattle.kc_machine_commits.specs.Halts.{unowned}
-use Rattle.kc_machine_steps.specs.Lines.{lines_of}
-use Rattle.kc_machine_steps.specs.Looks.{look_next, told_by, look_tells, halts_at_once}
-use Rattle.kc_machine_steps.specs.declared.task.Event.{Event}
-use Rattle.kc_machine_steps.specs.declared.task.Event.TheVariants.{Begin, Step, Halt}
-use Rattle.kc_machine.specs.Works as work
-use Rattle.kc_machine.proofs.Functions.{put_here}
-use Rattle.kc_machine.specs.Machine.{State, Opening, event_of, seat_of, run}
-use Rattle.kc_machine.specs.Schedules.{IsSchedule}
-use Rattle.kc_machine.specs.Seats.{is_idle, after, answer_by, answer_of, begun, begun_idle, working, hanging, halted, halted_by, ended}
-use Rattle.kc_machine.specs.declared.seat.Seat.{Seat}
+use Rattle.kc_model.specs.declared.footprint.Seen.{Seen}
+use Rattle.kc_model.specs.declared.word.Word.TheVariants.{Plain, Ref}
+use Rattle.kc_machine_resolving.specs.kc_machine_words.declared.access.Found.TheVariants as found
+use Rattle.kc_machine_resolving.specs.kc_machine_steps.declared.look.LookNext.TheVariants as looking
+use Rattle.kc_machine_resolving.specs.kc_machine_commits.declared.commit.Commit.{Commit}
+use Rattle.kc_machine_resolving.specs.kc_machine_commits.declared.commit.OwnStep.{OwnStep}
+use Rattle.kc_machine_resolving.specs.kc_machine_commits.declared.commit.Stage.{Stage}
+use Rattle.kc_machine_resolving.specs.kc_machine_commits.declared.commit.Stage.TheVariants.{Scan, Take, Own}
+use Rattle.kc_machine_resolving.specs.kc_machine_commits.declared.commit.OwnStep.TheVariants as own
+use Rattle.kc_machine_resolving.specs.kc_machine_steps.declared.task.Task.{Task}
+use Rattle.kc_machine_resolving.specs.kc_machine_steps.declared.task.Task.TheVariants as task
+use Rattle.kc_machine_resolving.specs.kc_machine_steps.declared.task.Told.TheVariants as told
+use Rattle.kc_machine_resolving.specs.kc_machine_steps.declared.task.Onward.{Onward}
+use Rattle.kc_machine_resolving.specs.kc_machine_steps.declared.task.Onward.TheVariants as onward
+use Rattle.kc_machine_resolving.specs.kc_machine.Hangs.{hang_onward, leave_onward}
+use Rattle.kc_machine_resolving.specs.kc_machine.Works.{Work}
+use Rattle.kc_machine_resolving.specs.kc_machine_commits.Commits.{intent_of, told_of, loaded, onward_by, stage_next, commit_onward}
+use Rattle.kc_machine_resolving.specs.kc_machine_commits.Halts.{unowned}
+use Rattle.kc_machine_resolving.specs.kc_machine_steps.Lines.{lines_of}
+use Rattle.kc_machine_resolving.specs.kc_machine_steps.Looks.{look_next, told_by, look_tells, halts_at_once}
+use Rattle.kc_machine_resolving.specs.kc_machine_steps.declared.task.Event.{Event}
+use Rattle.kc_machine_resolving.specs.kc_machine_steps.declared.task.Event.TheVariants.{Begin, Step, Halt}
+use Rattle.kc_machine_resolving.specs.kc_machine.Works as work
+use Rattle.kc_machine_resolving.proofs.kc_machine.Functions.{put_here}
+use Rattle.kc_machine_resolving.specs.kc_machine.Machine.{State, Opening, event_of, found_at, seat_of, run}
+use Rattle.kc_machine_resolving.specs.kc_machine.Schedules.{IsSchedule}
+use Rattle.kc_machine_resolving.specs.kc_machine.Seats.{access_of, work_access, is_idle, after, answer_by, answer_of, begun, begun_idle, working, hanging, halted, halted_by, ended}
+use Rattle.kc_machine_resolving.specs.kc_machine.declared.seat.Seat.{Seat}
 use Rattle.kc_machine_answers.proofs.Crossed.{before, seats_on, longer, there, moment_on, crossing_were_crossed}
 use Rattle.kc_machine_answers.proofs.Decided.{Decides, status_came}
 use Rattle.kc_machine_answers.proofs.Halts.{IsOther, same_told, hang_silent, leave_silent, swap_mute}
 use Rattle.kc_machine_answers.specs.Crosses.{IsCrossed, CrossedSince, CrossesHaveACause}
-use Rattle.kc_machine_claims.specs.Traces.{Moment, trace}
-use Rattle.kc_machine_effects.specs.Holds.{Proper, own_hold}
-use Rattle.kc_machine_effects.specs.Stands.{Stand, At, Own as Owning, NoOwn, Owns, Runs, Waits, stand, works, resting, commits}
-use Rattle.kc_machine_histories.proofs.Knew.{at_work}
-use Rattle.kc_machine_histories.proofs.Successes.{Stays, Starts, moves, kept}
-use Rattle.kc_machine_histories.specs.Decisions.{own_of}
-use Rattle.kc_machine_histories.specs.Places.{began}
-use Rattle.kc_machine_passes.proofs.Words.{over_owners}
-use Rattle.kc_machine_pool.proofs.LifeLaws.{phase_known, owners_differ}
-use Rattle.kc_machine_pool.specs.Filled.{task as task_of}
-use Rattle.kc_machine_pool.specs.Owners.{OwnsLife, is_filling, phase_read}
-use Rattle.kc_machine_seats.proofs.Searches.{scanned, taken}
-use Rattle.kc_machine_traces.proofs.Answers.{seat_cases, answers_when_done}
-use Rattle.kc_machine_traces.proofs.Joins.{run-append, every, made_parts}
-use Rattle.kc_machine_traces.proofs.Onward.{IsIntentOf, Left, SwapLeft}
-use Rattle.kc_machine_traces.proofs.Others.{run_shape, event_in, event_else}
-use Rattle.kc_machine_traces.specs.Entries.{by, own_intent}
+use Rattle.kc_machine_answers.specs.SwapCrosses.{SwapIsCrossed, SwapCrossedSince, SwapCrossesHaveACause}
+use Rattle.kc_machine_resolving.specs.kc_machine_claims.Traces.{Moment, trace}
+use Rattle.kc_machine_resolving.specs.kc_machine_effects.Holds.{Proper, own_hold}
+use Rattle.kc_machine_resolving.specs.kc_machine_effects.Stands.{Stand, At, Own as Owning, NoOwn, Owns, Runs, Waits, stand, works, resting, commits}
+use Rattle.kc_machine_resolving.proofs.kc_machine_histories.Knew.{at_work}
+use Rattle.kc_machine_resolving.proofs.kc_machine_histories.Successes.{Stays, Starts, moves, kept}
+use Rattle.kc_machine_resolving.specs.kc_machine_histories.Decisions.{own_of}
+use Rattle.kc_machine_resolving.specs.kc_machine_histories.Places.{began}
+use Rattle.kc_machine_resolving.proofs.kc_machine_passes.Words.{over_owners}
+use Rattle.kc_machine_resolving.proofs.kc_machine_pool.LifeLaws.{phase_known, owners_differ}
+use Rattle.kc_machine_resolving.specs.kc_machine_pool.Filled.{task as task_of}
+use Rattle.kc_machine_resolving.specs.kc_machine_pool.Owners.{OwnsLife, is_filling, phase_read}
+use Rattle.kc_machine_resolving.proofs.kc_machine_seats.Searches.{scanned, taken}
+use Rattle.kc_machine_resolving.proofs.kc_machine_traces.Answers.{seat_cases, answers_when_done}
+use Rattle.kc_machine_resolving.proofs.kc_machine_traces.Moments.{begun_moment}
+use Rattle.kc_machine_resolving.proofs.kc_machine_traces.Joins.{run-append, every, made_parts}
+use Rattle.kc_machine_resolving.proofs.kc_machine_traces.Onward.{IsIntentOf, Left}
+use Rattle.kc_machine_resolving.specs.kc_machine_traces.Swaps.{swap_at}
+use Rattle.kc_machine_resolving.proofs.kc_machine_traces.Others.{run_shape, event_in, event_else}
+use Rattle.kc_machine_resolving.specs.kc_machine_traces.Entries.{by, by as entries_by, own_intent}
 
 -- ---- what a seat is to do is what it was asked
 
-intent_asked : (o : Opening) (es : List Event) → IsSchedule o es → (k : ℕ) (t : Task) (i : Intent) → k < o.callers → own_intent (own_of o es k) ≡ Some i → ((trace o es).shadows k).task ≡ Some t → IsIntentOf t i
+pub intent_asked : (o : Opening) (es : List Event) → IsSchedule o es → (k : ℕ) (t : Task) (i : Intent) → k < o.callers → own_intent (own_of o es k) ≡ Some i → ((trace o es).shadows k).task ≡ Some t → IsIntentOf t i
 intent_asked o es w k t i l q e =
     let s = (run o es).seats k in
     let y = at_work s i q in
@@ -166,40 +175,60 @@ module _ (s : Seat) (i : ℕ) where
   abbrev ToldSo : Seat → Type 0
   ToldSo r = r.told ≡ Some (told.Crossed i)
 
+  -- it finds a reference, or may swap no more
+  abbrev Gives : Found → Type 0
+  Gives f = ((g : ℕ) × (d : ℕ) × (j : ℕ) × (f ≡ found.Word (Ref g d j))) ⊎ (MOST_SWAPS ≤ s.calls)
+
   -- it is to swap, and has changed no word
-  abbrev Exchanges : Type 0
-  Exchanges = (x : Swap) × (s.work ≡ work.Swap x) × (x.step ≡ swap.Exchange)
+  abbrev Exchanges : Found → Type 0
+  Exchanges f = (r : Seen) × (value : ℕ) × (s.work ≡ swap_at r value swap.Exchange) × Gives f
 
   -- it was told before, or drops what was crossed, or swaps
-  abbrev Came : Type 0
-  Came = ToldSo s ⊎ ((c : Commit) × (s.work ≡ work.Commit c) × Drops c i) ⊎ Exchanges
+  abbrev Came : Found → Type 0
+  Came f = ToldSo s ⊎ ((c : Commit) × (s.work ≡ work.Commit c) × Drops c i) ⊎ Exchanges f
 
-  told_on : (x : Work) (n : Onward) → (n ≡ onward.Tells (told.Crossed i) → Came) → ToldSo (after (record s { work = x }) n) → Came
-  told_on x onward.Goes f q = inl q
-  told_on x onward.Takes f q = inl q
-  told_on x onward.Unblocks f q = inl q
-  told_on x (onward.Tells t) f q = let z : t ≡ told.Crossed i = cc in f (ap onward.Tells z)
+  told_on : (v : Found) (x : Work) (n : Onward) → (n ≡ onward.Tells (told.Crossed i) → Came v) → ToldSo (after (record s { work = x }) n) → Came v
+  told_on v x onward.Goes f q = inl q
+  told_on v x onward.Takes f q = inl q
+  told_on v x onward.Unblocks f q = inl q
+  told_on v x (onward.Tells t) f q = let z : t ≡ told.Crossed i = cc in f (ap onward.Tells z)
 
-  answer_came : (f : Found) → ToldSo (answer_of s f) → Came
+  gives : (r : Seen) (f : Found) → onward_of_swap (exchange_next r s.calls f) ≡ onward.Tells (told.Crossed i) → Gives f
+  gives r (found.Word (Plain v y)) q = go ((v == r.version) && (y == r.value)) (may_swap s.calls) refl q
+    where
+      go : (b c : Bool) → may_swap s.calls ≡ c → onward_of_swap (if b then (if c then swapping.Takes swap.Wake else swapping.Tells (told.Crossed 0)) else swapping.Tells (told.Failed 0)) ≡ onward.Tells (told.Crossed i) → Gives (found.Word (Plain v y))
+      go true true z e = absurd (cc)
+      go true false z e = inr (ltb-false s.calls MOST_SWAPS z)
+      go false c z e = absurd (cc)
+  gives r (found.Word (Ref g d j)) q = inl (g, d, j, refl)
+  gives r found.Nothing q = absurd (cc)
+  gives r (found.Control c) q = absurd (cc)
+  gives r (found.Status c) q = absurd (cc)
+  gives r (found.Owner c) q = absurd (cc)
+  gives r (found.First c) q = absurd (cc)
+  gives r (found.Second c) q = absurd (cc)
+  gives r (found.Callers c) q = absurd (cc)
+
+  answer_came : (f : Found) → ToldSo (answer_of s f) → Came f
   answer_came f = go s.work refl
     where
-      looks : (b : Bool) (n : LookNext) → told_by b n ≡ onward.Tells (told.Crossed i) → Came
+      looks : (b : Bool) (n : LookNext) → told_by b n ≡ onward.Tells (told.Crossed i) → Came f
       looks true n q = absurd (cc)
       looks false (looking.Goes step) q = absurd (cc)
       looks false (looking.Saw seen) q = absurd (cc)
 
-      exchanges : (x : Swap) (step : SwapStep) → x.step ≡ step → onward_of_swap (swap_next_at x.seen s.calls step f) ≡ onward.Tells (told.Crossed i) → step ≡ swap.Exchange
-      exchanges x swap.Exchange e z = refl
-      exchanges x swap.Wake e z = absurd (swap_mute (told.Crossed i) s.calls (λ q. absurd (cc)) x.seen swap.Wake f (λ q. absurd (cc)) z)
-      exchanges x (swap.Signal owed) e z = absurd (swap_mute (told.Crossed i) s.calls (λ q. absurd (cc)) x.seen (swap.Signal owed) f (λ q. absurd (cc)) z)
+      exchanges : (r : Seen) (value : ℕ) (step : SwapStep) → s.work ≡ swap_at r value step → onward_of_swap (swap_next_at r s.calls step f) ≡ onward.Tells (told.Crossed i) → Exchanges f
+      exchanges r value swap.Exchange e z = (r, value, e, gives r f z)
+      exchanges r value swap.Wake e z = absurd (swap_mute (told.Crossed i) s.calls (λ q. absurd (cc)) r swap.Wake f (λ q. absurd (cc)) z)
+      exchanges r value (swap.Signal owed) e z = absurd (swap_mute (told.Crossed i) s.calls (λ q. absurd (cc)) r (swap.Signal owed) f (λ q. absurd (cc)) z)
 
-      go : (x : Work) → s.work ≡ x → ToldSo (answer_by s f x) → Came
+      go : (x : Work) → s.work ≡ x → ToldSo (answer_by s f x) → Came f
       go work.Idle e q = inl q
-      go (work.Look l) e q = told_on _ (look_tells l f) (looks l.halted (look_next l.loc l.step f)) q
-      go (work.Commit c) e q = told_on _ (commit_onward s.descriptors s.calls c f) (λ z. inr (inl (c, e, commit_crosses s.descriptors s.calls i c f z))) q
-      go (work.Hang h) e q = told_on _ (hang_onward h f) (λ z. absurd (hang_silent (told.Crossed i) (crossed_other i) h.reads.items h.step f z)) q
-      go (work.Leave l) e q = told_on _ (leave_onward l) (λ z. absurd (leave_silent (told.Crossed i) (crossed_other i) (slice_get l.reads.items _) z)) q
-      go (work.Swap x) e q = told_on _ (swap_onward s.calls x f) (λ z. inr (inr (x, e, exchanges x x.step refl z))) q
+      go (work.Look l) e q = told_on f _ (look_tells l f) (looks l.halted (look_next l.loc l.step f)) q
+      go (work.Commit c) e q = told_on f _ (commit_onward s.descriptors s.calls c f) (λ z. inr (inl (c, e, commit_crosses s.descriptors s.calls i c f z))) q
+      go (work.Hang h) e q = told_on f _ (hang_onward h f) (λ z. absurd (hang_silent (told.Crossed i) (crossed_other i) h.reads.items h.step f z)) q
+      go (work.Leave l) e q = told_on f _ (leave_onward l) (λ z. absurd (leave_silent (told.Crossed i) (crossed_other i) (slice_get l.reads.items _) z)) q
+      go (work.Swap x) e q = told_on f _ (swap_onward s.calls x f) (λ z. inr (inr (exchanges x.seen x.after x.step e z))) q
 
   begun_came : (t : Task) → ToldSo (begun s t) → ToldSo s
   begun_came t = go (is_idle s.work)
@@ -241,17 +270,36 @@ module _ (s : Seat) (i : ℕ) where
       go (work.Leave l) q = q
       go (work.Swap x) q = ends_or_stays (ends_at_once x.step) q
 
-event_came : (m : State) (e : Event) (k i : ℕ) → ToldSo (m.seats k) i ((event_of m e).seats k) → Came (m.seats k) i
+-- what its next step finds
+abbrev finds : State → ℕ → Found
+finds m k = found_at m.world (access_of (m.seats k))
+
+event_came : (m : State) (e : Event) (k i : ℕ) → ToldSo (m.seats k) i ((event_of m e).seats k) → Came (m.seats k) i (finds m k)
 event_came m e k i = go (k == seat_of e) refl
   where
-    own_event : (e : Event) → ToldSo (m.seats (seat_of e)) i ((event_of m e).seats (seat_of e)) → Came (m.seats (seat_of e)) i
-    own_event (Begin j t) = seat_cases (λ r. ToldSo (m.seats j) i r → Came (m.seats j) i) m (Begin j t) inl (λ q. inl (begun_came (m.seats j) i t q))
-    own_event (Step j) = seat_cases (λ r. ToldSo (m.seats j) i r → Came (m.seats j) i) m (Step j) inl (answer_came (m.seats j) i _)
-    own_event (Halt j) = seat_cases (λ r. ToldSo (m.seats j) i r → Came (m.seats j) i) m (Halt j) inl (λ q. inl (halted_came (m.seats j) i q))
+    own_event : (e : Event) → ToldSo (m.seats (seat_of e)) i ((event_of m e).seats (seat_of e)) → Came (m.seats (seat_of e)) i (finds m (seat_of e))
+    own_event (Begin j t) = seat_cases (λ r. ToldSo (m.seats j) i r → Came (m.seats j) i (finds m j)) m (Begin j t) inl (λ q. inl (begun_came (m.seats j) i t q))
+    own_event (Step j) = seat_cases (λ r. ToldSo (m.seats j) i r → Came (m.seats j) i (finds m j)) m (Step j) inl (answer_came (m.seats j) i (finds m j))
+    own_event (Halt j) = seat_cases (λ r. ToldSo (m.seats j) i r → Came (m.seats j) i (finds m j)) m (Halt j) inl (λ q. inl (halted_came (m.seats j) i q))
 
-    go : (b : Bool) → (k == seat_of e) ≡ b → ToldSo (m.seats k) i ((event_of m e).seats k) → Came (m.seats k) i
-    go true z = subst (λ j. ToldSo (m.seats j) i ((event_of m e).seats j) → Came (m.seats j) i) (sym (eqb-true k (seat_of e) z)) (own_event e)
+    go : (b : Bool) → (k == seat_of e) ≡ b → ToldSo (m.seats k) i ((event_of m e).seats k) → Came (m.seats k) i (finds m k)
+    go true z = subst (λ j. ToldSo (m.seats j) i ((event_of m e).seats j) → Came (m.seats j) i (finds m j)) (sym (eqb-true k (seat_of e) z)) (own_event e)
     go false z = λ q. inl (sym (ap (λ (s : Seat). s.told) (event_else m e k (λ w. eqb-false k (seat_of e) z (sym w)))) ∙ q)
+
+-- a seat that is to exchange was asked to swap
+swap_asked : (o : Opening) (es : List Event) (e : Event) → IsSchedule o es → (k : ℕ) (t : Task) → k < o.callers → ((trace o es).shadows k).task ≡ Some t → (i : ℕ) → (x : Exchanges ((run o es).seats k) i (finds (run o es) k)) → t ≡ task.Swap x.0 x.1
+swap_asked o es e w k t l asked i x =
+    let s = (run o es).seats k in
+    (subst (λ v. Left (run o es).world k s.calls t s.told v (by k ((trace o es).shadows k).begun.history) (by k (trace o es).history)) x.2 ((kept o k l es w).left t asked)).1
+
+-- who begins a task is told nothing
+begins_untold : (o : Opening) (es : List Event) (e : Event) (k : ℕ) (l : k < o.callers) (i : ℕ) → Starts o es e k l → ((run o (es ++ e ∷ [])).seats k).told ≡ Some (told.Crossed i) → ⊥
+begins_untold o es e k l i y q =
+    let s = (run o es).seats k in
+    let b : (run o (es ++ e ∷ [])).seats k ≡ begun s y.asked = seats_on o es e k ∙ ap (λ x. (event_of (run o es) x).seats k) y.event ∙ ap (λ (n : State). n.seats k) (event_in (run o es) (Begin k y.asked) (there o es e k l)) ∙ put_here (run o es).seats k (begun s y.asked) in
+    let n = ((answers_when_done o (es ++ e ∷ []) k).busy (ap (λ (r : Seat). is_idle r.work) b ∙ y.busy)).0 in
+    let z : None ≡ Some (told.Crossed i) = sym n ∙ q in
+    absurd (cc)
 
 -- ---- every schedule
 
@@ -269,24 +317,54 @@ crosses_on o es e w old k i f m l asked q = go (moves o es k l e)
         statuses_caused o es w k i h.descriptor h.generation f m l asked known.0 owns (ap (λ (x : Stand). is_filling x.own) t)
 
     -- a seat that is to exchange was asked to swap
-    swaps_not : ((trace o es).shadows k).task ≡ Some (task.Commit f m) → (x : Swap) → s.work ≡ work.Swap x → x.step ≡ swap.Exchange → ⊥
-    swaps_not asked x y z =
-        let u = subst (λ v. Left (run o es).world k s.calls (task.Commit f m) s.told v (by k ((trace o es).shadows k).begun.history) (by k (trace o es).history)) y ((kept o k l es w).left (task.Commit f m) asked) in
-        let q : task.Commit f m ≡ task.Swap x.seen x.after = (subst (λ t. SwapLeft k s.calls (task.Commit f m) x.seen x.after t (by k ((trace o es).shadows k).begun.history) (by k (trace o es).history)) z u).1 in
-        absurd (cc)
+    swaps_not : ((trace o es).shadows k).task ≡ Some (task.Commit f m) → Exchanges s i (finds (run o es) k) → ⊥
+    swaps_not asked x = let q : task.Commit f m ≡ task.Swap x.0 x.1 = swap_asked o es e w k (task.Commit f m) l asked i x in absurd (cc)
 
     go : Stays o es e k l ⊎ Starts o es e k l → CrossedSince o (es ++ e ∷ []) k m (lines_of f) i
     go (inl y) = since_on o es e k l y m (lines_of f) i (by (event_came (run o es) e k i (sym (ap (λ (r : Seat). r.told) (seats_on o es e k)) ∙ q)))
       where
-        by : Came s i → CrossedSince o es k m (lines_of f) i
+        by : Came s i (finds (run o es) k) → CrossedSince o es k m (lines_of f) i
         by (inl z) = old k i f m l (sym y.task ∙ asked) z
         by (inr (inl (c, z, d))) = drops (sym y.task ∙ asked) c z d
-        by (inr (inr (x, z, d))) = absurd (swaps_not (sym y.task ∙ asked) x z d)
-    go (inr y) =
-        let b : (run o (es ++ e ∷ [])).seats k ≡ begun s y.asked = seats_on o es e k ∙ ap (λ x. (event_of (run o es) x).seats k) y.event ∙ ap (λ (n : State). n.seats k) (event_in (run o es) (Begin k y.asked) (there o es e k l)) ∙ put_here (run o es).seats k (begun s y.asked) in
-        let n = ((answers_when_done o (es ++ e ∷ []) k).busy (ap (λ (r : Seat). is_idle r.work) b ∙ y.busy)).0 in
-        let z : None ≡ Some (told.Crossed i) = sym n ∙ q in
-        absurd (cc)
+        by (inr (inr x)) = absurd (swaps_not (sym y.task ∙ asked) x)
+    go (inr y) = absurd (begins_untold o es e k l i y q)
 
 pub crosses_caused : (o : Opening) (es : List Event) → IsSchedule o es → CrossesHaveACause o es
 crosses_caused o = every (λ es. IsSchedule o es → CrossesHaveACause o es) (λ es e old w'. let w = (made_parts o es (e ∷ []) w').0 in crosses_on o es e w (old w)) (λ w k i f m l q. absurd (cc))
+
+swap_crosses_on : (o : Opening) (es : List Event) (e : Event) → IsSchedule o es → SwapCrossesHaveACause o es → SwapCrossesHaveACause o (es ++ e ∷ [])
+swap_crosses_on o es e w old k i r value l asked q = go (moves o es k l e)
+  where
+    s : Seat
+    s = (run o es).seats k
+
+    -- the event by which it is told so is behind all of the schedule
+    here : ((trace o es).shadows k).task ≡ Some (task.Swap r value) → Exchanges s i (finds (run o es) k) → SwapCrossedSince o es k r
+    here asked x =
+        let t : task.Swap r value ≡ task.Swap x.0 x.1 = swap_asked o es e w k (task.Swap r value) l asked i x in
+        let same : x.0 ≡ r = cc in
+        let word : finds (run o es) k ≡ found.Word ((run o es).world.word x.0.loc.0) = ap (λ z. found_at (run o es).world (work_access s.caller s.calls z)) x.2 in
+        let whole : take (length es) es ≡ es = take-length es in
+        (length es, (begun_moment o es k).reached, omega arith, subst (λ ys. SwapIsCrossed (run o ys) k r) (sym whole) (by same word x.3))
+      where
+        by : {v : Seen} → v ≡ r → finds (run o es) k ≡ found.Word ((run o es).world.word v.loc.0) → Gives s i (finds (run o es) k) → SwapIsCrossed (run o es) k r
+        by same word (inl (g, d, j, z)) = let n : (run o es).world.word _ ≡ Ref g d j = cc in inl (g, d, j, ap (λ (v : Seen). (run o es).world.word v.loc.0) (sym same) ∙ n)
+        by same word (inr z) = inr z
+
+    on : Stays o es e k l → SwapCrossedSince o es k r → SwapCrossedSince o (es ++ e ∷ []) k r
+    on y (a, b, c, x) =
+        let z : began o (es ++ e ∷ []) k ≡ began o es k = ap (λ (z : Moment). z.clock) y.begun in
+        let n = longer o es e in
+        (a, omega (arith, z, b), omega (arith, n, c), subst (λ ys. SwapIsCrossed (run o ys) k r) (sym (take-append-le a es (e ∷ []) c)) x)
+
+    go : Stays o es e k l ⊎ Starts o es e k l → SwapCrossedSince o (es ++ e ∷ []) k r
+    go (inl y) = on y (by (event_came (run o es) e k i (sym (ap (λ (r : Seat). r.told) (seats_on o es e k)) ∙ q)))
+      where
+        by : Came s i (finds (run o es) k) → SwapCrossedSince o es k r
+        by (inl z) = old k i r value l (sym y.task ∙ asked) z
+        by (inr (inl (c, z, d))) = absurd (subst (λ v. Left (run o es).world k s.calls (task.Swap r value) s.told v (entries_by k ((trace o es).shadows k).begun.history) (entries_by k (trace o es).history)) z ((kept o k l es w).left (task.Swap r value) (sym y.task ∙ asked))).1
+        by (inr (inr x)) = here (sym y.task ∙ asked) x
+    go (inr y) = absurd (begins_untold o es e k l i y q)
+
+pub swap_crosses_caused : (o : Opening) (es : List Event) → IsSchedule o es → SwapCrossesHaveACause o es
+swap_crosses_caused o = every (λ es. IsSchedule o es → SwapCrossesHaveACause o es) (λ es e old w'. let w = (made_parts o es (e ∷ []) w').0 in swap_crosses_on o es e w (old w)) (λ w k i r value l q. absurd (cc))

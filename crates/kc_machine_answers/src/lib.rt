@@ -4,6 +4,7 @@
 mod laws;
 
 pub use laws::{
-    checks_meet_others, crosses_have_a_cause, crossing_passes_were_crossed, halts_have_a_cause,
-    met_references_stand, puts_cost_one_each, strays_are_late,
+    checks_meet_others, crosses_have_a_cause, crossing_passes_were_crossed, entries_were_asked,
+    halts_have_a_cause, in_all_it_is_legal, met_references_stand, puts_cost_one_each,
+    strays_are_late, swap_crosses_have_a_cause,
 };

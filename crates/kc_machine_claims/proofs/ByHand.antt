@@ -1,23 +1,23 @@
 -- What the worked schedules need besides computing.
 use Rattle.std.proofs.Common.{arith, ◌≡◌, ◌++◌, inl, inr, true, Some, ℕ, zero, suc, refl, sym, ap, subst, List, [], ◌∷◌, Contains}
 use Rattle.std.specs.Prelude.{take}
-use Rattle.kc_machine.specs.Machine.{put, run}
+use Rattle.kc_machine_effects.specs.kc_machine.Machine.{put, run}
 use Rattle.kc_machine_claims.specs.Claims.{steps, HasPut, OwnsSucceeded, still_wakes, WakeIsToCome, IsCovered, has_bit, OwnerHolds, PassOwes, SomeoneReleases}
 use Rattle.kc_machine_claims.specs.Histories.{History, ending, cell_of, IsKnown, IsLegalHistory}
 use Rattle.kc_machine_claims.specs.Traces.{Trace, trace, traced, trace_from, first_store, IsHonest, IsHonestFrom}
 use Rattle.kc_machine_claims.specs.Worked.{seen, change, placed, two, installed, decided, helped, waited, guessed, swapped}
 use Rattle.kc_machine_effects.specs.Holds.{Proper, own_hold}
 use Rattle.kc_machine_effects.specs.Stands.{Own, Runs, Over, At, Swaps, stand}
-use Rattle.kc_machine_steps.specs.Lines.{next_among}
-use Rattle.kc_machine_steps.specs.Passes.{status}
+use Rattle.kc_machine_effects.specs.kc_machine_steps.Lines.{next_among}
+use Rattle.kc_machine_effects.specs.kc_machine_steps.Passes.{status}
 use Rattle.kc_model.specs.declared.footprint.Line.{Line}
-use Rattle.kc_machine_steps.specs.declared.pass.PassStep.TheVariants.{Release}
-use Rattle.kc_machine_steps.specs.declared.swap.SwapStep.TheVariants as swap
-use Rattle.kc_machine_steps.specs.declared.task.Event.{Event}
-use Rattle.kc_machine_steps.specs.declared.task.Event.TheVariants.{Step}
-use Rattle.kc_machine_words.specs.declared.words.Handle.{Handle}
-use Rattle.kc_machine_words.specs.declared.words.Mode.TheVariants.{All}
-use Rattle.kc_machine_words.specs.declared.words.Phase.TheVariants.{Succeeded}
+use Rattle.kc_machine_effects.specs.kc_machine_steps.declared.pass.PassStep.TheVariants.{Release}
+use Rattle.kc_machine_effects.specs.kc_machine_steps.declared.swap.SwapStep.TheVariants as swap
+use Rattle.kc_machine_effects.specs.kc_machine_steps.declared.task.Event.{Event}
+use Rattle.kc_machine_effects.specs.kc_machine_steps.declared.task.Event.TheVariants.{Step}
+use Rattle.kc_machine_effects.specs.kc_machine_words.declared.words.Handle.{Handle}
+use Rattle.kc_machine_effects.specs.kc_machine_words.declared.words.Mode.TheVariants.{All}
+use Rattle.kc_machine_effects.specs.kc_machine_words.declared.words.Phase.TheVariants.{Succeeded}
 use Rattle.kc_model.proofs.Stores.{Contains-first}
 use Rattle.kc_model.specs.Store.{Store, Finds}
 use Rattle.kc_model.specs.declared.footprint.Seen.{Seen}

@@ -1,8 +1,8 @@
 -- A trace goes along with the run of its machine.
 use Rattle.std.proofs.Common.{arith, ◌≡◌, ◌+◌, refl, List, length, [], ◌∷◌}
-use Rattle.kc_machine.specs.Machine.{Opening, run_from, run}
+use Rattle.kc_machine_effects.specs.kc_machine.Machine.{Opening, run_from, run}
 use Rattle.kc_machine_claims.specs.Traces.{Trace, traced, trace_from, trace, opened_trace}
-use Rattle.kc_machine_steps.specs.declared.task.Event.{Event}
+use Rattle.kc_machine_effects.specs.kc_machine_steps.declared.task.Event.{Event}
 
 machine_follows : (t : Trace) (es : List Event) → (trace_from t es).machine ≡ run_from t.machine es
 machine_follows t [] = refl

@@ -1,13 +1,13 @@
 -- What is claimed of a machine after a schedule. Holds are in kc_machine_effects: `HoldsAreCounted`, `HoldsKeepGenerations`.
 use Rattle.std.specs.Prelude.{◌≡◌, ℕ, zero, suc, ◌+◌, ◌*◌, ◌<◌, ◌≤◌, ◌==◌, ◌++◌, ◌⊎◌, List, [], ◌∷◌, All, Contains, Bool, true, false, not, Some, nat_lt, length, take, drop, slice_get, bit_and, cond}
 use Rattle.std.specs.Option.{is_some}
-use Rattle.kc_machine_words.specs.declared.access.Access.{Access}
-use Rattle.kc_machine_words.specs.declared.access.Touch.TheVariants.{CompareExchange}
-use Rattle.kc_machine_words.specs.declared.words.Handle.{Handle}
-use Rattle.kc_machine_words.specs.declared.words.Mode.{Mode}
-use Rattle.kc_machine_words.specs.declared.words.Mode.TheVariants as mode
-use Rattle.kc_machine_words.specs.declared.words.Phase.TheVariants.{Active, Succeeded}
-use Rattle.kc_machine_words.specs.declared.words.TheConstants.{LAST_GENERATION}
+use Rattle.kc_machine_effects.specs.kc_machine_words.declared.access.Access.{Access}
+use Rattle.kc_machine_effects.specs.kc_machine_words.declared.access.Touch.TheVariants.{CompareExchange}
+use Rattle.kc_machine_effects.specs.kc_machine_words.declared.words.Handle.{Handle}
+use Rattle.kc_machine_effects.specs.kc_machine_words.declared.words.Mode.{Mode}
+use Rattle.kc_machine_effects.specs.kc_machine_words.declared.words.Mode.TheVariants as mode
+use Rattle.kc_machine_effects.specs.kc_machine_words.declared.words.Phase.TheVariants.{Active, Succeeded}
+use Rattle.kc_machine_effects.specs.kc_machine_words.declared.words.TheConstants.{LAST_GENERATION}
 use Rattle.kc_model.specs.Footprint.{Puts}
 use Rattle.kc_model.specs.declared.footprint.Footprint.{Footprint}
 use Rattle.kc_model.specs.declared.footprint.Loc.{Loc}
@@ -17,29 +17,29 @@ use Rattle.kc_model.specs.declared.footprint.TheConstants.{MOST}
 use Rattle.kc_model.specs.declared.plain_store.Cell.{Cell}
 use Rattle.kc_model.specs.declared.word.Word.{Word}
 use Rattle.kc_model.specs.declared.word.Word.TheVariants.{Plain, Ref}
-use Rattle.kc_machine_words.specs.declared.access.Access.TheVariants as access
-use Rattle.kc_machine_steps.specs.declared.line.Intent.{Intent}
+use Rattle.kc_machine_effects.specs.kc_machine_words.declared.access.Access.TheVariants as access
+use Rattle.kc_machine_effects.specs.kc_machine_steps.declared.line.Intent.{Intent}
 use Rattle.kc_model.specs.declared.footprint.Line.{Line}
-use Rattle.kc_machine_steps.specs.declared.task.Task.TheVariants as task
-use Rattle.kc_machine_steps.specs.declared.task.Told.TheVariants as told
-use Rattle.kc_machine_steps.specs.declared.pass.PassStep.{PassStep}
-use Rattle.kc_machine_steps.specs.declared.pass.PassStep.TheVariants.{Install, Check, CheckHold, CheckStatus, CheckFirst, CheckDrop, Decide, Release}
-use Rattle.kc_machine_steps.specs.declared.task.Event.{Event}
-use Rattle.kc_machine_steps.specs.declared.task.Event.TheVariants.{Step}
-use Rattle.kc_machine_steps.specs.declared.aid.AidStep.TheVariants as aid
-use Rattle.kc_machine_steps.specs.declared.aid.AidNext.{AidNext}
-use Rattle.kc_machine_steps.specs.declared.aid.AidNext.TheVariants as aiding
-use Rattle.kc_machine_commits.specs.declared.commit.OwnStep.TheVariants as own
-use Rattle.kc_machine.specs.Machine.{World, State, Opening, event_of, run}
-use Rattle.kc_machine.specs.Seats.{access_of, is_idle}
-use Rattle.kc_machine.specs.Words.{bit_of}
+use Rattle.kc_machine_effects.specs.kc_machine_steps.declared.task.Task.TheVariants as task
+use Rattle.kc_machine_effects.specs.kc_machine_steps.declared.task.Told.TheVariants as told
+use Rattle.kc_machine_effects.specs.kc_machine_steps.declared.pass.PassStep.{PassStep}
+use Rattle.kc_machine_effects.specs.kc_machine_steps.declared.pass.PassStep.TheVariants.{Install, Check, CheckHold, CheckStatus, CheckFirst, CheckDrop, Decide, Release}
+use Rattle.kc_machine_effects.specs.kc_machine_steps.declared.task.Event.{Event}
+use Rattle.kc_machine_effects.specs.kc_machine_steps.declared.task.Event.TheVariants.{Step}
+use Rattle.kc_machine_effects.specs.kc_machine_steps.declared.aid.AidStep.TheVariants as aid
+use Rattle.kc_machine_effects.specs.kc_machine_steps.declared.aid.AidNext.{AidNext}
+use Rattle.kc_machine_effects.specs.kc_machine_steps.declared.aid.AidNext.TheVariants as aiding
+use Rattle.kc_machine_effects.specs.kc_machine_commits.declared.commit.OwnStep.TheVariants as own
+use Rattle.kc_machine_effects.specs.kc_machine.Machine.{World, State, Opening, event_of, run}
+use Rattle.kc_machine_effects.specs.kc_machine.Seats.{access_of, is_idle}
+use Rattle.kc_machine_effects.specs.kc_machine.Words.{bit_of}
 use Rattle.kc_machine_claims.specs.Histories.{History, Placed, ending, cell_of, IsLegalHistory, IsLegalWhereInstalled, EntriesDiffer, Grows}
 use Rattle.kc_machine_claims.specs.Traces.{trace, first_store, swap_entry, IsHonest}
-use Rattle.kc_machine_steps.specs.declared.swap.SwapStep.TheVariants as swap
+use Rattle.kc_machine_effects.specs.kc_machine_steps.declared.swap.SwapStep.TheVariants as swap
 use Rattle.kc_machine_effects.specs.Holds.{Proper, own_hold}
 use Rattle.kc_machine_effects.specs.Stands.{Own, NoOwn, Owns, Runs, Waits, Turn, At, Meets, Ends, Leaves, Passing, NoPass, Over, Aiding, NoAid, Aids, Passes, Swapping, Swaps, Stand, stand}
-use Rattle.kc_machine_steps.specs.Lines.{resolved_version, resolved_value}
-use Rattle.kc_machine_steps.specs.Passes.{status}
+use Rattle.kc_machine_effects.specs.kc_machine_steps.Lines.{resolved_version, resolved_value}
+use Rattle.kc_machine_effects.specs.kc_machine_steps.Passes.{status}
 
 -- ---- moments
 

@@ -3,8 +3,8 @@ use Rattle.std.specs.Prelude.{◌≡◌, ℕ, ◌++◌, List, [], ◌∷◌, Boo
 use Rattle.std.specs.List.{filter, filter_map}
 use Rattle.std.specs.Option.{is_some, option_map}
 use Rattle.kc_model.specs.declared.footprint.Line.{Line}
-use Rattle.kc_machine_words.specs.declared.words.Mode.{Mode}
-use Rattle.kc_machine_words.specs.declared.words.Mode.TheVariants.{All, Light}
+use Rattle.kc_machine_effects.specs.kc_machine_words.declared.words.Mode.{Mode}
+use Rattle.kc_machine_effects.specs.kc_machine_words.declared.words.Mode.TheVariants.{All, Light}
 use Rattle.kc_model.specs.Footprint.{Reads, put_at}
 use Rattle.kc_model.specs.Legal.{IsLegal}
 use Rattle.kc_model.specs.Rising.{IsRising}

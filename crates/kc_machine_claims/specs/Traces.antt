@@ -1,27 +1,27 @@
 -- The trace of a schedule: the machine with its history. No step of the machine depends on what is added.
 use Rattle.std.specs.Prelude.{ℕ, ◌+◌, ◌&&◌, List, [], ◌∷◌, Bool, true, false, not, if◌then◌else◌, Option, None, Some}
 use Rattle.kc_model.specs.declared.footprint.Line.{Line}
-use Rattle.kc_machine_steps.specs.declared.task.Task.{Task}
-use Rattle.kc_machine_steps.specs.declared.swap.SwapStep.TheVariants as swap
-use Rattle.kc_machine_words.specs.declared.words.Handle.{Handle}
-use Rattle.kc_machine_words.specs.declared.words.Mode.TheVariants.{All}
-use Rattle.kc_machine_words.specs.declared.words.Phase.{Phase}
-use Rattle.kc_machine_words.specs.declared.words.Phase.TheVariants.{Active, Succeeded}
+use Rattle.kc_machine_effects.specs.kc_machine_steps.declared.task.Task.{Task}
+use Rattle.kc_machine_effects.specs.kc_machine_steps.declared.swap.SwapStep.TheVariants as swap
+use Rattle.kc_machine_effects.specs.kc_machine_words.declared.words.Handle.{Handle}
+use Rattle.kc_machine_effects.specs.kc_machine_words.declared.words.Mode.TheVariants.{All}
+use Rattle.kc_machine_effects.specs.kc_machine_words.declared.words.Phase.{Phase}
+use Rattle.kc_machine_effects.specs.kc_machine_words.declared.words.Phase.TheVariants.{Active, Succeeded}
 use Rattle.kc_model.specs.Footprint.{Reads}
 use Rattle.kc_model.specs.Store.{Store}
 use Rattle.kc_model.specs.declared.footprint.Entry.{Entry}
 use Rattle.kc_model.specs.declared.footprint.Seen.{Seen}
-use Rattle.kc_machine_steps.specs.declared.task.Task.TheVariants as task
-use Rattle.kc_machine.specs.Machine.{World, State, Opening, put, event_of, seat_of, opened}
-use Rattle.kc_machine.specs.Seats.{is_idle}
-use Rattle.kc_machine.specs.Words.{phase_is}
-use Rattle.kc_machine.specs.declared.seat.Seat.{Seat}
+use Rattle.kc_machine_effects.specs.kc_machine_steps.declared.task.Task.TheVariants as task
+use Rattle.kc_machine_effects.specs.kc_machine.Machine.{World, State, Opening, put, event_of, seat_of, opened}
+use Rattle.kc_machine_effects.specs.kc_machine.Seats.{is_idle}
+use Rattle.kc_machine_effects.specs.kc_machine.Words.{phase_is}
+use Rattle.kc_machine_effects.specs.kc_machine.declared.seat.Seat.{Seat}
 use Rattle.kc_machine_claims.specs.Histories.{History, inserted, footprint_of, IsKnown}
 use Rattle.kc_machine_effects.specs.Stands.{Stand, stand, Turn, At, Meets, Ends, Leaves, Passing, NoPass, Over, Aiding, NoAid, Aids, Passes, Waiting, NoWait, Hangs, HangLooks, Leaving, Swapping, Swaps}
-use Rattle.kc_machine_steps.specs.declared.pass.PassStep.{PassStep}
-use Rattle.kc_machine_steps.specs.declared.pass.PassStep.TheVariants.{Install, Check, CheckHold, CheckStatus, CheckFirst, CheckDrop, Decide, Release}
-use Rattle.kc_machine_steps.specs.declared.task.Event.{Event}
-use Rattle.kc_machine_steps.specs.declared.task.Event.TheVariants.{Begin, Step, Halt}
+use Rattle.kc_machine_effects.specs.kc_machine_steps.declared.pass.PassStep.{PassStep}
+use Rattle.kc_machine_effects.specs.kc_machine_steps.declared.pass.PassStep.TheVariants.{Install, Check, CheckHold, CheckStatus, CheckFirst, CheckDrop, Decide, Release}
+use Rattle.kc_machine_effects.specs.kc_machine_steps.declared.task.Event.{Event}
+use Rattle.kc_machine_effects.specs.kc_machine_steps.declared.task.Event.TheVariants.{Begin, Step, Halt}
 
 -- a number of events, and the history after them
 pub record Moment : Type 0 where

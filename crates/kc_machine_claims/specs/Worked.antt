@@ -1,14 +1,14 @@
 -- Worked schedules, on which the definitions are computed.
 use Rattle.std.specs.Prelude.{ℕ, ◌++◌, List, [], ◌∷◌}
-use Rattle.kc_machine_words.specs.declared.words.Mode.TheVariants.{All}
+use Rattle.kc_machine_effects.specs.kc_machine_words.declared.words.Mode.TheVariants.{All}
 use Rattle.kc_model.specs.declared.footprint.Footprint.{Footprint}
 use Rattle.kc_model.specs.declared.footprint.Seen.{Seen}
-use Rattle.kc_machine_steps.specs.declared.task.Task.TheVariants as task
-use Rattle.kc_machine.specs.Machine.{Opening, opening}
+use Rattle.kc_machine_effects.specs.kc_machine_steps.declared.task.Task.TheVariants as task
+use Rattle.kc_machine_effects.specs.kc_machine.Machine.{Opening, opening}
 use Rattle.kc_machine_claims.specs.Claims.{steps}
 use Rattle.kc_machine_claims.specs.Histories.{Placed}
-use Rattle.kc_machine_steps.specs.declared.task.Event.{Event}
-use Rattle.kc_machine_steps.specs.declared.task.Event.TheVariants.{Begin}
+use Rattle.kc_machine_effects.specs.kc_machine_steps.declared.task.Event.{Event}
+use Rattle.kc_machine_effects.specs.kc_machine_steps.declared.task.Event.TheVariants.{Begin}
 
 abbrev pub seen : ℕ → ℕ → ℕ → Seen
 seen l version value = record { loc = record { 0 = l }; version = version; value = value }

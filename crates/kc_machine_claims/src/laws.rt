@@ -1,8 +1,8 @@
 //! What holds after every schedule of every opening. An empty body: the contract is the law.
 
 ghost use Rattle.std.specs.Prelude.{◌≡◌, List, length};
-ghost use Rattle.kc_machine.specs.Machine.{Opening, run};
-ghost use Rattle.kc_machine_steps.specs.declared.task.Event.{Event};
+ghost use Rattle.kc_machine_effects.specs.kc_machine.Machine.{Opening, run};
+ghost use Rattle.kc_machine_effects.specs.kc_machine_steps.declared.task.Event.{Event};
 ghost use Rattle.kc_model.specs.Store.{Store};
 ghost use Rattle.kc_machine_claims.specs.Histories.{History, RisesByPlace, IsLegalHistory, EachFindsItsReads};
 ghost use Rattle.kc_machine_claims.specs.Traces.{trace};

@@ -1,10 +1,10 @@
 //! The definitions, computed on worked schedules of two callers over two locations that open with 5 and 6.
 
 ghost use Rattle.std.specs.Prelude.{◌≡◌, List, [], ◌∷◌, Some, None};
-ghost use Rattle.kc_machine_steps.specs.declared.task.Told.TheVariants as told;
-ghost use Rattle.kc_machine_steps.specs.Passes.{status};
-ghost use Rattle.kc_machine_words.specs.declared.words.Phase.TheVariants.{Succeeded};
-ghost use Rattle.kc_machine.specs.Machine.{run};
+ghost use Rattle.kc_machine_effects.specs.kc_machine_steps.declared.task.Told.TheVariants as told;
+ghost use Rattle.kc_machine_effects.specs.kc_machine_steps.Passes.{status};
+ghost use Rattle.kc_machine_effects.specs.kc_machine_words.declared.words.Phase.TheVariants.{Succeeded};
+ghost use Rattle.kc_machine_effects.specs.kc_machine.Machine.{run};
 ghost use Rattle.kc_machine_claims.specs.Histories.{ending, IsLegalHistory};
 ghost use Rattle.kc_machine_claims.specs.Traces.{trace, first_store, IsHonest};
 ghost use Rattle.kc_machine_claims.specs.Claims.{stands_for, HasPut, OwnerHolds, SomeoneReleases, IsCovered, WakeIsToCome, alone, comparing};

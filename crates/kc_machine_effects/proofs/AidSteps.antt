@@ -2,28 +2,28 @@
 use Rattle.std.proofs.Common.{◌≡◌, ℕ, Bool, true, false, refl, sym, subst, if◌then◌else◌, ◌==◌, Option, None, Some, length}
 use Rattle.std.specs.Prelude.{nat_lt}
 use borrow.Author.Tests.{eqb-true, eqb-false}
-use Rattle.kc_machine_words.specs.declared.access.Found.{Found}
-use Rattle.kc_machine_words.specs.declared.words.Phase.{Phase}
-use Rattle.kc_machine_words.specs.declared.words.Phase.TheVariants.{Active, Succeeded, Failed, Crossed, Halted}
-use Rattle.kc_machine_words.specs.declared.words.Reference.{Reference}
+use Rattle.kc_machine_seats.specs.kc_machine_words.declared.access.Found.{Found}
+use Rattle.kc_machine_seats.specs.kc_machine_words.declared.words.Phase.{Phase}
+use Rattle.kc_machine_seats.specs.kc_machine_words.declared.words.Phase.TheVariants.{Active, Succeeded, Failed, Crossed, Halted}
+use Rattle.kc_machine_seats.specs.kc_machine_words.declared.words.Reference.{Reference}
 use Rattle.kc_model.specs.declared.word.Word.TheVariants.{Plain}
-use Rattle.kc_machine_words.specs.declared.access.Found.TheVariants as found
+use Rattle.kc_machine_seats.specs.kc_machine_words.declared.access.Found.TheVariants as found
 use Rattle.kc_model.specs.declared.footprint.Line.{Line}
-use Rattle.kc_machine_steps.specs.declared.pass.PassNext.{PassNext}
-use Rattle.kc_machine_steps.specs.declared.pass.PassStep.{PassStep}
-use Rattle.kc_machine_steps.specs.declared.pass.PassStep.TheVariants.{Decide}
-use Rattle.kc_machine_steps.specs.declared.pass.PassNext.TheVariants as pass
-use Rattle.kc_machine_steps.specs.declared.aid.AidStep.{AidStep}
-use Rattle.kc_machine_steps.specs.declared.aid.Aided.{Aided}
-use Rattle.kc_machine_steps.specs.declared.aid.AidStep.TheVariants as aid
-use Rattle.kc_machine_steps.specs.declared.aid.AidNext.{AidNext}
-use Rattle.kc_machine_steps.specs.declared.aid.AidNext.TheVariants as aiding
-use Rattle.kc_machine.specs.Machine.{State, World, touched, found_at, possible, put_some}
-use Rattle.kc_machine.specs.Words.{word_is}
-use Rattle.kc_machine_steps.specs.Aids.{aid_access, aid_next, aid_copy, after_pass, owner_or_first, drop_or_release, copy_owner, copy_line}
-use Rattle.kc_machine_steps.specs.Lines.{first_of, second_of, resolved_version, resolved_value, word_of}
-use Rattle.kc_machine_steps.specs.Passes.{from_install, from_release}
-use Rattle.kc_machine_steps.specs.declared.pass.AfterCheck.TheVariants as checked
+use Rattle.kc_machine_seats.specs.kc_machine_steps.declared.pass.PassNext.{PassNext}
+use Rattle.kc_machine_seats.specs.kc_machine_steps.declared.pass.PassStep.{PassStep}
+use Rattle.kc_machine_seats.specs.kc_machine_steps.declared.pass.PassStep.TheVariants.{Decide}
+use Rattle.kc_machine_seats.specs.kc_machine_steps.declared.pass.PassNext.TheVariants as pass
+use Rattle.kc_machine_seats.specs.kc_machine_steps.declared.aid.AidStep.{AidStep}
+use Rattle.kc_machine_seats.specs.kc_machine_steps.declared.aid.Aided.{Aided}
+use Rattle.kc_machine_seats.specs.kc_machine_steps.declared.aid.AidStep.TheVariants as aid
+use Rattle.kc_machine_seats.specs.kc_machine_steps.declared.aid.AidNext.{AidNext}
+use Rattle.kc_machine_seats.specs.kc_machine_steps.declared.aid.AidNext.TheVariants as aiding
+use Rattle.kc_machine_seats.specs.kc_machine.Machine.{State, World, touched, found_at, possible, put_some}
+use Rattle.kc_machine_seats.specs.kc_machine.Words.{word_is}
+use Rattle.kc_machine_seats.specs.kc_machine_steps.Aids.{aid_access, aid_next, aid_copy, after_pass, owner_or_first, drop_or_release, copy_owner, copy_line}
+use Rattle.kc_machine_seats.specs.kc_machine_steps.Lines.{first_of, second_of, resolved_version, resolved_value, word_of}
+use Rattle.kc_machine_seats.specs.kc_machine_steps.Passes.{from_install, from_release}
+use Rattle.kc_machine_seats.specs.kc_machine_steps.declared.pass.AfterCheck.TheVariants as checked
 use Rattle.kc_machine_effects.proofs.PassSteps.{passes}
 use Rattle.kc_machine_effects.proofs.Tests.{both, word_same, word_else, install_unheld, release_unheld, adds, subtracts}
 use Rattle.kc_machine_effects.specs.Changes.{held_once_more}

@@ -1,8 +1,8 @@
 -- The holds that a control counts change as the seat's do.
 use Rattle.std.proofs.Common.{◌≡◌, ◌≢◌, ℕ, ◌+◌, ◌≤◌, refl, sym, arith}
 use borrow.Author.Tests.{eq-eqb, ne_eqb}
-use Rattle.kc_machine.proofs.Functions.{put_here, put_else}
-use Rattle.kc_machine.specs.Machine.{World}
+use Rattle.kc_machine_seats.proofs.kc_machine.Functions.{put_here, put_else}
+use Rattle.kc_machine_seats.specs.kc_machine.Machine.{World}
 use Rattle.kc_machine_effects.specs.Effects
 use Rattle.kc_machine_effects.specs.Holds.{one_at, holds_on}
 use Rattle.kc_machine_effects.specs.Stands.{Stand}

@@ -1,37 +1,37 @@
 -- A halt is a path of effects.
 use Rattle.std.proofs.Common.{◌≡◌, ℕ, true, false, refl, sym, ap, ◌∙◌, if◌then◌else◌, None}
-use Rattle.kc_machine_steps.specs.declared.look.Look.{Look}
-use Rattle.kc_machine_steps.specs.declared.look.LookStep.{LookStep}
-use Rattle.kc_machine_words.specs.declared.words.Handle.{Handle}
-use Rattle.kc_machine_words.specs.declared.words.Phase.TheVariants.{Halted}
-use Rattle.kc_machine_words.specs.declared.words.Reference.{Reference}
-use Rattle.kc_machine_steps.specs.declared.look.LookStep.TheVariants as look
-use Rattle.kc_machine_steps.specs.declared.look.LookNext.TheVariants as looking
-use Rattle.kc_machine_steps.specs.declared.pass.PassStep.{PassStep}
-use Rattle.kc_machine_steps.specs.declared.pass.PassStep.TheVariants.{Install, Check, CheckHold, CheckStatus, CheckFirst, CheckDrop, Decide, Release}
-use Rattle.kc_machine_steps.specs.declared.pass.AfterCheck.TheVariants as checked
-use Rattle.kc_machine_steps.specs.declared.aid.AidStep.{AidStep}
-use Rattle.kc_machine_steps.specs.declared.aid.AidStep.TheVariants as aid
-use Rattle.kc_machine_commits.specs.declared.commit.OwnStep.{OwnStep}
-use Rattle.kc_machine_commits.specs.declared.commit.Stage.{Stage}
-use Rattle.kc_machine_commits.specs.declared.commit.Stage.TheVariants.{Scan, Take, Own}
-use Rattle.kc_machine_commits.specs.declared.commit.OwnStep.TheVariants as own
-use Rattle.kc_machine.specs.Works.{Work}
-use Rattle.kc_machine_commits.specs.declared.commit.Commit.{Commit}
-use Rattle.kc_machine.specs.Works as work
-use Rattle.kc_machine.specs.Machine.{World}
-use Rattle.kc_machine.specs.Seats.{halted, halted_by, ended}
-use Rattle.kc_machine.specs.declared.seat.Seat.{Seat}
-use Rattle.kc_machine_commits.specs.Halts.{unowned, halted_at, halted_own}
+use Rattle.kc_machine_seats.specs.kc_machine_steps.declared.look.Look.{Look}
+use Rattle.kc_machine_seats.specs.kc_machine_steps.declared.look.LookStep.{LookStep}
+use Rattle.kc_machine_seats.specs.kc_machine_words.declared.words.Handle.{Handle}
+use Rattle.kc_machine_seats.specs.kc_machine_words.declared.words.Phase.TheVariants.{Halted}
+use Rattle.kc_machine_seats.specs.kc_machine_words.declared.words.Reference.{Reference}
+use Rattle.kc_machine_seats.specs.kc_machine_steps.declared.look.LookStep.TheVariants as look
+use Rattle.kc_machine_seats.specs.kc_machine_steps.declared.look.LookNext.TheVariants as looking
+use Rattle.kc_machine_seats.specs.kc_machine_steps.declared.pass.PassStep.{PassStep}
+use Rattle.kc_machine_seats.specs.kc_machine_steps.declared.pass.PassStep.TheVariants.{Install, Check, CheckHold, CheckStatus, CheckFirst, CheckDrop, Decide, Release}
+use Rattle.kc_machine_seats.specs.kc_machine_steps.declared.pass.AfterCheck.TheVariants as checked
+use Rattle.kc_machine_seats.specs.kc_machine_steps.declared.aid.AidStep.{AidStep}
+use Rattle.kc_machine_seats.specs.kc_machine_steps.declared.aid.AidStep.TheVariants as aid
+use Rattle.kc_machine_seats.specs.kc_machine_commits.declared.commit.OwnStep.{OwnStep}
+use Rattle.kc_machine_seats.specs.kc_machine_commits.declared.commit.Stage.{Stage}
+use Rattle.kc_machine_seats.specs.kc_machine_commits.declared.commit.Stage.TheVariants.{Scan, Take, Own}
+use Rattle.kc_machine_seats.specs.kc_machine_commits.declared.commit.OwnStep.TheVariants as own
+use Rattle.kc_machine_seats.specs.kc_machine.Works.{Work}
+use Rattle.kc_machine_seats.specs.kc_machine_commits.declared.commit.Commit.{Commit}
+use Rattle.kc_machine_seats.specs.kc_machine.Works as work
+use Rattle.kc_machine_seats.specs.kc_machine.Machine.{World}
+use Rattle.kc_machine_seats.specs.kc_machine.Seats.{halted, halted_by, ended}
+use Rattle.kc_machine_seats.specs.kc_machine.declared.seat.Seat.{Seat}
+use Rattle.kc_machine_seats.specs.kc_machine_commits.Halts.{unowned, halted_at, halted_own}
 use Rattle.kc_machine_effects.proofs.OwnSteps.{path_to}
 use Rattle.kc_machine_effects.specs.Effects
 use Rattle.kc_machine_effects.specs.Effects.{Path, stay, onward}
 use Rattle.kc_machine_effects.specs.Stands.{Stand, stand, works, commits, resting, owns, Looks, Waits, Swaps}
-use Rattle.kc_machine_steps.specs.Swaps.{ends_at_once}
-use Rattle.kc_machine_steps.specs.declared.swap.Swap.{Swap}
-use Rattle.kc_machine_steps.specs.declared.swap.SwapStep.{SwapStep}
-use Rattle.kc_machine_steps.specs.declared.swap.SwapStep.TheVariants as swap
-use Rattle.kc_machine_steps.specs.Looks.{halts_at_once, look_halted_at}
+use Rattle.kc_machine_seats.specs.kc_machine_steps.Swaps.{ends_at_once}
+use Rattle.kc_machine_seats.specs.kc_machine_steps.declared.swap.Swap.{Swap}
+use Rattle.kc_machine_seats.specs.kc_machine_steps.declared.swap.SwapStep.{SwapStep}
+use Rattle.kc_machine_seats.specs.kc_machine_steps.declared.swap.SwapStep.TheVariants as swap
+use Rattle.kc_machine_seats.specs.kc_machine_steps.Looks.{halts_at_once, look_halted_at}
 
 module _ (k : ℕ) (w : World) (s : Seat) where
   abbrev one : {a b : Stand} → Effects.Effect k w a w b → Path k w a w b

@@ -1,6 +1,6 @@
 -- Each hold fits the words: each effect leaves that to the seat that steps, and to the others.
 use Rattle.std.proofs.Common.{◌≡◌, ◌≢◌, ℕ, ◌≤◌, ◌∙◌, sym, subst}
-use Rattle.kc_machine.specs.Machine.{World}
+use Rattle.kc_machine_seats.specs.kc_machine.Machine.{World}
 use Rattle.kc_machine_effects.proofs.Counted.{cells, one_here}
 use Rattle.kc_machine_effects.specs.Effects
 use Rattle.kc_machine_effects.specs.Holds.{Hold, NoHold, Proper, Stray, one_at, on, own_hold, check_hold, aid_hold, look_hold}

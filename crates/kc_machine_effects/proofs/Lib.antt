@@ -15,3 +15,6 @@ pub mod Pools
 pub mod Runs
 pub mod PoolLaws
 pub mod Left
+pub use Rattle.kc_machine_seats.proofs.kc_machine as kc_machine
+pub use Rattle.kc_machine_seats.proofs as kc_machine_seats
+pub use Rattle.kc_machine_seats.proofs.kc_machine_steps as kc_machine_steps

@@ -2,23 +2,23 @@
 use Rattle.std.proofs.Common.{◌≡◌, ℕ, Bool, true, false, refl, sym, subst, if◌then◌else◌, ◌==◌, Option, None, Some}
 use Rattle.std.specs.Prelude.{nat_lt}
 use borrow.Author.Tests.{eqb-true, eqb-false}
-use Rattle.kc_machine_words.specs.declared.words.Reference.{Reference}
+use Rattle.kc_machine_seats.specs.kc_machine_words.declared.words.Reference.{Reference}
 use Rattle.kc_model.specs.declared.footprint.Loc.{Loc}
 use Rattle.kc_model.specs.declared.footprint.Seen.{Seen}
 use Rattle.kc_model.specs.declared.word.Word.{Word}
 use Rattle.kc_model.specs.declared.word.Word.TheVariants.{Plain, Ref}
-use Rattle.kc_machine_words.specs.declared.access.Found.TheVariants as found
-use Rattle.kc_machine_steps.specs.declared.look.LookStep.{LookStep}
-use Rattle.kc_machine_steps.specs.declared.look.LookStep.TheVariants as look
-use Rattle.kc_machine_steps.specs.declared.look.LookNext.{LookNext}
-use Rattle.kc_machine_steps.specs.declared.look.LookNext.TheVariants as looking
-use Rattle.kc_machine.specs.Machine.{State, World, touched, found_at, possible}
+use Rattle.kc_machine_seats.specs.kc_machine_words.declared.access.Found.TheVariants as found
+use Rattle.kc_machine_seats.specs.kc_machine_steps.declared.look.LookStep.{LookStep}
+use Rattle.kc_machine_seats.specs.kc_machine_steps.declared.look.LookStep.TheVariants as look
+use Rattle.kc_machine_seats.specs.kc_machine_steps.declared.look.LookNext.{LookNext}
+use Rattle.kc_machine_seats.specs.kc_machine_steps.declared.look.LookNext.TheVariants as looking
+use Rattle.kc_machine_seats.specs.kc_machine.Machine.{State, World, touched, found_at, possible}
 use Rattle.kc_machine_effects.proofs.Tests.{both, adds, subtracts}
 use Rattle.kc_machine_effects.specs.Changes.{held_once_more}
 use Rattle.kc_machine_effects.specs.Effects
 use Rattle.kc_machine_effects.specs.Holds.{look_hold, NoHold}
 use Rattle.kc_machine_effects.specs.Stands.{Stand, Looks}
-use Rattle.kc_machine_steps.specs.Looks.{look_access, look_next, load_next, again_or_saw}
+use Rattle.kc_machine_seats.specs.kc_machine_steps.Looks.{look_access, look_next, load_next, again_or_saw}
 
 pub saw_unheld : (l : Loc) (o : Option Seen) → look_hold (Looks l (again_or_saw o)) ≡ NoHold
 saw_unheld l None = refl

@@ -3,36 +3,36 @@ use Rattle.std.proofs.Common.{◌≡◌, ℕ, ◌+◌, ◌-◌, Bool, true, fals
 use Rattle.std.specs.Prelude.{nat_lt, slice_get, bit_and, bit_or}
 use borrow.Author.Tests.{eqb-true, eqb-false, ltb-true}
 use Rattle.std.proofs.lemmas.Bool.{ltb-false}
-use Rattle.kc_machine_words.specs.declared.words.Handle.{Handle}
-use Rattle.kc_machine_words.specs.declared.words.Phase.{Phase}
-use Rattle.kc_machine_words.specs.declared.words.Phase.TheVariants.{Active, Succeeded, Failed, Crossed, Halted}
-use Rattle.kc_machine_words.specs.declared.words.Reference.{Reference}
-use Rattle.kc_machine_words.specs.declared.access.Found.TheVariants as found
-use Rattle.kc_machine_words.specs.declared.access.Access.{Access}
-use Rattle.kc_machine_steps.specs.declared.task.Told.TheVariants as told
-use Rattle.kc_machine_steps.specs.declared.line.Intent.{Intent}
+use Rattle.kc_machine_seats.specs.kc_machine_words.declared.words.Handle.{Handle}
+use Rattle.kc_machine_seats.specs.kc_machine_words.declared.words.Phase.{Phase}
+use Rattle.kc_machine_seats.specs.kc_machine_words.declared.words.Phase.TheVariants.{Active, Succeeded, Failed, Crossed, Halted}
+use Rattle.kc_machine_seats.specs.kc_machine_words.declared.words.Reference.{Reference}
+use Rattle.kc_machine_seats.specs.kc_machine_words.declared.access.Found.TheVariants as found
+use Rattle.kc_machine_seats.specs.kc_machine_words.declared.access.Access.{Access}
+use Rattle.kc_machine_seats.specs.kc_machine_steps.declared.task.Told.TheVariants as told
+use Rattle.kc_machine_seats.specs.kc_machine_steps.declared.line.Intent.{Intent}
 use Rattle.kc_model.specs.declared.footprint.Line.{Line}
-use Rattle.kc_machine_steps.specs.declared.pass.PassNext.{PassNext}
-use Rattle.kc_machine_steps.specs.declared.pass.PassStep.{PassStep}
-use Rattle.kc_machine_steps.specs.declared.pass.PassNext.TheVariants as pass
-use Rattle.kc_machine_steps.specs.declared.aid.AidNext.{AidNext}
-use Rattle.kc_machine_steps.specs.declared.aid.Aided.{Aided}
-use Rattle.kc_machine_steps.specs.declared.aid.AidNext.TheVariants as aiding
-use Rattle.kc_machine_commits.specs.declared.commit.OwnStep.{OwnStep}
-use Rattle.kc_machine_commits.specs.declared.commit.Stage.{Stage}
-use Rattle.kc_machine_commits.specs.declared.commit.Stage.TheVariants.{Scan, Take, Own}
-use Rattle.kc_machine_commits.specs.declared.commit.OwnStep.TheVariants as own
-use Rattle.kc_machine.specs.Machine.{State, World, touched, found_at, possible, put_some}
-use Rattle.kc_machine.specs.Seats.{blocked_by}
-use Rattle.kc_machine.specs.Words.{control}
-use Rattle.kc_machine_commits.specs.Commits.{own_access, commit_access, stage_access, stage_next, commit_next, tells_or_goes, fill_first, fill_second, fill_next, fill_or_start, finished, wake_or_drop, wake_or_signal, owed_next, wake_access, wake_next, after_own_pass, aid_or_back, copy_by, copy_by_own, loaded, after_scan, scan_next, told_of}
-use Rattle.kc_machine_commits.specs.Nexts.{Next}
-use Rattle.kc_machine_commits.specs.Nexts.{Goes, Takes, Tells}
-use Rattle.kc_machine_commits.specs.declared.commit.Commit.{Commit}
-use Rattle.kc_machine_steps.specs.Lines.{one_more, after_line, next_line}
-use Rattle.kc_machine_steps.specs.Passes.{from_install}
-use Rattle.kc_machine_steps.specs.declared.line.Pick.TheVariants.{Put}
-use Rattle.kc_machine_steps.specs.declared.pass.AfterCheck.TheVariants as checked
+use Rattle.kc_machine_seats.specs.kc_machine_steps.declared.pass.PassNext.{PassNext}
+use Rattle.kc_machine_seats.specs.kc_machine_steps.declared.pass.PassStep.{PassStep}
+use Rattle.kc_machine_seats.specs.kc_machine_steps.declared.pass.PassNext.TheVariants as pass
+use Rattle.kc_machine_seats.specs.kc_machine_steps.declared.aid.AidNext.{AidNext}
+use Rattle.kc_machine_seats.specs.kc_machine_steps.declared.aid.Aided.{Aided}
+use Rattle.kc_machine_seats.specs.kc_machine_steps.declared.aid.AidNext.TheVariants as aiding
+use Rattle.kc_machine_seats.specs.kc_machine_commits.declared.commit.OwnStep.{OwnStep}
+use Rattle.kc_machine_seats.specs.kc_machine_commits.declared.commit.Stage.{Stage}
+use Rattle.kc_machine_seats.specs.kc_machine_commits.declared.commit.Stage.TheVariants.{Scan, Take, Own}
+use Rattle.kc_machine_seats.specs.kc_machine_commits.declared.commit.OwnStep.TheVariants as own
+use Rattle.kc_machine_seats.specs.kc_machine.Machine.{State, World, touched, found_at, possible, put_some}
+use Rattle.kc_machine_seats.specs.kc_machine.Seats.{blocked_by}
+use Rattle.kc_machine_seats.specs.kc_machine.Words.{control}
+use Rattle.kc_machine_seats.specs.kc_machine_commits.Commits.{own_access, commit_access, stage_access, stage_next, commit_next, tells_or_goes, fill_first, fill_second, fill_next, fill_or_start, finished, wake_or_drop, wake_or_signal, owed_next, wake_access, wake_next, after_own_pass, aid_or_back, copy_by, copy_by_own, loaded, after_scan, scan_next, told_of}
+use Rattle.kc_machine_seats.specs.kc_machine_commits.Nexts.{Next}
+use Rattle.kc_machine_seats.specs.kc_machine_commits.Nexts.{Goes, Takes, Tells}
+use Rattle.kc_machine_seats.specs.kc_machine_commits.declared.commit.Commit.{Commit}
+use Rattle.kc_machine_seats.specs.kc_machine_steps.Lines.{one_more, after_line, next_line}
+use Rattle.kc_machine_seats.specs.kc_machine_steps.Passes.{from_install}
+use Rattle.kc_machine_seats.specs.kc_machine_steps.declared.line.Pick.TheVariants.{Put}
+use Rattle.kc_machine_seats.specs.kc_machine_steps.declared.pass.AfterCheck.TheVariants as checked
 use Rattle.kc_machine_effects.proofs.AidSteps.{aid_steps, next_aid}
 use Rattle.kc_machine_effects.proofs.PassSteps.{passes}
 use Rattle.kc_machine_effects.proofs.Tests.{both, install_unheld, subtracts}

@@ -2,33 +2,33 @@
 use Rattle.std.proofs.Common.{◌≡◌, ℕ, ◌∙◌, ◌<◌, Bool, true, false, refl, sym, ap, subst, if◌then◌else◌, ◌==◌, Option, None, Some, List}
 use Rattle.std.specs.Prelude.{nat_lt, slice_get}
 use borrow.Author.Tests.{eqb-true, eqb-false}
-use Rattle.kc_machine_words.specs.declared.words.Handle.{Handle}
-use Rattle.kc_machine_words.specs.declared.words.Mode.{Mode}
-use Rattle.kc_machine_words.specs.declared.words.Phase.{Phase}
-use Rattle.kc_machine_words.specs.declared.words.Phase.TheVariants.{Active, Succeeded, Failed, Crossed, Halted}
-use Rattle.kc_machine_words.specs.declared.words.Reference.{Reference}
-use Rattle.kc_machine_words.specs.declared.words.Status.{Status}
+use Rattle.kc_machine_seats.specs.kc_machine_words.declared.words.Handle.{Handle}
+use Rattle.kc_machine_seats.specs.kc_machine_words.declared.words.Mode.{Mode}
+use Rattle.kc_machine_seats.specs.kc_machine_words.declared.words.Phase.{Phase}
+use Rattle.kc_machine_seats.specs.kc_machine_words.declared.words.Phase.TheVariants.{Active, Succeeded, Failed, Crossed, Halted}
+use Rattle.kc_machine_seats.specs.kc_machine_words.declared.words.Reference.{Reference}
+use Rattle.kc_machine_seats.specs.kc_machine_words.declared.words.Status.{Status}
 use Rattle.kc_model.specs.declared.footprint.TheConstants.{MOST}
 use Rattle.kc_model.specs.declared.word.Word.{Word}
 use Rattle.kc_model.specs.declared.word.Word.TheVariants.{Plain, Ref}
-use Rattle.kc_machine_words.specs.declared.access.Found.TheVariants as found
+use Rattle.kc_machine_seats.specs.kc_machine_words.declared.access.Found.TheVariants as found
 use Rattle.kc_model.specs.declared.footprint.Line.{Line}
-use Rattle.kc_machine_steps.specs.declared.pass.PassNext.{PassNext}
-use Rattle.kc_machine_steps.specs.declared.pass.PassStep.{PassStep}
-use Rattle.kc_machine_steps.specs.declared.pass.PassStep.TheVariants.{Install, Check, CheckHold, CheckStatus, CheckFirst, CheckDrop, Decide, Release}
-use Rattle.kc_machine_steps.specs.declared.pass.PassNext.TheVariants as pass
-use Rattle.kc_machine_steps.specs.declared.pass.AfterCheck.{AfterCheck}
-use Rattle.kc_machine_steps.specs.declared.pass.AfterCheck.TheVariants as checked
-use Rattle.kc_machine.specs.Machine.{State, World, touched, found_at, possible, put_some}
-use Rattle.kc_machine.specs.Words.{word_is, status_is}
+use Rattle.kc_machine_seats.specs.kc_machine_steps.declared.pass.PassNext.{PassNext}
+use Rattle.kc_machine_seats.specs.kc_machine_steps.declared.pass.PassStep.{PassStep}
+use Rattle.kc_machine_seats.specs.kc_machine_steps.declared.pass.PassStep.TheVariants.{Install, Check, CheckHold, CheckStatus, CheckFirst, CheckDrop, Decide, Release}
+use Rattle.kc_machine_seats.specs.kc_machine_steps.declared.pass.PassNext.TheVariants as pass
+use Rattle.kc_machine_seats.specs.kc_machine_steps.declared.pass.AfterCheck.{AfterCheck}
+use Rattle.kc_machine_seats.specs.kc_machine_steps.declared.pass.AfterCheck.TheVariants as checked
+use Rattle.kc_machine_seats.specs.kc_machine.Machine.{State, World, touched, found_at, possible, put_some}
+use Rattle.kc_machine_seats.specs.kc_machine.Words.{word_is, status_is}
 use Rattle.kc_machine_effects.proofs.Tests.{both, some_line, status_active, status_other, word_same, word_else, refers, plain_same, check_unheld, install_unheld, release_unheld, drop_unheld, adds, subtracts}
 use Rattle.kc_machine_effects.specs.Changes.{held_once_more, with_status}
 use Rattle.kc_machine_effects.specs.Effects
 use Rattle.kc_machine_effects.specs.Stands.{Stand, turn}
 use Rattle.kc_machine_seats.specs.Fits.{IsInstalledAt, MayDecide, StepFits}
-use Rattle.kc_machine_steps.specs.Lines.{after_line, first_of, second_of, resolved_version, resolved_value, word_of, is_installed}
-use Rattle.kc_machine_steps.specs.Looks.{reference_of}
-use Rattle.kc_machine_steps.specs.Passes.{pass_access, pass_next, install_access, install_found, check_access, check_found, release_at, fits, refers_to, status, from_install, from_check, from_release, decided_as, crossed_or_first, check_first_found}
+use Rattle.kc_machine_seats.specs.kc_machine_steps.Lines.{after_line, first_of, second_of, resolved_version, resolved_value, word_of, is_installed}
+use Rattle.kc_machine_seats.specs.kc_machine_steps.Looks.{reference_of}
+use Rattle.kc_machine_seats.specs.kc_machine_steps.Passes.{pass_access, pass_next, install_access, install_found, check_access, check_found, release_at, fits, refers_to, status, from_install, from_check, from_release, decided_as, crossed_or_first, check_first_found}
 
 -- the way out of the pass is `out`; where that is its decision, the task halts itself
 module _ (k : ℕ) (m : State) (s : Stand) (h : Handle) (md : Mode) (xs : List Line) (halted : Bool) (out : AfterCheck) (halts : halted ≡ true → out ≡ checked.Decide Halted → Effects.HaltsItself s) where

@@ -1,13 +1,13 @@
 -- The laws of the pool, over every opening and every schedule.
 use Rattle.std.proofs.Common.{◌≡◌, refl, ap, subst, ◌∙◌, arith, List, ⊎_elim}
-use Rattle.kc_machine.specs.Works.{Work}
-use Rattle.kc_machine.specs.declared.seat.Seat.{Seat}
-use Rattle.kc_machine_steps.specs.declared.task.Event.{Event}
-use Rattle.kc_machine.specs.Works as work
-use Rattle.kc_machine.specs.Waits.{Hang}
-use Rattle.kc_machine.specs.declared.hang.HangStep.{HangStep}
-use Rattle.kc_machine.specs.declared.hang.HangStep.TheVariants as hang
-use Rattle.kc_machine.specs.Machine.{World, Opening, run, opened}
+use Rattle.kc_machine_seats.specs.kc_machine.Works.{Work}
+use Rattle.kc_machine_seats.specs.kc_machine.declared.seat.Seat.{Seat}
+use Rattle.kc_machine_seats.specs.kc_machine_steps.declared.task.Event.{Event}
+use Rattle.kc_machine_seats.specs.kc_machine.Works as work
+use Rattle.kc_machine_seats.specs.kc_machine.Waits.{Hang}
+use Rattle.kc_machine_seats.specs.kc_machine.declared.hang.HangStep.{HangStep}
+use Rattle.kc_machine_seats.specs.kc_machine.declared.hang.HangStep.TheVariants as hang
+use Rattle.kc_machine_seats.specs.kc_machine.Machine.{World, Opening, run, opened}
 use Rattle.kc_machine_effects.proofs.Held.{Fits}
 use Rattle.kc_machine_effects.proofs.Left.{commit_leaves}
 use Rattle.kc_machine_effects.proofs.Pools.{Fit, Pool, pool_effect}

@@ -1,7 +1,7 @@
 -- The facts of the pool, which each effect keeps.
 use Rattle.std.proofs.Common.{◌≡◌, ℕ, ◌<◌, ◌≤◌, arith}
-use Rattle.kc_machine.proofs.Functions.{put_cases}
-use Rattle.kc_machine.specs.Machine.{World, put}
+use Rattle.kc_machine_seats.proofs.kc_machine.Functions.{put_cases}
+use Rattle.kc_machine_seats.specs.kc_machine.Machine.{World, put}
 use Rattle.kc_machine_effects.proofs.Counted.{balance}
 use Rattle.kc_machine_effects.proofs.Held.{Fits, kept, own_fits, check_fits, aid_fits, look_fits}
 use Rattle.kc_machine_effects.proofs.Sums.{total_put, total_part}

@@ -3,17 +3,17 @@ use Rattle.std.proofs.Common.{◌≡◌, ℕ, ◌<◌, Bool, true, false, refl, 
 use Rattle.std.proofs.Math.Path.{fun_ext}
 use Rattle.std.specs.Prelude.{nat_lt}
 use borrow.Author.Tests.{ltb-true, eqb-true}
-use Rattle.kc_machine.proofs.Functions.{put_here, put_cases}
-use Rattle.kc_machine.specs.Machine.{World, State, Opening, put, touched, found_at, possible, stepped, happened, event_of, seat_of, run_from, run, opened}
-use Rattle.kc_machine.specs.Seats.{access_of, answer_of}
-use Rattle.kc_machine.specs.declared.seat.Seat.{Seat}
+use Rattle.kc_machine_seats.proofs.kc_machine.Functions.{put_here, put_cases}
+use Rattle.kc_machine_seats.specs.kc_machine.Machine.{World, State, Opening, put, touched, found_at, possible, stepped, happened, event_of, seat_of, run_from, run, opened}
+use Rattle.kc_machine_seats.specs.kc_machine.Seats.{access_of, answer_of}
+use Rattle.kc_machine_seats.specs.kc_machine.declared.seat.Seat.{Seat}
 use Rattle.kc_machine_effects.proofs.HaltSteps.{halt_path}
 use Rattle.kc_machine_effects.proofs.SeatSteps.{step_path, begin_path}
 use Rattle.kc_machine_effects.specs.Effects.{Effect, Path, stay, onward}
 use Rattle.kc_machine_effects.specs.Stands.{Stand, stand}
 use Rattle.kc_machine_seats.proofs.FormedSteps.{FitsAndFormed, answer_keeps, begun_keeps, halted_keeps}
-use Rattle.kc_machine_steps.specs.declared.task.Event.{Event}
-use Rattle.kc_machine_steps.specs.declared.task.Event.TheVariants.{Begin, Step, Halt}
+use Rattle.kc_machine_seats.specs.kc_machine_steps.declared.task.Event.{Event}
+use Rattle.kc_machine_seats.specs.kc_machine_steps.declared.task.Event.TheVariants.{Begin, Step, Halt}
 
 module _ {A : Type 0} where
   put_same : (f : ℕ → A) (i : ℕ) → f ≡ put f i (f i)

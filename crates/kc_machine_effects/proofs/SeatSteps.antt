@@ -1,35 +1,35 @@
 -- Each event of a seat is a path of effects.
 use Rattle.std.proofs.Common.{◌≡◌, ℕ, Bool, true, false, refl, sym, ap, if◌then◌else◌, Option, None, Some}
-use Rattle.kc_machine_steps.specs.declared.task.Task.{Task}
-use Rattle.kc_machine_words.specs.declared.access.Found.{Found}
+use Rattle.kc_machine_seats.specs.kc_machine_steps.declared.task.Task.{Task}
+use Rattle.kc_machine_seats.specs.kc_machine_words.declared.access.Found.{Found}
 use Rattle.kc_model.specs.declared.footprint.Loc.{Loc}
 use Rattle.kc_model.specs.declared.footprint.Seen.{Seen}
-use Rattle.kc_machine_steps.specs.declared.task.Task.TheVariants as task
-use Rattle.kc_machine_steps.specs.declared.look.Look.{Look}
-use Rattle.kc_machine_steps.specs.declared.look.LookStep.{LookStep}
-use Rattle.kc_machine_steps.specs.declared.look.LookStep.TheVariants as look
-use Rattle.kc_machine_steps.specs.declared.look.LookNext.{LookNext}
-use Rattle.kc_machine_steps.specs.declared.look.LookNext.TheVariants as looking
-use Rattle.kc_machine_steps.specs.Swaps.{swaps_on}
-use Rattle.kc_machine_steps.specs.Swaps.{onward_of as onward_of_swap}
-use Rattle.kc_machine_steps.specs.declared.swap.Swap.{Swap}
-use Rattle.kc_machine_steps.specs.declared.swap.SwapNext.{SwapNext}
-use Rattle.kc_machine_steps.specs.declared.swap.SwapNext.TheVariants as swapping
-use Rattle.kc_machine_commits.specs.Nexts.{Next}
-use Rattle.kc_machine_commits.specs.declared.commit.Commit.{Commit}
-use Rattle.kc_machine_commits.specs.Nexts as next
-use Rattle.kc_machine.specs.Waits.{Hang}
-use Rattle.kc_machine.specs.declared.hang.HangNext.{HangNext}
-use Rattle.kc_machine.specs.declared.hang.HangNext.TheVariants as hanging
-use Rattle.kc_machine.specs.Waits.{Leave}
-use Rattle.kc_machine.specs.Works.{Work}
-use Rattle.kc_machine.specs.Works as work
-use Rattle.kc_machine.specs.Hangs.{hangs_on, onward_of, leaves_on, unblocks_or_tells}
-use Rattle.kc_machine.specs.Machine.{State, World, touched, found_at, possible}
-use Rattle.kc_machine.specs.Seats.{access_of, work_access, answer_of, answer_by, after, begun, begun_idle, is_idle, working}
-use Rattle.kc_machine.specs.Seats.{hanging as hanging_of}
-use Rattle.kc_machine.specs.declared.seat.Seat.{Seat}
-use Rattle.kc_machine_commits.specs.Commits.{gone_on, onward_by}
+use Rattle.kc_machine_seats.specs.kc_machine_steps.declared.task.Task.TheVariants as task
+use Rattle.kc_machine_seats.specs.kc_machine_steps.declared.look.Look.{Look}
+use Rattle.kc_machine_seats.specs.kc_machine_steps.declared.look.LookStep.{LookStep}
+use Rattle.kc_machine_seats.specs.kc_machine_steps.declared.look.LookStep.TheVariants as look
+use Rattle.kc_machine_seats.specs.kc_machine_steps.declared.look.LookNext.{LookNext}
+use Rattle.kc_machine_seats.specs.kc_machine_steps.declared.look.LookNext.TheVariants as looking
+use Rattle.kc_machine_seats.specs.kc_machine_steps.Swaps.{swaps_on}
+use Rattle.kc_machine_seats.specs.kc_machine_steps.Swaps.{onward_of as onward_of_swap}
+use Rattle.kc_machine_seats.specs.kc_machine_steps.declared.swap.Swap.{Swap}
+use Rattle.kc_machine_seats.specs.kc_machine_steps.declared.swap.SwapNext.{SwapNext}
+use Rattle.kc_machine_seats.specs.kc_machine_steps.declared.swap.SwapNext.TheVariants as swapping
+use Rattle.kc_machine_seats.specs.kc_machine_commits.Nexts.{Next}
+use Rattle.kc_machine_seats.specs.kc_machine_commits.declared.commit.Commit.{Commit}
+use Rattle.kc_machine_seats.specs.kc_machine_commits.Nexts as next
+use Rattle.kc_machine_seats.specs.kc_machine.Waits.{Hang}
+use Rattle.kc_machine_seats.specs.kc_machine.declared.hang.HangNext.{HangNext}
+use Rattle.kc_machine_seats.specs.kc_machine.declared.hang.HangNext.TheVariants as hanging
+use Rattle.kc_machine_seats.specs.kc_machine.Waits.{Leave}
+use Rattle.kc_machine_seats.specs.kc_machine.Works.{Work}
+use Rattle.kc_machine_seats.specs.kc_machine.Works as work
+use Rattle.kc_machine_seats.specs.kc_machine.Hangs.{hangs_on, onward_of, leaves_on, unblocks_or_tells}
+use Rattle.kc_machine_seats.specs.kc_machine.Machine.{State, World, touched, found_at, possible}
+use Rattle.kc_machine_seats.specs.kc_machine.Seats.{access_of, work_access, answer_of, answer_by, after, begun, begun_idle, is_idle, working}
+use Rattle.kc_machine_seats.specs.kc_machine.Seats.{hanging as hanging_of}
+use Rattle.kc_machine_seats.specs.kc_machine.declared.seat.Seat.{Seat}
+use Rattle.kc_machine_seats.specs.kc_machine_commits.Commits.{gone_on, onward_by}
 use Rattle.kc_machine_effects.proofs.LookSteps.{looks, saw_unheld}
 use Rattle.kc_machine_effects.proofs.OwnSteps.{commit_steps, next_commit, path_to}
 use Rattle.kc_machine_effects.proofs.SwapSteps.{swap_steps, next_swap}
@@ -41,7 +41,7 @@ use Rattle.kc_machine_effects.specs.Stands.{stand, works, resting, Looks}
 use Rattle.kc_machine_seats.proofs.FormedSteps.{FitsAndFormed}
 use Rattle.kc_machine_seats.specs.Fits.{WorkFits}
 use Rattle.kc_machine_seats.specs.Formed.{WorkIsFormed, Drops}
-use Rattle.kc_machine_steps.specs.Looks.{look_access, look_next, looks_on, told_by}
+use Rattle.kc_machine_seats.specs.kc_machine_steps.Looks.{look_access, look_next, looks_on, told_by}
 
 module _ (k : ℕ) (m : State) (s : Seat) where
   -- what follows is how the seat stands

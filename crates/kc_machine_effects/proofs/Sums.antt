@@ -1,8 +1,8 @@
 -- Sums over the seats.
 use Rattle.std.proofs.Common.{◌≡◌, ◌≢◌, ℕ, zero, suc, ◌+◌, ◌<◌, ◌≤◌, Bool, true, false, refl, ap, arith, ◌==◌}
 use borrow.Author.Tests.{eqb-true, eqb-false}
-use Rattle.kc_machine.proofs.Functions.{put_else, put_cases}
-use Rattle.kc_machine.specs.Machine.{put}
+use Rattle.kc_machine_seats.proofs.kc_machine.Functions.{put_else, put_cases}
+use Rattle.kc_machine_seats.specs.kc_machine.Machine.{put}
 use Rattle.kc_machine_effects.specs.Holds.{total}
 
 total_same : (f g : ℕ → ℕ) (n : ℕ) → ((i : ℕ) → i < n → f i ≡ g i) → total f n ≡ total g n

@@ -2,23 +2,23 @@
 use Rattle.std.proofs.Common.{◌≡◌, ℕ, ◌-◌, ◌==◌, Bool, true, false, refl, sym, subst, ◌∙◌, if◌then◌else◌, Some, None}
 use Rattle.std.proofs.lemmas.Bool.{eqb-true, ltb-true}
 use Rattle.std.specs.Prelude.{bit_and}
-use Rattle.kc_machine.specs.Machine.{State, World, put_some, touched, found_at, possible}
-use Rattle.kc_machine.specs.Seats.{blocked_by}
-use Rattle.kc_machine.specs.Words.{word_is}
+use Rattle.kc_machine_seats.specs.kc_machine.Machine.{State, World, put_some, touched, found_at, possible}
+use Rattle.kc_machine_seats.specs.kc_machine.Seats.{blocked_by}
+use Rattle.kc_machine_seats.specs.kc_machine.Words.{word_is}
 use Rattle.kc_machine_effects.proofs.Tests.{plain_same}
 use Rattle.kc_machine_effects.specs.Effects
 use Rattle.kc_machine_effects.specs.Effects.{Path, stay, onward}
 use Rattle.kc_machine_effects.specs.Stands.{Stand, Swaps, idle}
-use Rattle.kc_machine_steps.specs.Lines.{one_more}
-use Rattle.kc_machine_steps.specs.Swaps.{may_swap, seen_word, word_after, exchange, exchange_next, swap_access_at, swap_next_at, owed_next}
-use Rattle.kc_machine_steps.specs.declared.swap.SwapNext.{SwapNext}
-use Rattle.kc_machine_steps.specs.declared.swap.SwapNext.TheVariants.{Goes, Takes, Tells}
-use Rattle.kc_machine_steps.specs.declared.swap.SwapStep.{SwapStep}
-use Rattle.kc_machine_steps.specs.declared.swap.SwapStep.TheVariants as swap
-use Rattle.kc_machine_steps.specs.declared.swap.TheConstants.{MOST_SWAPS}
-use Rattle.kc_machine_steps.specs.declared.task.Told.TheVariants as told
-use Rattle.kc_machine_words.specs.declared.access.Access.TheVariants as access
-use Rattle.kc_machine_words.specs.declared.access.Found.TheVariants as found
+use Rattle.kc_machine_seats.specs.kc_machine_steps.Lines.{one_more}
+use Rattle.kc_machine_seats.specs.kc_machine_steps.Swaps.{may_swap, seen_word, word_after, exchange, exchange_next, swap_access_at, swap_next_at, owed_next}
+use Rattle.kc_machine_seats.specs.kc_machine_steps.declared.swap.SwapNext.{SwapNext}
+use Rattle.kc_machine_seats.specs.kc_machine_steps.declared.swap.SwapNext.TheVariants.{Goes, Takes, Tells}
+use Rattle.kc_machine_seats.specs.kc_machine_steps.declared.swap.SwapStep.{SwapStep}
+use Rattle.kc_machine_seats.specs.kc_machine_steps.declared.swap.SwapStep.TheVariants as swap
+use Rattle.kc_machine_seats.specs.kc_machine_steps.declared.swap.TheConstants.{MOST_SWAPS}
+use Rattle.kc_machine_seats.specs.kc_machine_steps.declared.task.Told.TheVariants as told
+use Rattle.kc_machine_seats.specs.kc_machine_words.declared.access.Access.TheVariants as access
+use Rattle.kc_machine_seats.specs.kc_machine_words.declared.access.Found.TheVariants as found
 use Rattle.kc_model.specs.declared.footprint.Seen.{Seen}
 use Rattle.kc_model.specs.declared.word.Word.{Word}
 use Rattle.kc_model.specs.declared.word.Word.TheVariants.{Plain, Ref}

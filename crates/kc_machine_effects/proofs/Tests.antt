@@ -2,28 +2,28 @@
 use Rattle.std.proofs.Common.{◌≡◌, ◌≢◌, ℕ, ◌∙◌, Bool, true, false, refl, sym, ap, ◌==◌, ◌&&◌, Option, None, Some, List}
 use Rattle.std.specs.Prelude.{nat_lt}
 use borrow.Author.Tests.{eqb-true, eq-eqb}
-use Rattle.kc_machine_words.specs.declared.words.Handle.{Handle}
-use Rattle.kc_machine_words.specs.declared.words.Mode.{Mode}
-use Rattle.kc_machine_words.specs.declared.words.Phase.{Phase}
-use Rattle.kc_machine_words.specs.declared.words.Phase.TheVariants.{Active, Succeeded, Failed, Crossed, Halted}
-use Rattle.kc_machine_words.specs.declared.words.Status.{Status}
+use Rattle.kc_machine_seats.specs.kc_machine_words.declared.words.Handle.{Handle}
+use Rattle.kc_machine_seats.specs.kc_machine_words.declared.words.Mode.{Mode}
+use Rattle.kc_machine_seats.specs.kc_machine_words.declared.words.Phase.{Phase}
+use Rattle.kc_machine_seats.specs.kc_machine_words.declared.words.Phase.TheVariants.{Active, Succeeded, Failed, Crossed, Halted}
+use Rattle.kc_machine_seats.specs.kc_machine_words.declared.words.Status.{Status}
 use Rattle.kc_model.specs.declared.word.Word.{Word}
 use Rattle.kc_model.specs.declared.word.Word.TheVariants.{Plain, Ref}
-use Rattle.kc_machine_words.specs.declared.access.Grip.TheVariants as grip
-use Rattle.kc_machine_words.specs.declared.access.Access.TheVariants as access
+use Rattle.kc_machine_seats.specs.kc_machine_words.declared.access.Grip.TheVariants as grip
+use Rattle.kc_machine_seats.specs.kc_machine_words.declared.access.Access.TheVariants as access
 use Rattle.kc_model.specs.declared.footprint.Line.{Line}
-use Rattle.kc_machine_steps.specs.declared.line.Pick.TheVariants.{Installed, Checked}
-use Rattle.kc_machine_steps.specs.declared.pass.AfterCheck.{AfterCheck}
-use Rattle.kc_machine_steps.specs.declared.pass.PassStep.{PassStep}
-use Rattle.kc_machine_steps.specs.declared.pass.AfterCheck.TheVariants as checked
-use Rattle.kc_machine.specs.Machine.{World, touched}
-use Rattle.kc_machine.specs.Words.{word_is, phase_is, status_is}
+use Rattle.kc_machine_seats.specs.kc_machine_steps.declared.line.Pick.TheVariants.{Installed, Checked}
+use Rattle.kc_machine_seats.specs.kc_machine_steps.declared.pass.AfterCheck.{AfterCheck}
+use Rattle.kc_machine_seats.specs.kc_machine_steps.declared.pass.PassStep.{PassStep}
+use Rattle.kc_machine_seats.specs.kc_machine_steps.declared.pass.AfterCheck.TheVariants as checked
+use Rattle.kc_machine_seats.specs.kc_machine.Machine.{World, touched}
+use Rattle.kc_machine_seats.specs.kc_machine.Words.{word_is, phase_is, status_is}
 use Rattle.kc_machine_effects.specs.Changes.{held_once_more, held_once_less}
 use Rattle.kc_machine_effects.specs.Holds.{NoHold, step_hold, turn_hold}
 use Rattle.kc_machine_effects.specs.Stands.{turn}
-use Rattle.kc_machine_steps.specs.Lines.{next_line, word_of}
-use Rattle.kc_machine_steps.specs.Looks.{reference_of}
-use Rattle.kc_machine_steps.specs.Passes.{status, refers_to, from_install, install_or_check, from_check, check_or_decide, from_release, release_or_finish, check_drop_next}
+use Rattle.kc_machine_seats.specs.kc_machine_steps.Lines.{next_line, word_of}
+use Rattle.kc_machine_seats.specs.kc_machine_steps.Looks.{reference_of}
+use Rattle.kc_machine_seats.specs.kc_machine_steps.Passes.{status, refers_to, from_install, install_or_check, from_check, check_or_decide, from_release, release_or_finish, check_drop_next}
 
 pub both : (a b : Bool) → (a && b) ≡ true → (a ≡ true) × (b ≡ true)
 both true true e = (refl, refl)

@@ -3,25 +3,25 @@ use Rattle.std.proofs.Common.{◌≡◌, ℕ, Bool, true, false, refl, if◌then
 use Rattle.std.specs.Prelude.{slice_get}
 use borrow.Author.Tests.{eqb-true, eqb-false}
 use Rattle.kc_model.specs.declared.footprint.Seen.{Seen}
-use Rattle.kc_machine_steps.specs.declared.task.Told.TheVariants as told
-use Rattle.kc_machine_steps.specs.declared.look.LookStep.TheVariants as look
-use Rattle.kc_machine_steps.specs.declared.look.LookNext.{LookNext}
-use Rattle.kc_machine_steps.specs.declared.look.LookNext.TheVariants as looking
-use Rattle.kc_machine.specs.declared.hang.HangStep.{HangStep}
-use Rattle.kc_machine.specs.declared.hang.HangStep.TheVariants as hang
-use Rattle.kc_machine.specs.declared.hang.HangNext.{HangNext}
-use Rattle.kc_machine.specs.declared.hang.HangNext.TheVariants.{Goes, Tells}
-use Rattle.kc_machine.specs.declared.hang.LeaveStep.{LeaveStep}
-use Rattle.kc_machine.specs.declared.hang.LeaveStep.TheVariants as leave
-use Rattle.kc_machine.specs.Hangs.{hang_access_of, hang_next, read_of, set_or_look, clear_or_changed, look_or_end, look_goes_on, clear_access, leave_access_at, next_read}
-use Rattle.kc_machine.specs.Machine.{State, World, touched, found_at, possible}
-use Rattle.kc_machine.specs.Seats.{blocked_by}
+use Rattle.kc_machine_seats.specs.kc_machine_steps.declared.task.Told.TheVariants as told
+use Rattle.kc_machine_seats.specs.kc_machine_steps.declared.look.LookStep.TheVariants as look
+use Rattle.kc_machine_seats.specs.kc_machine_steps.declared.look.LookNext.{LookNext}
+use Rattle.kc_machine_seats.specs.kc_machine_steps.declared.look.LookNext.TheVariants as looking
+use Rattle.kc_machine_seats.specs.kc_machine.declared.hang.HangStep.{HangStep}
+use Rattle.kc_machine_seats.specs.kc_machine.declared.hang.HangStep.TheVariants as hang
+use Rattle.kc_machine_seats.specs.kc_machine.declared.hang.HangNext.{HangNext}
+use Rattle.kc_machine_seats.specs.kc_machine.declared.hang.HangNext.TheVariants.{Goes, Tells}
+use Rattle.kc_machine_seats.specs.kc_machine.declared.hang.LeaveStep.{LeaveStep}
+use Rattle.kc_machine_seats.specs.kc_machine.declared.hang.LeaveStep.TheVariants as leave
+use Rattle.kc_machine_seats.specs.kc_machine.Hangs.{hang_access_of, hang_next, read_of, set_or_look, clear_or_changed, look_or_end, look_goes_on, clear_access, leave_access_at, next_read}
+use Rattle.kc_machine_seats.specs.kc_machine.Machine.{State, World, touched, found_at, possible}
+use Rattle.kc_machine_seats.specs.kc_machine.Seats.{blocked_by}
 use Rattle.kc_machine_effects.proofs.LookSteps.{looks}
 use Rattle.kc_machine_effects.specs.Effects
 use Rattle.kc_machine_effects.specs.Effects.{Path, stay, onward}
 use Rattle.kc_machine_effects.specs.Stands.{Stand, idle, hangs, location_of, Hangs, HangLooks, Looks, Leaving}
-use Rattle.kc_machine_steps.specs.Lines.{after_line}
-use Rattle.kc_machine_steps.specs.Looks.{look_access, look_next}
+use Rattle.kc_machine_seats.specs.kc_machine_steps.Lines.{after_line}
+use Rattle.kc_machine_seats.specs.kc_machine_steps.Looks.{look_access, look_next}
 
 -- how a seat stands after a step of its hang
 abbrev pub next_hang : Stand → List Seen → HangNext → Stand

@@ -3,12 +3,12 @@ use Rattle.std.proofs.Common.{◌≡◌, ◌≢◌, ℕ, ◌+◌, ◌-◌, ◌<�
 use Rattle.std.specs.Prelude.{nat_lt}
 use Rattle.std.proofs.lemmas.Bool.{ltb-false}
 use borrow.Author.Tests.{ltb-true, eqb-true, eqb-false}
-use Rattle.kc_machine_steps.specs.declared.task.Told.{Told}
-use Rattle.kc_machine_words.specs.declared.words.Phase.{Phase}
-use Rattle.kc_machine_words.specs.declared.words.Phase.TheVariants.{Active, Succeeded, Failed, Crossed, Halted}
-use Rattle.kc_machine_steps.specs.declared.task.Told.TheVariants as told
-use Rattle.kc_machine.specs.Machine.{World}
-use Rattle.kc_machine_commits.specs.Commits.{after_scan, told_of}
+use Rattle.kc_machine_seats.specs.kc_machine_steps.declared.task.Told.{Told}
+use Rattle.kc_machine_seats.specs.kc_machine_words.declared.words.Phase.{Phase}
+use Rattle.kc_machine_seats.specs.kc_machine_words.declared.words.Phase.TheVariants.{Active, Succeeded, Failed, Crossed, Halted}
+use Rattle.kc_machine_seats.specs.kc_machine_steps.declared.task.Told.TheVariants as told
+use Rattle.kc_machine_seats.specs.kc_machine.Machine.{World}
+use Rattle.kc_machine_seats.specs.kc_machine_commits.Commits.{after_scan, told_of}
 use Rattle.kc_machine_effects.proofs.Counted.{cells}
 use Rattle.kc_machine_effects.specs.Claims.{IsWorn, back}
 use Rattle.kc_machine_effects.specs.Effects

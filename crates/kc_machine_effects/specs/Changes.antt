@@ -1,12 +1,12 @@
 -- The changes that steps make to the words: each puts one word, of location l, descriptor d (and its line k) or caller c,
 -- and leaves all others.
 use Rattle.std.specs.Prelude.{ℕ, ◌+◌, ◌-◌, Bool}
-use Rattle.kc_machine.specs.Machine.{World, put}
-use Rattle.kc_machine.specs.Words.{control}
-use Rattle.kc_machine_words.specs.declared.words.First.{First}
-use Rattle.kc_machine_words.specs.declared.words.Owner.{Owner}
-use Rattle.kc_machine_words.specs.declared.words.Second.{Second}
-use Rattle.kc_machine_words.specs.declared.words.Status.{Status}
+use Rattle.kc_machine_seats.specs.kc_machine.Machine.{World, put}
+use Rattle.kc_machine_seats.specs.kc_machine.Words.{control}
+use Rattle.kc_machine_seats.specs.kc_machine_words.declared.words.First.{First}
+use Rattle.kc_machine_seats.specs.kc_machine_words.declared.words.Owner.{Owner}
+use Rattle.kc_machine_seats.specs.kc_machine_words.declared.words.Second.{Second}
+use Rattle.kc_machine_seats.specs.kc_machine_words.declared.words.Status.{Status}
 use Rattle.kc_model.specs.declared.word.Word.{Word}
 
 abbrev pub with_word : World → ℕ → Word → World

@@ -1,11 +1,11 @@
 -- What holds of each state that a machine comes to.
 use Rattle.std.specs.Prelude.{◌≡◌, ◌≢◌, ◌<◌, ◌≤◌, ◌+◌, ◌-◌, ℕ, Some, if◌then◌else◌, nat_lt}
-use Rattle.kc_machine_words.specs.declared.words.TheConstants.{LAST_GENERATION}
-use Rattle.kc_machine_steps.specs.declared.task.Told.TheVariants as told
-use Rattle.kc_machine.specs.Machine.{State, World}
+use Rattle.kc_machine_seats.specs.kc_machine_words.declared.words.TheConstants.{LAST_GENERATION}
+use Rattle.kc_machine_seats.specs.kc_machine_steps.declared.task.Told.TheVariants as told
+use Rattle.kc_machine_seats.specs.kc_machine.Machine.{State, World}
 use Rattle.kc_machine_effects.specs.Holds.{Holds, Strays, holds_on, total}
 use Rattle.kc_machine_effects.specs.Stands.{Scans, stand}
-use Rattle.kc_machine_steps.specs.declared.line.Intent.{Intent}
+use Rattle.kc_machine_seats.specs.kc_machine_steps.declared.line.Intent.{Intent}
 
 -- the holds of all seats on descriptor d, stray ones counted
 abbrev pub held_by_seats : State → ℕ → ℕ

@@ -3,55 +3,55 @@
 -- stay; a fact of a later group is one more row over all effects.
 use Rattle.std.specs.Prelude.{◌≡◌, ◌≢◌, ℕ, ◌+◌, ◌-◌, ◌<◌, ◌≤◌, ◌==◌, List, length, slice_get, nat_lt, bit_and, Bool, true, false, Option, None, Some}
 use Rattle.std.specs.Int.Count.{count_trailing_zeros}
-use Rattle.kc_machine_words.specs.declared.words.First.{First}
-use Rattle.kc_machine_words.specs.declared.words.Handle.{Handle}
-use Rattle.kc_machine_words.specs.declared.words.Mode.{Mode}
-use Rattle.kc_machine_words.specs.declared.words.Phase.{Phase}
-use Rattle.kc_machine_words.specs.declared.words.Phase.TheVariants.{Active, Succeeded, Failed, Crossed, Halted}
-use Rattle.kc_machine_words.specs.declared.words.Reference.{Reference}
-use Rattle.kc_machine_words.specs.declared.words.TheConstants.{LAST_GENERATION}
+use Rattle.kc_machine_seats.specs.kc_machine_words.declared.words.First.{First}
+use Rattle.kc_machine_seats.specs.kc_machine_words.declared.words.Handle.{Handle}
+use Rattle.kc_machine_seats.specs.kc_machine_words.declared.words.Mode.{Mode}
+use Rattle.kc_machine_seats.specs.kc_machine_words.declared.words.Phase.{Phase}
+use Rattle.kc_machine_seats.specs.kc_machine_words.declared.words.Phase.TheVariants.{Active, Succeeded, Failed, Crossed, Halted}
+use Rattle.kc_machine_seats.specs.kc_machine_words.declared.words.Reference.{Reference}
+use Rattle.kc_machine_seats.specs.kc_machine_words.declared.words.TheConstants.{LAST_GENERATION}
 use Rattle.kc_model.specs.declared.footprint.Footprint.{Footprint}
 use Rattle.kc_model.specs.declared.footprint.Loc.{Loc}
 use Rattle.kc_model.specs.declared.footprint.Seen.{Seen}
 use Rattle.kc_model.specs.declared.footprint.TheConstants.{MOST}
 use Rattle.kc_model.specs.declared.word.Word.TheVariants.{Plain, Ref}
-use Rattle.kc_machine_words.specs.declared.access.Bits.TheVariants as bits
-use Rattle.kc_machine_words.specs.declared.access.Found.TheVariants as found
-use Rattle.kc_machine_steps.specs.declared.task.Told.{Told}
-use Rattle.kc_machine_steps.specs.declared.task.Told.TheVariants as told
-use Rattle.kc_machine_steps.specs.declared.line.Intent.{Intent}
+use Rattle.kc_machine_seats.specs.kc_machine_words.declared.access.Bits.TheVariants as bits
+use Rattle.kc_machine_seats.specs.kc_machine_words.declared.access.Found.TheVariants as found
+use Rattle.kc_machine_seats.specs.kc_machine_steps.declared.task.Told.{Told}
+use Rattle.kc_machine_seats.specs.kc_machine_steps.declared.task.Told.TheVariants as told
+use Rattle.kc_machine_seats.specs.kc_machine_steps.declared.line.Intent.{Intent}
 use Rattle.kc_model.specs.declared.footprint.Line.{Line}
-use Rattle.kc_machine_steps.specs.declared.look.LookStep.{LookStep}
-use Rattle.kc_machine_steps.specs.declared.look.LookStep.TheVariants as look
-use Rattle.kc_machine_steps.specs.declared.look.LookNext.{LookNext}
-use Rattle.kc_machine_steps.specs.declared.look.LookNext.TheVariants as looking
-use Rattle.kc_machine_steps.specs.declared.pass.AfterCheck.{AfterCheck}
-use Rattle.kc_machine_steps.specs.declared.pass.PassStep.{PassStep}
-use Rattle.kc_machine_steps.specs.declared.pass.PassStep.TheVariants.{Install, Check, CheckHold, CheckStatus, CheckFirst, CheckDrop, Decide, Release}
-use Rattle.kc_machine_steps.specs.declared.pass.AfterCheck.TheVariants as checked
-use Rattle.kc_machine_steps.specs.declared.aid.AidStep.{AidStep}
-use Rattle.kc_machine_steps.specs.declared.aid.Aided.{Aided}
-use Rattle.kc_machine_steps.specs.declared.aid.AidStep.TheVariants as aid
-use Rattle.kc_machine_steps.specs.declared.aid.AidNext.TheVariants as aiding
-use Rattle.kc_machine_commits.specs.declared.commit.OwnStep.{OwnStep}
-use Rattle.kc_machine_commits.specs.declared.commit.OwnStep.TheVariants as own
-use Rattle.kc_machine.specs.declared.hang.HangStep.TheVariants as hang
-use Rattle.kc_machine.specs.declared.hang.LeaveStep.TheVariants as leave
-use Rattle.kc_machine.specs.Machine.{World}
-use Rattle.kc_machine.specs.Words.{bits_after, word_is}
-use Rattle.kc_machine_commits.specs.Commits.{after_scan, fill_next, finished, wake_next, owed_next, told_of}
-use Rattle.kc_machine_commits.specs.Halts.{halted_pass, halted_aid_pass, halted_aid, halted_own}
+use Rattle.kc_machine_seats.specs.kc_machine_steps.declared.look.LookStep.{LookStep}
+use Rattle.kc_machine_seats.specs.kc_machine_steps.declared.look.LookStep.TheVariants as look
+use Rattle.kc_machine_seats.specs.kc_machine_steps.declared.look.LookNext.{LookNext}
+use Rattle.kc_machine_seats.specs.kc_machine_steps.declared.look.LookNext.TheVariants as looking
+use Rattle.kc_machine_seats.specs.kc_machine_steps.declared.pass.AfterCheck.{AfterCheck}
+use Rattle.kc_machine_seats.specs.kc_machine_steps.declared.pass.PassStep.{PassStep}
+use Rattle.kc_machine_seats.specs.kc_machine_steps.declared.pass.PassStep.TheVariants.{Install, Check, CheckHold, CheckStatus, CheckFirst, CheckDrop, Decide, Release}
+use Rattle.kc_machine_seats.specs.kc_machine_steps.declared.pass.AfterCheck.TheVariants as checked
+use Rattle.kc_machine_seats.specs.kc_machine_steps.declared.aid.AidStep.{AidStep}
+use Rattle.kc_machine_seats.specs.kc_machine_steps.declared.aid.Aided.{Aided}
+use Rattle.kc_machine_seats.specs.kc_machine_steps.declared.aid.AidStep.TheVariants as aid
+use Rattle.kc_machine_seats.specs.kc_machine_steps.declared.aid.AidNext.TheVariants as aiding
+use Rattle.kc_machine_seats.specs.kc_machine_commits.declared.commit.OwnStep.{OwnStep}
+use Rattle.kc_machine_seats.specs.kc_machine_commits.declared.commit.OwnStep.TheVariants as own
+use Rattle.kc_machine_seats.specs.kc_machine.declared.hang.HangStep.TheVariants as hang
+use Rattle.kc_machine_seats.specs.kc_machine.declared.hang.LeaveStep.TheVariants as leave
+use Rattle.kc_machine_seats.specs.kc_machine.Machine.{World}
+use Rattle.kc_machine_seats.specs.kc_machine.Words.{bits_after, word_is}
+use Rattle.kc_machine_seats.specs.kc_machine_commits.Commits.{after_scan, fill_next, finished, wake_next, owed_next, told_of}
+use Rattle.kc_machine_seats.specs.kc_machine_commits.Halts.{halted_pass, halted_aid_pass, halted_aid, halted_own}
 use Rattle.kc_machine_effects.specs.Changes.{with_word, with_awaiters, with_status, with_owner, with_first, with_second, with_signal, taken, held_once_more, held_once_less}
 use Rattle.kc_machine_effects.specs.Holds.{look_hold as hold_of_look}
 use Rattle.kc_machine_effects.specs.Holds.{NoHold, dropping, step_hold, turn_hold, aid_step_hold, look_step_hold}
 use Rattle.kc_machine_effects.specs.Stands.{NoOwn, Owns, Runs, Waits, Turn, At, Meets, Ends, Leaves, NoPass, Over, NoAid, Aids, Passes, NoLook, Looks, Scanning, NoScan, Scans, Takes, Hangs, HangLooks, Leaving, Swaps, Stand, idle, turn, location_of, met_by_look_step}
-use Rattle.kc_machine_steps.specs.Aids.{copy_owner, copy_line}
-use Rattle.kc_machine_steps.specs.Lines.{one_more, after_line, first_of, second_of, joined, resolved_version, resolved_value, word_of, lines_of, is_installed}
-use Rattle.kc_machine_steps.specs.Swaps.{seen_word, word_after}
-use Rattle.kc_machine_steps.specs.declared.swap.SwapStep.TheVariants as swap
-use Rattle.kc_machine_steps.specs.declared.swap.TheConstants.{MOST_SWAPS}
-use Rattle.kc_machine_steps.specs.Looks.{reference_of, seen_at, seen_as, again_or_saw}
-use Rattle.kc_machine_steps.specs.Passes.{status, fits, refers_to, from_install, from_check, from_release, decided_as, agrees_or_fails, check_drop_next}
+use Rattle.kc_machine_seats.specs.kc_machine_steps.Aids.{copy_owner, copy_line}
+use Rattle.kc_machine_seats.specs.kc_machine_steps.Lines.{one_more, after_line, first_of, second_of, joined, resolved_version, resolved_value, word_of, lines_of, is_installed}
+use Rattle.kc_machine_seats.specs.kc_machine_steps.Swaps.{seen_word, word_after}
+use Rattle.kc_machine_seats.specs.kc_machine_steps.declared.swap.SwapStep.TheVariants as swap
+use Rattle.kc_machine_seats.specs.kc_machine_steps.declared.swap.TheConstants.{MOST_SWAPS}
+use Rattle.kc_machine_seats.specs.kc_machine_steps.Looks.{reference_of, seen_at, seen_as, again_or_saw}
+use Rattle.kc_machine_seats.specs.kc_machine_steps.Passes.{status, fits, refers_to, from_install, from_check, from_release, decided_as, agrees_or_fails, check_drop_next}
 
 abbrev pub passes : Stand → Handle → Mode → List Line → PassStep → Stand
 passes s h m xs p = record s { pass = Over h m xs (At p) }

@@ -1,14 +1,14 @@
 -- Holds: from the step that adds one to a descriptor's control to the step that gives it back.
 use Rattle.std.specs.Prelude.{◌≡◌, ℕ, zero, suc, ◌+◌, ◌==◌, ◌⊎◌, Bool, true, false, if◌then◌else◌}
-use Rattle.kc_machine_steps.specs.declared.look.LookStep.{LookStep}
-use Rattle.kc_machine_words.specs.declared.words.Reference.{Reference}
-use Rattle.kc_machine_steps.specs.declared.look.LookStep.TheVariants as look
-use Rattle.kc_machine_steps.specs.declared.look.LookNext.TheVariants as looking
-use Rattle.kc_machine_steps.specs.declared.aid.AidStep.{AidStep}
-use Rattle.kc_machine_steps.specs.declared.pass.PassStep.{PassStep}
-use Rattle.kc_machine_steps.specs.declared.pass.PassStep.TheVariants.{CheckStatus, CheckFirst, CheckDrop}
-use Rattle.kc_machine_steps.specs.declared.aid.AidStep.TheVariants as aid
-use Rattle.kc_machine_steps.specs.declared.aid.AidNext.TheVariants as aiding
+use Rattle.kc_machine_seats.specs.kc_machine_steps.declared.look.LookStep.{LookStep}
+use Rattle.kc_machine_seats.specs.kc_machine_words.declared.words.Reference.{Reference}
+use Rattle.kc_machine_seats.specs.kc_machine_steps.declared.look.LookStep.TheVariants as look
+use Rattle.kc_machine_seats.specs.kc_machine_steps.declared.look.LookNext.TheVariants as looking
+use Rattle.kc_machine_seats.specs.kc_machine_steps.declared.aid.AidStep.{AidStep}
+use Rattle.kc_machine_seats.specs.kc_machine_steps.declared.pass.PassStep.{PassStep}
+use Rattle.kc_machine_seats.specs.kc_machine_steps.declared.pass.PassStep.TheVariants.{CheckStatus, CheckFirst, CheckDrop}
+use Rattle.kc_machine_seats.specs.kc_machine_steps.declared.aid.AidStep.TheVariants as aid
+use Rattle.kc_machine_seats.specs.kc_machine_steps.declared.aid.AidNext.TheVariants as aiding
 use Rattle.kc_machine_effects.specs.Stands.{Own, NoOwn, Owns, Runs, Waits, Turn, At, Passing, NoPass, Over, Aiding, NoAid, Aids, Passes, Looking, NoLook, Looks, Stand}
 
 -- a hold on descriptor d at generation g, or one that looked for g and found another

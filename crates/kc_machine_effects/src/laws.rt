@@ -1,8 +1,8 @@
 //! What holds after every schedule of every opening. An empty body: the contract is the law.
 
 ghost use Rattle.std.specs.Prelude.{List};
-ghost use Rattle.kc_machine.specs.Machine.{Opening, run};
-ghost use Rattle.kc_machine_steps.specs.declared.task.Event.{Event};
+ghost use Rattle.kc_machine_seats.specs.kc_machine.Machine.{Opening, run};
+ghost use Rattle.kc_machine_seats.specs.kc_machine_steps.declared.task.Event.{Event};
 ghost use Rattle.kc_machine_effects.specs.Claims.{HoldsAreCounted, HoldsKeepGenerations, StraysAreOthers, WornScansHold, WornIsTrue};
 
 /// The holds in a control word are as many as the seats' holds on its descriptor, stray ones counted.

@@ -1,28 +1,28 @@
 -- Entries stand behind the beginning of their caller's task.
 use Rattle.std.proofs.Common.{arith, ◌≡◌, ◌<◌, ◌≤◌, ◌⊎◌, inl, inr, ℕ, ◌++◌, Bool, true, false, List, [], ◌∷◌, length, None, Some, refl, sym, ap, subst, ◌∙◌}
 use Rattle.std.specs.Option.{is_some}
-use Rattle.kc_machine.specs.Machine.{State, Opening, event_of, seat_of, run}
-use Rattle.kc_machine_claims.proofs.Follows.{trace_runs, trace_counts}
-use Rattle.kc_machine_claims.specs.Histories.{Placed}
-use Rattle.kc_machine_claims.specs.Traces.{Trace, is_placed, trace}
-use Rattle.kc_machine_effects.specs.Holds.{NoHold, Proper, own_hold}
-use Rattle.kc_machine_effects.specs.Stands.{Passing, NoPass, Over, Turn, At, stand}
+use Rattle.kc_machine_ranges.specs.kc_machine.Machine.{State, Opening, event_of, seat_of, run}
+use Rattle.kc_machine_ranges.proofs.kc_machine_claims.Follows.{trace_runs, trace_counts}
+use Rattle.kc_machine_ranges.specs.kc_machine_claims.Histories.{Placed}
+use Rattle.kc_machine_ranges.specs.kc_machine_claims.Traces.{Trace, is_placed, trace}
+use Rattle.kc_machine_ranges.specs.kc_machine_effects.Holds.{NoHold, Proper, own_hold}
+use Rattle.kc_machine_ranges.specs.kc_machine_effects.Stands.{Passing, NoPass, Over, Turn, At, stand}
 use Rattle.kc_machine_histories.proofs.Calls.{own_goes}
 use Rattle.kc_machine_histories.proofs.Passes.{HoldsLife, IsFresh, pass_holds}
 use Rattle.kc_machine_histories.proofs.Places.{began_at, began_cases, reached_now, placing, has_place, place_was, pass_stays}
 use Rattle.kc_machine_histories.specs.Decisions.{own_of, Decision}
 use Rattle.kc_machine_histories.specs.Places.{pass_of, place_of, began}
-use Rattle.kc_machine_pool.proofs.LifeLaws.{statuses_follow, held_started}
-use Rattle.kc_machine_pool.specs.Owners.{Follows, OwnsLife, is_filling}
-use Rattle.kc_machine_steps.specs.Lines.{one_more}
+use Rattle.kc_machine_ranges.proofs.kc_machine_pool.LifeLaws.{statuses_follow, held_started}
+use Rattle.kc_machine_ranges.specs.kc_machine_pool.Owners.{Follows, OwnsLife, is_filling}
+use Rattle.kc_machine_ranges.specs.kc_machine_steps.Lines.{one_more}
 use Rattle.kc_model.specs.declared.footprint.Line.{Line}
-use Rattle.kc_machine_steps.specs.declared.pass.PassStep.TheVariants.{Decide}
-use Rattle.kc_machine_steps.specs.declared.task.Event.{Event}
-use Rattle.kc_machine_traces.proofs.Joins.{run-append, trace-append, every}
-use Rattle.kc_machine_traces.proofs.Others.{run_shape}
-use Rattle.kc_machine_words.specs.declared.words.Handle.{Handle}
-use Rattle.kc_machine_words.specs.declared.words.Mode.{Mode}
-use Rattle.kc_machine_words.specs.declared.words.Phase.TheVariants.{Succeeded}
+use Rattle.kc_machine_ranges.specs.kc_machine_steps.declared.pass.PassStep.TheVariants.{Decide}
+use Rattle.kc_machine_ranges.specs.kc_machine_steps.declared.task.Event.{Event}
+use Rattle.kc_machine_ranges.proofs.kc_machine_traces.Joins.{run-append, trace-append, every}
+use Rattle.kc_machine_ranges.proofs.kc_machine_traces.Others.{run_shape}
+use Rattle.kc_machine_ranges.specs.kc_machine_words.declared.words.Handle.{Handle}
+use Rattle.kc_machine_ranges.specs.kc_machine_words.declared.words.Mode.{Mode}
+use Rattle.kc_machine_ranges.specs.kc_machine_words.declared.words.Phase.TheVariants.{Succeeded}
 
 -- a seat that owns a life which it has started has begun before each placed pass over it
 abbrev pub OwnersBeganBefore : Opening → List Event → Type 0

@@ -2,47 +2,47 @@
 use Rattle.std.proofs.Common.{◌≡◌, ℕ, ◌+◌, ◌-◌, ◌⊎◌, inl, inr, ◌==◌, ◌&&◌, Bool, true, false, List, refl, sym, ap, subst, ◌∙◌, if◌then◌else◌}
 use Rattle.std.specs.Prelude.{nat_lt}
 use borrow.Author.Tests.{eqb-true, eqb-false}
-use Rattle.kc_machine_words.specs.declared.access.Found.{Found}
-use Rattle.kc_machine_words.specs.declared.words.Handle.{Handle}
+use Rattle.kc_machine_ranges.specs.kc_machine_words.declared.access.Found.{Found}
+use Rattle.kc_machine_ranges.specs.kc_machine_words.declared.words.Handle.{Handle}
 use Rattle.kc_model.specs.declared.footprint.Seen.{Seen}
-use Rattle.kc_machine_words.specs.declared.access.Found.TheVariants as found
-use Rattle.kc_machine_steps.specs.declared.task.Task.{Task}
-use Rattle.kc_machine_steps.specs.declared.task.Task.TheVariants as task
-use Rattle.kc_machine_steps.specs.declared.task.Told.TheVariants as told
-use Rattle.kc_machine_steps.specs.declared.task.Event.{Event}
-use Rattle.kc_machine_steps.specs.declared.task.Event.TheVariants.{Begin, Step, Halt}
-use Rattle.kc_machine_steps.specs.declared.task.Onward.{Onward}
-use Rattle.kc_machine_steps.specs.declared.task.Onward.TheVariants as onward
-use Rattle.kc_machine_commits.specs.declared.commit.Commit.{Commit}
-use Rattle.kc_machine_commits.specs.declared.commit.Stage.{Stage}
-use Rattle.kc_machine_commits.specs.declared.commit.Stage.TheVariants as stage
-use Rattle.kc_machine_commits.specs.declared.commit.OwnStep.{OwnStep}
-use Rattle.kc_machine_commits.specs.declared.commit.OwnStep.TheVariants as own
-use Rattle.kc_machine_commits.specs.Nexts.{Next}
-use Rattle.kc_machine_commits.specs.Nexts as next
-use Rattle.kc_machine.specs.declared.hang.HangStep.{HangStep}
-use Rattle.kc_machine_commits.specs.Commits.{after_scan, scan_next, take_next, own_next, stage_next, loaded, gone_on, onward_by}
-use Rattle.kc_machine_commits.specs.Halts.{unowned, halted_at}
-use Rattle.kc_machine_steps.specs.Aids.{aid_next}
-use Rattle.kc_machine_steps.specs.Lines.{one_more}
-use Rattle.kc_machine_steps.specs.Looks.{look_tells, halts_at_once}
-use Rattle.kc_machine_steps.specs.Passes.{pass_next}
-use Rattle.kc_machine.specs.declared.hang.HangStep.TheVariants as hang
-use Rattle.kc_machine.specs.Hangs.{hang_onward, leave_onward}
-use Rattle.kc_machine.specs.Works.{Work}
-use Rattle.kc_machine.specs.Works as work
-use Rattle.kc_machine.specs.Machine.{State, found_at, event_of, seat_of}
-use Rattle.kc_machine.specs.Seats.{access_of, answer_of, answer_by, after, is_idle, begun, begun_idle, working, hanging, halted, halted_by, ended}
-use Rattle.kc_machine.specs.declared.seat.Seat.{Seat}
-use Rattle.kc_machine_effects.specs.Holds.{Hold, NoHold, Proper, own_hold}
-use Rattle.kc_machine_effects.specs.Stands.{stand, works, resting, commits, hangs}
-use Rattle.kc_machine_pool.proofs.Statuses.{owed_started}
-use Rattle.kc_machine_pool.specs.Owners.{fills, is_filling}
-use Rattle.kc_machine_steps.specs.Swaps.{swap_onward, ends_at_once}
-use Rattle.kc_machine_traces.proofs.Answers.{moved, seat_cases}
-use Rattle.kc_machine_traces.proofs.Onward.{pass_started, aid_started, woken_started, halted_same}
-use Rattle.kc_machine_traces.proofs.Others.{event_else}
-use Rattle.kc_machine_traces.proofs.Outcomes.{owned}
+use Rattle.kc_machine_ranges.specs.kc_machine_words.declared.access.Found.TheVariants as found
+use Rattle.kc_machine_ranges.specs.kc_machine_steps.declared.task.Task.{Task}
+use Rattle.kc_machine_ranges.specs.kc_machine_steps.declared.task.Task.TheVariants as task
+use Rattle.kc_machine_ranges.specs.kc_machine_steps.declared.task.Told.TheVariants as told
+use Rattle.kc_machine_ranges.specs.kc_machine_steps.declared.task.Event.{Event}
+use Rattle.kc_machine_ranges.specs.kc_machine_steps.declared.task.Event.TheVariants.{Begin, Step, Halt}
+use Rattle.kc_machine_ranges.specs.kc_machine_steps.declared.task.Onward.{Onward}
+use Rattle.kc_machine_ranges.specs.kc_machine_steps.declared.task.Onward.TheVariants as onward
+use Rattle.kc_machine_ranges.specs.kc_machine_commits.declared.commit.Commit.{Commit}
+use Rattle.kc_machine_ranges.specs.kc_machine_commits.declared.commit.Stage.{Stage}
+use Rattle.kc_machine_ranges.specs.kc_machine_commits.declared.commit.Stage.TheVariants as stage
+use Rattle.kc_machine_ranges.specs.kc_machine_commits.declared.commit.OwnStep.{OwnStep}
+use Rattle.kc_machine_ranges.specs.kc_machine_commits.declared.commit.OwnStep.TheVariants as own
+use Rattle.kc_machine_ranges.specs.kc_machine_commits.Nexts.{Next}
+use Rattle.kc_machine_ranges.specs.kc_machine_commits.Nexts as next
+use Rattle.kc_machine_ranges.specs.kc_machine.declared.hang.HangStep.{HangStep}
+use Rattle.kc_machine_ranges.specs.kc_machine_commits.Commits.{after_scan, scan_next, take_next, own_next, stage_next, loaded, gone_on, onward_by}
+use Rattle.kc_machine_ranges.specs.kc_machine_commits.Halts.{unowned, halted_at}
+use Rattle.kc_machine_ranges.specs.kc_machine_steps.Aids.{aid_next}
+use Rattle.kc_machine_ranges.specs.kc_machine_steps.Lines.{one_more}
+use Rattle.kc_machine_ranges.specs.kc_machine_steps.Looks.{look_tells, halts_at_once}
+use Rattle.kc_machine_ranges.specs.kc_machine_steps.Passes.{pass_next}
+use Rattle.kc_machine_ranges.specs.kc_machine.declared.hang.HangStep.TheVariants as hang
+use Rattle.kc_machine_ranges.specs.kc_machine.Hangs.{hang_onward, leave_onward}
+use Rattle.kc_machine_ranges.specs.kc_machine.Works.{Work}
+use Rattle.kc_machine_ranges.specs.kc_machine.Works as work
+use Rattle.kc_machine_ranges.specs.kc_machine.Machine.{State, found_at, event_of, seat_of}
+use Rattle.kc_machine_ranges.specs.kc_machine.Seats.{access_of, answer_of, answer_by, after, is_idle, begun, begun_idle, working, hanging, halted, halted_by, ended}
+use Rattle.kc_machine_ranges.specs.kc_machine.declared.seat.Seat.{Seat}
+use Rattle.kc_machine_ranges.specs.kc_machine_effects.Holds.{Hold, NoHold, Proper, own_hold}
+use Rattle.kc_machine_ranges.specs.kc_machine_effects.Stands.{stand, works, resting, commits, hangs}
+use Rattle.kc_machine_ranges.proofs.kc_machine_pool.Statuses.{owed_started}
+use Rattle.kc_machine_ranges.specs.kc_machine_pool.Owners.{fills, is_filling}
+use Rattle.kc_machine_ranges.specs.kc_machine_steps.Swaps.{swap_onward, ends_at_once}
+use Rattle.kc_machine_ranges.proofs.kc_machine_traces.Answers.{moved, seat_cases}
+use Rattle.kc_machine_ranges.proofs.kc_machine_traces.Onward.{pass_started, aid_started, woken_started, halted_same}
+use Rattle.kc_machine_ranges.proofs.kc_machine_traces.Others.{event_else}
+use Rattle.kc_machine_ranges.proofs.kc_machine_traces.Outcomes.{owned}
 
 -- ---- what a work owns
 

@@ -2,29 +2,29 @@
 use Rattle.std.proofs.Common.{◌≡◌, ℕ, ◌&&◌, Bool, true, false, List, Option, None, Some, refl, sym, ap, subst, ◌∙◌, if◌then◌else◌}
 use Rattle.std.specs.Prelude.{nat_lt, slice_get}
 use Rattle.std.specs.Option.{is_some}
-use Rattle.kc_machine.proofs.Functions.{put_here, both}
-use Rattle.kc_machine.specs.Machine.{World, State, put, put_some, touched, possible, found_at, happened, event_of, seat_of}
-use Rattle.kc_machine.specs.Seats.{access_of, answer_of}
-use Rattle.kc_machine.specs.Words.{phase_is, status_is}
-use Rattle.kc_machine_claims.specs.Histories.{History, Placed, inserted}
-use Rattle.kc_machine_claims.specs.Traces.{Trace, is_success, is_placed, decides, entry_for, history_after, place_or, now, traced}
-use Rattle.kc_machine_effects.proofs.Tests.{status_active}
-use Rattle.kc_machine_effects.specs.Stands.{Passing, NoPass, Over, Turn, At, Meets, Ends, Leaves, Stand, stand}
+use Rattle.kc_machine_ranges.proofs.kc_machine.Functions.{put_here, both}
+use Rattle.kc_machine_ranges.specs.kc_machine.Machine.{World, State, put, put_some, touched, possible, found_at, happened, event_of, seat_of}
+use Rattle.kc_machine_ranges.specs.kc_machine.Seats.{access_of, answer_of}
+use Rattle.kc_machine_ranges.specs.kc_machine.Words.{phase_is, status_is}
+use Rattle.kc_machine_ranges.specs.kc_machine_claims.Histories.{History, Placed, inserted}
+use Rattle.kc_machine_ranges.specs.kc_machine_claims.Traces.{Trace, is_success, is_placed, decides, entry_for, history_after, place_or, now, traced}
+use Rattle.kc_machine_ranges.proofs.kc_machine_effects.Tests.{status_active}
+use Rattle.kc_machine_ranges.specs.kc_machine_effects.Stands.{Passing, NoPass, Over, Turn, At, Meets, Ends, Leaves, Stand, stand}
 use Rattle.kc_machine_histories.proofs.Passes.{Touches, Quits, pass_touches, step_quits}
-use Rattle.kc_machine_traces.proofs.Swapping.{swap_cases, swap_passless}
-use Rattle.kc_machine_traces.specs.Swaps.{SwapOf, takes}
-use Rattle.kc_machine_steps.specs.declared.swap.SwapStep.TheVariants as swap
-use Rattle.kc_machine_steps.specs.Passes.{status, pass_access, install_access, check_access, release_at}
+use Rattle.kc_machine_ranges.proofs.kc_machine_traces.Swapping.{swap_cases, swap_passless}
+use Rattle.kc_machine_ranges.specs.kc_machine_traces.Swaps.{SwapOf, takes}
+use Rattle.kc_machine_ranges.specs.kc_machine_steps.declared.swap.SwapStep.TheVariants as swap
+use Rattle.kc_machine_ranges.specs.kc_machine_steps.Passes.{status, pass_access, install_access, check_access, release_at}
 use Rattle.kc_model.specs.declared.footprint.Line.{Line}
-use Rattle.kc_machine_steps.specs.declared.pass.PassStep.{PassStep}
-use Rattle.kc_machine_steps.specs.declared.pass.PassStep.TheVariants.{Install, Check, CheckHold, CheckStatus, CheckFirst, CheckDrop, Decide, Release}
-use Rattle.kc_machine_steps.specs.declared.task.Event.{Event}
-use Rattle.kc_machine_steps.specs.declared.task.Event.TheVariants.{Begin, Step, Halt}
-use Rattle.kc_machine_words.specs.declared.words.Handle.{Handle}
-use Rattle.kc_machine_words.specs.declared.words.Mode.{Mode}
-use Rattle.kc_machine_words.specs.declared.words.Phase.{Phase}
-use Rattle.kc_machine_words.specs.declared.words.Phase.TheVariants.{Active, Succeeded, Failed, Crossed, Halted}
-use Rattle.kc_machine_words.specs.declared.words.Status.{Status}
+use Rattle.kc_machine_ranges.specs.kc_machine_steps.declared.pass.PassStep.{PassStep}
+use Rattle.kc_machine_ranges.specs.kc_machine_steps.declared.pass.PassStep.TheVariants.{Install, Check, CheckHold, CheckStatus, CheckFirst, CheckDrop, Decide, Release}
+use Rattle.kc_machine_ranges.specs.kc_machine_steps.declared.task.Event.{Event}
+use Rattle.kc_machine_ranges.specs.kc_machine_steps.declared.task.Event.TheVariants.{Begin, Step, Halt}
+use Rattle.kc_machine_ranges.specs.kc_machine_words.declared.words.Handle.{Handle}
+use Rattle.kc_machine_ranges.specs.kc_machine_words.declared.words.Mode.{Mode}
+use Rattle.kc_machine_ranges.specs.kc_machine_words.declared.words.Phase.{Phase}
+use Rattle.kc_machine_ranges.specs.kc_machine_words.declared.words.Phase.TheVariants.{Active, Succeeded, Failed, Crossed, Halted}
+use Rattle.kc_machine_ranges.specs.kc_machine_words.declared.words.Status.{Status}
 
 -- ---- by one access
 

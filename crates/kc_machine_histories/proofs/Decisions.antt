@@ -2,30 +2,30 @@
 use Rattle.std.proofs.Common.{arith, ◌≡◌, ◌<◌, ◌⊎◌, inl, inr, ◌++◌, Bool, true, false, List, [], ◌∷◌, length, Some, refl, sym, ap, subst, ◌∙◌}
 use Rattle.std.specs.Prelude.{nat_lt}
 use Rattle.std.proofs.lemmas.Bool.{ltb-true}
-use Rattle.kc_machine.specs.Machine.{World, State, Opening, event_of, seat_of, run}
-use Rattle.kc_machine_claims.proofs.Follows.{trace_runs, trace_counts}
-use Rattle.kc_machine_claims.specs.Histories.{History, Placed, inserted}
-use Rattle.kc_machine_claims.specs.Traces.{Trace, decides, caller_for, number_for, entry_for, trace}
-use Rattle.kc_machine_effects.specs.Holds.{Proper, own_hold}
-use Rattle.kc_machine_effects.specs.Stands.{Over, Turn, At, Stand, stand}
+use Rattle.kc_machine_ranges.specs.kc_machine.Machine.{World, State, Opening, event_of, seat_of, run}
+use Rattle.kc_machine_ranges.proofs.kc_machine_claims.Follows.{trace_runs, trace_counts}
+use Rattle.kc_machine_ranges.specs.kc_machine_claims.Histories.{History, Placed, inserted}
+use Rattle.kc_machine_ranges.specs.kc_machine_claims.Traces.{Trace, decides, caller_for, number_for, entry_for, trace}
+use Rattle.kc_machine_ranges.specs.kc_machine_effects.Holds.{Proper, own_hold}
+use Rattle.kc_machine_ranges.specs.kc_machine_effects.Stands.{Over, Turn, At, Stand, stand}
 use Rattle.kc_machine_histories.proofs.Deciding.{Entrance, undecided, history_cases}
 use Rattle.kc_machine_histories.proofs.Places.{placing}
 use Rattle.kc_machine_histories.specs.Decisions.{own_of, Decision, MovesByDecision}
-use Rattle.kc_machine_pool.proofs.LifeLaws.{statuses_follow}
-use Rattle.kc_machine_pool.specs.Owners.{Follows, is_filling}
-use Rattle.kc_machine_steps.specs.Passes.{status}
+use Rattle.kc_machine_ranges.proofs.kc_machine_pool.LifeLaws.{statuses_follow}
+use Rattle.kc_machine_ranges.specs.kc_machine_pool.Owners.{Follows, is_filling}
+use Rattle.kc_machine_ranges.specs.kc_machine_steps.Passes.{status}
 use Rattle.kc_model.specs.declared.footprint.Line.{Line}
-use Rattle.kc_machine_steps.specs.declared.pass.PassStep.TheVariants.{Decide}
-use Rattle.kc_machine_steps.specs.declared.task.Event.{Event}
-use Rattle.kc_machine_traces.proofs.Entries.{Entered, Enters, enters}
-use Rattle.kc_machine_traces.proofs.Joins.{run-append, trace-append}
-use Rattle.kc_machine_traces.proofs.Others.{run_shape, event_out}
-use Rattle.kc_machine_traces.specs.Entries.{own_intent}
-use Rattle.kc_machine_traces.specs.Swaps.{SwapOf, takes}
-use Rattle.kc_machine_words.specs.declared.words.Handle.{Handle}
-use Rattle.kc_machine_words.specs.declared.words.Mode.{Mode}
-use Rattle.kc_machine_words.specs.declared.words.Phase.TheVariants.{Active, Succeeded}
-use Rattle.kc_machine_words.specs.declared.words.Status.{Status}
+use Rattle.kc_machine_ranges.specs.kc_machine_steps.declared.pass.PassStep.TheVariants.{Decide}
+use Rattle.kc_machine_ranges.specs.kc_machine_steps.declared.task.Event.{Event}
+use Rattle.kc_machine_ranges.proofs.kc_machine_traces.Entries.{Entered, Enters, enters}
+use Rattle.kc_machine_ranges.proofs.kc_machine_traces.Joins.{run-append, trace-append}
+use Rattle.kc_machine_ranges.proofs.kc_machine_traces.Others.{run_shape, event_out}
+use Rattle.kc_machine_ranges.specs.kc_machine_traces.Entries.{own_intent}
+use Rattle.kc_machine_ranges.specs.kc_machine_traces.Swaps.{SwapOf, takes}
+use Rattle.kc_machine_ranges.specs.kc_machine_words.declared.words.Handle.{Handle}
+use Rattle.kc_machine_ranges.specs.kc_machine_words.declared.words.Mode.{Mode}
+use Rattle.kc_machine_ranges.specs.kc_machine_words.declared.words.Phase.TheVariants.{Active, Succeeded}
+use Rattle.kc_machine_ranges.specs.kc_machine_words.declared.words.Status.{Status}
 use Rattle.kc_model.specs.declared.footprint.Entry.{Entry}
 
 module _ (o : Opening) (es : List Event) (e : Event) where

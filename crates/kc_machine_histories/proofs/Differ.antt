@@ -4,33 +4,33 @@ use Rattle.std.proofs.Common.{arith, ◌≡◌, ◌<◌, ◌≤◌, ◌+◌, ◌
 use Rattle.std.specs.Prelude.{nat_lt}
 use Rattle.std.proofs.lemmas.Bool.{ltb-true, lt-ltb}
 use Rattle.std.proofs.lemmas.List.Elements.{All-contains}
-use Rattle.kc_machine.specs.Machine.{State, Opening, event_of, seat_of, run}
-use Rattle.kc_machine.specs.Schedules.{IsSchedule}
-use Rattle.kc_machine_claims.specs.Histories.{History, Placed, inserted, EntriesDiffer}
-use Rattle.kc_machine_claims.specs.Traces.{is_success, trace}
-use Rattle.kc_machine_effects.specs.Holds.{NoHold, Proper, own_hold}
-use Rattle.kc_machine_effects.specs.Stands.{NoOwn, stand}
+use Rattle.kc_machine_ranges.specs.kc_machine.Machine.{State, Opening, event_of, seat_of, run}
+use Rattle.kc_machine_ranges.specs.kc_machine.Schedules.{IsSchedule}
+use Rattle.kc_machine_ranges.specs.kc_machine_claims.Histories.{History, Placed, inserted, EntriesDiffer}
+use Rattle.kc_machine_ranges.specs.kc_machine_claims.Traces.{is_success, trace}
+use Rattle.kc_machine_ranges.specs.kc_machine_effects.Holds.{NoHold, Proper, own_hold}
+use Rattle.kc_machine_ranges.specs.kc_machine_effects.Stands.{NoOwn, stand}
 use Rattle.kc_machine_histories.proofs.Calls.{own_goes}
 use Rattle.kc_machine_histories.proofs.Decisions.{history_moves}
 use Rattle.kc_machine_histories.proofs.Filters.{found}
 use Rattle.kc_machine_histories.proofs.Insertions.{inserted_contains}
 use Rattle.kc_machine_histories.specs.Decisions.{own_of, Decision}
-use Rattle.kc_machine_pool.proofs.LifeLaws.{owners_differ}
-use Rattle.kc_machine_pool.specs.Owners.{OwnsLife, is_filling}
+use Rattle.kc_machine_ranges.proofs.kc_machine_pool.LifeLaws.{owners_differ}
+use Rattle.kc_machine_ranges.specs.kc_machine_pool.Owners.{OwnsLife, is_filling}
 use Rattle.kc_machine_ranges.proofs.Runs.{called}
-use Rattle.kc_machine_steps.specs.Lines.{one_more}
-use Rattle.kc_machine_steps.specs.Passes.{status}
-use Rattle.kc_machine_steps.specs.declared.task.Event.{Event}
-use Rattle.kc_machine_traces.proofs.Swapping.{swap_ownless_behind}
-use Rattle.kc_machine_traces.proofs.Entries.{swap_caller}
-use Rattle.kc_machine_traces.specs.Swaps.{SwapOf}
-use Rattle.kc_machine_traces.proofs.Joins.{run-append, every, made_parts}
-use Rattle.kc_machine_traces.proofs.Numbers.{numbers_fit}
-use Rattle.kc_machine_traces.proofs.Others.{run_shape, event_out}
-use Rattle.kc_machine_traces.proofs.Outcomes.{event_moves}
-use Rattle.kc_machine_traces.proofs.Statuses.{Starts, Decides}
-use Rattle.kc_machine_words.specs.declared.words.Phase.TheVariants.{Succeeded}
-use Rattle.kc_machine_words.specs.declared.words.Status.{Status}
+use Rattle.kc_machine_ranges.specs.kc_machine_steps.Lines.{one_more}
+use Rattle.kc_machine_ranges.specs.kc_machine_steps.Passes.{status}
+use Rattle.kc_machine_ranges.specs.kc_machine_steps.declared.task.Event.{Event}
+use Rattle.kc_machine_ranges.proofs.kc_machine_traces.Swapping.{swap_ownless_behind}
+use Rattle.kc_machine_ranges.proofs.kc_machine_traces.Entries.{swap_caller}
+use Rattle.kc_machine_ranges.specs.kc_machine_traces.Swaps.{SwapOf}
+use Rattle.kc_machine_ranges.proofs.kc_machine_traces.Joins.{run-append, every, made_parts}
+use Rattle.kc_machine_ranges.proofs.kc_machine_traces.Numbers.{numbers_fit}
+use Rattle.kc_machine_ranges.proofs.kc_machine_traces.Others.{run_shape, event_out}
+use Rattle.kc_machine_ranges.proofs.kc_machine_traces.Outcomes.{event_moves}
+use Rattle.kc_machine_ranges.proofs.kc_machine_traces.Statuses.{Starts, Decides}
+use Rattle.kc_machine_ranges.specs.kc_machine_words.declared.words.Phase.TheVariants.{Succeeded}
+use Rattle.kc_machine_ranges.specs.kc_machine_words.declared.words.Status.{Status}
 use Rattle.kc_model.proofs.Stores.{Contains-first, Contains-later}
 
 -- ---- the entries of a caller whose present call has none

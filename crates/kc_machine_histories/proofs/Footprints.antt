@@ -2,8 +2,8 @@
 use Rattle.std.proofs.Common.{arith, ◌≡◌, ◌≢◌, ◌<◌, ◌∙◌, ℕ, zero, suc, ◌==◌, Bool, true, false, List, [], ◌∷◌, map, Option, None, Some, refl, sym, ap, Contains, if◌then◌else◌}
 use Rattle.std.specs.List.{filter_map}
 use borrow.Author.Tests.{eqb-true, eqb-false, ne_eqb}
-use Rattle.kc_machine_claims.specs.Histories.{put_of_line, footprint_of}
-use Rattle.kc_machine_steps.specs.Lines.{put_of, line_of, lines_of}
+use Rattle.kc_machine_ranges.specs.kc_machine_claims.Histories.{put_of_line, footprint_of}
+use Rattle.kc_machine_ranges.specs.kc_machine_steps.Lines.{put_of, line_of, lines_of}
 use Rattle.kc_model.specs.declared.footprint.Line.{Line}
 use Rattle.kc_model.proofs.Stores.{Contains-first, Contains-later}
 use Rattle.kc_model.specs.Footprint.{read_location, put_location, IsRead, IsWellMade}

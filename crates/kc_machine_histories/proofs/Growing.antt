@@ -1,5 +1,5 @@
 -- Where nothing later touches what is installed, histories grow, and stay legal.
-use Rattle.kc_machine.specs.Machine.{run}
+use Rattle.kc_machine_ranges.specs.kc_machine.Machine.{run}
 use Rattle.std.proofs.Common.{arith, ◌≡◌, ◌<◌, ◌≤◌, ◌⊎◌, inl, inr, ℕ, zero, suc, ◌++◌, ◌==◌, Bool, true, false, List, [], ◌∷◌, length, take, map, Option, None, Some, refl, sym, ap, subst, ◌∙◌, Contains, cond}
 use Rattle.std.specs.Option.{is_some}
 use Rattle.std.specs.List.{filter_map}
@@ -7,11 +7,11 @@ use Rattle.std.proofs.lemmas.Bool.{cases_lt}
 use Rattle.std.proofs.lemmas.List.{take_all, take-append-le, take-take, length-append, length-take}
 use Rattle.std.proofs.Math.Seq.{take-append_seam, take-length, take-nil}
 use borrow.Author.Tests.{eqb-true}
-use Rattle.kc_machine.specs.Machine.{Opening, seat_of}
-use Rattle.kc_machine_claims.specs.Claims.{HistoriesGrow, history_at}
-use Rattle.kc_machine_claims.specs.Histories.{History, Placed, inserted, ending, at_place, put_of_line, footprint_of, installs, cell_of, FindsInstalled, Grows, IsKnown, IsLegalWhereInstalled}
-use Rattle.kc_machine_claims.specs.Traces.{first_store, trace}
-use Rattle.kc_machine_effects.specs.Stands.{At}
+use Rattle.kc_machine_ranges.specs.kc_machine.Machine.{Opening, seat_of}
+use Rattle.kc_machine_ranges.specs.kc_machine_claims.Claims.{HistoriesGrow, history_at}
+use Rattle.kc_machine_ranges.specs.kc_machine_claims.Histories.{History, Placed, inserted, ending, at_place, put_of_line, footprint_of, installs, cell_of, FindsInstalled, Grows, IsKnown, IsLegalWhereInstalled}
+use Rattle.kc_machine_ranges.specs.kc_machine_claims.Traces.{first_store, trace}
+use Rattle.kc_machine_ranges.specs.kc_machine_effects.Stands.{At}
 use Rattle.kc_machine_histories.proofs.Decisions.{history_moves, moves_by_decision}
 use Rattle.kc_machine_histories.proofs.Growth.{known_same, known_or_end, end_known, one_value}
 use Rattle.kc_machine_histories.proofs.Insertions.{ending_same, ending_last, at_new, grows_same, grows_on, grows_inserted}
@@ -20,16 +20,16 @@ use Rattle.kc_machine_histories.proofs.Places.{rises, below, new_place}
 use Rattle.kc_machine_histories.specs.Decisions.{Decision, MovesByDecision}
 use Rattle.kc_machine_histories.specs.Insertions.{put_by, IsBelowPlace, IsLastWherePut, IsNewPlace, NoneInstallsAbove, NonePutsAbove}
 use Rattle.kc_machine_histories.specs.Later.{NoneTouchesAbove, DecidesSoon, NothingLaterTouches, NothingLaterTouchesAlong}
-use Rattle.kc_machine_steps.specs.Lines.{has_put, is_installed}
+use Rattle.kc_machine_ranges.specs.kc_machine_steps.Lines.{has_put, is_installed}
 use Rattle.kc_model.specs.declared.footprint.Line.{Line}
-use Rattle.kc_machine_steps.specs.declared.pass.PassStep.TheVariants.{Decide}
-use Rattle.kc_machine_steps.specs.declared.task.Event.{Event}
-use Rattle.kc_machine_traces.proofs.Joins.{every}
-use Rattle.kc_machine_traces.proofs.Known.{known_stays, versions_rise}
-use Rattle.kc_machine_words.specs.declared.words.Mode.{Mode}
-use Rattle.kc_machine_words.specs.declared.words.Mode.TheVariants.{All, Light}
-use Rattle.kc_machine_words.specs.declared.words.Phase.TheVariants.{Succeeded}
-use Rattle.kc_machine_traces.specs.Swaps.{SwapOf}
+use Rattle.kc_machine_ranges.specs.kc_machine_steps.declared.pass.PassStep.TheVariants.{Decide}
+use Rattle.kc_machine_ranges.specs.kc_machine_steps.declared.task.Event.{Event}
+use Rattle.kc_machine_ranges.proofs.kc_machine_traces.Joins.{every}
+use Rattle.kc_machine_ranges.proofs.kc_machine_traces.Known.{known_stays, versions_rise}
+use Rattle.kc_machine_ranges.specs.kc_machine_words.declared.words.Mode.{Mode}
+use Rattle.kc_machine_ranges.specs.kc_machine_words.declared.words.Mode.TheVariants.{All, Light}
+use Rattle.kc_machine_ranges.specs.kc_machine_words.declared.words.Phase.TheVariants.{Succeeded}
+use Rattle.kc_machine_ranges.specs.kc_machine_traces.Swaps.{SwapOf}
 use Rattle.kc_model.proofs.Stores.{Contains-first, Contains-later}
 use Rattle.kc_model.specs.Footprint.{Reads, put_at}
 use Rattle.kc_model.specs.Store.{Store, cell_after}

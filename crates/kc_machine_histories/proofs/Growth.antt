@@ -5,12 +5,12 @@ use Rattle.std.specs.List.{filter}
 use Rattle.std.proofs.Math.Seq.{take-length}
 use Rattle.std.proofs.lemmas.Bool.{lt-ltb}
 use Rattle.std.proofs.lemmas.List.Elements.{filter-append, filter_passes, All-filter, All-contains, Contains-append_left, Contains-append_right}
-use Rattle.kc_machine_claims.proofs.ByPlace.{low}
-use Rattle.kc_machine_claims.specs.Histories.{History, Placed, inserted, ending, at_place, putting, cell_of, IsKnown, RisesByPlace, Grows}
+use Rattle.kc_machine_ranges.proofs.kc_machine_claims.ByPlace.{low}
+use Rattle.kc_machine_ranges.specs.kc_machine_claims.Histories.{History, Placed, inserted, ending, at_place, putting, cell_of, IsKnown, RisesByPlace, Grows}
 use Rattle.kc_machine_histories.proofs.Filters.{filter_keeps, fronts_meet, front_of_more}
 use Rattle.kc_machine_histories.proofs.Insertions.{puts, ending_putting, putting_same, putting_last, at_putting}
 use Rattle.kc_machine_histories.specs.Insertions.{put_by, NonePutsAbove}
-use Rattle.kc_machine_traces.proofs.Known.{cell_from, cell_append, front_taken, front_putting}
+use Rattle.kc_machine_ranges.proofs.kc_machine_traces.Known.{cell_from, cell_append, front_taken, front_putting}
 use Rattle.kc_model.proofs.Stores.{Contains-first, Contains-later}
 use Rattle.kc_model.specs.Store.{Store, cell_after}
 use Rattle.kc_model.specs.declared.footprint.Put.{Put}

@@ -4,11 +4,11 @@ use Rattle.std.specs.Prelude.{nat_lt}
 use Rattle.std.specs.Option.{is_some}
 use Rattle.std.specs.List.{filter}
 use Rattle.std.proofs.lemmas.Bool.{lt-ltb, le-ltb, ltb-true, ltb-false}
-use Rattle.kc_machine_claims.proofs.ByPlace.{places, low, above_all, one_of}
-use Rattle.kc_machine_claims.specs.Histories.{History, Placed, inserted, ending, at_place, putting, RisesByPlace, IsAmong, none, here, later, IsFront, Grows}
+use Rattle.kc_machine_ranges.proofs.kc_machine_claims.ByPlace.{places, low, above_all, one_of}
+use Rattle.kc_machine_ranges.specs.kc_machine_claims.Histories.{History, Placed, inserted, ending, at_place, putting, RisesByPlace, IsAmong, none, here, later, IsFront, Grows}
 use Rattle.kc_machine_histories.proofs.Filters.{filter_twice, filter_keeps, filter_none}
 use Rattle.kc_machine_histories.specs.Insertions.{put_by, IsNewPlace, NonePutsAbove, IsLastWherePut}
-use Rattle.kc_machine_traces.proofs.Known.{cell_from, ending_is, cell_putting, cell_append, front_trans}
+use Rattle.kc_machine_ranges.proofs.kc_machine_traces.Known.{cell_from, ending_is, cell_putting, cell_append, front_trans}
 use Rattle.kc_model.proofs.Stores.{Contains-first, Contains-later}
 use Rattle.kc_model.specs.Rising.{IsRisingAbove}
 use Rattle.kc_model.specs.Store.{Store, cell_after}

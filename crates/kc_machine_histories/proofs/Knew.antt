@@ -1,40 +1,40 @@
 -- In an honest schedule a commit, and a swap, knew its reads when it began.
 use Rattle.std.proofs.Common.{arith, ◌≡◌, ◌<◌, ◌⊎◌, inl, inr, ℕ, zero, suc, ◌++◌, false, List, [], ◌∷◌, map, Option, None, Some, refl, sym, ap, subst, ◌∙◌, Contains}
 use Rattle.std.specs.Option.{is_some}
-use Rattle.kc_machine_steps.specs.declared.line.Intent.{Intent}
+use Rattle.kc_machine_ranges.specs.kc_machine_steps.declared.line.Intent.{Intent}
 use Rattle.kc_model.specs.declared.footprint.Line.{Line}
-use Rattle.kc_machine_steps.specs.declared.task.Task.{Task}
-use Rattle.kc_machine_words.specs.declared.words.Mode.{Mode}
+use Rattle.kc_machine_ranges.specs.kc_machine_steps.declared.task.Task.{Task}
+use Rattle.kc_machine_ranges.specs.kc_machine_words.declared.words.Mode.{Mode}
 use Rattle.kc_model.proofs.Stores.{Contains-first, Contains-later}
 use Rattle.kc_model.specs.Footprint.{Reads}
 use Rattle.kc_model.specs.declared.footprint.Footprint.{Footprint}
 use Rattle.kc_model.specs.declared.footprint.Put.{Put}
 use Rattle.kc_model.specs.declared.footprint.Seen.{Seen}
-use Rattle.kc_machine_steps.specs.declared.task.Task.TheVariants as task
-use Rattle.kc_machine_commits.specs.declared.commit.Commit.{Commit}
-use Rattle.kc_machine_commits.specs.declared.commit.Stage.{Stage}
-use Rattle.kc_machine_steps.specs.declared.task.Event.{Event}
-use Rattle.kc_machine_steps.specs.declared.task.Event.TheVariants.{Begin}
-use Rattle.kc_machine_commits.specs.declared.commit.Stage.TheVariants as stage
-use Rattle.kc_machine.specs.Works.{Work}
-use Rattle.kc_machine_steps.specs.Lines.{line_of, lines_of}
-use Rattle.kc_machine.specs.Works as work
-use Rattle.kc_machine.specs.declared.hang.HangStep.{HangStep}
-use Rattle.kc_machine.specs.declared.hang.HangStep.TheVariants as hang
-use Rattle.kc_machine.specs.Machine.{Opening, run}
-use Rattle.kc_machine.specs.Schedules.{IsSchedule}
-use Rattle.kc_machine.specs.Seats.{is_idle}
-use Rattle.kc_machine.specs.declared.seat.Seat.{Seat}
-use Rattle.kc_machine_claims.specs.Histories.{IsKnown}
-use Rattle.kc_machine_claims.specs.Traces.{Moment, BeginsHonestly, IsHonest, first_store, trace}
-use Rattle.kc_machine_effects.specs.Stands.{stand, works, resting, commits, hangs}
+use Rattle.kc_machine_ranges.specs.kc_machine_steps.declared.task.Task.TheVariants as task
+use Rattle.kc_machine_ranges.specs.kc_machine_commits.declared.commit.Commit.{Commit}
+use Rattle.kc_machine_ranges.specs.kc_machine_commits.declared.commit.Stage.{Stage}
+use Rattle.kc_machine_ranges.specs.kc_machine_steps.declared.task.Event.{Event}
+use Rattle.kc_machine_ranges.specs.kc_machine_steps.declared.task.Event.TheVariants.{Begin}
+use Rattle.kc_machine_ranges.specs.kc_machine_commits.declared.commit.Stage.TheVariants as stage
+use Rattle.kc_machine_ranges.specs.kc_machine.Works.{Work}
+use Rattle.kc_machine_ranges.specs.kc_machine_steps.Lines.{line_of, lines_of}
+use Rattle.kc_machine_ranges.specs.kc_machine.Works as work
+use Rattle.kc_machine_ranges.specs.kc_machine.declared.hang.HangStep.{HangStep}
+use Rattle.kc_machine_ranges.specs.kc_machine.declared.hang.HangStep.TheVariants as hang
+use Rattle.kc_machine_ranges.specs.kc_machine.Machine.{Opening, run}
+use Rattle.kc_machine_ranges.specs.kc_machine.Schedules.{IsSchedule}
+use Rattle.kc_machine_ranges.specs.kc_machine.Seats.{is_idle}
+use Rattle.kc_machine_ranges.specs.kc_machine.declared.seat.Seat.{Seat}
+use Rattle.kc_machine_ranges.specs.kc_machine_claims.Histories.{IsKnown}
+use Rattle.kc_machine_ranges.specs.kc_machine_claims.Traces.{Moment, BeginsHonestly, IsHonest, first_store, trace}
+use Rattle.kc_machine_ranges.specs.kc_machine_effects.Stands.{stand, works, resting, commits, hangs}
 use Rattle.kc_machine_histories.proofs.Successes.{Stays, Starts, moves, kept}
 use Rattle.kc_machine_histories.specs.Decisions.{own_of}
-use Rattle.kc_machine_traces.proofs.Answers.{answers_when_done}
-use Rattle.kc_machine_traces.proofs.Joins.{every, honest_parts}
-use Rattle.kc_machine_traces.proofs.Onward.{IsIntentOf, Left}
-use Rattle.kc_machine_traces.proofs.Outcomes.{owned}
-use Rattle.kc_machine_traces.specs.Entries.{by, own_intent}
+use Rattle.kc_machine_ranges.proofs.kc_machine_traces.Answers.{answers_when_done}
+use Rattle.kc_machine_ranges.proofs.kc_machine_traces.Joins.{every, honest_parts}
+use Rattle.kc_machine_ranges.proofs.kc_machine_traces.Onward.{IsIntentOf, Left}
+use Rattle.kc_machine_ranges.proofs.kc_machine_traces.Outcomes.{owned}
+use Rattle.kc_machine_ranges.specs.kc_machine_traces.Entries.{by, own_intent}
 
 -- ---- the task that a seat's shadow names
 

@@ -2,8 +2,8 @@
 use Rattle.std.proofs.Common.{arith, ◌≡◌, ◌<◌, ◌∙◌, refl, sym, subst, Bool, true, false, None, Contains}
 use Rattle.std.specs.Prelude.{nat_lt}
 use Rattle.std.proofs.lemmas.Bool.{ltb-true, ltb-false}
-use Rattle.kc_machine_claims.proofs.ByPlace.{in_order, at_places, legal_in_order, legal_at_places}
-use Rattle.kc_machine_claims.specs.Histories.{History, Placed, inserted, at_place, cell_of, installs, FindsInstalled, IsLegalHistory, IsLegalWhereInstalled, RisesByPlace}
+use Rattle.kc_machine_ranges.proofs.kc_machine_claims.ByPlace.{in_order, at_places, legal_in_order, legal_at_places}
+use Rattle.kc_machine_ranges.specs.kc_machine_claims.Histories.{History, Placed, inserted, at_place, cell_of, installs, FindsInstalled, IsLegalHistory, IsLegalWhereInstalled, RisesByPlace}
 use Rattle.kc_machine_histories.proofs.Insertions.{inserted_contains, rises_inserted, at_lower, at_else}
 use Rattle.kc_machine_histories.specs.Insertions.{put_by, IsNewPlace, NoneReadsAbove, NoneInstallsAbove, EachFindsInstalled}
 use Rattle.kc_model.specs.Footprint.{Reads}

@@ -13,3 +13,11 @@ pub mod Begun
 pub mod Footprints
 pub mod Successes
 pub mod Knew
+pub use Rattle.kc_machine_ranges.proofs.kc_machine as kc_machine
+pub use Rattle.kc_machine_ranges.proofs.kc_machine_claims as kc_machine_claims
+pub use Rattle.kc_machine_ranges.proofs.kc_machine_effects as kc_machine_effects
+pub use Rattle.kc_machine_ranges.proofs.kc_machine_pool as kc_machine_pool
+pub use Rattle.kc_machine_ranges.proofs as kc_machine_ranges
+pub use Rattle.kc_machine_ranges.proofs.kc_machine_seats as kc_machine_seats
+pub use Rattle.kc_machine_ranges.proofs.kc_machine_steps as kc_machine_steps
+pub use Rattle.kc_machine_ranges.proofs.kc_machine_traces as kc_machine_traces

@@ -1,50 +1,50 @@
 -- What the pass of a seat touches, and what an event of the seat makes of it.
 use Rattle.std.proofs.Common.{◌≡◌, inl, inr, ℕ, Bool, true, false, List, Option, None, Some, refl, sym, ap, subst, if◌then◌else◌}
-use Rattle.kc_machine_steps.specs.declared.line.Intent.{Intent}
-use Rattle.kc_machine_steps.specs.declared.line.Pick.TheVariants.{Installed, Put}
-use Rattle.kc_machine_steps.specs.declared.task.Task.{Task}
-use Rattle.kc_machine_words.specs.declared.access.Access.{Access}
-use Rattle.kc_machine_words.specs.declared.access.Found.{Found}
-use Rattle.kc_machine_words.specs.declared.words.Handle.{Handle}
-use Rattle.kc_machine_words.specs.declared.words.Phase.{Phase}
-use Rattle.kc_machine_words.specs.declared.words.Phase.TheVariants.{Active, Succeeded, Failed, Crossed, Halted}
-use Rattle.kc_machine_words.specs.declared.words.Reference.{Reference}
+use Rattle.kc_machine_ranges.specs.kc_machine_steps.declared.line.Intent.{Intent}
+use Rattle.kc_machine_ranges.specs.kc_machine_steps.declared.line.Pick.TheVariants.{Installed, Put}
+use Rattle.kc_machine_ranges.specs.kc_machine_steps.declared.task.Task.{Task}
+use Rattle.kc_machine_ranges.specs.kc_machine_words.declared.access.Access.{Access}
+use Rattle.kc_machine_ranges.specs.kc_machine_words.declared.access.Found.{Found}
+use Rattle.kc_machine_ranges.specs.kc_machine_words.declared.words.Handle.{Handle}
+use Rattle.kc_machine_ranges.specs.kc_machine_words.declared.words.Phase.{Phase}
+use Rattle.kc_machine_ranges.specs.kc_machine_words.declared.words.Phase.TheVariants.{Active, Succeeded, Failed, Crossed, Halted}
+use Rattle.kc_machine_ranges.specs.kc_machine_words.declared.words.Reference.{Reference}
 use Rattle.kc_model.specs.declared.footprint.Seen.{Seen}
-use Rattle.kc_machine_steps.specs.declared.task.Task.TheVariants as task
-use Rattle.kc_machine_steps.specs.declared.pass.PassNext.{PassNext}
-use Rattle.kc_machine_steps.specs.declared.pass.PassStep.{PassStep}
-use Rattle.kc_machine_steps.specs.declared.pass.PassStep.TheVariants.{Install, Check, CheckHold, CheckStatus, CheckFirst, CheckDrop, Decide, Release}
-use Rattle.kc_machine_steps.specs.declared.task.Event.{Event}
-use Rattle.kc_machine_steps.specs.declared.task.Event.TheVariants.{Begin, Step, Halt}
-use Rattle.kc_machine_steps.specs.declared.pass.PassNext.TheVariants as pass
-use Rattle.kc_machine_steps.specs.declared.aid.AidStep.{AidStep}
-use Rattle.kc_machine_steps.specs.declared.aid.Aided.{Aided}
-use Rattle.kc_machine_steps.specs.declared.aid.AidStep.TheVariants as aid
-use Rattle.kc_machine_commits.specs.declared.commit.Commit.{Commit}
-use Rattle.kc_machine_commits.specs.declared.commit.Stage.{Stage}
-use Rattle.kc_machine_commits.specs.declared.commit.Stage.TheVariants as stage
-use Rattle.kc_machine_commits.specs.declared.commit.OwnStep.{OwnStep}
-use Rattle.kc_machine_commits.specs.declared.commit.OwnStep.TheVariants as own
-use Rattle.kc_machine_commits.specs.Nexts.{Next}
-use Rattle.kc_machine_commits.specs.Nexts as next
-use Rattle.kc_machine_commits.specs.Commits.{after_own_pass, finished, wake_or_drop, stage_next, copy_by, loaded, gone_on, onward_by}
-use Rattle.kc_machine_commits.specs.Halts.{unowned, halted_pass, halted_aid_pass, halted_own, halted_at}
-use Rattle.kc_machine_steps.specs.Aids.{after_pass}
-use Rattle.kc_machine_steps.specs.Lines.{next_line}
-use Rattle.kc_machine_steps.specs.Passes.{pass_access, pass_next, release_or_finish, decided_as}
-use Rattle.kc_machine_steps.specs.declared.pass.AfterCheck.TheVariants as checked
-use Rattle.kc_machine.specs.declared.hang.HangStep.{HangStep}
-use Rattle.kc_machine.specs.declared.hang.HangStep.TheVariants as hang
-use Rattle.kc_machine.specs.Works.{Work}
-use Rattle.kc_machine.specs.Works as work
-use Rattle.kc_machine.specs.Machine.{World, State, found_at, event_of, seat_of}
-use Rattle.kc_machine.specs.Seats.{access_of, work_access, answer_of, answer_by, after, is_idle, begun, begun_idle, working, hanging, halted, halted_by, ended}
-use Rattle.kc_machine.specs.declared.seat.Seat.{Seat}
-use Rattle.kc_machine_claims.specs.Traces.{is_placed, is_placed_in}
-use Rattle.kc_machine_effects.specs.Holds.{Holds}
-use Rattle.kc_machine_effects.specs.Stands.{NoOwn, Passing, NoPass, Over, Turn, At, Stand, stand, works, resting, commits, owns, aids, hangs, Waits}
-use Rattle.kc_machine_pool.specs.Owners.{is_filling}
-use Rattle.kc_machine_traces.proofs.Answers.{moved, seat_cases}
+use Rattle.kc_machine_ranges.specs.kc_machine_steps.declared.task.Task.TheVariants as task
+use Rattle.kc_machine_ranges.specs.kc_machine_steps.declared.pass.PassNext.{PassNext}
+use Rattle.kc_machine_ranges.specs.kc_machine_steps.declared.pass.PassStep.{PassStep}
+use Rattle.kc_machine_ranges.specs.kc_machine_steps.declared.pass.PassStep.TheVariants.{Install, Check, CheckHold, CheckStatus, CheckFirst, CheckDrop, Decide, Release}
+use Rattle.kc_machine_ranges.specs.kc_machine_steps.declared.task.Event.{Event}
+use Rattle.kc_machine_ranges.specs.kc_machine_steps.declared.task.Event.TheVariants.{Begin, Step, Halt}
+use Rattle.kc_machine_ranges.specs.kc_machine_steps.declared.pass.PassNext.TheVariants as pass
+use Rattle.kc_machine_ranges.specs.kc_machine_steps.declared.aid.AidStep.{AidStep}
+use Rattle.kc_machine_ranges.specs.kc_machine_steps.declared.aid.Aided.{Aided}
+use Rattle.kc_machine_ranges.specs.kc_machine_steps.declared.aid.AidStep.TheVariants as aid
+use Rattle.kc_machine_ranges.specs.kc_machine_commits.declared.commit.Commit.{Commit}
+use Rattle.kc_machine_ranges.specs.kc_machine_commits.declared.commit.Stage.{Stage}
+use Rattle.kc_machine_ranges.specs.kc_machine_commits.declared.commit.Stage.TheVariants as stage
+use Rattle.kc_machine_ranges.specs.kc_machine_commits.declared.commit.OwnStep.{OwnStep}
+use Rattle.kc_machine_ranges.specs.kc_machine_commits.declared.commit.OwnStep.TheVariants as own
+use Rattle.kc_machine_ranges.specs.kc_machine_commits.Nexts.{Next}
+use Rattle.kc_machine_ranges.specs.kc_machine_commits.Nexts as next
+use Rattle.kc_machine_ranges.specs.kc_machine_commits.Commits.{after_own_pass, finished, wake_or_drop, stage_next, copy_by, loaded, gone_on, onward_by}
+use Rattle.kc_machine_ranges.specs.kc_machine_commits.Halts.{unowned, halted_pass, halted_aid_pass, halted_own, halted_at}
+use Rattle.kc_machine_ranges.specs.kc_machine_steps.Aids.{after_pass}
+use Rattle.kc_machine_ranges.specs.kc_machine_steps.Lines.{next_line}
+use Rattle.kc_machine_ranges.specs.kc_machine_steps.Passes.{pass_access, pass_next, release_or_finish, decided_as}
+use Rattle.kc_machine_ranges.specs.kc_machine_steps.declared.pass.AfterCheck.TheVariants as checked
+use Rattle.kc_machine_ranges.specs.kc_machine.declared.hang.HangStep.{HangStep}
+use Rattle.kc_machine_ranges.specs.kc_machine.declared.hang.HangStep.TheVariants as hang
+use Rattle.kc_machine_ranges.specs.kc_machine.Works.{Work}
+use Rattle.kc_machine_ranges.specs.kc_machine.Works as work
+use Rattle.kc_machine_ranges.specs.kc_machine.Machine.{World, State, found_at, event_of, seat_of}
+use Rattle.kc_machine_ranges.specs.kc_machine.Seats.{access_of, work_access, answer_of, answer_by, after, is_idle, begun, begun_idle, working, hanging, halted, halted_by, ended}
+use Rattle.kc_machine_ranges.specs.kc_machine.declared.seat.Seat.{Seat}
+use Rattle.kc_machine_ranges.specs.kc_machine_claims.Traces.{is_placed, is_placed_in}
+use Rattle.kc_machine_ranges.specs.kc_machine_effects.Holds.{Holds}
+use Rattle.kc_machine_ranges.specs.kc_machine_effects.Stands.{NoOwn, Passing, NoPass, Over, Turn, At, Stand, stand, works, resting, commits, owns, aids, hangs, Waits}
+use Rattle.kc_machine_ranges.specs.kc_machine_pool.Owners.{is_filling}
+use Rattle.kc_machine_ranges.proofs.kc_machine_traces.Answers.{moved, seat_cases}
 
 -- ---- the pass of a work
 

@@ -3,31 +3,31 @@ use Rattle.std.proofs.Common.{arith, ◌≡◌, ◌≢◌, ◌<◌, ◌≤◌, �
 use Rattle.std.specs.Option.{is_some}
 use Rattle.std.proofs.lemmas.List.{length-take-le}
 use borrow.Author.Tests.{eqb-true, eqb-false}
-use Rattle.kc_machine.proofs.Functions.{put_cases}
-use Rattle.kc_machine.specs.Machine.{State, Opening, event_of, seat_of, run}
-use Rattle.kc_machine.specs.Seats.{is_idle, begun_idle}
-use Rattle.kc_machine.specs.declared.seat.Seat.{Seat}
-use Rattle.kc_machine_claims.proofs.Follows.{trace_runs, trace_counts}
-use Rattle.kc_machine_claims.specs.Histories.{Placed, RisesByPlace}
-use Rattle.kc_machine_claims.specs.Traces.{Trace, Shadow, is_placed, place_or, place_after, listens, blocking_after, begins, with_task, shadow_after, now, traced, trace_from, opened_trace, trace}
-use Rattle.kc_machine_effects.specs.Stands.{Over, Turn, stand}
+use Rattle.kc_machine_ranges.proofs.kc_machine.Functions.{put_cases}
+use Rattle.kc_machine_ranges.specs.kc_machine.Machine.{State, Opening, event_of, seat_of, run}
+use Rattle.kc_machine_ranges.specs.kc_machine.Seats.{is_idle, begun_idle}
+use Rattle.kc_machine_ranges.specs.kc_machine.declared.seat.Seat.{Seat}
+use Rattle.kc_machine_ranges.proofs.kc_machine_claims.Follows.{trace_runs, trace_counts}
+use Rattle.kc_machine_ranges.specs.kc_machine_claims.Histories.{Placed, RisesByPlace}
+use Rattle.kc_machine_ranges.specs.kc_machine_claims.Traces.{Trace, Shadow, is_placed, place_or, place_after, listens, blocking_after, begins, with_task, shadow_after, now, traced, trace_from, opened_trace, trace}
+use Rattle.kc_machine_ranges.specs.kc_machine_effects.Stands.{Over, Turn, stand}
 use Rattle.kc_machine_histories.proofs.Deciding.{Entrance, history_cases}
 use Rattle.kc_machine_histories.proofs.Insertions.{inserted_contains, rises_inserted}
 use Rattle.kc_machine_histories.proofs.Passes.{Keeps, event_keeps, IsFresh, begun_fresh}
 use Rattle.kc_machine_histories.specs.Insertions.{IsNewPlace, IsBelowPlace}
 use Rattle.kc_machine_histories.specs.Places.{pass_of, place_of, began}
 use Rattle.kc_model.specs.declared.footprint.Line.{Line}
-use Rattle.kc_machine_steps.specs.declared.task.Event.{Event}
-use Rattle.kc_machine_steps.specs.declared.task.Event.TheVariants.{Begin, Step, Halt}
-use Rattle.kc_machine_steps.specs.declared.task.Task.{Task}
-use Rattle.kc_machine_traces.proofs.Answers.{moved, seat_cases}
-use Rattle.kc_machine_traces.proofs.Joins.{run-append, trace-append}
-use Rattle.kc_machine_traces.proofs.Swapping.{swap_passless_behind}
-use Rattle.kc_machine_traces.specs.Swaps.{SwapOf}
-use Rattle.kc_machine_traces.proofs.Moments.{begun_moment}
-use Rattle.kc_machine_traces.proofs.Others.{event_else}
-use Rattle.kc_machine_words.specs.declared.words.Handle.{Handle}
-use Rattle.kc_machine_words.specs.declared.words.Mode.{Mode}
+use Rattle.kc_machine_ranges.specs.kc_machine_steps.declared.task.Event.{Event}
+use Rattle.kc_machine_ranges.specs.kc_machine_steps.declared.task.Event.TheVariants.{Begin, Step, Halt}
+use Rattle.kc_machine_ranges.specs.kc_machine_steps.declared.task.Task.{Task}
+use Rattle.kc_machine_ranges.proofs.kc_machine_traces.Answers.{moved, seat_cases}
+use Rattle.kc_machine_ranges.proofs.kc_machine_traces.Joins.{run-append, trace-append}
+use Rattle.kc_machine_ranges.proofs.kc_machine_traces.Swapping.{swap_passless_behind}
+use Rattle.kc_machine_ranges.specs.kc_machine_traces.Swaps.{SwapOf}
+use Rattle.kc_machine_ranges.proofs.kc_machine_traces.Moments.{begun_moment}
+use Rattle.kc_machine_ranges.proofs.kc_machine_traces.Others.{event_else}
+use Rattle.kc_machine_ranges.specs.kc_machine_words.declared.words.Handle.{Handle}
+use Rattle.kc_machine_ranges.specs.kc_machine_words.declared.words.Mode.{Mode}
 
 pub record Placing (t : Trace) : Type 0 where
   -- a seat has a place exactly where it has a placed pass

@@ -3,24 +3,24 @@ use Rattle.std.proofs.Common.{arith, ◌≡◌, ◌≢◌, ◌<◌, ◌≤◌, �
 use Rattle.std.specs.List.{filter}
 use Rattle.std.proofs.lemmas.List.Elements.{All-nil, All-cons, All-head, All-filter, All-contains, All-contains_itself, Contains-get_or}
 use borrow.Author.Tests.{eqb-true, eqb-false, eq-eqb}
-use Rattle.kc_machine_steps.specs.declared.task.Task.{Task}
-use Rattle.kc_machine_words.specs.declared.words.Mode.{Mode}
+use Rattle.kc_machine_ranges.specs.kc_machine_steps.declared.task.Task.{Task}
+use Rattle.kc_machine_ranges.specs.kc_machine_words.declared.words.Mode.{Mode}
 use Rattle.kc_model.proofs.Stores.{Contains-first, Contains-later}
 use Rattle.kc_model.specs.declared.footprint.Entry.{Entry}
-use Rattle.kc_machine_words.specs.declared.words.Mode.TheVariants as mode
-use Rattle.kc_machine_traces.proofs.Moments.{begun_moment}
-use Rattle.kc_machine_steps.specs.declared.task.Task.TheVariants as task
-use Rattle.kc_machine_steps.specs.declared.task.Told.TheVariants as told
-use Rattle.kc_machine.proofs.Functions.{put_here, put_else}
-use Rattle.kc_machine.specs.Machine.{State, Opening, event_of, seat_of, run}
-use Rattle.kc_machine.specs.Schedules.{IsWellMadeTask, BeginsWellMade, IsSchedule}
-use Rattle.kc_machine.specs.Seats.{is_idle, begun, begun_idle, working, hanging}
-use Rattle.kc_machine.specs.declared.seat.Seat.{Seat}
-use Rattle.kc_machine_claims.proofs.Follows.{trace_runs}
-use Rattle.kc_machine_claims.specs.Claims.{SuccessesHaveTheirEntry, SwapsHaveTheirEntry}
-use Rattle.kc_machine_claims.specs.Histories.{History, Placed}
-use Rattle.kc_machine_claims.specs.Traces.{swap_entry, Trace, Shadow, Moment, listens, place_after, blocking_after, begins, with_task, shadow_after, now, traced, trace}
-use Rattle.kc_machine_effects.specs.Stands.{stand}
+use Rattle.kc_machine_ranges.specs.kc_machine_words.declared.words.Mode.TheVariants as mode
+use Rattle.kc_machine_ranges.proofs.kc_machine_traces.Moments.{begun_moment}
+use Rattle.kc_machine_ranges.specs.kc_machine_steps.declared.task.Task.TheVariants as task
+use Rattle.kc_machine_ranges.specs.kc_machine_steps.declared.task.Told.TheVariants as told
+use Rattle.kc_machine_ranges.proofs.kc_machine.Functions.{put_here, put_else}
+use Rattle.kc_machine_ranges.specs.kc_machine.Machine.{State, Opening, event_of, seat_of, run}
+use Rattle.kc_machine_ranges.specs.kc_machine.Schedules.{IsWellMadeTask, BeginsWellMade, IsSchedule}
+use Rattle.kc_machine_ranges.specs.kc_machine.Seats.{is_idle, begun, begun_idle, working, hanging}
+use Rattle.kc_machine_ranges.specs.kc_machine.declared.seat.Seat.{Seat}
+use Rattle.kc_machine_ranges.proofs.kc_machine_claims.Follows.{trace_runs}
+use Rattle.kc_machine_ranges.specs.kc_machine_claims.Claims.{SuccessesHaveTheirEntry, SwapsHaveTheirEntry}
+use Rattle.kc_machine_ranges.specs.kc_machine_claims.Histories.{History, Placed}
+use Rattle.kc_machine_ranges.specs.kc_machine_claims.Traces.{swap_entry, Trace, Shadow, Moment, listens, place_after, blocking_after, begins, with_task, shadow_after, now, traced, trace}
+use Rattle.kc_machine_ranges.specs.kc_machine_effects.Stands.{stand}
 use Rattle.kc_machine_histories.proofs.Begun.{entry_behind}
 use Rattle.kc_machine_histories.proofs.Decisions.{history_moves}
 use Rattle.kc_machine_histories.proofs.Differ.{AreApart, entries_apart}
@@ -28,17 +28,17 @@ use Rattle.kc_machine_histories.proofs.Footprints.{lines_say}
 use Rattle.kc_machine_histories.proofs.Insertions.{inserted_contains}
 use Rattle.kc_machine_histories.proofs.Places.{begun_below}
 use Rattle.kc_machine_histories.specs.Places.{began}
-use Rattle.kc_machine_steps.specs.declared.task.Event.{Event}
-use Rattle.kc_machine_steps.specs.declared.task.Event.TheVariants.{Begin, Step, Halt}
-use Rattle.kc_machine_traces.proofs.Answers.{answers_when_done}
-use Rattle.kc_machine_traces.proofs.Joins.{run-append, trace-append, every, made_parts}
-use Rattle.kc_machine_traces.proofs.Onward.{SeatLeft, ended_left}
-use Rattle.kc_machine_traces.proofs.Others.{run_shape, event_in, words_kept, history_kept}
-use Rattle.kc_machine_traces.proofs.Outcomes.{LeftAfter, one_more, begins_left}
-use Rattle.kc_machine_traces.specs.Entries.{by}
-use Rattle.kc_machine_traces.specs.Moments.{BeginsNothing}
-use Rattle.kc_machine_traces.specs.Outcomes.{IsEntryOf, GainsTheCall, GainsAsTold}
-use Rattle.kc_machine_traces.specs.Parts.{IsNoStep}
+use Rattle.kc_machine_ranges.specs.kc_machine_steps.declared.task.Event.{Event}
+use Rattle.kc_machine_ranges.specs.kc_machine_steps.declared.task.Event.TheVariants.{Begin, Step, Halt}
+use Rattle.kc_machine_ranges.proofs.kc_machine_traces.Answers.{answers_when_done}
+use Rattle.kc_machine_ranges.proofs.kc_machine_traces.Joins.{run-append, trace-append, every, made_parts}
+use Rattle.kc_machine_ranges.proofs.kc_machine_traces.Onward.{SeatLeft, ended_left}
+use Rattle.kc_machine_ranges.proofs.kc_machine_traces.Others.{run_shape, event_in, words_kept, history_kept}
+use Rattle.kc_machine_ranges.proofs.kc_machine_traces.Outcomes.{LeftAfter, one_more, begins_left}
+use Rattle.kc_machine_ranges.specs.kc_machine_traces.Entries.{by}
+use Rattle.kc_machine_ranges.specs.kc_machine_traces.Moments.{BeginsNothing}
+use Rattle.kc_machine_ranges.specs.kc_machine_traces.Outcomes.{IsEntryOf, GainsTheCall, GainsAsTold}
+use Rattle.kc_machine_ranges.specs.kc_machine_traces.Parts.{IsNoStep}
 
 -- ---- what an event makes of a seat's task
 

@@ -1,19 +1,19 @@
 -- How one event moves the history.
 use Rattle.std.specs.Prelude.{◌≡◌, ℕ, ◌<◌, ◌⊎◌, ◌++◌, List, [], ◌∷◌, false, Some, length}
-use Rattle.kc_machine.specs.Machine.{Opening, run, seat_of}
-use Rattle.kc_machine_claims.specs.Histories.{Placed, inserted, footprint_of}
-use Rattle.kc_machine_claims.specs.Traces.{trace}
-use Rattle.kc_machine_effects.specs.Stands.{At, Over, Own, stand}
+use Rattle.kc_machine_ranges.specs.kc_machine.Machine.{Opening, run, seat_of}
+use Rattle.kc_machine_ranges.specs.kc_machine_claims.Histories.{Placed, inserted, footprint_of}
+use Rattle.kc_machine_ranges.specs.kc_machine_claims.Traces.{trace}
+use Rattle.kc_machine_ranges.specs.kc_machine_effects.Stands.{At, Over, Own, stand}
 use Rattle.kc_machine_histories.specs.Places.{pass_of, place_of}
-use Rattle.kc_machine_pool.specs.Owners.{OwnsLife, is_filling}
-use Rattle.kc_machine_steps.specs.Passes.{status}
+use Rattle.kc_machine_ranges.specs.kc_machine_pool.Owners.{OwnsLife, is_filling}
+use Rattle.kc_machine_ranges.specs.kc_machine_steps.Passes.{status}
 use Rattle.kc_model.specs.declared.footprint.Line.{Line}
-use Rattle.kc_machine_steps.specs.declared.pass.PassStep.TheVariants.{Decide}
-use Rattle.kc_machine_steps.specs.declared.task.Event.{Event}
-use Rattle.kc_machine_traces.specs.Entries.{own_intent}
-use Rattle.kc_machine_traces.specs.Swaps.{SwapOf}
-use Rattle.kc_machine_words.specs.declared.words.Handle.{Handle}
-use Rattle.kc_machine_words.specs.declared.words.Phase.TheVariants.{Active, Succeeded}
+use Rattle.kc_machine_ranges.specs.kc_machine_steps.declared.pass.PassStep.TheVariants.{Decide}
+use Rattle.kc_machine_ranges.specs.kc_machine_steps.declared.task.Event.{Event}
+use Rattle.kc_machine_ranges.specs.kc_machine_traces.Entries.{own_intent}
+use Rattle.kc_machine_ranges.specs.kc_machine_traces.Swaps.{SwapOf}
+use Rattle.kc_machine_ranges.specs.kc_machine_words.declared.words.Handle.{Handle}
+use Rattle.kc_machine_ranges.specs.kc_machine_words.declared.words.Phase.TheVariants.{Active, Succeeded}
 
 abbrev pub own_of : Opening → List Event → ℕ → Own
 own_of o es k = (stand ((run o es).seats k)).own

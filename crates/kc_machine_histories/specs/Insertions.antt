@@ -1,7 +1,7 @@
 -- An entry that comes to a history at its place.
 use Rattle.std.specs.Prelude.{◌≡◌, ◌≢◌, ℕ, ◌<◌, true, Option, None, Contains}
 use Rattle.std.specs.Option.{is_some}
-use Rattle.kc_machine_claims.specs.Histories.{History, Placed, at_place, FindsInstalled, installs}
+use Rattle.kc_machine_ranges.specs.kc_machine_claims.Histories.{History, Placed, at_place, FindsInstalled, installs}
 use Rattle.kc_model.specs.Footprint.{Reads, put_at}
 use Rattle.kc_model.specs.Store.{Store}
 use Rattle.kc_model.specs.declared.footprint.Put.{Put}

@@ -1,18 +1,18 @@
 -- What nothing later touches.
 use Rattle.std.specs.Prelude.{◌≡◌, ◌≢◌, ◌<◌, ℕ, List, Contains, None, Some, take, true}
-use Rattle.kc_machine.specs.Machine.{Opening, run}
-use Rattle.kc_machine_claims.specs.Histories.{History, Placed}
-use Rattle.kc_machine_claims.specs.Traces.{trace}
-use Rattle.kc_machine_effects.specs.Stands.{Over, Turn}
+use Rattle.kc_machine_ranges.specs.kc_machine.Machine.{Opening, run}
+use Rattle.kc_machine_ranges.specs.kc_machine_claims.Histories.{History, Placed}
+use Rattle.kc_machine_ranges.specs.kc_machine_claims.Traces.{trace}
+use Rattle.kc_machine_ranges.specs.kc_machine_effects.Stands.{Over, Turn}
 use Rattle.kc_machine_histories.specs.Insertions.{put_by}
 use Rattle.kc_machine_histories.specs.Places.{pass_of, place_of}
-use Rattle.kc_machine_steps.specs.Lines.{is_installed}
-use Rattle.kc_machine_steps.specs.Passes.{status}
+use Rattle.kc_machine_ranges.specs.kc_machine_steps.Lines.{is_installed}
+use Rattle.kc_machine_ranges.specs.kc_machine_steps.Passes.{status}
 use Rattle.kc_model.specs.declared.footprint.Line.{Line}
-use Rattle.kc_machine_steps.specs.declared.task.Event.{Event}
-use Rattle.kc_machine_words.specs.declared.words.Handle.{Handle}
-use Rattle.kc_machine_words.specs.declared.words.Mode.{Mode}
-use Rattle.kc_machine_words.specs.declared.words.Phase.TheVariants.{Active}
+use Rattle.kc_machine_ranges.specs.kc_machine_steps.declared.task.Event.{Event}
+use Rattle.kc_machine_ranges.specs.kc_machine_words.declared.words.Handle.{Handle}
+use Rattle.kc_machine_ranges.specs.kc_machine_words.declared.words.Mode.{Mode}
+use Rattle.kc_machine_ranges.specs.kc_machine_words.declared.words.Phase.TheVariants.{Active}
 use Rattle.kc_model.specs.Footprint.{Reads}
 use Rattle.kc_model.specs.declared.footprint.Seen.{Seen}
 

@@ -1,9 +1,9 @@
 -- The places of passes.
 use Rattle.std.specs.Prelude.{ℕ, List, Option}
-use Rattle.kc_machine.specs.Machine.{Opening, run}
-use Rattle.kc_machine_claims.specs.Traces.{trace}
-use Rattle.kc_machine_effects.specs.Stands.{Passing, stand}
-use Rattle.kc_machine_steps.specs.declared.task.Event.{Event}
+use Rattle.kc_machine_ranges.specs.kc_machine.Machine.{Opening, run}
+use Rattle.kc_machine_ranges.specs.kc_machine_claims.Traces.{trace}
+use Rattle.kc_machine_ranges.specs.kc_machine_effects.Stands.{Passing, stand}
+use Rattle.kc_machine_ranges.specs.kc_machine_steps.declared.task.Event.{Event}
 
 -- of seat k
 abbrev pub pass_of : Opening → List Event → ℕ → Passing

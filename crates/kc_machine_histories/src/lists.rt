@@ -6,8 +6,8 @@ ghost use Rattle.kc_model.specs.declared.footprint.Footprint.{Footprint};
 ghost use Rattle.kc_model.specs.declared.footprint.Seen.{Seen};
 ghost use Rattle.kc_model.specs.Footprint.{IsWellMade};
 ghost use Rattle.kc_model.specs.Store.{Finds, Store, cell_after};
-ghost use Rattle.kc_machine_steps.specs.Lines.{lines_of};
-ghost use Rattle.kc_machine_claims.specs.Histories.{
+ghost use Rattle.kc_machine_ranges.specs.kc_machine_steps.Lines.{lines_of};
+ghost use Rattle.kc_machine_ranges.specs.kc_machine_claims.Histories.{
   FindsInstalled,
   Grows,
   History,

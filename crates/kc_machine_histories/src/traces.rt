@@ -2,18 +2,18 @@
 
 ghost use Rattle.std.specs.Prelude.{◌≡◌, Contains, ℕ, ◌<◌, ◌≤◌, ◌⊎◌, ◌++◌, ◌∷◌, List, [], None, Option, Some, length, true};
 ghost use Rattle.std.specs.Option.{is_some};
-ghost use Rattle.kc_machine_words.specs.declared.words.Handle.{Handle};
-ghost use Rattle.kc_machine_words.specs.declared.words.Mode.{Mode};
-ghost use Rattle.kc_machine_steps.specs.declared.line.Intent.{Intent};
+ghost use Rattle.kc_machine_ranges.specs.kc_machine_words.declared.words.Handle.{Handle};
+ghost use Rattle.kc_machine_ranges.specs.kc_machine_words.declared.words.Mode.{Mode};
+ghost use Rattle.kc_machine_ranges.specs.kc_machine_steps.declared.line.Intent.{Intent};
 ghost use Rattle.kc_model.specs.declared.footprint.Line.{Line};
-ghost use Rattle.kc_machine_steps.specs.declared.task.Event.{Event};
-ghost use Rattle.kc_machine.specs.Machine.{Opening, run, seat_of};
-ghost use Rattle.kc_machine_effects.specs.Stands.{Over, Turn};
-ghost use Rattle.kc_machine.specs.Schedules.{IsSchedule};
+ghost use Rattle.kc_machine_ranges.specs.kc_machine_steps.declared.task.Event.{Event};
+ghost use Rattle.kc_machine_ranges.specs.kc_machine.Machine.{Opening, run, seat_of};
+ghost use Rattle.kc_machine_ranges.specs.kc_machine_effects.Stands.{Over, Turn};
+ghost use Rattle.kc_machine_ranges.specs.kc_machine.Schedules.{IsSchedule};
 ghost use Rattle.kc_model.specs.declared.footprint.Seen.{Seen};
 ghost use Rattle.kc_model.specs.Store.{cell_after};
-ghost use Rattle.kc_machine_claims.specs.Claims.{HistoriesGrow, SuccessesHaveTheirEntry, SwapsHaveTheirEntry, history_at};
-ghost use Rattle.kc_machine_claims.specs.Histories.{
+ghost use Rattle.kc_machine_ranges.specs.kc_machine_claims.Claims.{HistoriesGrow, SuccessesHaveTheirEntry, SwapsHaveTheirEntry, history_at};
+ghost use Rattle.kc_machine_ranges.specs.kc_machine_claims.Histories.{
   EntriesDiffer,
   FindsInstalled,
   Grows,
@@ -25,9 +25,9 @@ ghost use Rattle.kc_machine_claims.specs.Histories.{
   ending,
   inserted,
 };
-ghost use Rattle.kc_machine_claims.specs.Traces.{IsHonest, first_store, is_placed, trace};
-ghost use Rattle.kc_machine_traces.specs.Entries.{own_intent};
-ghost use Rattle.kc_machine_traces.specs.Swaps.{SwapOf};
+ghost use Rattle.kc_machine_ranges.specs.kc_machine_claims.Traces.{IsHonest, first_store, is_placed, trace};
+ghost use Rattle.kc_machine_ranges.specs.kc_machine_traces.Entries.{own_intent};
+ghost use Rattle.kc_machine_ranges.specs.kc_machine_traces.Swaps.{SwapOf};
 ghost use Rattle.kc_machine_histories.specs.Decisions.{Decision, MovesByDecision, own_of};
 ghost use Rattle.kc_machine_histories.specs.Insertions.{IsBelowPlace, IsNewPlace, put_by};
 ghost use Rattle.kc_machine_histories.specs.Later.{NothingLaterTouches, NothingLaterTouchesAlong};

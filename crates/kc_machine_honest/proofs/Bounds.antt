@@ -4,26 +4,26 @@ use Rattle.std.specs.List.{filter}
 use Rattle.std.proofs.lemmas.List.Filters.{length-filter_both}
 use Rattle.kc_model.specs.Store.{Store}
 use Rattle.std.specs.Prelude.{slice_get}
-use Rattle.kc_machine.specs.Machine.{Opening}
-use Rattle.kc_machine.specs.Schedules.{IsSchedule}
-use Rattle.kc_machine_claims.proofs.ByPlace.{low}
-use Rattle.kc_machine_claims.specs.Histories.{History, putting, cell_of}
-use Rattle.kc_machine_claims.specs.Traces.{trace, first_store, IsHonest}
-use Rattle.kc_machine_histories.proofs.Begun.{owners_began_before}
-use Rattle.kc_machine_histories.proofs.Filters.{filter_twice}
-use Rattle.kc_machine_histories.proofs.Growing.{grows_once}
-use Rattle.kc_machine_histories.proofs.Growth.{version_is, bounded, same_at}
-use Rattle.kc_machine_histories.proofs.Insertions.{puts}
-use Rattle.kc_machine_histories.proofs.Places.{begun_below}
-use Rattle.kc_machine_histories.specs.Insertions.{IsBelowPlace}
-use Rattle.kc_machine_histories.specs.Later.{DecidesSoon}
+use Rattle.kc_machine_resolving.specs.kc_machine.Machine.{Opening}
+use Rattle.kc_machine_resolving.specs.kc_machine.Schedules.{IsSchedule}
+use Rattle.kc_machine_resolving.proofs.kc_machine_claims.ByPlace.{low}
+use Rattle.kc_machine_resolving.specs.kc_machine_claims.Histories.{History, putting, cell_of}
+use Rattle.kc_machine_resolving.specs.kc_machine_claims.Traces.{trace, first_store, IsHonest}
+use Rattle.kc_machine_resolving.proofs.kc_machine_histories.Begun.{owners_began_before}
+use Rattle.kc_machine_resolving.proofs.kc_machine_histories.Filters.{filter_twice}
+use Rattle.kc_machine_resolving.proofs.kc_machine_histories.Growing.{grows_once}
+use Rattle.kc_machine_resolving.proofs.kc_machine_histories.Growth.{version_is, bounded, same_at}
+use Rattle.kc_machine_resolving.proofs.kc_machine_histories.Insertions.{puts}
+use Rattle.kc_machine_resolving.proofs.kc_machine_histories.Places.{begun_below}
+use Rattle.kc_machine_resolving.specs.kc_machine_histories.Insertions.{IsBelowPlace}
+use Rattle.kc_machine_resolving.specs.kc_machine_histories.Later.{DecidesSoon}
 use Rattle.kc_machine_honest.proofs.Known.{OwnerAsked, owner_asked, begun, begun_grows, line_known_then}
 use Rattle.kc_machine_honest.specs.Honest.{ends_at, stands_at}
 use Rattle.kc_machine_resolving.proofs.Growing.{known}
 use Rattle.kc_model.specs.declared.footprint.Line.{Line}
-use Rattle.kc_machine_steps.specs.declared.task.Event.{Event}
-use Rattle.kc_machine_traces.proofs.Known.{versions_rise}
-use Rattle.kc_machine_words.specs.declared.words.Mode.{Mode}
+use Rattle.kc_machine_resolving.specs.kc_machine_steps.declared.task.Event.{Event}
+use Rattle.kc_machine_resolving.proofs.kc_machine_traces.Known.{versions_rise}
+use Rattle.kc_machine_resolving.specs.kc_machine_words.declared.words.Mode.{Mode}
 
 module _ (o : Opening) (es : List Event) where
   abbrev s : Store

@@ -3,26 +3,26 @@ use Rattle.std.proofs.Common.{◌≡◌, ◌≤◌, ◌⊎◌, inl, inr, ℕ, �
 use Rattle.std.specs.Option.{is_some}
 use borrow.Author.Tests.{eqb-true, eqb-false}
 use Rattle.kc_model.specs.declared.footprint.Line.{Line}
-use Rattle.kc_machine_steps.specs.declared.pass.AfterCheck.{AfterCheck}
-use Rattle.kc_machine_steps.specs.declared.pass.PassStep.{PassStep}
-use Rattle.kc_machine_steps.specs.declared.pass.PassStep.TheVariants.{CheckDrop}
-use Rattle.kc_machine_words.specs.declared.words.Handle.{Handle}
-use Rattle.kc_machine_words.specs.declared.words.Mode.{Mode}
-use Rattle.kc_machine_words.specs.declared.words.Reference.{Reference}
-use Rattle.kc_machine_steps.specs.declared.pass.PassNext.TheVariants as pass
-use Rattle.kc_machine.specs.Machine.{State, Opening, found_at, event_of, seat_of, run}
-use Rattle.kc_machine_claims.specs.Traces.{is_placed, is_placed_at}
-use Rattle.kc_machine_effects.specs.Stands.{Over, At, stand}
-use Rattle.kc_machine_histories.proofs.Places.{has_place, place_was}
-use Rattle.kc_machine_histories.specs.Later.{DecidesSoon}
-use Rattle.kc_machine_histories.specs.Places.{pass_of, place_of}
+use Rattle.kc_machine_resolving.specs.kc_machine_steps.declared.pass.AfterCheck.{AfterCheck}
+use Rattle.kc_machine_resolving.specs.kc_machine_steps.declared.pass.PassStep.{PassStep}
+use Rattle.kc_machine_resolving.specs.kc_machine_steps.declared.pass.PassStep.TheVariants.{CheckDrop}
+use Rattle.kc_machine_resolving.specs.kc_machine_words.declared.words.Handle.{Handle}
+use Rattle.kc_machine_resolving.specs.kc_machine_words.declared.words.Mode.{Mode}
+use Rattle.kc_machine_resolving.specs.kc_machine_words.declared.words.Reference.{Reference}
+use Rattle.kc_machine_resolving.specs.kc_machine_steps.declared.pass.PassNext.TheVariants as pass
+use Rattle.kc_machine_resolving.specs.kc_machine.Machine.{State, Opening, found_at, event_of, seat_of, run}
+use Rattle.kc_machine_resolving.specs.kc_machine_claims.Traces.{is_placed, is_placed_at}
+use Rattle.kc_machine_resolving.specs.kc_machine_effects.Stands.{Over, At, stand}
+use Rattle.kc_machine_resolving.proofs.kc_machine_histories.Places.{has_place, place_was}
+use Rattle.kc_machine_resolving.specs.kc_machine_histories.Later.{DecidesSoon}
+use Rattle.kc_machine_resolving.specs.kc_machine_histories.Places.{pass_of, place_of}
 use Rattle.kc_machine_resolving.proofs.Before.{was_soon}
 use Rattle.kc_machine_resolving.proofs.Ways.{judges, placed_judges, Way, stays, steps, enters, halts, Onto, event_onto}
 use Rattle.kc_machine_resolving.specs.Settled.{checked_by}
-use Rattle.kc_machine_steps.specs.Passes.{from_install, pass_access, pass_next}
-use Rattle.kc_machine_steps.specs.declared.task.Event.{Event}
-use Rattle.kc_machine_traces.proofs.Joins.{run-append}
-use Rattle.kc_machine_traces.proofs.Others.{event_else}
+use Rattle.kc_machine_resolving.specs.kc_machine_steps.Passes.{from_install, pass_access, pass_next}
+use Rattle.kc_machine_resolving.specs.kc_machine_steps.declared.task.Event.{Event}
+use Rattle.kc_machine_resolving.proofs.kc_machine_traces.Joins.{run-append}
+use Rattle.kc_machine_resolving.proofs.kc_machine_traces.Others.{event_else}
 
 -- by which way a pass stands where it judges behind an event: another's event leaves it
 module _ (o : Opening) (es : List Event) (e : Event) (k : ℕ) (h : Handle) (mode : Mode) (xs : List Line) (q : PassStep) (over : pass_of o (es ++ e ∷ []) k ≡ Over h mode xs (At q)) (j : judges q ≡ true) where

@@ -3,76 +3,76 @@ use Rattle.std.proofs.Common.{arith, ◌≡◌, ◌<◌, ◌⊎◌, inl, inr, �
 use Rattle.std.specs.Prelude.{nat_lt, slice_get, bit_and}
 use Rattle.std.proofs.lemmas.Bool.{ltb-true}
 use borrow.Author.Tests.{eqb-true, eqb-false}
-use Rattle.kc_machine_steps.specs.declared.line.Intent.{Intent}
+use Rattle.kc_machine_resolving.specs.kc_machine_steps.declared.line.Intent.{Intent}
 use Rattle.kc_model.specs.declared.footprint.Line.{Line}
-use Rattle.kc_machine_steps.specs.declared.look.LookNext.{LookNext}
-use Rattle.kc_machine_words.specs.declared.access.Found.{Found}
-use Rattle.kc_machine_words.specs.declared.access.Found.TheVariants as found
-use Rattle.kc_machine_words.specs.declared.words.Handle.{Handle}
-use Rattle.kc_machine_words.specs.declared.words.Mode.{Mode}
-use Rattle.kc_machine_words.specs.declared.words.Phase.{Phase}
-use Rattle.kc_machine_words.specs.declared.words.Phase.TheVariants.{Active, Succeeded, Failed, Crossed, Halted}
-use Rattle.kc_machine_words.specs.declared.words.Status.{Status}
+use Rattle.kc_machine_resolving.specs.kc_machine_steps.declared.look.LookNext.{LookNext}
+use Rattle.kc_machine_resolving.specs.kc_machine_words.declared.access.Found.{Found}
+use Rattle.kc_machine_resolving.specs.kc_machine_words.declared.access.Found.TheVariants as found
+use Rattle.kc_machine_resolving.specs.kc_machine_words.declared.words.Handle.{Handle}
+use Rattle.kc_machine_resolving.specs.kc_machine_words.declared.words.Mode.{Mode}
+use Rattle.kc_machine_resolving.specs.kc_machine_words.declared.words.Phase.{Phase}
+use Rattle.kc_machine_resolving.specs.kc_machine_words.declared.words.Phase.TheVariants.{Active, Succeeded, Failed, Crossed, Halted}
+use Rattle.kc_machine_resolving.specs.kc_machine_words.declared.words.Status.{Status}
 use Rattle.kc_model.specs.declared.footprint.Footprint.{Footprint}
 use Rattle.kc_model.specs.declared.footprint.Seen.{Seen}
 use Rattle.kc_model.specs.declared.word.Word.TheVariants.{Plain, Ref}
-use Rattle.kc_machine_steps.specs.declared.look.LookNext.TheVariants as looking
-use Rattle.kc_machine_commits.specs.declared.commit.Commit.{Commit}
-use Rattle.kc_machine_commits.specs.declared.commit.Stage.{Stage}
-use Rattle.kc_machine_steps.specs.declared.pass.PassStep.TheVariants.{Decide}
-use Rattle.kc_machine_commits.specs.declared.commit.Stage.TheVariants as stage
-use Rattle.kc_machine_commits.specs.declared.commit.OwnStep.{OwnStep}
-use Rattle.kc_machine_commits.specs.declared.commit.OwnStep.TheVariants as own
-use Rattle.kc_machine_steps.specs.declared.task.Task.{Task}
-use Rattle.kc_machine_steps.specs.declared.task.Task.TheVariants as task
-use Rattle.kc_machine_steps.specs.declared.task.Told.TheVariants as told
-use Rattle.kc_machine_steps.specs.declared.task.Onward.{Onward}
-use Rattle.kc_machine_steps.specs.declared.task.Onward.TheVariants as onward
-use Rattle.kc_machine.specs.declared.hang.HangStep.{HangStep}
-use Rattle.kc_machine_commits.specs.Commits.{told_of, stage_next, loaded, onward_by}
-use Rattle.kc_machine_commits.specs.Halts.{unowned}
-use Rattle.kc_machine_steps.specs.Lines.{after_line, one_more}
-use Rattle.kc_machine_steps.specs.Looks.{look_next, look_after, told_by, look_tells, halts_at_once}
-use Rattle.kc_machine_steps.specs.Passes.{status}
-use Rattle.kc_machine_steps.specs.declared.task.Event.{Event}
-use Rattle.kc_machine_steps.specs.declared.task.Event.TheVariants.{Begin, Step, Halt}
-use Rattle.kc_machine_steps.specs.declared.swap.SwapNext.TheVariants as swapping
-use Rattle.kc_machine_steps.specs.declared.swap.SwapStep.{SwapStep}
-use Rattle.kc_machine_steps.specs.declared.swap.SwapStep.TheVariants as swap
-use Rattle.kc_machine_steps.specs.Swaps.{ends_at_once, may_swap, owed_next, swap_next_at, swap_onward}
-use Rattle.kc_machine_steps.specs.Swaps.{onward_of as onward_of_swap}
-use Rattle.kc_machine.specs.declared.hang.HangStep.TheVariants as hang
-use Rattle.kc_machine.specs.declared.hang.HangNext.TheVariants as hanging
-use Rattle.kc_machine.specs.Hangs.{hang_next, onward_of, look_of, look_goes_on, look_or_end, clear_or_changed, unblocks_or_tells, next_read}
-use Rattle.kc_machine.specs.Works.{Work}
-use Rattle.kc_machine.specs.Works as work
-use Rattle.kc_machine.proofs.Functions.{put_cases, put_here}
-use Rattle.kc_machine.specs.Machine.{World, State, Opening, found_at, event_of, seat_of, run}
-use Rattle.kc_machine.specs.Schedules.{IsSchedule}
-use Rattle.kc_machine.specs.Seats.{access_of, answer_of, answer_by, after, is_idle, begun, halted, halted_by, ended, work_access}
-use Rattle.kc_machine.specs.declared.seat.Seat.{Seat}
-use Rattle.kc_machine_claims.specs.Traces.{IsHonest, trace}
-use Rattle.kc_machine_effects.specs.Holds.{NoHold, Proper, own_hold}
-use Rattle.kc_machine_effects.specs.Stands.{Owns, Over, At, stand, works, resting}
-use Rattle.kc_machine_histories.proofs.Calls.{own_goes}
-use Rattle.kc_machine_histories.proofs.Successes.{Stays, Starts, moves, kept}
-use Rattle.kc_machine_histories.proofs.Knew.{at_work}
+use Rattle.kc_machine_resolving.specs.kc_machine_steps.declared.look.LookNext.TheVariants as looking
+use Rattle.kc_machine_resolving.specs.kc_machine_commits.declared.commit.Commit.{Commit}
+use Rattle.kc_machine_resolving.specs.kc_machine_commits.declared.commit.Stage.{Stage}
+use Rattle.kc_machine_resolving.specs.kc_machine_steps.declared.pass.PassStep.TheVariants.{Decide}
+use Rattle.kc_machine_resolving.specs.kc_machine_commits.declared.commit.Stage.TheVariants as stage
+use Rattle.kc_machine_resolving.specs.kc_machine_commits.declared.commit.OwnStep.{OwnStep}
+use Rattle.kc_machine_resolving.specs.kc_machine_commits.declared.commit.OwnStep.TheVariants as own
+use Rattle.kc_machine_resolving.specs.kc_machine_steps.declared.task.Task.{Task}
+use Rattle.kc_machine_resolving.specs.kc_machine_steps.declared.task.Task.TheVariants as task
+use Rattle.kc_machine_resolving.specs.kc_machine_steps.declared.task.Told.TheVariants as told
+use Rattle.kc_machine_resolving.specs.kc_machine_steps.declared.task.Onward.{Onward}
+use Rattle.kc_machine_resolving.specs.kc_machine_steps.declared.task.Onward.TheVariants as onward
+use Rattle.kc_machine_resolving.specs.kc_machine.declared.hang.HangStep.{HangStep}
+use Rattle.kc_machine_resolving.specs.kc_machine_commits.Commits.{told_of, stage_next, loaded, onward_by}
+use Rattle.kc_machine_resolving.specs.kc_machine_commits.Halts.{unowned}
+use Rattle.kc_machine_resolving.specs.kc_machine_steps.Lines.{after_line, one_more}
+use Rattle.kc_machine_resolving.specs.kc_machine_steps.Looks.{look_next, look_after, told_by, look_tells, halts_at_once}
+use Rattle.kc_machine_resolving.specs.kc_machine_steps.Passes.{status}
+use Rattle.kc_machine_resolving.specs.kc_machine_steps.declared.task.Event.{Event}
+use Rattle.kc_machine_resolving.specs.kc_machine_steps.declared.task.Event.TheVariants.{Begin, Step, Halt}
+use Rattle.kc_machine_resolving.specs.kc_machine_steps.declared.swap.SwapNext.TheVariants as swapping
+use Rattle.kc_machine_resolving.specs.kc_machine_steps.declared.swap.SwapStep.{SwapStep}
+use Rattle.kc_machine_resolving.specs.kc_machine_steps.declared.swap.SwapStep.TheVariants as swap
+use Rattle.kc_machine_resolving.specs.kc_machine_steps.Swaps.{ends_at_once, may_swap, owed_next, swap_next_at, swap_onward}
+use Rattle.kc_machine_resolving.specs.kc_machine_steps.Swaps.{onward_of as onward_of_swap}
+use Rattle.kc_machine_resolving.specs.kc_machine.declared.hang.HangStep.TheVariants as hang
+use Rattle.kc_machine_resolving.specs.kc_machine.declared.hang.HangNext.TheVariants as hanging
+use Rattle.kc_machine_resolving.specs.kc_machine.Hangs.{hang_next, onward_of, look_of, look_goes_on, look_or_end, clear_or_changed, unblocks_or_tells, next_read}
+use Rattle.kc_machine_resolving.specs.kc_machine.Works.{Work}
+use Rattle.kc_machine_resolving.specs.kc_machine.Works as work
+use Rattle.kc_machine_resolving.proofs.kc_machine.Functions.{put_cases, put_here}
+use Rattle.kc_machine_resolving.specs.kc_machine.Machine.{World, State, Opening, found_at, event_of, seat_of, run}
+use Rattle.kc_machine_resolving.specs.kc_machine.Schedules.{IsSchedule}
+use Rattle.kc_machine_resolving.specs.kc_machine.Seats.{access_of, answer_of, answer_by, after, is_idle, begun, halted, halted_by, ended, work_access}
+use Rattle.kc_machine_resolving.specs.kc_machine.declared.seat.Seat.{Seat}
+use Rattle.kc_machine_resolving.specs.kc_machine_claims.Traces.{IsHonest, trace}
+use Rattle.kc_machine_resolving.specs.kc_machine_effects.Holds.{NoHold, Proper, own_hold}
+use Rattle.kc_machine_resolving.specs.kc_machine_effects.Stands.{Owns, Over, At, stand, works, resting}
+use Rattle.kc_machine_resolving.proofs.kc_machine_histories.Calls.{own_goes}
+use Rattle.kc_machine_resolving.proofs.kc_machine_histories.Successes.{Stays, Starts, moves, kept}
+use Rattle.kc_machine_resolving.proofs.kc_machine_histories.Knew.{at_work}
 use Rattle.kc_machine_honest.proofs.Failing.{later_past, failing_on}
 use Rattle.kc_machine_honest.proofs.Known.{owner_asked, line_is}
 use Rattle.kc_machine_honest.proofs.Missing.{unfit_swap_past}
 use Rattle.kc_machine_honest.specs.Causes.{PassesFailByPastLines, PastRead, OwnersFailByPastReads, ToldOfPastReads, IsPast, SwapsToldOfPastReads}
-use Rattle.kc_machine_pool.proofs.LifeLaws.{owners_differ, statuses_follow, phase_known}
-use Rattle.kc_machine_pool.specs.Owners.{OwnsLife, Follows, is_filling, phase_read}
+use Rattle.kc_machine_resolving.proofs.kc_machine_pool.LifeLaws.{owners_differ, statuses_follow, phase_known}
+use Rattle.kc_machine_resolving.specs.kc_machine_pool.Owners.{OwnsLife, Follows, is_filling, phase_read}
 use Rattle.kc_machine_resolving.proofs.Changes.{Changes, other, filled, started, installed, released, decided, event_changes}
-use Rattle.kc_machine_seats.proofs.Searches.{scanned, taken}
-use Rattle.kc_machine_traces.proofs.Answers.{moved, seat_cases, answers_when_done}
-use Rattle.kc_machine_traces.proofs.Joins.{run-append, every, made_parts, honest_parts}
-use Rattle.kc_machine_traces.proofs.Others.{run_shape, event_in, event_out, event_else}
-use Rattle.kc_machine_traces.proofs.Onward.{Left}
-use Rattle.kc_machine_traces.specs.Moments.{BeginsNothing}
-use Rattle.kc_machine_traces.specs.Parts.{IsNoStep}
-use Rattle.kc_machine_traces.specs.Swaps.{swap_at}
-use Rattle.kc_machine_traces.specs.Entries.{by, own_intent}
+use Rattle.kc_machine_resolving.proofs.kc_machine_seats.Searches.{scanned, taken}
+use Rattle.kc_machine_resolving.proofs.kc_machine_traces.Answers.{moved, seat_cases, answers_when_done}
+use Rattle.kc_machine_resolving.proofs.kc_machine_traces.Joins.{run-append, every, made_parts, honest_parts}
+use Rattle.kc_machine_resolving.proofs.kc_machine_traces.Others.{run_shape, event_in, event_out, event_else}
+use Rattle.kc_machine_resolving.proofs.kc_machine_traces.Onward.{Left}
+use Rattle.kc_machine_resolving.specs.kc_machine_traces.Moments.{BeginsNothing}
+use Rattle.kc_machine_resolving.specs.kc_machine_traces.Parts.{IsNoStep}
+use Rattle.kc_machine_resolving.specs.kc_machine_traces.Swaps.{swap_at}
+use Rattle.kc_machine_resolving.specs.kc_machine_traces.Entries.{by, own_intent}
 
 -- ---- who is told that it failed stood at its drop, or was to swap and found a word that is another
 

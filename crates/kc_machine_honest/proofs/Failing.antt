@@ -3,49 +3,49 @@ use Rattle.std.proofs.Common.{arith, ◌≡◌, ◌<◌, ◌⊎◌, inl, inr, �
 use Rattle.std.specs.Prelude.{slice_get}
 use Rattle.std.specs.Option.{is_some}
 use borrow.Author.Tests.{eqb-false, eq-eqb}
-use Rattle.kc_machine_words.specs.declared.words.Handle.{Handle}
-use Rattle.kc_machine_words.specs.declared.words.Mode.{Mode}
-use Rattle.kc_machine_words.specs.declared.words.Phase.{Phase}
-use Rattle.kc_machine_words.specs.declared.words.Phase.TheVariants.{Active, Succeeded, Failed, Crossed, Halted}
-use Rattle.kc_machine_words.specs.declared.words.Reference.{Reference}
+use Rattle.kc_machine_resolving.specs.kc_machine_words.declared.words.Handle.{Handle}
+use Rattle.kc_machine_resolving.specs.kc_machine_words.declared.words.Mode.{Mode}
+use Rattle.kc_machine_resolving.specs.kc_machine_words.declared.words.Phase.{Phase}
+use Rattle.kc_machine_resolving.specs.kc_machine_words.declared.words.Phase.TheVariants.{Active, Succeeded, Failed, Crossed, Halted}
+use Rattle.kc_machine_resolving.specs.kc_machine_words.declared.words.Reference.{Reference}
 use Rattle.kc_model.specs.declared.footprint.Seen.{Seen}
 use Rattle.kc_model.specs.declared.plain_store.Cell.{Cell}
 use Rattle.kc_model.specs.declared.word.Word.{Word}
 use Rattle.kc_model.specs.declared.word.Word.TheVariants.{Plain, Ref}
-use Rattle.kc_machine_words.specs.declared.access.Found.TheVariants as found
+use Rattle.kc_machine_resolving.specs.kc_machine_words.declared.access.Found.TheVariants as found
 use Rattle.kc_model.specs.declared.footprint.Line.{Line}
-use Rattle.kc_machine_steps.specs.declared.line.Pick.TheVariants.{Installed, Checked}
-use Rattle.kc_machine_steps.specs.declared.pass.AfterCheck.{AfterCheck}
-use Rattle.kc_machine_steps.specs.declared.pass.PassStep.{PassStep}
-use Rattle.kc_machine_steps.specs.declared.pass.PassStep.TheVariants.{Install, Check, CheckHold, CheckStatus, CheckFirst, CheckDrop, Decide, Release}
-use Rattle.kc_machine_steps.specs.declared.pass.AfterCheck.TheVariants as checked
-use Rattle.kc_machine_steps.specs.declared.pass.PassNext.TheVariants as pass
-use Rattle.kc_machine.specs.Machine.{State, Opening, found_at, run}
-use Rattle.kc_machine.specs.Schedules.{IsSchedule}
-use Rattle.kc_machine_claims.specs.Claims.{stands_for}
-use Rattle.kc_machine_claims.specs.Histories.{cell_of}
-use Rattle.kc_machine_claims.specs.Traces.{IsHonest, is_placed}
-use Rattle.kc_machine_effects.specs.Stands.{Over, At}
-use Rattle.kc_machine_histories.proofs.Filters.{found as found_at_index}
-use Rattle.kc_machine_histories.proofs.Places.{has_place}
-use Rattle.kc_machine_histories.specs.Later.{DecidesSoon}
-use Rattle.kc_machine_histories.specs.Places.{pass_of, place_of}
+use Rattle.kc_machine_resolving.specs.kc_machine_steps.declared.line.Pick.TheVariants.{Installed, Checked}
+use Rattle.kc_machine_resolving.specs.kc_machine_steps.declared.pass.AfterCheck.{AfterCheck}
+use Rattle.kc_machine_resolving.specs.kc_machine_steps.declared.pass.PassStep.{PassStep}
+use Rattle.kc_machine_resolving.specs.kc_machine_steps.declared.pass.PassStep.TheVariants.{Install, Check, CheckHold, CheckStatus, CheckFirst, CheckDrop, Decide, Release}
+use Rattle.kc_machine_resolving.specs.kc_machine_steps.declared.pass.AfterCheck.TheVariants as checked
+use Rattle.kc_machine_resolving.specs.kc_machine_steps.declared.pass.PassNext.TheVariants as pass
+use Rattle.kc_machine_resolving.specs.kc_machine.Machine.{State, Opening, found_at, run}
+use Rattle.kc_machine_resolving.specs.kc_machine.Schedules.{IsSchedule}
+use Rattle.kc_machine_resolving.specs.kc_machine_claims.Claims.{stands_for}
+use Rattle.kc_machine_resolving.specs.kc_machine_claims.Histories.{cell_of}
+use Rattle.kc_machine_resolving.specs.kc_machine_claims.Traces.{IsHonest, is_placed}
+use Rattle.kc_machine_resolving.specs.kc_machine_effects.Stands.{Over, At}
+use Rattle.kc_machine_resolving.proofs.kc_machine_histories.Filters.{found as found_at_index}
+use Rattle.kc_machine_resolving.proofs.kc_machine_histories.Places.{has_place}
+use Rattle.kc_machine_resolving.specs.kc_machine_histories.Later.{DecidesSoon}
+use Rattle.kc_machine_resolving.specs.kc_machine_histories.Places.{pass_of, place_of}
 use Rattle.kc_machine_honest.proofs.Bounds.{line_low, versions_on}
 use Rattle.kc_machine_honest.proofs.Came.{way_to}
 use Rattle.kc_machine_honest.proofs.Known.{OwnerAsked, owner_asked, line_within}
 use Rattle.kc_machine_honest.proofs.Stood.{stood}
 use Rattle.kc_machine_honest.specs.Causes.{IsPast, fails_at, PassesFailByPastLines}
 use Rattle.kc_machine_honest.specs.Honest.{ends_at, ResolvesBetween}
-use Rattle.kc_machine_passes.specs.Passed.{IsActive}
+use Rattle.kc_machine_resolving.specs.kc_machine_passes.Passed.{IsActive}
 use Rattle.kc_machine_resolving.proofs.Before.{level, active_back}
 use Rattle.kc_machine_resolving.proofs.ReadLines.{pass_stands_or_past}
 use Rattle.kc_machine_resolving.proofs.Resolving.{words_resolve}
 use Rattle.kc_machine_resolving.proofs.Ways.{judges, Way, stays, steps, enters, halts}
-use Rattle.kc_machine_steps.specs.Lines.{after_line, next_line, resolved_version}
-use Rattle.kc_machine_steps.specs.Looks.{reference_of}
-use Rattle.kc_machine_steps.specs.Passes.{fits, from_check, check_or_decide, from_install, install_or_check, release_or_finish, pass_access, check_access, install_access, pass_next, install_found, refers_to, check_found, crossed_or_first, agrees_or_fails, check_first_found, decided_as}
-use Rattle.kc_machine_steps.specs.declared.task.Event.{Event}
-use Rattle.kc_machine_traces.proofs.Joins.{run-append}
+use Rattle.kc_machine_resolving.specs.kc_machine_steps.Lines.{after_line, next_line, resolved_version}
+use Rattle.kc_machine_resolving.specs.kc_machine_steps.Looks.{reference_of}
+use Rattle.kc_machine_resolving.specs.kc_machine_steps.Passes.{fits, from_check, check_or_decide, from_install, install_or_check, release_or_finish, pass_access, check_access, install_access, pass_next, install_found, refers_to, check_found, crossed_or_first, agrees_or_fails, check_first_found, decided_as}
+use Rattle.kc_machine_resolving.specs.kc_machine_steps.declared.task.Event.{Event}
+use Rattle.kc_machine_resolving.proofs.kc_machine_traces.Joins.{run-append}
 
 -- ---- steps that don't fail
 

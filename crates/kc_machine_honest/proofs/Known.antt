@@ -2,47 +2,47 @@
 use Rattle.std.proofs.Common.{Bool, arith, ◌≡◌, ◌<◌, ℕ, zero, suc, true, false, List, [], ◌∷◌, map, Option, None, Some, refl, sym, ap, subst, ◌∙◌}
 use Rattle.std.specs.Prelude.{slice_get}
 use Rattle.std.specs.Option.{is_some}
-use Rattle.kc_machine_steps.specs.declared.line.Intent.{Intent}
+use Rattle.kc_machine_resolving.specs.kc_machine_steps.declared.line.Intent.{Intent}
 use Rattle.kc_model.specs.declared.footprint.Line.{Line}
-use Rattle.kc_machine_steps.specs.declared.task.Task.{Task}
-use Rattle.kc_machine_words.specs.declared.words.Handle.{Handle}
-use Rattle.kc_machine_words.specs.declared.words.Mode.{Mode}
-use Rattle.kc_machine_words.specs.declared.words.Phase.TheVariants.{Active}
+use Rattle.kc_machine_resolving.specs.kc_machine_steps.declared.task.Task.{Task}
+use Rattle.kc_machine_resolving.specs.kc_machine_words.declared.words.Handle.{Handle}
+use Rattle.kc_machine_resolving.specs.kc_machine_words.declared.words.Mode.{Mode}
+use Rattle.kc_machine_resolving.specs.kc_machine_words.declared.words.Phase.TheVariants.{Active}
 use Rattle.kc_model.specs.declared.footprint.Footprint.{Footprint}
 use Rattle.kc_model.specs.declared.footprint.Put.{Put}
 use Rattle.kc_model.specs.declared.footprint.Seen.{Seen}
-use Rattle.kc_machine_steps.specs.declared.task.Task.TheVariants as task
-use Rattle.kc_machine.specs.Works.{Work}
-use Rattle.kc_machine_steps.specs.Lines.{line_of, lines_of}
-use Rattle.kc_machine_steps.specs.Passes.{status}
-use Rattle.kc_machine_steps.specs.declared.task.Event.{Event}
-use Rattle.kc_machine.specs.Works as work
-use Rattle.kc_machine.specs.Machine.{Opening, run}
-use Rattle.kc_machine.specs.Schedules.{IsWellMadeTask, IsSchedule}
-use Rattle.kc_machine.specs.Seats.{is_idle}
-use Rattle.kc_machine.specs.declared.seat.Seat.{Seat}
-use Rattle.kc_machine_claims.specs.Histories.{Grows, IsKnown}
-use Rattle.kc_machine_claims.specs.Traces.{Moment, trace, first_store, IsHonest}
-use Rattle.kc_machine_commits.specs.Commits.{intent_of}
-use Rattle.kc_machine_effects.specs.Stands.{Over, Turn}
-use Rattle.kc_machine_histories.proofs.Filters.{found}
-use Rattle.kc_machine_histories.proofs.Knew.{Works, at_work, knew_its_reads}
-use Rattle.kc_machine_histories.proofs.Successes.{kept}
-use Rattle.kc_machine_histories.specs.Decisions.{own_of}
-use Rattle.kc_machine_histories.specs.Places.{pass_of}
-use Rattle.kc_machine_passes.proofs.Words.{over_owners}
-use Rattle.kc_machine_pool.proofs.Filled.{task_held}
-use Rattle.kc_machine_pool.proofs.LifeLaws.{statuses_follow}
-use Rattle.kc_machine_pool.specs.Filled
-use Rattle.kc_machine_pool.specs.Owners.{OwnsLife, Follows, is_filling}
+use Rattle.kc_machine_resolving.specs.kc_machine_steps.declared.task.Task.TheVariants as task
+use Rattle.kc_machine_resolving.specs.kc_machine.Works.{Work}
+use Rattle.kc_machine_resolving.specs.kc_machine_steps.Lines.{line_of, lines_of}
+use Rattle.kc_machine_resolving.specs.kc_machine_steps.Passes.{status}
+use Rattle.kc_machine_resolving.specs.kc_machine_steps.declared.task.Event.{Event}
+use Rattle.kc_machine_resolving.specs.kc_machine.Works as work
+use Rattle.kc_machine_resolving.specs.kc_machine.Machine.{Opening, run}
+use Rattle.kc_machine_resolving.specs.kc_machine.Schedules.{IsWellMadeTask, IsSchedule}
+use Rattle.kc_machine_resolving.specs.kc_machine.Seats.{is_idle}
+use Rattle.kc_machine_resolving.specs.kc_machine.declared.seat.Seat.{Seat}
+use Rattle.kc_machine_resolving.specs.kc_machine_claims.Histories.{Grows, IsKnown}
+use Rattle.kc_machine_resolving.specs.kc_machine_claims.Traces.{Moment, trace, first_store, IsHonest}
+use Rattle.kc_machine_resolving.specs.kc_machine_commits.Commits.{intent_of}
+use Rattle.kc_machine_resolving.specs.kc_machine_effects.Stands.{Over, Turn}
+use Rattle.kc_machine_resolving.proofs.kc_machine_histories.Filters.{found}
+use Rattle.kc_machine_resolving.proofs.kc_machine_histories.Knew.{Works, at_work, knew_its_reads}
+use Rattle.kc_machine_resolving.proofs.kc_machine_histories.Successes.{kept}
+use Rattle.kc_machine_resolving.specs.kc_machine_histories.Decisions.{own_of}
+use Rattle.kc_machine_resolving.specs.kc_machine_histories.Places.{pass_of}
+use Rattle.kc_machine_resolving.proofs.kc_machine_passes.Words.{over_owners}
+use Rattle.kc_machine_resolving.proofs.kc_machine_pool.Filled.{task_held}
+use Rattle.kc_machine_resolving.proofs.kc_machine_pool.LifeLaws.{statuses_follow}
+use Rattle.kc_machine_resolving.specs.kc_machine_pool.Filled
+use Rattle.kc_machine_resolving.specs.kc_machine_pool.Owners.{OwnsLife, Follows, is_filling}
 use Rattle.kc_machine_resolving.proofs.Growing.{grow}
 use Rattle.kc_machine_resolving.proofs.ReadLines.{intent_of_task}
-use Rattle.kc_machine_traces.proofs.Answers.{answers_when_done}
-use Rattle.kc_machine_traces.proofs.Moments.{begun_moment}
-use Rattle.kc_machine_traces.proofs.Onward.{IsIntentOf, Left}
-use Rattle.kc_machine_traces.proofs.Others.{run_shape}
-use Rattle.kc_machine_traces.specs.Entries.{by, own_intent}
-use Rattle.kc_machine_words.specs.declared.words.Status.{Status}
+use Rattle.kc_machine_resolving.proofs.kc_machine_traces.Answers.{answers_when_done}
+use Rattle.kc_machine_resolving.proofs.kc_machine_traces.Moments.{begun_moment}
+use Rattle.kc_machine_resolving.proofs.kc_machine_traces.Onward.{IsIntentOf, Left}
+use Rattle.kc_machine_resolving.proofs.kc_machine_traces.Others.{run_shape}
+use Rattle.kc_machine_resolving.specs.kc_machine_traces.Entries.{by, own_intent}
+use Rattle.kc_machine_resolving.specs.kc_machine_words.declared.words.Status.{Status}
 
 -- ---- what an owner is asked
 

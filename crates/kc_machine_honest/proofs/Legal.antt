@@ -2,21 +2,21 @@
 use Rattle.std.proofs.Common.{arith, ◌≡◌, ◌<◌, ℕ, Bool, true, false, List, [], ◌∷◌, Option, None, Some, refl, sym, ap, subst, ◌∙◌, Contains, length, zero, suc}
 use Rattle.std.specs.Prelude.{slice_get}
 use Rattle.std.specs.Option.{is_some}
-use Rattle.kc_machine.specs.Machine.{World, Opening, seat_of, run}
-use Rattle.kc_machine.specs.Schedules.{IsSchedule}
-use Rattle.kc_machine_claims.specs.Claims.{stands_for}
-use Rattle.kc_machine_claims.specs.Histories.{History, Placed, inserted, at_place, cell_of, IsLegalHistory, footprint_of}
-use Rattle.kc_machine_claims.specs.Traces.{trace, first_store, IsHonest, swap_line}
-use Rattle.kc_machine_effects.specs.Stands.{At}
-use Rattle.kc_machine_histories.proofs.Decisions.{history_moves}
-use Rattle.kc_machine_histories.proofs.Filters.{got}
-use Rattle.kc_machine_histories.proofs.Growing.{line_that_puts, line_that_reads, puts_installed, swap_at}
-use Rattle.kc_machine_histories.proofs.Insertions.{at_new}
-use Rattle.kc_machine_histories.proofs.Legality.{legal_inserted}
-use Rattle.kc_machine_histories.proofs.Places.{rises, new_place, below}
-use Rattle.kc_machine_histories.specs.Decisions.{Decision}
-use Rattle.kc_machine_histories.specs.Insertions.{put_by, NoneReadsAbove, IsBelowPlace}
-use Rattle.kc_machine_histories.specs.Later.{NoneTouchesAbove, DecidesSoon}
+use Rattle.kc_machine_resolving.specs.kc_machine.Machine.{World, Opening, seat_of, run}
+use Rattle.kc_machine_resolving.specs.kc_machine.Schedules.{IsSchedule}
+use Rattle.kc_machine_resolving.specs.kc_machine_claims.Claims.{stands_for}
+use Rattle.kc_machine_resolving.specs.kc_machine_claims.Histories.{History, Placed, inserted, at_place, cell_of, IsLegalHistory, footprint_of}
+use Rattle.kc_machine_resolving.specs.kc_machine_claims.Traces.{trace, first_store, IsHonest, swap_line}
+use Rattle.kc_machine_resolving.specs.kc_machine_effects.Stands.{At}
+use Rattle.kc_machine_resolving.proofs.kc_machine_histories.Decisions.{history_moves}
+use Rattle.kc_machine_resolving.proofs.kc_machine_histories.Filters.{got}
+use Rattle.kc_machine_resolving.proofs.kc_machine_histories.Growing.{line_that_puts, line_that_reads, puts_installed, swap_at}
+use Rattle.kc_machine_resolving.proofs.kc_machine_histories.Insertions.{at_new}
+use Rattle.kc_machine_resolving.proofs.kc_machine_histories.Legality.{legal_inserted}
+use Rattle.kc_machine_resolving.proofs.kc_machine_histories.Places.{rises, new_place, below}
+use Rattle.kc_machine_resolving.specs.kc_machine_histories.Decisions.{Decision}
+use Rattle.kc_machine_resolving.specs.kc_machine_histories.Insertions.{put_by, NoneReadsAbove, IsBelowPlace}
+use Rattle.kc_machine_resolving.specs.kc_machine_histories.Later.{NoneTouchesAbove, DecidesSoon}
 use Rattle.kc_machine_honest.proofs.Bounds.{asked}
 use Rattle.kc_machine_honest.proofs.Known.{line_within}
 use Rattle.kc_machine_honest.proofs.Stood.{stood}
@@ -24,15 +24,15 @@ use Rattle.kc_machine_honest.specs.Honest.{ends_at, stands_at}
 use Rattle.kc_machine_resolving.proofs.Before.{target, most_lines, stands_installed}
 use Rattle.kc_machine_resolving.proofs.Growing.{known}
 use Rattle.kc_machine_resolving.proofs.Resolving.{words_resolve, swap_found}
-use Rattle.kc_machine_steps.specs.Lines.{is_installed, resolved_version, resolved_value}
+use Rattle.kc_machine_resolving.specs.kc_machine_steps.Lines.{is_installed, resolved_version, resolved_value}
 use Rattle.kc_model.specs.declared.footprint.Line.{Line}
-use Rattle.kc_machine_steps.specs.declared.pass.PassStep.TheVariants.{Decide}
-use Rattle.kc_machine_steps.specs.declared.task.Event.{Event}
-use Rattle.kc_machine_traces.proofs.Joins.{every, made_parts, honest_parts}
-use Rattle.kc_machine_traces.specs.Swaps.{SwapOf}
-use Rattle.kc_machine_words.specs.declared.words.Mode.{Mode}
-use Rattle.kc_machine_words.specs.declared.words.Phase.TheVariants.{Succeeded}
-use Rattle.kc_machine_words.specs.declared.words.Status.{Status}
+use Rattle.kc_machine_resolving.specs.kc_machine_steps.declared.pass.PassStep.TheVariants.{Decide}
+use Rattle.kc_machine_resolving.specs.kc_machine_steps.declared.task.Event.{Event}
+use Rattle.kc_machine_resolving.proofs.kc_machine_traces.Joins.{every, made_parts, honest_parts}
+use Rattle.kc_machine_resolving.specs.kc_machine_traces.Swaps.{SwapOf}
+use Rattle.kc_machine_resolving.specs.kc_machine_words.declared.words.Mode.{Mode}
+use Rattle.kc_machine_resolving.specs.kc_machine_words.declared.words.Phase.TheVariants.{Succeeded}
+use Rattle.kc_machine_resolving.specs.kc_machine_words.declared.words.Status.{Status}
 use Rattle.kc_model.specs.Footprint.{Reads, put_at}
 use Rattle.kc_model.specs.Store.{Finds}
 use Rattle.kc_model.specs.declared.footprint.Footprint.{Footprint}

@@ -6,22 +6,22 @@ use Rattle.kc_model.specs.Store.{Store}
 use Rattle.kc_model.specs.declared.footprint.Seen.{Seen}
 use Rattle.kc_model.specs.declared.plain_store.Cell.{Cell}
 use Rattle.kc_model.specs.declared.word.Word.TheVariants.{Plain}
-use Rattle.kc_machine.specs.Machine.{Opening, run}
-use Rattle.kc_machine.specs.Schedules.{IsSchedule}
-use Rattle.kc_machine_claims.specs.Claims.{stands_for}
-use Rattle.kc_machine_claims.specs.Histories.{History, IsKnown, Grows, cell_of}
-use Rattle.kc_machine_claims.specs.Traces.{IsHonest, first_store, trace}
-use Rattle.kc_machine_histories.proofs.Growth.{version_is, end_known, one_value}
-use Rattle.kc_machine_histories.proofs.Knew.{knew_swapped}
-use Rattle.kc_machine_histories.proofs.Successes.{kept}
+use Rattle.kc_machine_resolving.specs.kc_machine.Machine.{Opening, run}
+use Rattle.kc_machine_resolving.specs.kc_machine.Schedules.{IsSchedule}
+use Rattle.kc_machine_resolving.specs.kc_machine_claims.Claims.{stands_for}
+use Rattle.kc_machine_resolving.specs.kc_machine_claims.Histories.{History, IsKnown, Grows, cell_of}
+use Rattle.kc_machine_resolving.specs.kc_machine_claims.Traces.{IsHonest, first_store, trace}
+use Rattle.kc_machine_resolving.proofs.kc_machine_histories.Growth.{version_is, end_known, one_value}
+use Rattle.kc_machine_resolving.proofs.kc_machine_histories.Knew.{knew_swapped}
+use Rattle.kc_machine_resolving.proofs.kc_machine_histories.Successes.{kept}
 use Rattle.kc_machine_honest.specs.Causes.{IsPast}
 use Rattle.kc_machine_honest.specs.Honest.{ends_at}
 use Rattle.kc_machine_resolving.proofs.Growing.{grow}
 use Rattle.kc_machine_resolving.proofs.Resolving.{words_resolve}
-use Rattle.kc_machine_steps.specs.declared.task.Event.{Event}
-use Rattle.kc_machine_steps.specs.declared.task.Task.TheVariants as task
-use Rattle.kc_machine_traces.proofs.Known.{front_putting, known_stays}
-use Rattle.kc_machine_traces.proofs.Moments.{begun_moment}
+use Rattle.kc_machine_resolving.specs.kc_machine_steps.declared.task.Event.{Event}
+use Rattle.kc_machine_resolving.specs.kc_machine_steps.declared.task.Task.TheVariants as task
+use Rattle.kc_machine_resolving.proofs.kc_machine_traces.Known.{front_putting, known_stays}
+use Rattle.kc_machine_resolving.proofs.kc_machine_traces.Moments.{begun_moment}
 use borrow.Author.Tests.{eq-eqb}
 
 module _ (o : Opening) (es : List Event) (w : IsSchedule o es) (hon : IsHonest o es) (k : ℕ) (l : k < o.callers) (r : Seen) (value : ℕ) (asks : ((trace o es).shadows k).task ≡ Some (task.Swap r value)) where

@@ -5,23 +5,23 @@ use Rattle.std.specs.List.{filter_map}
 use Rattle.std.proofs.lemmas.Bool.{cases_lt}
 use Rattle.std.specs.Option.{is_some}
 use borrow.Author.Tests.{eq-eqb, eqb-true}
-use Rattle.kc_machine.specs.Machine.{Opening}
-use Rattle.kc_machine.specs.Schedules.{IsSchedule}
-use Rattle.kc_machine_claims.specs.Claims.{HasPut, FailuresHaveACause, SwapFailuresHaveACause}
-use Rattle.kc_machine_claims.specs.Histories.{History, Placed, ending, put_of_line, footprint_of, IsKnown, IsLegalHistory, inserted}
-use Rattle.kc_machine_claims.specs.Traces.{trace, first_store, IsHonest, swap_line}
-use Rattle.kc_machine_histories.proofs.Decisions.{history_moves}
-use Rattle.kc_machine_histories.proofs.Filters.{found}
-use Rattle.kc_machine_histories.proofs.Growth.{version_is}
-use Rattle.kc_machine_histories.proofs.Insertions.{inserted_contains}
-use Rattle.kc_machine_histories.proofs.Knew.{knew, knew_swapped}
-use Rattle.kc_machine_histories.specs.Insertions.{put_by}
+use Rattle.kc_machine_resolving.specs.kc_machine.Machine.{Opening}
+use Rattle.kc_machine_resolving.specs.kc_machine.Schedules.{IsSchedule}
+use Rattle.kc_machine_resolving.specs.kc_machine_claims.Claims.{HasPut, FailuresHaveACause, SwapFailuresHaveACause}
+use Rattle.kc_machine_resolving.specs.kc_machine_claims.Histories.{History, Placed, ending, put_of_line, footprint_of, IsKnown, IsLegalHistory, inserted}
+use Rattle.kc_machine_resolving.specs.kc_machine_claims.Traces.{trace, first_store, IsHonest, swap_line}
+use Rattle.kc_machine_resolving.proofs.kc_machine_histories.Decisions.{history_moves}
+use Rattle.kc_machine_resolving.proofs.kc_machine_histories.Filters.{found}
+use Rattle.kc_machine_resolving.proofs.kc_machine_histories.Growth.{version_is}
+use Rattle.kc_machine_resolving.proofs.kc_machine_histories.Insertions.{inserted_contains}
+use Rattle.kc_machine_resolving.proofs.kc_machine_histories.Knew.{knew, knew_swapped}
+use Rattle.kc_machine_resolving.specs.kc_machine_histories.Insertions.{put_by}
 use Rattle.kc_machine_honest.proofs.Causes.{failures}
 use Rattle.kc_machine_honest.proofs.Legal.{legal}
 use Rattle.kc_machine_honest.specs.Causes.{PastRead}
 use Rattle.kc_model.specs.declared.footprint.Line.{Line}
-use Rattle.kc_machine_steps.specs.declared.task.Event.{Event}
-use Rattle.kc_machine_traces.proofs.Joins.{every}
+use Rattle.kc_machine_resolving.specs.kc_machine_steps.declared.task.Event.{Event}
+use Rattle.kc_machine_resolving.proofs.kc_machine_traces.Joins.{every}
 use Rattle.kc_model.proofs.Stores.{Contains-first, Contains-later}
 use Rattle.kc_model.specs.Footprint.{put_at, IsRead, PutsWhatItReads}
 use Rattle.kc_model.specs.Store.{Store, after, cell_after}

@@ -5,46 +5,46 @@ use Rattle.std.specs.Option.{is_some}
 use Rattle.std.proofs.lemmas.Bool.{ltb-true, cases_lt}
 use Rattle.std.proofs.lemmas.List.{length-append}
 use borrow.Author.Tests.{eqb-true}
-use Rattle.kc_machine_words.specs.declared.words.Handle.{Handle}
-use Rattle.kc_machine_words.specs.declared.words.Mode.{Mode}
-use Rattle.kc_machine_words.specs.declared.words.Phase.{Phase}
-use Rattle.kc_machine_words.specs.declared.words.Phase.TheVariants.{Active, Succeeded, Failed, Crossed, Halted}
-use Rattle.kc_machine_words.specs.declared.words.Reference.{Reference}
-use Rattle.kc_machine_words.specs.declared.words.Status.{Status}
+use Rattle.kc_machine_resolving.specs.kc_machine_words.declared.words.Handle.{Handle}
+use Rattle.kc_machine_resolving.specs.kc_machine_words.declared.words.Mode.{Mode}
+use Rattle.kc_machine_resolving.specs.kc_machine_words.declared.words.Phase.{Phase}
+use Rattle.kc_machine_resolving.specs.kc_machine_words.declared.words.Phase.TheVariants.{Active, Succeeded, Failed, Crossed, Halted}
+use Rattle.kc_machine_resolving.specs.kc_machine_words.declared.words.Reference.{Reference}
+use Rattle.kc_machine_resolving.specs.kc_machine_words.declared.words.Status.{Status}
 use Rattle.kc_model.specs.declared.plain_store.Cell.{Cell}
 use Rattle.kc_model.specs.declared.word.Word.{Word}
 use Rattle.kc_model.specs.declared.word.Word.TheVariants.{Plain, Ref}
-use Rattle.kc_machine_words.specs.declared.access.Found.TheVariants as found
+use Rattle.kc_machine_resolving.specs.kc_machine_words.declared.access.Found.TheVariants as found
 use Rattle.kc_model.specs.declared.footprint.Line.{Line}
-use Rattle.kc_machine_steps.specs.declared.line.Pick.TheVariants.{Installed, Checked}
-use Rattle.kc_machine_steps.specs.declared.pass.AfterCheck.{AfterCheck}
-use Rattle.kc_machine_steps.specs.declared.pass.PassStep.{PassStep}
-use Rattle.kc_machine_steps.specs.declared.pass.PassStep.TheVariants.{Install, Check, CheckHold, CheckStatus, CheckFirst, CheckDrop, Decide, Release}
-use Rattle.kc_machine_steps.specs.declared.pass.AfterCheck.TheVariants as checked
-use Rattle.kc_machine_steps.specs.declared.pass.PassNext.TheVariants as pass
-use Rattle.kc_machine.proofs.Functions.{put_cases}
-use Rattle.kc_machine.specs.Machine.{World, State, Opening, found_at, event_of, seat_of, run}
-use Rattle.kc_machine.specs.Schedules.{IsSchedule}
-use Rattle.kc_machine.specs.Words.{status_is}
-use Rattle.kc_machine_claims.specs.Claims.{stands_for}
-use Rattle.kc_machine_claims.specs.Histories.{cell_of}
-use Rattle.kc_machine_claims.specs.Traces.{IsHonest, is_placed, is_placed_at}
-use Rattle.kc_machine_effects.proofs.PoolLaws.{holds_kept}
-use Rattle.kc_machine_effects.proofs.Tests.{status_active, status_other}
-use Rattle.kc_machine_effects.specs.Holds.{Proper, own_hold, held, check_hold}
-use Rattle.kc_machine_effects.specs.Stands.{Over, At, stand}
-use Rattle.kc_machine_histories.proofs.Places.{within, has_place}
-use Rattle.kc_machine_histories.specs.Later.{DecidesSoon}
-use Rattle.kc_machine_histories.specs.Places.{pass_of, place_of}
+use Rattle.kc_machine_resolving.specs.kc_machine_steps.declared.line.Pick.TheVariants.{Installed, Checked}
+use Rattle.kc_machine_resolving.specs.kc_machine_steps.declared.pass.AfterCheck.{AfterCheck}
+use Rattle.kc_machine_resolving.specs.kc_machine_steps.declared.pass.PassStep.{PassStep}
+use Rattle.kc_machine_resolving.specs.kc_machine_steps.declared.pass.PassStep.TheVariants.{Install, Check, CheckHold, CheckStatus, CheckFirst, CheckDrop, Decide, Release}
+use Rattle.kc_machine_resolving.specs.kc_machine_steps.declared.pass.AfterCheck.TheVariants as checked
+use Rattle.kc_machine_resolving.specs.kc_machine_steps.declared.pass.PassNext.TheVariants as pass
+use Rattle.kc_machine_resolving.proofs.kc_machine.Functions.{put_cases}
+use Rattle.kc_machine_resolving.specs.kc_machine.Machine.{World, State, Opening, found_at, event_of, seat_of, run}
+use Rattle.kc_machine_resolving.specs.kc_machine.Schedules.{IsSchedule}
+use Rattle.kc_machine_resolving.specs.kc_machine.Words.{status_is}
+use Rattle.kc_machine_resolving.specs.kc_machine_claims.Claims.{stands_for}
+use Rattle.kc_machine_resolving.specs.kc_machine_claims.Histories.{cell_of}
+use Rattle.kc_machine_resolving.specs.kc_machine_claims.Traces.{IsHonest, is_placed, is_placed_at}
+use Rattle.kc_machine_resolving.proofs.kc_machine_effects.PoolLaws.{holds_kept}
+use Rattle.kc_machine_resolving.proofs.kc_machine_effects.Tests.{status_active, status_other}
+use Rattle.kc_machine_resolving.specs.kc_machine_effects.Holds.{Proper, own_hold, held, check_hold}
+use Rattle.kc_machine_resolving.specs.kc_machine_effects.Stands.{Over, At, stand}
+use Rattle.kc_machine_resolving.proofs.kc_machine_histories.Places.{within, has_place}
+use Rattle.kc_machine_resolving.specs.kc_machine_histories.Later.{DecidesSoon}
+use Rattle.kc_machine_resolving.specs.kc_machine_histories.Places.{pass_of, place_of}
 use Rattle.kc_machine_honest.proofs.Bounds.{at_most_end, asked, line_low, line_stands, versions_on}
 use Rattle.kc_machine_honest.proofs.Came.{StoodAt, Came, kept, stepped, first, begun, stopped, came}
 use Rattle.kc_machine_honest.proofs.Known.{line_within}
 use Rattle.kc_machine_honest.specs.Honest.{ends_at, stands_at, ResolvesBetween, MetStood, StepStood, CheckedLinesStood, CheckedReferencesStood}
-use Rattle.kc_machine_passes.proofs.Always.{references_fit}
-use Rattle.kc_machine_passes.proofs.Knowing.{at_phase}
-use Rattle.kc_machine_pool.proofs.LifeLaws.{statuses_behind, statuses_follow, words_published, remembered_published}
-use Rattle.kc_machine_pool.specs.Owners.{Follows, is_filling}
-use Rattle.kc_machine_pool.specs.References.{met_by_pass}
+use Rattle.kc_machine_resolving.proofs.kc_machine_passes.Always.{references_fit}
+use Rattle.kc_machine_resolving.proofs.kc_machine_passes.Knowing.{at_phase}
+use Rattle.kc_machine_resolving.proofs.kc_machine_pool.LifeLaws.{statuses_behind, statuses_follow, words_published, remembered_published}
+use Rattle.kc_machine_resolving.specs.kc_machine_pool.Owners.{Follows, is_filling}
+use Rattle.kc_machine_resolving.specs.kc_machine_pool.References.{met_by_pass}
 use Rattle.kc_machine_resolving.proofs.Before.{settled_by}
 use Rattle.kc_machine_resolving.proofs.Changes.{Changes, other, filled, started, installed, released, decided, event_changes}
 use Rattle.kc_machine_resolving.proofs.Checking
@@ -54,13 +54,13 @@ use Rattle.kc_machine_resolving.proofs.ForGood.{settled_stays}
 use Rattle.kc_machine_resolving.proofs.Growing.{known, DropFits, pass_drops}
 use Rattle.kc_machine_resolving.proofs.Resolving.{words_resolve}
 use Rattle.kc_machine_resolving.specs.Settled.{Settled, checked_by, MetStands, StepMet}
-use Rattle.kc_machine_seats.proofs.FitSeats.{fit_always}
-use Rattle.kc_machine_steps.specs.Lines.{after_line, is_installed, next_line, word_of, resolved_version}
-use Rattle.kc_machine_steps.specs.Looks.{reference_of}
-use Rattle.kc_machine_steps.specs.Passes.{status, fits, from_check, check_or_decide, from_install, install_or_check, release_or_finish, pass_access, check_access, pass_next, check_found, crossed_or_first, agrees_or_fails, check_first_found, decided_as}
-use Rattle.kc_machine_steps.specs.declared.task.Event.{Event}
-use Rattle.kc_machine_traces.proofs.Joins.{run-append, every, made_parts, honest_parts}
-use Rattle.kc_machine_traces.proofs.Others.{run_shape, event_out}
+use Rattle.kc_machine_resolving.proofs.kc_machine_seats.FitSeats.{fit_always}
+use Rattle.kc_machine_resolving.specs.kc_machine_steps.Lines.{after_line, is_installed, next_line, word_of, resolved_version}
+use Rattle.kc_machine_resolving.specs.kc_machine_steps.Looks.{reference_of}
+use Rattle.kc_machine_resolving.specs.kc_machine_steps.Passes.{status, fits, from_check, check_or_decide, from_install, install_or_check, release_or_finish, pass_access, check_access, pass_next, check_found, crossed_or_first, agrees_or_fails, check_first_found, decided_as}
+use Rattle.kc_machine_resolving.specs.kc_machine_steps.declared.task.Event.{Event}
+use Rattle.kc_machine_resolving.proofs.kc_machine_traces.Joins.{run-append, every, made_parts, honest_parts}
+use Rattle.kc_machine_resolving.proofs.kc_machine_traces.Others.{run_shape, event_out}
 
 -- a word is a reference: it is to what is Active, or resolves between
 module _ (o : Opening) (es : List Event) (w : IsSchedule o es) where

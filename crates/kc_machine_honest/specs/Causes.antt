@@ -1,26 +1,26 @@
 -- Failures, and what the history has made by then.
 use Rattle.std.specs.Prelude.{◌≡◌, ◌<◌, ℕ, List, Option, None, Some, slice_get}
 use Rattle.kc_model.specs.declared.footprint.Line.{Line}
-use Rattle.kc_machine_steps.specs.declared.pass.PassStep.{PassStep}
-use Rattle.kc_machine_steps.specs.declared.pass.PassStep.TheVariants.{CheckDrop, Decide}
-use Rattle.kc_machine_words.specs.declared.words.Handle.{Handle}
-use Rattle.kc_machine_words.specs.declared.words.Mode.{Mode}
-use Rattle.kc_machine_words.specs.declared.words.Phase.{Phase}
-use Rattle.kc_machine_words.specs.declared.words.Phase.TheVariants.{Failed}
+use Rattle.kc_machine_resolving.specs.kc_machine_steps.declared.pass.PassStep.{PassStep}
+use Rattle.kc_machine_resolving.specs.kc_machine_steps.declared.pass.PassStep.TheVariants.{CheckDrop, Decide}
+use Rattle.kc_machine_resolving.specs.kc_machine_words.declared.words.Handle.{Handle}
+use Rattle.kc_machine_resolving.specs.kc_machine_words.declared.words.Mode.{Mode}
+use Rattle.kc_machine_resolving.specs.kc_machine_words.declared.words.Phase.{Phase}
+use Rattle.kc_machine_resolving.specs.kc_machine_words.declared.words.Phase.TheVariants.{Failed}
 use Rattle.kc_model.specs.declared.footprint.Footprint.{Footprint}
 use Rattle.kc_model.specs.declared.footprint.Seen.{Seen}
-use Rattle.kc_machine_steps.specs.declared.pass.AfterCheck.TheVariants as checked
-use Rattle.kc_machine_steps.specs.declared.task.Event.{Event}
-use Rattle.kc_machine_steps.specs.declared.task.Task.TheVariants as task
-use Rattle.kc_machine_steps.specs.declared.task.Told.TheVariants as told
-use Rattle.kc_machine.specs.Machine.{Opening, run}
-use Rattle.kc_machine_claims.specs.Traces.{trace}
-use Rattle.kc_machine_effects.specs.Stands.{Over, At}
-use Rattle.kc_machine_histories.specs.Places.{pass_of}
+use Rattle.kc_machine_resolving.specs.kc_machine_steps.declared.pass.AfterCheck.TheVariants as checked
+use Rattle.kc_machine_resolving.specs.kc_machine_steps.declared.task.Event.{Event}
+use Rattle.kc_machine_resolving.specs.kc_machine_steps.declared.task.Task.TheVariants as task
+use Rattle.kc_machine_resolving.specs.kc_machine_steps.declared.task.Told.TheVariants as told
+use Rattle.kc_machine_resolving.specs.kc_machine.Machine.{Opening, run}
+use Rattle.kc_machine_resolving.specs.kc_machine_claims.Traces.{trace}
+use Rattle.kc_machine_resolving.specs.kc_machine_effects.Stands.{Over, At}
+use Rattle.kc_machine_resolving.specs.kc_machine_histories.Places.{pass_of}
 use Rattle.kc_machine_honest.specs.Honest.{ends_at}
-use Rattle.kc_machine_passes.specs.Passed.{IsActive}
-use Rattle.kc_machine_pool.specs.Owners.{OwnsLife}
-use Rattle.kc_machine_steps.specs.Passes.{status}
+use Rattle.kc_machine_resolving.specs.kc_machine_passes.Passed.{IsActive}
+use Rattle.kc_machine_resolving.specs.kc_machine_pool.Owners.{OwnsLife}
+use Rattle.kc_machine_resolving.specs.kc_machine_steps.Passes.{status}
 
 -- the history makes a later version than what was read
 abbrev pub IsPast : Opening → List Event → Seen → Type 0

@@ -1,21 +1,21 @@
 -- What stands at a place, and what a pass knows of it.
 use Rattle.std.specs.Prelude.{◌≡◌, ◌≢◌, ◌<◌, ◌≤◌, ◌⊎◌, ℕ, List, Some, slice_get, Contains, true, false}
-use Rattle.kc_machine.specs.Machine.{Opening, run}
-use Rattle.kc_machine_claims.specs.Histories.{ending, at_place, cell_of}
-use Rattle.kc_machine_claims.specs.Traces.{trace, first_store}
-use Rattle.kc_machine_effects.specs.Stands.{At}
-use Rattle.kc_machine_histories.specs.Later.{DecidesSoon}
+use Rattle.kc_machine_resolving.specs.kc_machine.Machine.{Opening, run}
+use Rattle.kc_machine_resolving.specs.kc_machine_claims.Histories.{ending, at_place, cell_of}
+use Rattle.kc_machine_resolving.specs.kc_machine_claims.Traces.{trace, first_store}
+use Rattle.kc_machine_resolving.specs.kc_machine_effects.Stands.{At}
+use Rattle.kc_machine_resolving.specs.kc_machine_histories.Later.{DecidesSoon}
 use Rattle.kc_machine_resolving.specs.Settled.{checked_by}
-use Rattle.kc_machine_steps.specs.Lines.{is_installed, resolved_version}
-use Rattle.kc_machine_steps.specs.Passes.{status}
+use Rattle.kc_machine_resolving.specs.kc_machine_steps.Lines.{is_installed, resolved_version}
+use Rattle.kc_machine_resolving.specs.kc_machine_steps.Passes.{status}
 use Rattle.kc_model.specs.declared.footprint.Line.{Line}
-use Rattle.kc_machine_steps.specs.declared.pass.PassStep.{PassStep}
-use Rattle.kc_machine_steps.specs.declared.pass.PassStep.TheVariants.{CheckHold, CheckStatus, CheckFirst}
-use Rattle.kc_machine_steps.specs.declared.task.Event.{Event}
-use Rattle.kc_machine_words.specs.declared.words.Mode.{Mode}
-use Rattle.kc_machine_words.specs.declared.words.Phase.{Phase}
-use Rattle.kc_machine_words.specs.declared.words.Phase.TheVariants.{Active}
-use Rattle.kc_machine_words.specs.declared.words.Reference.{Reference}
+use Rattle.kc_machine_resolving.specs.kc_machine_steps.declared.pass.PassStep.{PassStep}
+use Rattle.kc_machine_resolving.specs.kc_machine_steps.declared.pass.PassStep.TheVariants.{CheckHold, CheckStatus, CheckFirst}
+use Rattle.kc_machine_resolving.specs.kc_machine_steps.declared.task.Event.{Event}
+use Rattle.kc_machine_resolving.specs.kc_machine_words.declared.words.Mode.{Mode}
+use Rattle.kc_machine_resolving.specs.kc_machine_words.declared.words.Phase.{Phase}
+use Rattle.kc_machine_resolving.specs.kc_machine_words.declared.words.Phase.TheVariants.{Active}
+use Rattle.kc_machine_resolving.specs.kc_machine_words.declared.words.Reference.{Reference}
 use Rattle.kc_model.specs.declared.plain_store.Cell.{Cell}
 use Rattle.kc_model.specs.declared.word.Word.TheVariants.{Ref}
 

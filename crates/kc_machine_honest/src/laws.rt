@@ -1,11 +1,11 @@
 //! What holds after every schedule of well-made tasks, and what only after honest ones. An empty body: the contract is the law.
 
 ghost use Rattle.std.specs.Prelude.{List};
-ghost use Rattle.kc_machine_steps.specs.declared.task.Event.{Event};
-ghost use Rattle.kc_machine.specs.Machine.{Opening};
-ghost use Rattle.kc_machine.specs.Schedules.{IsSchedule};
-ghost use Rattle.kc_machine_claims.specs.Claims.{FailuresHaveACause, HistoryIsLegal, SwapFailuresHaveACause};
-ghost use Rattle.kc_machine_claims.specs.Traces.{IsHonest};
+ghost use Rattle.kc_machine_resolving.specs.kc_machine_steps.declared.task.Event.{Event};
+ghost use Rattle.kc_machine_resolving.specs.kc_machine.Machine.{Opening};
+ghost use Rattle.kc_machine_resolving.specs.kc_machine.Schedules.{IsSchedule};
+ghost use Rattle.kc_machine_resolving.specs.kc_machine_claims.Claims.{FailuresHaveACause, HistoryIsLegal, SwapFailuresHaveACause};
+ghost use Rattle.kc_machine_resolving.specs.kc_machine_claims.Traces.{IsHonest};
 ghost use Rattle.kc_machine_honest.specs.Causes.{OwnersFailByPastReads, PassesFailByPastLines, ToldOfPastReads};
 ghost use Rattle.kc_machine_honest.specs.Honest.{CheckedLinesStood, CheckedReferencesStood, InstalledLinesStand};
 

@@ -1,19 +1,19 @@
 -- What an event leaves and makes of what seats know.
 use Rattle.std.proofs.Common.{◌≡◌, ◌≢◌, ℕ, ◌++◌, ◌==◌, Bool, true, false, List, [], ◌∷◌, refl, sym, ap, subst, ◌∙◌}
 use borrow.Author.Tests.{eqb-true, eqb-false}
-use Rattle.kc_machine.proofs.Functions.{put_here}
-use Rattle.kc_machine.specs.Machine.{State, Opening, event_of, seat_of, run}
-use Rattle.kc_machine_claims.proofs.Follows.{trace_runs}
-use Rattle.kc_machine_claims.specs.Traces.{Trace, shadow_after, now, trace}
+use Rattle.kc_machine_resolving.proofs.kc_machine.Functions.{put_here}
+use Rattle.kc_machine_resolving.specs.kc_machine.Machine.{State, Opening, event_of, seat_of, run}
+use Rattle.kc_machine_resolving.proofs.kc_machine_claims.Follows.{trace_runs}
+use Rattle.kc_machine_resolving.specs.kc_machine_claims.Traces.{Trace, shadow_after, now, trace}
 use Rattle.kc_machine_looks.proofs.Going.{Going, kept, stays}
 use Rattle.kc_machine_looks.proofs.Knowing.{Knows}
 use Rattle.kc_machine_looks.proofs.Stepping.{steps}
 use Rattle.kc_machine_looks.proofs.Turning.{halts, begins_or}
-use Rattle.kc_machine_steps.specs.declared.task.Event.{Event}
-use Rattle.kc_machine_steps.specs.declared.task.Event.TheVariants.{Begin, Step, Halt}
-use Rattle.kc_machine_traces.proofs.Answers.{moved, seat_cases}
-use Rattle.kc_machine_traces.proofs.Joins.{run-append, trace-append}
-use Rattle.kc_machine_traces.proofs.Others.{others_leave, others_leave_shadow}
+use Rattle.kc_machine_resolving.specs.kc_machine_steps.declared.task.Event.{Event}
+use Rattle.kc_machine_resolving.specs.kc_machine_steps.declared.task.Event.TheVariants.{Begin, Step, Halt}
+use Rattle.kc_machine_resolving.proofs.kc_machine_traces.Answers.{moved, seat_cases}
+use Rattle.kc_machine_resolving.proofs.kc_machine_traces.Joins.{run-append, trace-append}
+use Rattle.kc_machine_resolving.proofs.kc_machine_traces.Others.{others_leave, others_leave_shadow}
 
 module _ (o : Opening) (es : List Event) where
   abbrev m : State

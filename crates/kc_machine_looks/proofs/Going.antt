@@ -1,20 +1,20 @@
 -- An event of a seat: what it leaves, and what its steps come to.
 use Rattle.std.proofs.Common.{arith, ◌≡◌, ◌<◌, ℕ, ◌++◌, ◌&&◌, Bool, true, false, not, List, [], ◌∷◌, None, Some, refl, sym, ap, subst, ◌∙◌, if◌then◌else◌, Contains}
 use Rattle.std.specs.Option.{is_some}
-use Rattle.kc_machine.specs.Machine.{Opening, found_at, run}
-use Rattle.kc_machine.specs.Schedules.{IsSchedule}
-use Rattle.kc_machine.specs.Seats.{access_of, after, is_idle}
-use Rattle.kc_machine.specs.Works.{Work}
-use Rattle.kc_machine.specs.declared.seat.Seat.{Seat}
-use Rattle.kc_machine_claims.specs.Traces.{Moment, Shadow, listens, reads_of, blocking_after, begins, with_task, shadow_after, now, trace}
-use Rattle.kc_machine_claims.specs.Traces.{place_after}
-use Rattle.kc_machine_effects.specs.Stands.{Waiting, NoWait, Hangs, HangLooks, Leaving, stand}
+use Rattle.kc_machine_resolving.specs.kc_machine.Machine.{Opening, found_at, run}
+use Rattle.kc_machine_resolving.specs.kc_machine.Schedules.{IsSchedule}
+use Rattle.kc_machine_resolving.specs.kc_machine.Seats.{access_of, after, is_idle}
+use Rattle.kc_machine_resolving.specs.kc_machine.Works.{Work}
+use Rattle.kc_machine_resolving.specs.kc_machine.declared.seat.Seat.{Seat}
+use Rattle.kc_machine_resolving.specs.kc_machine_claims.Traces.{Moment, Shadow, listens, reads_of, blocking_after, begins, with_task, shadow_after, now, trace}
+use Rattle.kc_machine_resolving.specs.kc_machine_claims.Traces.{place_after}
+use Rattle.kc_machine_resolving.specs.kc_machine_effects.Stands.{Waiting, NoWait, Hangs, HangLooks, Leaving, stand}
 use Rattle.kc_machine_looks.proofs.Knowing.{IsBehind, Knows, SameShadow, knows_same, knows_on, GoesOr, after_knows}
-use Rattle.kc_machine_steps.specs.declared.task.Event.{Event}
-use Rattle.kc_machine_steps.specs.declared.task.Event.TheVariants.{Begin, Step, Halt}
-use Rattle.kc_machine_steps.specs.declared.task.Onward.{Onward}
-use Rattle.kc_machine_traces.proofs.Answers.{answers_when_done}
-use Rattle.kc_machine_words.specs.declared.access.Found.{Found}
+use Rattle.kc_machine_resolving.specs.kc_machine_steps.declared.task.Event.{Event}
+use Rattle.kc_machine_resolving.specs.kc_machine_steps.declared.task.Event.TheVariants.{Begin, Step, Halt}
+use Rattle.kc_machine_resolving.specs.kc_machine_steps.declared.task.Onward.{Onward}
+use Rattle.kc_machine_resolving.proofs.kc_machine_traces.Answers.{answers_when_done}
+use Rattle.kc_machine_resolving.specs.kc_machine_words.declared.access.Found.{Found}
 use Rattle.kc_model.specs.declared.footprint.Seen.{Seen}
 
 -- ---- a seat that stays as it was

@@ -1,47 +1,47 @@
 -- What a hang's step makes of what it knows.
-use Rattle.kc_machine_effects.specs.Stands.{NoSwap}
+use Rattle.kc_machine_resolving.specs.kc_machine_effects.Stands.{NoSwap}
 use Rattle.std.proofs.Common.{arith, ◌≡◌, ◌<◌, ◌≤◌, ◌+◌, ◌⊎◌, inl, inr, ℕ, ◌++◌, ◌==◌, Bool, true, false, List, [], ◌∷◌, length, Option, None, Some, refl, sym, ap, subst, ◌∙◌, if◌then◌else◌, Contains}
 use Rattle.std.specs.Prelude.{slice_get, nat_lt}
 use Rattle.std.proofs.lemmas.Bool.{cases_lt, ltb-false}
 use Rattle.std.proofs.lemmas.Option.{slice_get_within}
 use borrow.Author.Tests.{eqb-true}
-use Rattle.kc_machine_words.specs.declared.access.Found.{Found}
+use Rattle.kc_machine_resolving.specs.kc_machine_words.declared.access.Found.{Found}
 use Rattle.kc_model.specs.declared.footprint.Seen.{Seen}
 use Rattle.kc_model.specs.declared.footprint.TheConstants.{MOST}
-use Rattle.kc_machine_steps.specs.declared.task.Told.TheVariants as told
-use Rattle.kc_machine_steps.specs.declared.look.LookStep.{LookStep}
-use Rattle.kc_machine_steps.specs.declared.task.Event.{Event}
-use Rattle.kc_machine_steps.specs.declared.task.Event.TheVariants.{Step}
-use Rattle.kc_machine_steps.specs.declared.look.LookStep.TheVariants as look
-use Rattle.kc_machine_steps.specs.declared.look.LookNext.{LookNext}
-use Rattle.kc_machine_steps.specs.declared.look.LookNext.TheVariants as looking
-use Rattle.kc_machine.specs.declared.hang.HangStep.{HangStep}
-use Rattle.kc_machine_steps.specs.Lines.{after_line}
-use Rattle.kc_machine_steps.specs.Looks.{look_access, look_next}
-use Rattle.kc_machine.specs.declared.hang.HangStep.TheVariants as hang
-use Rattle.kc_machine.specs.declared.hang.HangNext.{HangNext}
-use Rattle.kc_machine.specs.declared.hang.HangNext.TheVariants as hanging
-use Rattle.kc_machine.specs.Hangs.{hang_access_of, read_of, hang_next, hang_step, hangs_on, onward_of, set_or_look, look_of, look_goes_on, looked, look_or_end, clear_or_changed}
-use Rattle.kc_machine.specs.Waits.{Hang}
-use Rattle.kc_machine.specs.Works.{Work}
-use Rattle.kc_machine.specs.Works as work
-use Rattle.kc_machine.specs.Machine.{Opening, found_at, seat_of, run}
-use Rattle.kc_machine.specs.Seats.{access_of, work_access, after, is_idle}
-use Rattle.kc_machine.specs.declared.seat.Seat.{Seat}
-use Rattle.kc_machine_claims.specs.Traces.{Shadow, listens, shadow_after, now, trace}
-use Rattle.kc_machine_effects.specs.Stands.{NoPass, Looks, Waiting, NoWait, Hangs, HangLooks, location_of, stand, works, resting, hangs}
-use Rattle.kc_machine_histories.proofs.Filters.{got}
-use Rattle.kc_machine_histories.specs.Places.{pass_of}
+use Rattle.kc_machine_resolving.specs.kc_machine_steps.declared.task.Told.TheVariants as told
+use Rattle.kc_machine_resolving.specs.kc_machine_steps.declared.look.LookStep.{LookStep}
+use Rattle.kc_machine_resolving.specs.kc_machine_steps.declared.task.Event.{Event}
+use Rattle.kc_machine_resolving.specs.kc_machine_steps.declared.task.Event.TheVariants.{Step}
+use Rattle.kc_machine_resolving.specs.kc_machine_steps.declared.look.LookStep.TheVariants as look
+use Rattle.kc_machine_resolving.specs.kc_machine_steps.declared.look.LookNext.{LookNext}
+use Rattle.kc_machine_resolving.specs.kc_machine_steps.declared.look.LookNext.TheVariants as looking
+use Rattle.kc_machine_resolving.specs.kc_machine.declared.hang.HangStep.{HangStep}
+use Rattle.kc_machine_resolving.specs.kc_machine_steps.Lines.{after_line}
+use Rattle.kc_machine_resolving.specs.kc_machine_steps.Looks.{look_access, look_next}
+use Rattle.kc_machine_resolving.specs.kc_machine.declared.hang.HangStep.TheVariants as hang
+use Rattle.kc_machine_resolving.specs.kc_machine.declared.hang.HangNext.{HangNext}
+use Rattle.kc_machine_resolving.specs.kc_machine.declared.hang.HangNext.TheVariants as hanging
+use Rattle.kc_machine_resolving.specs.kc_machine.Hangs.{hang_access_of, read_of, hang_next, hang_step, hangs_on, onward_of, set_or_look, look_of, look_goes_on, looked, look_or_end, clear_or_changed}
+use Rattle.kc_machine_resolving.specs.kc_machine.Waits.{Hang}
+use Rattle.kc_machine_resolving.specs.kc_machine.Works.{Work}
+use Rattle.kc_machine_resolving.specs.kc_machine.Works as work
+use Rattle.kc_machine_resolving.specs.kc_machine.Machine.{Opening, found_at, seat_of, run}
+use Rattle.kc_machine_resolving.specs.kc_machine.Seats.{access_of, work_access, after, is_idle}
+use Rattle.kc_machine_resolving.specs.kc_machine.declared.seat.Seat.{Seat}
+use Rattle.kc_machine_resolving.specs.kc_machine_claims.Traces.{Shadow, listens, shadow_after, now, trace}
+use Rattle.kc_machine_resolving.specs.kc_machine_effects.Stands.{NoPass, Looks, Waiting, NoWait, Hangs, HangLooks, location_of, stand, works, resting, hangs}
+use Rattle.kc_machine_resolving.proofs.kc_machine_histories.Filters.{got}
+use Rattle.kc_machine_resolving.specs.kc_machine_histories.Places.{pass_of}
 use Rattle.kc_machine_looks.proofs.Going.{Going, goes_by, listening_is, blocking_is}
 use Rattle.kc_machine_looks.proofs.Knowing.{IsBehind, behind_on, behind_now, history_still, StepHears, Hears, Knows, confirmed_on, read_there, GoesOr, other_told}
 use Rattle.kc_machine_looks.proofs.Looking.{look_on}
 use Rattle.kc_machine_looks.specs.Promised.{StepPromises, NextPromises, IsConfirmed, HangPromises, WorkPromises}
-use Rattle.kc_machine_pool.proofs.Filled.{is_there}
-use Rattle.kc_machine_seats.proofs.FormedSteps.{formed_always}
-use Rattle.kc_machine_seats.proofs.MadeSteps.{reads_made}
-use Rattle.kc_machine_seats.specs.Formed.{WorkIsFormed}
-use Rattle.kc_machine_seats.specs.Made.{ReadsAreMade}
-use Rattle.kc_machine_traces.proofs.Moments.{listening_moment}
+use Rattle.kc_machine_resolving.proofs.kc_machine_pool.Filled.{is_there}
+use Rattle.kc_machine_resolving.proofs.kc_machine_seats.FormedSteps.{formed_always}
+use Rattle.kc_machine_resolving.proofs.kc_machine_seats.MadeSteps.{reads_made}
+use Rattle.kc_machine_resolving.specs.kc_machine_seats.Formed.{WorkIsFormed}
+use Rattle.kc_machine_resolving.specs.kc_machine_seats.Made.{ReadsAreMade}
+use Rattle.kc_machine_resolving.proofs.kc_machine_traces.Moments.{listening_moment}
 
 module _ (o : Opening) (es : List Event) (e : Event) (k : ℕ) (g : Going o es e k) (stepped : e ≡ Step k) (h : Hang) (is : ((run o es).seats k).work ≡ work.Hang h) where
   abbrev es' : List Event

@@ -1,65 +1,65 @@
 -- What a seat that looks or hangs knows, and what it has been told.
-use Rattle.kc_machine_words.specs.declared.access.Found.TheVariants as found
+use Rattle.kc_machine_resolving.specs.kc_machine_words.declared.access.Found.TheVariants as found
 use Rattle.std.proofs.Common.{if◌then◌else◌, ◌-◌, ◌==◌, ◌&&◌, Bool, false}
-use Rattle.kc_machine_steps.specs.Swaps.{may_swap, owed_next, swap_next_at}
-use Rattle.kc_machine_steps.specs.declared.swap.SwapNext.{SwapNext}
-use Rattle.kc_machine_steps.specs.declared.swap.SwapNext.TheVariants as swapping
-use Rattle.kc_machine_steps.specs.declared.swap.SwapStep.{SwapStep}
+use Rattle.kc_machine_resolving.specs.kc_machine_steps.Swaps.{may_swap, owed_next, swap_next_at}
+use Rattle.kc_machine_resolving.specs.kc_machine_steps.declared.swap.SwapNext.{SwapNext}
+use Rattle.kc_machine_resolving.specs.kc_machine_steps.declared.swap.SwapNext.TheVariants as swapping
+use Rattle.kc_machine_resolving.specs.kc_machine_steps.declared.swap.SwapStep.{SwapStep}
 use Rattle.kc_model.specs.declared.word.Word.TheVariants.{Plain, Ref}
 use Rattle.std.specs.Prelude.{bit_and}
-use Rattle.kc_machine_traces.proofs.Swapping.{swap_of}
-use Rattle.kc_machine_traces.proofs.Swapping.{stand_swap}
-use Rattle.kc_machine_steps.specs.declared.swap.SwapStep.TheVariants as swap
-use Rattle.kc_machine_effects.specs.Stands.{Swaps}
-use Rattle.kc_machine_effects.specs.Stands.{NoSwap}
-use Rattle.kc_machine_effects.specs.Stands.{stand}
+use Rattle.kc_machine_resolving.proofs.kc_machine_traces.Swapping.{swap_of}
+use Rattle.kc_machine_resolving.proofs.kc_machine_traces.Swapping.{stand_swap}
+use Rattle.kc_machine_resolving.specs.kc_machine_steps.declared.swap.SwapStep.TheVariants as swap
+use Rattle.kc_machine_resolving.specs.kc_machine_effects.Stands.{Swaps}
+use Rattle.kc_machine_resolving.specs.kc_machine_effects.Stands.{NoSwap}
+use Rattle.kc_machine_resolving.specs.kc_machine_effects.Stands.{stand}
 use Rattle.std.proofs.Common.{arith, ◌≡◌, ◌<◌, ◌+◌, inl, inr, ℕ, ◌++◌, Bool, true, false, List, [], ◌∷◌, length, Option, None, Some, refl, sym, ap, subst, ◌∙◌, Contains, All}
 use Rattle.std.specs.Prelude.{slice_get}
 use Rattle.std.specs.Option.{is_some}
 use Rattle.std.proofs.lemmas.List.{length-append, take-append-le, take_all}
 use Rattle.std.proofs.lemmas.Option.{slice_get_within, get_or_from_slice_get}
-use Rattle.kc_machine_steps.specs.declared.task.Task.{Task}
-use Rattle.kc_machine_words.specs.declared.access.Found.{Found}
-use Rattle.kc_machine_words.specs.declared.words.Phase.{Phase}
-use Rattle.kc_machine_words.specs.declared.words.Phase.TheVariants.{Active, Succeeded, Failed, Crossed, Halted}
+use Rattle.kc_machine_resolving.specs.kc_machine_steps.declared.task.Task.{Task}
+use Rattle.kc_machine_resolving.specs.kc_machine_words.declared.access.Found.{Found}
+use Rattle.kc_machine_resolving.specs.kc_machine_words.declared.words.Phase.{Phase}
+use Rattle.kc_machine_resolving.specs.kc_machine_words.declared.words.Phase.TheVariants.{Active, Succeeded, Failed, Crossed, Halted}
 use Rattle.kc_model.specs.declared.footprint.Loc.{Loc}
 use Rattle.kc_model.specs.declared.footprint.Seen.{Seen}
-use Rattle.kc_machine_steps.specs.declared.task.Task.TheVariants as task
-use Rattle.kc_machine_steps.specs.declared.task.Told.{Told}
-use Rattle.kc_machine_steps.specs.declared.task.Told.TheVariants as told
-use Rattle.kc_machine_steps.specs.declared.task.Onward.{Onward}
-use Rattle.kc_machine_steps.specs.declared.task.Onward.TheVariants as onward
-use Rattle.kc_machine_commits.specs.declared.commit.Commit.{Commit}
-use Rattle.kc_machine_commits.specs.declared.commit.Stage.{Stage}
-use Rattle.kc_machine_steps.specs.declared.task.Event.{Event}
-use Rattle.kc_machine_commits.specs.declared.commit.Stage.TheVariants as stage
-use Rattle.kc_machine_commits.specs.declared.commit.OwnStep.{OwnStep}
-use Rattle.kc_machine_commits.specs.declared.commit.OwnStep.TheVariants as own
-use Rattle.kc_machine_commits.specs.Nexts.{Next}
-use Rattle.kc_machine_commits.specs.Nexts as next
-use Rattle.kc_machine.specs.declared.hang.HangStep.{HangStep}
-use Rattle.kc_machine_commits.specs.Commits.{told_of, tells_or_goes, stage_next}
-use Rattle.kc_machine.specs.declared.hang.HangStep.TheVariants as hang
-use Rattle.kc_machine.specs.Works.{Work}
-use Rattle.kc_machine.specs.Works as work
-use Rattle.kc_machine.specs.Machine.{Opening, seat_of, run}
-use Rattle.kc_machine.specs.Schedules.{IsSchedule}
-use Rattle.kc_machine.specs.Seats.{after}
-use Rattle.kc_machine.specs.declared.seat.Seat.{Seat}
-use Rattle.kc_machine_claims.proofs.Follows.{trace_counts}
-use Rattle.kc_machine_claims.specs.Claims.{history_at}
-use Rattle.kc_machine_claims.specs.Traces.{Moment, Shadow, now, trace}
-use Rattle.kc_machine_effects.specs.Stands.{NoPass, works, resting, hangs}
-use Rattle.kc_machine_histories.proofs.Decisions.{moves_by_decision}
-use Rattle.kc_machine_histories.specs.Decisions.{MovesByDecision}
-use Rattle.kc_machine_histories.specs.Places.{pass_of}
+use Rattle.kc_machine_resolving.specs.kc_machine_steps.declared.task.Task.TheVariants as task
+use Rattle.kc_machine_resolving.specs.kc_machine_steps.declared.task.Told.{Told}
+use Rattle.kc_machine_resolving.specs.kc_machine_steps.declared.task.Told.TheVariants as told
+use Rattle.kc_machine_resolving.specs.kc_machine_steps.declared.task.Onward.{Onward}
+use Rattle.kc_machine_resolving.specs.kc_machine_steps.declared.task.Onward.TheVariants as onward
+use Rattle.kc_machine_resolving.specs.kc_machine_commits.declared.commit.Commit.{Commit}
+use Rattle.kc_machine_resolving.specs.kc_machine_commits.declared.commit.Stage.{Stage}
+use Rattle.kc_machine_resolving.specs.kc_machine_steps.declared.task.Event.{Event}
+use Rattle.kc_machine_resolving.specs.kc_machine_commits.declared.commit.Stage.TheVariants as stage
+use Rattle.kc_machine_resolving.specs.kc_machine_commits.declared.commit.OwnStep.{OwnStep}
+use Rattle.kc_machine_resolving.specs.kc_machine_commits.declared.commit.OwnStep.TheVariants as own
+use Rattle.kc_machine_resolving.specs.kc_machine_commits.Nexts.{Next}
+use Rattle.kc_machine_resolving.specs.kc_machine_commits.Nexts as next
+use Rattle.kc_machine_resolving.specs.kc_machine.declared.hang.HangStep.{HangStep}
+use Rattle.kc_machine_resolving.specs.kc_machine_commits.Commits.{told_of, tells_or_goes, stage_next}
+use Rattle.kc_machine_resolving.specs.kc_machine.declared.hang.HangStep.TheVariants as hang
+use Rattle.kc_machine_resolving.specs.kc_machine.Works.{Work}
+use Rattle.kc_machine_resolving.specs.kc_machine.Works as work
+use Rattle.kc_machine_resolving.specs.kc_machine.Machine.{Opening, seat_of, run}
+use Rattle.kc_machine_resolving.specs.kc_machine.Schedules.{IsSchedule}
+use Rattle.kc_machine_resolving.specs.kc_machine.Seats.{after}
+use Rattle.kc_machine_resolving.specs.kc_machine.declared.seat.Seat.{Seat}
+use Rattle.kc_machine_resolving.proofs.kc_machine_claims.Follows.{trace_counts}
+use Rattle.kc_machine_resolving.specs.kc_machine_claims.Claims.{history_at}
+use Rattle.kc_machine_resolving.specs.kc_machine_claims.Traces.{Moment, Shadow, now, trace}
+use Rattle.kc_machine_resolving.specs.kc_machine_effects.Stands.{NoPass, works, resting, hangs}
+use Rattle.kc_machine_resolving.proofs.kc_machine_histories.Decisions.{moves_by_decision}
+use Rattle.kc_machine_resolving.specs.kc_machine_histories.Decisions.{MovesByDecision}
+use Rattle.kc_machine_resolving.specs.kc_machine_histories.Places.{pass_of}
 use Rattle.kc_machine_looks.proofs.Lives.{promised_on, step_on}
 use Rattle.kc_machine_looks.proofs.Looking.{seat_met}
 use Rattle.kc_machine_looks.specs.Promised.{IsPromised, StepPromises, IsConfirmed, HangPromises, WorkPromises}
-use Rattle.kc_machine_pool.specs.References.{met_by_look}
-use Rattle.kc_machine_seats.proofs.MadeSteps.{reads_made}
-use Rattle.kc_machine_seats.proofs.Searches.{scanned, taken}
-use Rattle.kc_machine_seats.specs.Made.{ReadsAreMade}
+use Rattle.kc_machine_resolving.specs.kc_machine_pool.References.{met_by_look}
+use Rattle.kc_machine_resolving.proofs.kc_machine_seats.MadeSteps.{reads_made}
+use Rattle.kc_machine_resolving.proofs.kc_machine_seats.Searches.{scanned, taken}
+use Rattle.kc_machine_resolving.specs.kc_machine_seats.Made.{ReadsAreMade}
 
 -- ---- the event at a moment, which left the history
 

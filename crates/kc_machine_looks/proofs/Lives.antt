@@ -1,60 +1,60 @@
 -- What an event leaves of a current life, and so of what a look knows.
-use Rattle.kc_machine_traces.specs.Swaps.{SwapOf}
-use Rattle.kc_machine_claims.specs.Histories.{Placed}
+use Rattle.kc_machine_resolving.specs.kc_machine_traces.Swaps.{SwapOf}
+use Rattle.kc_machine_resolving.specs.kc_machine_claims.Histories.{Placed}
 use Rattle.std.proofs.Common.{⊎_elim}
 use Rattle.std.proofs.Common.{arith, ◌+◌, ◌==◌, if◌then◌else◌, ◌≡◌, ◌≢◌, ◌<◌, ◌≤◌, ◌⊎◌, inl, inr, ℕ, ◌++◌, Bool, true, false, List, [], ◌∷◌, Option, None, Some, refl, sym, ap, subst, ◌∙◌}
 use Rattle.std.specs.Prelude.{nat_lt}
 use Rattle.std.proofs.lemmas.Bool.{ltb-true}
-use Rattle.kc_machine_commits.specs.declared.commit.OwnStep.{OwnStep}
-use Rattle.kc_machine_steps.specs.declared.line.Intent.{Intent}
+use Rattle.kc_machine_resolving.specs.kc_machine_commits.declared.commit.OwnStep.{OwnStep}
+use Rattle.kc_machine_resolving.specs.kc_machine_steps.declared.line.Intent.{Intent}
 use Rattle.kc_model.specs.declared.footprint.Line.{Line}
-use Rattle.kc_machine_words.specs.declared.words.First.{First}
-use Rattle.kc_machine_words.specs.declared.words.Handle.{Handle}
-use Rattle.kc_machine_words.specs.declared.words.Mode.{Mode}
-use Rattle.kc_machine_words.specs.declared.words.Phase.{Phase}
-use Rattle.kc_machine_words.specs.declared.words.Phase.TheVariants.{Active, Succeeded, Failed, Crossed, Halted}
-use Rattle.kc_machine_words.specs.declared.words.Reference.{Reference}
-use Rattle.kc_machine_words.specs.declared.words.Status.{Status}
+use Rattle.kc_machine_resolving.specs.kc_machine_words.declared.words.First.{First}
+use Rattle.kc_machine_resolving.specs.kc_machine_words.declared.words.Handle.{Handle}
+use Rattle.kc_machine_resolving.specs.kc_machine_words.declared.words.Mode.{Mode}
+use Rattle.kc_machine_resolving.specs.kc_machine_words.declared.words.Phase.{Phase}
+use Rattle.kc_machine_resolving.specs.kc_machine_words.declared.words.Phase.TheVariants.{Active, Succeeded, Failed, Crossed, Halted}
+use Rattle.kc_machine_resolving.specs.kc_machine_words.declared.words.Reference.{Reference}
+use Rattle.kc_machine_resolving.specs.kc_machine_words.declared.words.Status.{Status}
 use Rattle.kc_model.specs.declared.footprint.Loc.{Loc}
 use Rattle.kc_model.specs.declared.footprint.Seen.{Seen}
 use Rattle.kc_model.specs.declared.word.Word.TheVariants.{Ref}
 use Rattle.kc_model.specs.declared.footprint.TheConstants.{MOST}
-use Rattle.kc_machine_commits.specs.declared.commit.OwnStep.TheVariants as own
+use Rattle.kc_machine_resolving.specs.kc_machine_commits.declared.commit.OwnStep.TheVariants as own
 use borrow.Author.Tests.{eqb-true, eqb-false}
-use Rattle.kc_machine_steps.specs.declared.look.LookStep.{LookStep}
-use Rattle.kc_machine_steps.specs.declared.look.LookStep.TheVariants as look
-use Rattle.kc_machine.proofs.Functions.{put_cases, put_here, put_else}
-use Rattle.kc_machine.specs.Machine.{World, State, Opening, put, event_of, seat_of, run}
-use Rattle.kc_machine.specs.Schedules.{IsSchedule}
-use Rattle.kc_machine_claims.specs.Claims.{stands_for}
-use Rattle.kc_machine_claims.specs.Histories.{ending, cell_of}
-use Rattle.kc_machine_claims.specs.Traces.{Moment, trace, first_store}
-use Rattle.kc_machine_effects.proofs.PoolLaws.{holds_kept}
-use Rattle.kc_machine_effects.specs.Holds.{own_hold}
-use Rattle.kc_machine_effects.specs.Stands.{Owns, Over, At, met_by_look_step, stand}
-use Rattle.kc_machine_histories.proofs.Growth.{end_known}
-use Rattle.kc_machine_histories.specs.Places.{pass_of}
+use Rattle.kc_machine_resolving.specs.kc_machine_steps.declared.look.LookStep.{LookStep}
+use Rattle.kc_machine_resolving.specs.kc_machine_steps.declared.look.LookStep.TheVariants as look
+use Rattle.kc_machine_resolving.proofs.kc_machine.Functions.{put_cases, put_here, put_else}
+use Rattle.kc_machine_resolving.specs.kc_machine.Machine.{World, State, Opening, put, event_of, seat_of, run}
+use Rattle.kc_machine_resolving.specs.kc_machine.Schedules.{IsSchedule}
+use Rattle.kc_machine_resolving.specs.kc_machine_claims.Claims.{stands_for}
+use Rattle.kc_machine_resolving.specs.kc_machine_claims.Histories.{ending, cell_of}
+use Rattle.kc_machine_resolving.specs.kc_machine_claims.Traces.{Moment, trace, first_store}
+use Rattle.kc_machine_resolving.proofs.kc_machine_effects.PoolLaws.{holds_kept}
+use Rattle.kc_machine_resolving.specs.kc_machine_effects.Holds.{own_hold}
+use Rattle.kc_machine_resolving.specs.kc_machine_effects.Stands.{Owns, Over, At, met_by_look_step, stand}
+use Rattle.kc_machine_resolving.proofs.kc_machine_histories.Growth.{end_known}
+use Rattle.kc_machine_resolving.specs.kc_machine_histories.Places.{pass_of}
 use Rattle.kc_machine_looks.specs.Promised.{IsPromised, seen_by, IsCurrent, MetIsPromised, SeenIsPromised, StepPromises}
-use Rattle.kc_machine_passes.proofs.Always.{passed_installed}
-use Rattle.kc_machine_passes.specs.Lines.{IsInstalledLine}
-use Rattle.kc_machine_passes.specs.Passed.{PassedAreInstalled, InstalledBelow, gone_by_phase}
-use Rattle.kc_machine_pool.proofs.Filled.{is_there}
-use Rattle.kc_machine_pool.proofs.LifeLaws.{statuses_behind, statuses_follow}
-use Rattle.kc_machine_pool.specs.Owners.{Follows, is_filling, fills}
+use Rattle.kc_machine_resolving.proofs.kc_machine_passes.Always.{passed_installed}
+use Rattle.kc_machine_resolving.specs.kc_machine_passes.Lines.{IsInstalledLine}
+use Rattle.kc_machine_resolving.specs.kc_machine_passes.Passed.{PassedAreInstalled, InstalledBelow, gone_by_phase}
+use Rattle.kc_machine_resolving.proofs.kc_machine_pool.Filled.{is_there}
+use Rattle.kc_machine_resolving.proofs.kc_machine_pool.LifeLaws.{statuses_behind, statuses_follow}
+use Rattle.kc_machine_resolving.specs.kc_machine_pool.Owners.{Follows, is_filling, fills}
 use Rattle.kc_machine_resolving.proofs.Before.{target}
 use Rattle.kc_machine_resolving.proofs.Changes.{Changes, other, filled, started, installed, released, decided, event_changes}
 use Rattle.kc_machine_resolving.proofs.Checking.{controls_rise}
 use Rattle.kc_machine_resolving.proofs.Growing.{grow}
 use Rattle.kc_machine_resolving.proofs.Resolving.{words_resolve}
-use Rattle.kc_machine_steps.specs.Lines.{is_installed, word_of, succeeds, resolved_version}
-use Rattle.kc_machine_steps.specs.Looks.{seen_as}
-use Rattle.kc_machine_steps.specs.Passes.{status}
-use Rattle.kc_machine_steps.specs.declared.pass.PassStep.TheVariants.{Decide}
-use Rattle.kc_machine_steps.specs.declared.task.Event.{Event}
-use Rattle.kc_machine_traces.proofs.Copies.{SameWords}
-use Rattle.kc_machine_traces.proofs.Joins.{run-append}
-use Rattle.kc_machine_traces.proofs.Known.{known_on}
-use Rattle.kc_machine_traces.proofs.Others.{run_shape, event_out}
+use Rattle.kc_machine_resolving.specs.kc_machine_steps.Lines.{is_installed, word_of, succeeds, resolved_version}
+use Rattle.kc_machine_resolving.specs.kc_machine_steps.Looks.{seen_as}
+use Rattle.kc_machine_resolving.specs.kc_machine_steps.Passes.{status}
+use Rattle.kc_machine_resolving.specs.kc_machine_steps.declared.pass.PassStep.TheVariants.{Decide}
+use Rattle.kc_machine_resolving.specs.kc_machine_steps.declared.task.Event.{Event}
+use Rattle.kc_machine_resolving.proofs.kc_machine_traces.Copies.{SameWords}
+use Rattle.kc_machine_resolving.proofs.kc_machine_traces.Joins.{run-append}
+use Rattle.kc_machine_resolving.proofs.kc_machine_traces.Known.{known_on}
+use Rattle.kc_machine_resolving.proofs.kc_machine_traces.Others.{run_shape, event_out}
 
 module _ (o : Opening) (es : List Event) (e : Event) (w : IsSchedule o es) (w' : IsSchedule o (es ++ e ∷ [])) where
   abbrev pub m : State

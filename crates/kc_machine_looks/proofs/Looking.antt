@@ -1,37 +1,37 @@
 -- What a look's own step makes of what it knows.
 use Rattle.std.proofs.Common.{arith, ◌≡◌, ◌<◌, inr, ℕ, ◌++◌, ◌==◌, Bool, true, false, List, [], ◌∷◌, Option, None, Some, refl, sym, ap, subst, ◌∙◌, if◌then◌else◌}
-use Rattle.kc_machine_words.specs.declared.words.Reference.{Reference}
+use Rattle.kc_machine_resolving.specs.kc_machine_words.declared.words.Reference.{Reference}
 use Rattle.kc_model.specs.declared.footprint.Loc.{Loc}
 use Rattle.kc_model.specs.declared.footprint.Seen.{Seen}
 use Rattle.kc_model.specs.declared.plain_store.Cell.{Cell}
 use Rattle.kc_model.specs.declared.word.Word.{Word}
 use Rattle.kc_model.specs.declared.word.Word.TheVariants.{Plain, Ref}
-use Rattle.kc_machine_words.specs.declared.access.Found.TheVariants as found
-use Rattle.kc_machine_steps.specs.declared.look.LookStep.{LookStep}
-use Rattle.kc_machine_steps.specs.declared.look.LookStep.TheVariants as look
-use Rattle.kc_machine_steps.specs.declared.look.LookNext.{LookNext}
-use Rattle.kc_machine_steps.specs.declared.look.LookNext.TheVariants as looking
-use Rattle.kc_machine.specs.Machine.{World, Opening, found_at, run}
-use Rattle.kc_machine.specs.Schedules.{IsSchedule}
-use Rattle.kc_machine_claims.specs.Claims.{stands_for}
-use Rattle.kc_machine_claims.specs.Histories.{History, Grows, ending, cell_of}
-use Rattle.kc_machine_claims.specs.Traces.{Moment, trace, first_store}
-use Rattle.kc_machine_effects.proofs.PoolLaws.{holds_kept}
-use Rattle.kc_machine_effects.specs.Holds.{held, look_step_hold, look_hold}
-use Rattle.kc_machine_effects.specs.Stands.{Looks, met_by_look_step, stand}
-use Rattle.kc_machine_histories.proofs.Growth.{end_known}
+use Rattle.kc_machine_resolving.specs.kc_machine_words.declared.access.Found.TheVariants as found
+use Rattle.kc_machine_resolving.specs.kc_machine_steps.declared.look.LookStep.{LookStep}
+use Rattle.kc_machine_resolving.specs.kc_machine_steps.declared.look.LookStep.TheVariants as look
+use Rattle.kc_machine_resolving.specs.kc_machine_steps.declared.look.LookNext.{LookNext}
+use Rattle.kc_machine_resolving.specs.kc_machine_steps.declared.look.LookNext.TheVariants as looking
+use Rattle.kc_machine_resolving.specs.kc_machine.Machine.{World, Opening, found_at, run}
+use Rattle.kc_machine_resolving.specs.kc_machine.Schedules.{IsSchedule}
+use Rattle.kc_machine_resolving.specs.kc_machine_claims.Claims.{stands_for}
+use Rattle.kc_machine_resolving.specs.kc_machine_claims.Histories.{History, Grows, ending, cell_of}
+use Rattle.kc_machine_resolving.specs.kc_machine_claims.Traces.{Moment, trace, first_store}
+use Rattle.kc_machine_resolving.proofs.kc_machine_effects.PoolLaws.{holds_kept}
+use Rattle.kc_machine_resolving.specs.kc_machine_effects.Holds.{held, look_step_hold, look_hold}
+use Rattle.kc_machine_resolving.specs.kc_machine_effects.Stands.{Looks, met_by_look_step, stand}
+use Rattle.kc_machine_resolving.proofs.kc_machine_histories.Growth.{end_known}
 use Rattle.kc_machine_looks.proofs.Lives.{IsMet, step_on, seen_on}
 use Rattle.kc_machine_looks.specs.Promised.{IsPromised, seen_by, StepPromises, NextPromises}
-use Rattle.kc_machine_passes.proofs.Always.{references_fit, lines_exist}
-use Rattle.kc_machine_pool.proofs.LifeLaws.{words_published, remembered_published}
-use Rattle.kc_machine_pool.specs.References.{Remembers, met_by_look}
+use Rattle.kc_machine_resolving.proofs.kc_machine_passes.Always.{references_fit, lines_exist}
+use Rattle.kc_machine_resolving.proofs.kc_machine_pool.LifeLaws.{words_published, remembered_published}
+use Rattle.kc_machine_resolving.specs.kc_machine_pool.References.{Remembers, met_by_look}
 use Rattle.kc_machine_resolving.proofs.Growing.{grow}
 use Rattle.kc_machine_resolving.proofs.Resolving.{words_resolve}
-use Rattle.kc_machine_steps.specs.Looks.{reference_of, seen_at, seen_as, look_access, look_next, load_next}
-use Rattle.kc_machine_steps.specs.declared.task.Event.{Event}
-use Rattle.kc_machine_traces.proofs.Known.{versions_rise}
-use Rattle.kc_machine_traces.proofs.Others.{run_shape}
-use Rattle.kc_machine_traces.specs.Moments.{IsMomentOf}
+use Rattle.kc_machine_resolving.specs.kc_machine_steps.Looks.{reference_of, seen_at, seen_as, look_access, look_next, load_next}
+use Rattle.kc_machine_resolving.specs.kc_machine_steps.declared.task.Event.{Event}
+use Rattle.kc_machine_resolving.proofs.kc_machine_traces.Known.{versions_rise}
+use Rattle.kc_machine_resolving.proofs.kc_machine_traces.Others.{run_shape}
+use Rattle.kc_machine_resolving.specs.kc_machine_traces.Moments.{IsMomentOf}
 
 module _ (o : Opening) (es : List Event) (w : IsSchedule o es) (since : Moment) (moment : IsMomentOf o es since) where
   abbrev now : History

@@ -1,45 +1,45 @@
 -- What a step makes of what its seat knows.
 use Rattle.kc_machine_looks.proofs.Knowing.{SwapTellsOther, swap_tells}
-use Rattle.kc_machine_steps.specs.Swaps.{onward_of as onward_of_swap}
-use Rattle.kc_machine_steps.specs.Swaps.{swap_after, swap_next}
-use Rattle.kc_machine_steps.specs.declared.swap.Swap.{Swap}
-use Rattle.kc_machine_steps.specs.declared.swap.SwapNext.{SwapNext}
-use Rattle.kc_machine_steps.specs.declared.swap.SwapNext.TheVariants as swapping
+use Rattle.kc_machine_resolving.specs.kc_machine_steps.Swaps.{onward_of as onward_of_swap}
+use Rattle.kc_machine_resolving.specs.kc_machine_steps.Swaps.{swap_after, swap_next}
+use Rattle.kc_machine_resolving.specs.kc_machine_steps.declared.swap.Swap.{Swap}
+use Rattle.kc_machine_resolving.specs.kc_machine_steps.declared.swap.SwapNext.{SwapNext}
+use Rattle.kc_machine_resolving.specs.kc_machine_steps.declared.swap.SwapNext.TheVariants as swapping
 use Rattle.std.proofs.Common.{◌≡◌, ℕ, ◌++◌, Bool, true, false, List, [], ◌∷◌, Option, None, Some, refl, sym, ap, subst, ◌∙◌}
 use Rattle.std.specs.Prelude.{slice_get}
-use Rattle.kc_machine_steps.specs.declared.task.Task.{Task}
-use Rattle.kc_machine_words.specs.declared.access.Found.{Found}
+use Rattle.kc_machine_resolving.specs.kc_machine_steps.declared.task.Task.{Task}
+use Rattle.kc_machine_resolving.specs.kc_machine_words.declared.access.Found.{Found}
 use Rattle.kc_model.specs.declared.footprint.Loc.{Loc}
 use Rattle.kc_model.specs.declared.footprint.Seen.{Seen}
-use Rattle.kc_machine_steps.specs.declared.task.Task.TheVariants as task
-use Rattle.kc_machine_steps.specs.declared.task.Told.TheVariants as told
-use Rattle.kc_machine_steps.specs.declared.look.Look.{Look}
-use Rattle.kc_machine_steps.specs.declared.look.LookNext.{LookNext}
-use Rattle.kc_machine_steps.specs.declared.task.Event.{Event}
-use Rattle.kc_machine_steps.specs.declared.task.Event.TheVariants.{Step}
-use Rattle.kc_machine_steps.specs.declared.look.LookNext.TheVariants as looking
-use Rattle.kc_machine_commits.specs.Nexts.{Next}
-use Rattle.kc_machine_commits.specs.declared.commit.Commit.{Commit}
-use Rattle.kc_machine_commits.specs.Nexts as next
-use Rattle.kc_machine.specs.Hangs.{leave_after, unblocks_or_tells, next_read}
-use Rattle.kc_machine.specs.Waits.{Leave}
-use Rattle.kc_machine.specs.Works.{Work}
-use Rattle.kc_machine_commits.specs.Commits.{commit_after, onward_by, commit_next, loaded}
-use Rattle.kc_machine_steps.specs.Looks.{look_access, look_next, look_after, looks_on, look_tells, told_by}
-use Rattle.kc_machine.specs.Works as work
-use Rattle.kc_machine.specs.Machine.{Opening, found_at, run}
-use Rattle.kc_machine.specs.Seats.{access_of, work_access, answer_of, answer_by, after, is_idle}
-use Rattle.kc_machine.specs.declared.seat.Seat.{Seat}
-use Rattle.kc_machine_claims.specs.Traces.{Shadow, shadow_after, now, trace}
-use Rattle.kc_machine_effects.specs.Stands.{works, resting}
+use Rattle.kc_machine_resolving.specs.kc_machine_steps.declared.task.Task.TheVariants as task
+use Rattle.kc_machine_resolving.specs.kc_machine_steps.declared.task.Told.TheVariants as told
+use Rattle.kc_machine_resolving.specs.kc_machine_steps.declared.look.Look.{Look}
+use Rattle.kc_machine_resolving.specs.kc_machine_steps.declared.look.LookNext.{LookNext}
+use Rattle.kc_machine_resolving.specs.kc_machine_steps.declared.task.Event.{Event}
+use Rattle.kc_machine_resolving.specs.kc_machine_steps.declared.task.Event.TheVariants.{Step}
+use Rattle.kc_machine_resolving.specs.kc_machine_steps.declared.look.LookNext.TheVariants as looking
+use Rattle.kc_machine_resolving.specs.kc_machine_commits.Nexts.{Next}
+use Rattle.kc_machine_resolving.specs.kc_machine_commits.declared.commit.Commit.{Commit}
+use Rattle.kc_machine_resolving.specs.kc_machine_commits.Nexts as next
+use Rattle.kc_machine_resolving.specs.kc_machine.Hangs.{leave_after, unblocks_or_tells, next_read}
+use Rattle.kc_machine_resolving.specs.kc_machine.Waits.{Leave}
+use Rattle.kc_machine_resolving.specs.kc_machine.Works.{Work}
+use Rattle.kc_machine_resolving.specs.kc_machine_commits.Commits.{commit_after, onward_by, commit_next, loaded}
+use Rattle.kc_machine_resolving.specs.kc_machine_steps.Looks.{look_access, look_next, look_after, looks_on, look_tells, told_by}
+use Rattle.kc_machine_resolving.specs.kc_machine.Works as work
+use Rattle.kc_machine_resolving.specs.kc_machine.Machine.{Opening, found_at, run}
+use Rattle.kc_machine_resolving.specs.kc_machine.Seats.{access_of, work_access, answer_of, answer_by, after, is_idle}
+use Rattle.kc_machine_resolving.specs.kc_machine.declared.seat.Seat.{Seat}
+use Rattle.kc_machine_resolving.specs.kc_machine_claims.Traces.{Shadow, shadow_after, now, trace}
+use Rattle.kc_machine_resolving.specs.kc_machine_effects.Stands.{works, resting}
 use Rattle.kc_machine_looks.proofs.Going.{Going, stays, same_task, goes_by}
 use Rattle.kc_machine_looks.proofs.Hanging.{hang_on}
 use Rattle.kc_machine_looks.proofs.Knowing.{Asked, Knows, GoesOr, other_told, TellsOther, commit_tells}
 use Rattle.kc_machine_looks.proofs.Looking.{look_on}
 use Rattle.kc_machine_looks.specs.Promised.{IsPromised, StepPromises, NextPromises, WorkPromises}
-use Rattle.kc_machine_seats.proofs.MadeSteps.{reads_made}
-use Rattle.kc_machine_seats.specs.Made.{ReadsAreMade}
-use Rattle.kc_machine_traces.proofs.Moments.{begun_moment}
+use Rattle.kc_machine_resolving.proofs.kc_machine_seats.MadeSteps.{reads_made}
+use Rattle.kc_machine_resolving.specs.kc_machine_seats.Made.{ReadsAreMade}
+use Rattle.kc_machine_resolving.proofs.kc_machine_traces.Moments.{begun_moment}
 
 module _ (o : Opening) (es : List Event) (e : Event) (k : ℕ) (g : Going o es e k) (stepped : e ≡ Step k) where
   abbrev es' : List Event

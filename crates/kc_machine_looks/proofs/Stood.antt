@@ -3,19 +3,19 @@ use Rattle.std.proofs.Common.{arith, ◌<◌, ◌≤◌, ◌+◌, ℕ, List, [],
 use Rattle.std.specs.Option.{is_some}
 use Rattle.kc_model.specs.declared.footprint.Loc.{Loc}
 use Rattle.kc_model.specs.declared.footprint.Seen.{Seen}
-use Rattle.kc_machine_steps.specs.declared.task.Told.TheVariants as told
-use Rattle.kc_machine.specs.Machine.{Opening, run}
-use Rattle.kc_machine.specs.Schedules.{IsSchedule}
-use Rattle.kc_machine_claims.specs.Claims.{LooksTellWhatStood, HungReadsStood, StoodSince, history_at}
-use Rattle.kc_machine_claims.specs.Histories.{ending}
-use Rattle.kc_machine_claims.specs.Traces.{Moment, trace, first_store}
-use Rattle.kc_machine_histories.proofs.Growing.{stood_since}
+use Rattle.kc_machine_resolving.specs.kc_machine_steps.declared.task.Told.TheVariants as told
+use Rattle.kc_machine_resolving.specs.kc_machine.Machine.{Opening, run}
+use Rattle.kc_machine_resolving.specs.kc_machine.Schedules.{IsSchedule}
+use Rattle.kc_machine_resolving.specs.kc_machine_claims.Claims.{LooksTellWhatStood, HungReadsStood, StoodSince, history_at}
+use Rattle.kc_machine_resolving.specs.kc_machine_claims.Histories.{ending}
+use Rattle.kc_machine_resolving.specs.kc_machine_claims.Traces.{Moment, trace, first_store}
+use Rattle.kc_machine_resolving.proofs.kc_machine_histories.Growing.{stood_since}
 use Rattle.kc_machine_looks.proofs.Events.{event_known}
 use Rattle.kc_machine_looks.proofs.Knowing.{IsBehind, Knows, idle_works}
 use Rattle.kc_machine_looks.specs.Promised.{AnswersArePromised, LooksArePromised, IsPromised}
 use Rattle.kc_machine_resolving.proofs.Growing.{along}
-use Rattle.kc_machine_steps.specs.declared.task.Event.{Event}
-use Rattle.kc_machine_traces.proofs.Joins.{every, made_parts}
+use Rattle.kc_machine_resolving.specs.kc_machine_steps.declared.task.Event.{Event}
+use Rattle.kc_machine_resolving.proofs.kc_machine_traces.Joins.{every, made_parts}
 use Rattle.kc_model.specs.declared.plain_store.Cell.{Cell}
 
 module _ (o : Opening) where

@@ -1,31 +1,31 @@
 -- What a halt and a beginning make of what their seat knows.
-use Rattle.kc_machine_steps.specs.Swaps.{ends_at_once}
+use Rattle.kc_machine_resolving.specs.kc_machine_steps.Swaps.{ends_at_once}
 use Rattle.std.proofs.Common.{◌≡◌, ℕ, ◌++◌, ◌&&◌, Bool, true, false, not, List, [], ◌∷◌, Option, None, Some, refl, sym, ap, subst, ◌∙◌, if◌then◌else◌}
 use Rattle.std.specs.Option.{is_some}
 use Rattle.std.proofs.lemmas.List.Elements.{All-nil, All-cons}
-use Rattle.kc_machine_steps.specs.declared.task.Task.{Task}
-use Rattle.kc_machine_steps.specs.declared.task.Task.TheVariants as task
-use Rattle.kc_machine_steps.specs.declared.task.Told.{Told}
-use Rattle.kc_machine_steps.specs.declared.task.Told.TheVariants as told
-use Rattle.kc_machine_steps.specs.declared.look.Look.{Look}
-use Rattle.kc_machine_steps.specs.declared.look.LookStep.{LookStep}
-use Rattle.kc_machine_steps.specs.declared.task.Event.{Event}
-use Rattle.kc_machine_steps.specs.declared.task.Event.TheVariants.{Begin, Halt}
-use Rattle.kc_machine_steps.specs.declared.look.LookStep.TheVariants as look
-use Rattle.kc_machine.specs.Works.{Work}
-use Rattle.kc_machine_commits.specs.Halts.{unowned, commit_halted}
-use Rattle.kc_machine_commits.specs.declared.commit.Commit.{Commit}
-use Rattle.kc_machine_steps.specs.Looks.{look_halted, look_halted_at, halts_at_once}
-use Rattle.kc_machine.specs.Works as work
-use Rattle.kc_machine.specs.Machine.{Opening, run}
-use Rattle.kc_machine.specs.Seats.{is_idle, begun, begun_idle, working, halted, halted_by, ended}
-use Rattle.kc_machine.specs.Seats.{hanging as hanging_of}
-use Rattle.kc_machine.specs.declared.seat.Seat.{Seat}
-use Rattle.kc_machine_claims.specs.Traces.{Shadow, with_task, shadow_after, now, trace}
+use Rattle.kc_machine_resolving.specs.kc_machine_steps.declared.task.Task.{Task}
+use Rattle.kc_machine_resolving.specs.kc_machine_steps.declared.task.Task.TheVariants as task
+use Rattle.kc_machine_resolving.specs.kc_machine_steps.declared.task.Told.{Told}
+use Rattle.kc_machine_resolving.specs.kc_machine_steps.declared.task.Told.TheVariants as told
+use Rattle.kc_machine_resolving.specs.kc_machine_steps.declared.look.Look.{Look}
+use Rattle.kc_machine_resolving.specs.kc_machine_steps.declared.look.LookStep.{LookStep}
+use Rattle.kc_machine_resolving.specs.kc_machine_steps.declared.task.Event.{Event}
+use Rattle.kc_machine_resolving.specs.kc_machine_steps.declared.task.Event.TheVariants.{Begin, Halt}
+use Rattle.kc_machine_resolving.specs.kc_machine_steps.declared.look.LookStep.TheVariants as look
+use Rattle.kc_machine_resolving.specs.kc_machine.Works.{Work}
+use Rattle.kc_machine_resolving.specs.kc_machine_commits.Halts.{unowned, commit_halted}
+use Rattle.kc_machine_resolving.specs.kc_machine_commits.declared.commit.Commit.{Commit}
+use Rattle.kc_machine_resolving.specs.kc_machine_steps.Looks.{look_halted, look_halted_at, halts_at_once}
+use Rattle.kc_machine_resolving.specs.kc_machine.Works as work
+use Rattle.kc_machine_resolving.specs.kc_machine.Machine.{Opening, run}
+use Rattle.kc_machine_resolving.specs.kc_machine.Seats.{is_idle, begun, begun_idle, working, halted, halted_by, ended}
+use Rattle.kc_machine_resolving.specs.kc_machine.Seats.{hanging as hanging_of}
+use Rattle.kc_machine_resolving.specs.kc_machine.declared.seat.Seat.{Seat}
+use Rattle.kc_machine_resolving.specs.kc_machine_claims.Traces.{Shadow, with_task, shadow_after, now, trace}
 use Rattle.kc_machine_looks.proofs.Going.{Going, unasked, stays, quiet}
 use Rattle.kc_machine_looks.proofs.Knowing.{IsBehind, behind_on, behind_now, Works, ToldTrue, Asked, Knows, idle_works, other_told}
-use Rattle.kc_machine_traces.proofs.Others.{history_kept}
-use Rattle.kc_machine_traces.specs.Parts.{IsNoStep}
+use Rattle.kc_machine_resolving.proofs.kc_machine_traces.Others.{history_kept}
+use Rattle.kc_machine_resolving.specs.kc_machine_traces.Parts.{IsNoStep}
 
 module _ (o : Opening) (es : List Event) (e : Event) (k : ℕ) (g : Going o es e k) where
   abbrev es' : List Event

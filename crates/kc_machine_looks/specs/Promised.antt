@@ -1,24 +1,24 @@
 -- What a look knows of its location, as far as it has come.
 use Rattle.std.specs.Prelude.{◌≡◌, ◌≤◌, ◌<◌, ℕ, List, Option, None, Some, slice_get}
-use Rattle.kc_machine_steps.specs.declared.look.LookStep.{LookStep}
-use Rattle.kc_machine_words.specs.declared.words.Phase.{Phase}
-use Rattle.kc_machine_words.specs.declared.words.Reference.{Reference}
+use Rattle.kc_machine_resolving.specs.kc_machine_steps.declared.look.LookStep.{LookStep}
+use Rattle.kc_machine_resolving.specs.kc_machine_words.declared.words.Phase.{Phase}
+use Rattle.kc_machine_resolving.specs.kc_machine_words.declared.words.Reference.{Reference}
 use Rattle.kc_model.specs.declared.footprint.Loc.{Loc}
 use Rattle.kc_model.specs.declared.footprint.Seen.{Seen}
-use Rattle.kc_machine_steps.specs.declared.look.LookStep.TheVariants as look
-use Rattle.kc_machine_steps.specs.declared.look.LookNext.{LookNext}
-use Rattle.kc_machine_steps.specs.declared.look.LookNext.TheVariants as looking
-use Rattle.kc_machine_steps.specs.declared.task.Event.{Event}
-use Rattle.kc_machine_steps.specs.declared.task.Task.TheVariants as task
-use Rattle.kc_machine_steps.specs.declared.task.Told.TheVariants as told
-use Rattle.kc_machine.specs.declared.hang.HangStep.{HangStep}
-use Rattle.kc_machine_steps.specs.Looks.{seen_as}
-use Rattle.kc_machine.specs.declared.hang.HangStep.TheVariants as hang
-use Rattle.kc_machine.specs.Works.{Work}
-use Rattle.kc_machine.specs.Works as work
-use Rattle.kc_machine.specs.Machine.{World, Opening, run}
-use Rattle.kc_machine_claims.specs.Histories.{ending, IsKnown}
-use Rattle.kc_machine_claims.specs.Traces.{Moment, Shadow, trace, first_store}
+use Rattle.kc_machine_resolving.specs.kc_machine_steps.declared.look.LookStep.TheVariants as look
+use Rattle.kc_machine_resolving.specs.kc_machine_steps.declared.look.LookNext.{LookNext}
+use Rattle.kc_machine_resolving.specs.kc_machine_steps.declared.look.LookNext.TheVariants as looking
+use Rattle.kc_machine_resolving.specs.kc_machine_steps.declared.task.Event.{Event}
+use Rattle.kc_machine_resolving.specs.kc_machine_steps.declared.task.Task.TheVariants as task
+use Rattle.kc_machine_resolving.specs.kc_machine_steps.declared.task.Told.TheVariants as told
+use Rattle.kc_machine_resolving.specs.kc_machine.declared.hang.HangStep.{HangStep}
+use Rattle.kc_machine_resolving.specs.kc_machine_steps.Looks.{seen_as}
+use Rattle.kc_machine_resolving.specs.kc_machine.declared.hang.HangStep.TheVariants as hang
+use Rattle.kc_machine_resolving.specs.kc_machine.Works.{Work}
+use Rattle.kc_machine_resolving.specs.kc_machine.Works as work
+use Rattle.kc_machine_resolving.specs.kc_machine.Machine.{World, Opening, run}
+use Rattle.kc_machine_resolving.specs.kc_machine_claims.Histories.{ending, IsKnown}
+use Rattle.kc_machine_resolving.specs.kc_machine_claims.Traces.{Moment, Shadow, trace, first_store}
 
 -- the history made it, and no earlier than what stood at a moment
 abbrev pub IsPromised : Opening → List Event → Moment → Seen → Type 0

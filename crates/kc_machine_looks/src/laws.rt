@@ -1,10 +1,10 @@
 //! What holds after every schedule of well-made tasks. An empty body: the contract is the law.
 
 ghost use Rattle.std.specs.Prelude.{List};
-ghost use Rattle.kc_machine_steps.specs.declared.task.Event.{Event};
-ghost use Rattle.kc_machine.specs.Machine.{Opening};
-ghost use Rattle.kc_machine.specs.Schedules.{IsSchedule};
-ghost use Rattle.kc_machine_claims.specs.Claims.{HungReadsStood, LooksTellWhatStood};
+ghost use Rattle.kc_machine_resolving.specs.kc_machine_steps.declared.task.Event.{Event};
+ghost use Rattle.kc_machine_resolving.specs.kc_machine.Machine.{Opening};
+ghost use Rattle.kc_machine_resolving.specs.kc_machine.Schedules.{IsSchedule};
+ghost use Rattle.kc_machine_resolving.specs.kc_machine_claims.Claims.{HungReadsStood, LooksTellWhatStood};
 ghost use Rattle.kc_machine_looks.specs.Promised.{AnswersArePromised, LooksArePromised};
 
 /// What a look has come to, and what it was told, is known to the history and no earlier than what stood at its location when

@@ -1,22 +1,22 @@
 -- The laws of deciding and aiding, over every opening and every schedule.
 use Rattle.std.proofs.Common.{◌≡◌, ℕ, ◌⊎◌, ◌∙◌, ⊎_elim, inl, inr, refl, sym, subst, List}
-use Rattle.kc_machine.specs.Machine.{Opening, run, opened}
-use Rattle.kc_machine_claims.specs.Claims.{OwnerHolds, SomeoneReleases, ReferencesAreHeld}
-use Rattle.kc_machine_effects.proofs.Runs.{holds_after}
-use Rattle.kc_machine_effects.specs.Stands.{stand}
+use Rattle.kc_machine_traces.specs.kc_machine.Machine.{Opening, run, opened}
+use Rattle.kc_machine_traces.specs.kc_machine_claims.Claims.{OwnerHolds, SomeoneReleases, ReferencesAreHeld}
+use Rattle.kc_machine_traces.proofs.kc_machine_effects.Runs.{holds_after}
+use Rattle.kc_machine_traces.specs.kc_machine_effects.Stands.{stand}
 use Rattle.kc_machine_passes.proofs.Facts.{Exists, Facts, facts_effect}
 use Rattle.kc_machine_passes.proofs.Halting.{seat_halts}
 use Rattle.kc_machine_passes.proofs.Knowing.{PassKnows}
 use Rattle.kc_machine_passes.specs.Lines.{ReferencesFitTheirLines, MetLinesExist}
 use Rattle.kc_machine_passes.specs.Passed.{PassedLinesAreInstalled, InstalledLinesAreAPrefix}
 use Rattle.kc_machine_passes.specs.Phases.{ReferencesAreOwed, ReleasesKnowThePhase, AidsKnowTheirLine, OnlyHaltedOwnersDecideHalted}
-use Rattle.kc_machine_pool.proofs.Remembered.{none_met}
-use Rattle.kc_machine_seats.proofs.FitSeats.{fit_always}
-use Rattle.kc_machine_steps.specs.Passes.{status}
-use Rattle.kc_machine_steps.specs.declared.task.Event.{Event}
+use Rattle.kc_machine_traces.proofs.kc_machine_pool.Remembered.{none_met}
+use Rattle.kc_machine_traces.proofs.kc_machine_seats.FitSeats.{fit_always}
+use Rattle.kc_machine_traces.specs.kc_machine_steps.Passes.{status}
+use Rattle.kc_machine_traces.specs.kc_machine_steps.declared.task.Event.{Event}
 use Rattle.kc_machine_traces.proofs.Copies.{opened_copies}
-use Rattle.kc_machine_words.specs.declared.words.Phase.{Phase}
-use Rattle.kc_machine_words.specs.declared.words.Phase.TheVariants.{Active, Succeeded, Failed, Crossed, Halted}
+use Rattle.kc_machine_traces.specs.kc_machine_words.declared.words.Phase.{Phase}
+use Rattle.kc_machine_traces.specs.kc_machine_words.declared.words.Phase.TheVariants.{Active, Succeeded, Failed, Crossed, Halted}
 use Rattle.kc_model.specs.declared.word.Word.TheVariants.{Ref}
 
 pub opened_facts : (o : Opening) → Facts o.callers (opened o).descriptors (opened o).world (λ k. stand ((opened o).seats k))

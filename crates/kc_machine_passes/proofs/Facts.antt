@@ -1,26 +1,26 @@
 -- The facts of deciding and aiding, as one record, which each effect keeps: they need each other.
 use Rattle.std.proofs.Common.{◌≡◌, ◌≢◌, ℕ, ◌<◌, ◌≤◌, ◌∙◌, ⊎_elim, inl, inr, refl, sym, ap, subst, arith, true, List, Option, Some}
 use Rattle.std.proofs.lemmas.Option.{slice_get_within}
-use Rattle.kc_machine_steps.specs.declared.aid.AidStep.{AidStep}
-use Rattle.kc_machine_steps.specs.declared.aid.Aided.{Aided}
+use Rattle.kc_machine_traces.specs.kc_machine_steps.declared.aid.AidStep.{AidStep}
+use Rattle.kc_machine_traces.specs.kc_machine_steps.declared.aid.Aided.{Aided}
 use Rattle.kc_model.specs.declared.footprint.Line.{Line}
-use Rattle.kc_machine_words.specs.declared.words.First.{First}
-use Rattle.kc_machine_words.specs.declared.words.Handle.{Handle}
-use Rattle.kc_machine_words.specs.declared.words.Mode.{Mode}
-use Rattle.kc_machine_words.specs.declared.words.Phase.{Phase}
-use Rattle.kc_machine_words.specs.declared.words.Phase.TheVariants.{Active, Succeeded, Failed, Crossed, Halted}
-use Rattle.kc_machine_words.specs.declared.words.Reference.{Reference}
-use Rattle.kc_machine_words.specs.declared.words.Second.{Second}
-use Rattle.kc_machine_words.specs.declared.words.Status.{Status}
+use Rattle.kc_machine_traces.specs.kc_machine_words.declared.words.First.{First}
+use Rattle.kc_machine_traces.specs.kc_machine_words.declared.words.Handle.{Handle}
+use Rattle.kc_machine_traces.specs.kc_machine_words.declared.words.Mode.{Mode}
+use Rattle.kc_machine_traces.specs.kc_machine_words.declared.words.Phase.{Phase}
+use Rattle.kc_machine_traces.specs.kc_machine_words.declared.words.Phase.TheVariants.{Active, Succeeded, Failed, Crossed, Halted}
+use Rattle.kc_machine_traces.specs.kc_machine_words.declared.words.Reference.{Reference}
+use Rattle.kc_machine_traces.specs.kc_machine_words.declared.words.Second.{Second}
+use Rattle.kc_machine_traces.specs.kc_machine_words.declared.words.Status.{Status}
 use Rattle.kc_model.specs.declared.word.Word.TheVariants.{Ref}
-use Rattle.kc_machine_steps.specs.declared.aid.AidStep.TheVariants as aid
-use Rattle.kc_machine_steps.specs.declared.aid.AidNext.TheVariants as aiding
-use Rattle.kc_machine.proofs.Functions.{put_here, put_cases}
-use Rattle.kc_machine.specs.Machine.{World, put}
-use Rattle.kc_machine_claims.specs.Claims.{step_owes, PassOwes, OwesRelease}
-use Rattle.kc_machine_effects.specs.Effects.{Effect}
-use Rattle.kc_machine_effects.specs.Holds.{Proper, held, own_hold, aid_hold}
-use Rattle.kc_machine_effects.specs.Stands.{Stand, Own, NoOwn, Owns, Runs, Waits, Passing, NoPass, Over, Aiding, NoAid, Aids, Passes}
+use Rattle.kc_machine_traces.specs.kc_machine_steps.declared.aid.AidStep.TheVariants as aid
+use Rattle.kc_machine_traces.specs.kc_machine_steps.declared.aid.AidNext.TheVariants as aiding
+use Rattle.kc_machine_traces.proofs.kc_machine.Functions.{put_here, put_cases}
+use Rattle.kc_machine_traces.specs.kc_machine.Machine.{World, put}
+use Rattle.kc_machine_traces.specs.kc_machine_claims.Claims.{step_owes, PassOwes, OwesRelease}
+use Rattle.kc_machine_traces.specs.kc_machine_effects.Effects.{Effect}
+use Rattle.kc_machine_traces.specs.kc_machine_effects.Holds.{Proper, held, own_hold, aid_hold}
+use Rattle.kc_machine_traces.specs.kc_machine_effects.Stands.{Stand, Own, NoOwn, Owns, Runs, Waits, Passing, NoPass, Over, Aiding, NoAid, Aids, Passes}
 use Rattle.kc_machine_passes.proofs.Halting.{halted_moves, halted_kept}
 use Rattle.kc_machine_passes.proofs.Holders.{owes_held, undecided_owes}
 use Rattle.kc_machine_passes.proofs.Installing.{passed_own, waiting_own}
@@ -32,16 +32,16 @@ use Rattle.kc_machine_passes.proofs.Targets.{Target, course, own_target, grounds
 use Rattle.kc_machine_passes.specs.Lines.{IsLastLife, IsInstalledLine}
 use Rattle.kc_machine_passes.specs.Passed.{gone_by, InstalledBelow, PassedAreInstalled, WaitingAreInstalled}
 use Rattle.kc_machine_passes.specs.Phases.{IsDecided, StepKnows, AidKnows}
-use Rattle.kc_machine_pool.proofs.Lives.{Lives}
-use Rattle.kc_machine_pool.proofs.Published.{Started, Out}
-use Rattle.kc_machine_pool.proofs.Remembered.{Met, InWords, met_own, aided_own, onward_own, look_own}
-use Rattle.kc_machine_pool.proofs.Shapes.{goes_over, works}
-use Rattle.kc_machine_pool.proofs.Statuses.{control_grows}
-use Rattle.kc_machine_pool.specs.Filled.{task}
-use Rattle.kc_machine_pool.specs.Owners.{Follows, is_filling}
-use Rattle.kc_machine_pool.specs.References.{met_by_pass, met_by_aid, onward_by_aid, met_by_look}
-use Rattle.kc_machine_steps.specs.Lines.{after_line, word_of, is_installed}
-use Rattle.kc_machine_steps.specs.Passes.{status}
+use Rattle.kc_machine_traces.proofs.kc_machine_pool.Lives.{Lives}
+use Rattle.kc_machine_traces.proofs.kc_machine_pool.Published.{Started, Out}
+use Rattle.kc_machine_traces.proofs.kc_machine_pool.Remembered.{Met, InWords, met_own, aided_own, onward_own, look_own}
+use Rattle.kc_machine_traces.proofs.kc_machine_pool.Shapes.{goes_over, works}
+use Rattle.kc_machine_traces.proofs.kc_machine_pool.Statuses.{control_grows}
+use Rattle.kc_machine_traces.specs.kc_machine_pool.Filled.{task}
+use Rattle.kc_machine_traces.specs.kc_machine_pool.Owners.{Follows, is_filling}
+use Rattle.kc_machine_traces.specs.kc_machine_pool.References.{met_by_pass, met_by_aid, onward_by_aid, met_by_look}
+use Rattle.kc_machine_traces.specs.kc_machine_steps.Lines.{after_line, word_of, is_installed}
+use Rattle.kc_machine_traces.specs.kc_machine_steps.Passes.{status}
 use Rattle.kc_machine_traces.proofs.Copies.{Copies, SameWords, copies_effect}
 
 -- line i of life (d, g) may stand in word l

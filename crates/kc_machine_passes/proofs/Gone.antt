@@ -3,20 +3,20 @@ use Rattle.std.proofs.Common.{◌≡◌, ℕ, zero, suc, ◌+◌, ◌-◌, ◌<�
 use Rattle.std.specs.Prelude.{slice_get, nat_lt}
 use Rattle.std.proofs.lemmas.Option.{slice_get_within}
 use borrow.Author.Tests.{eqb-true, eqb-false, ltb-true, ltb-false}
-use Rattle.kc_machine_claims.specs.Claims.{turn_owes}
-use Rattle.kc_machine_effects.proofs.Tests.{some_line}
-use Rattle.kc_machine_effects.specs.Stands.{turn}
+use Rattle.kc_machine_traces.specs.kc_machine_claims.Claims.{turn_owes}
+use Rattle.kc_machine_traces.proofs.kc_machine_effects.Tests.{some_line}
+use Rattle.kc_machine_traces.specs.kc_machine_effects.Stands.{turn}
 use Rattle.kc_machine_passes.specs.Passed.{gone_by_step}
-use Rattle.kc_machine_pool.proofs.Filled.{past_end}
-use Rattle.kc_machine_steps.specs.Lines.{picks, picked, next_among, next_line, is_installed}
-use Rattle.kc_machine_steps.specs.Passes.{from_install, install_or_check, from_check, check_or_decide, from_release, release_or_finish}
+use Rattle.kc_machine_traces.proofs.kc_machine_pool.Filled.{past_end}
+use Rattle.kc_machine_traces.specs.kc_machine_steps.Lines.{picks, picked, next_among, next_line, is_installed}
+use Rattle.kc_machine_traces.specs.kc_machine_steps.Passes.{from_install, install_or_check, from_check, check_or_decide, from_release, release_or_finish}
 use Rattle.kc_model.specs.declared.footprint.Line.{Line}
 use Rattle.kc_model.specs.declared.footprint.TheConstants.{MOST}
-use Rattle.kc_machine_steps.specs.declared.line.Pick.{Pick}
-use Rattle.kc_machine_steps.specs.declared.line.Pick.TheVariants.{Installed, Checked}
-use Rattle.kc_machine_steps.specs.declared.pass.PassStep.{PassStep}
-use Rattle.kc_machine_words.specs.declared.words.Mode.{Mode}
-use Rattle.kc_machine_words.specs.declared.words.Phase.{Phase}
+use Rattle.kc_machine_traces.specs.kc_machine_steps.declared.line.Pick.{Pick}
+use Rattle.kc_machine_traces.specs.kc_machine_steps.declared.line.Pick.TheVariants.{Installed, Checked}
+use Rattle.kc_machine_traces.specs.kc_machine_steps.declared.pass.PassStep.{PassStep}
+use Rattle.kc_machine_traces.specs.kc_machine_words.declared.words.Mode.{Mode}
+use Rattle.kc_machine_traces.specs.kc_machine_words.declared.words.Phase.{Phase}
 
 module _ (p : Pick) (m : Mode) (xs : List Line) where
   -- none of the lines from k to before n is picked

@@ -1,38 +1,38 @@
 -- Only a halted owner decides Halted.
 use Rattle.std.proofs.Common.{◌≡◌, ℕ, ◌⊎◌, ◌∙◌, inl, inr, refl, sym, ap, subst, Bool, true, List, None, Some}
 use Rattle.kc_model.specs.declared.footprint.Line.{Line}
-use Rattle.kc_machine_steps.specs.declared.pass.AfterCheck.{AfterCheck}
-use Rattle.kc_machine_steps.specs.declared.pass.PassStep.{PassStep}
-use Rattle.kc_machine_steps.specs.declared.pass.PassStep.TheVariants.{Decide}
-use Rattle.kc_machine_words.specs.declared.words.Handle.{Handle}
-use Rattle.kc_machine_words.specs.declared.words.Mode.{Mode}
-use Rattle.kc_machine_words.specs.declared.words.Phase.TheVariants.{Active, Succeeded, Halted}
-use Rattle.kc_machine_words.specs.declared.words.Reference.{Reference}
-use Rattle.kc_machine_words.specs.declared.words.Status.{Status}
+use Rattle.kc_machine_traces.specs.kc_machine_steps.declared.pass.AfterCheck.{AfterCheck}
+use Rattle.kc_machine_traces.specs.kc_machine_steps.declared.pass.PassStep.{PassStep}
+use Rattle.kc_machine_traces.specs.kc_machine_steps.declared.pass.PassStep.TheVariants.{Decide}
+use Rattle.kc_machine_traces.specs.kc_machine_words.declared.words.Handle.{Handle}
+use Rattle.kc_machine_traces.specs.kc_machine_words.declared.words.Mode.{Mode}
+use Rattle.kc_machine_traces.specs.kc_machine_words.declared.words.Phase.TheVariants.{Active, Succeeded, Halted}
+use Rattle.kc_machine_traces.specs.kc_machine_words.declared.words.Reference.{Reference}
+use Rattle.kc_machine_traces.specs.kc_machine_words.declared.words.Status.{Status}
 use Rattle.kc_model.specs.declared.footprint.Seen.{Seen}
-use Rattle.kc_machine_steps.specs.declared.pass.AfterCheck.TheVariants as checked
-use Rattle.kc_machine_steps.specs.declared.aid.AidStep.{AidStep}
-use Rattle.kc_machine_steps.specs.declared.aid.Aided.{Aided}
-use Rattle.kc_machine_steps.specs.declared.aid.AidStep.TheVariants as aid
-use Rattle.kc_machine_commits.specs.declared.commit.Commit.{Commit}
-use Rattle.kc_machine_commits.specs.declared.commit.OwnStep.{OwnStep}
-use Rattle.kc_machine_commits.specs.declared.commit.Stage.{Stage}
-use Rattle.kc_machine_commits.specs.declared.commit.Stage.TheVariants.{Scan, Take, Own}
-use Rattle.kc_machine_commits.specs.declared.commit.OwnStep.TheVariants as own
-use Rattle.kc_machine.specs.declared.hang.HangStep.{HangStep}
-use Rattle.kc_machine.specs.declared.hang.HangStep.TheVariants as hang
-use Rattle.kc_machine.specs.Works.{Work}
-use Rattle.kc_machine.specs.Works as work
-use Rattle.kc_machine.proofs.Functions.{put_cases}
-use Rattle.kc_machine.specs.Machine.{World}
-use Rattle.kc_machine.specs.declared.seat.Seat.{Seat}
-use Rattle.kc_machine_effects.specs.Effects
-use Rattle.kc_machine_effects.specs.Holds.{Proper, own_hold}
-use Rattle.kc_machine_effects.specs.Stands.{Stand, Turn, At, Own as Owning, NoOwn, Owns, Runs, Waits, NoPass, Over, stand, works, resting, commits, owns, aids, hangs}
-use Rattle.kc_machine_pool.proofs.Shapes.{Shape, own_course, aid_course, same_course}
-use Rattle.kc_machine_pool.specs.Owners.{is_filling}
-use Rattle.kc_machine_seats.specs.Fits.{StepFits, AidFits, OwnFits, StageFits, WorkFits}
-use Rattle.kc_machine_steps.specs.Passes.{status}
+use Rattle.kc_machine_traces.specs.kc_machine_steps.declared.pass.AfterCheck.TheVariants as checked
+use Rattle.kc_machine_traces.specs.kc_machine_steps.declared.aid.AidStep.{AidStep}
+use Rattle.kc_machine_traces.specs.kc_machine_steps.declared.aid.Aided.{Aided}
+use Rattle.kc_machine_traces.specs.kc_machine_steps.declared.aid.AidStep.TheVariants as aid
+use Rattle.kc_machine_traces.specs.kc_machine_commits.declared.commit.Commit.{Commit}
+use Rattle.kc_machine_traces.specs.kc_machine_commits.declared.commit.OwnStep.{OwnStep}
+use Rattle.kc_machine_traces.specs.kc_machine_commits.declared.commit.Stage.{Stage}
+use Rattle.kc_machine_traces.specs.kc_machine_commits.declared.commit.Stage.TheVariants.{Scan, Take, Own}
+use Rattle.kc_machine_traces.specs.kc_machine_commits.declared.commit.OwnStep.TheVariants as own
+use Rattle.kc_machine_traces.specs.kc_machine.declared.hang.HangStep.{HangStep}
+use Rattle.kc_machine_traces.specs.kc_machine.declared.hang.HangStep.TheVariants as hang
+use Rattle.kc_machine_traces.specs.kc_machine.Works.{Work}
+use Rattle.kc_machine_traces.specs.kc_machine.Works as work
+use Rattle.kc_machine_traces.proofs.kc_machine.Functions.{put_cases}
+use Rattle.kc_machine_traces.specs.kc_machine.Machine.{World}
+use Rattle.kc_machine_traces.specs.kc_machine.declared.seat.Seat.{Seat}
+use Rattle.kc_machine_traces.specs.kc_machine_effects.Effects
+use Rattle.kc_machine_traces.specs.kc_machine_effects.Holds.{Proper, own_hold}
+use Rattle.kc_machine_traces.specs.kc_machine_effects.Stands.{Stand, Turn, At, Own as Owning, NoOwn, Owns, Runs, Waits, NoPass, Over, stand, works, resting, commits, owns, aids, hangs}
+use Rattle.kc_machine_traces.proofs.kc_machine_pool.Shapes.{Shape, own_course, aid_course, same_course}
+use Rattle.kc_machine_traces.specs.kc_machine_pool.Owners.{is_filling}
+use Rattle.kc_machine_traces.specs.kc_machine_seats.Fits.{StepFits, AidFits, OwnFits, StageFits, WorkFits}
+use Rattle.kc_machine_traces.specs.kc_machine_steps.Passes.{status}
 
 -- ---- a pass that goes to decide Halted
 

@@ -1,20 +1,20 @@
 -- Who owes a release holds the life; and each reference in a word is owed by somebody.
 use Rattle.std.proofs.Common.{◌≡◌, ℕ, ◌<◌, ◌⊎◌, ◌∙◌, ⊎_elim, inl, inr, refl, ap, subst, true, None}
-use Rattle.kc_machine_steps.specs.declared.aid.Aided.{Aided}
-use Rattle.kc_machine_steps.specs.declared.pass.PassStep.TheVariants.{Install, Check, CheckHold, CheckStatus, CheckFirst, CheckDrop, Decide, Release}
-use Rattle.kc_machine_words.specs.declared.words.Handle.{Handle}
-use Rattle.kc_machine_words.specs.declared.words.Reference.{Reference}
-use Rattle.kc_machine_steps.specs.declared.aid.AidStep.TheVariants as aid
-use Rattle.kc_machine_steps.specs.declared.aid.AidNext.{AidNext}
-use Rattle.kc_machine_steps.specs.declared.aid.AidNext.TheVariants as aiding
-use Rattle.kc_machine.specs.Machine.{World}
-use Rattle.kc_machine_claims.specs.Claims.{turn_owes, PassOwes, OwnOwes, next_owes, AidOwes, OwesRelease}
-use Rattle.kc_machine_effects.specs.Holds.{Proper, Has, held, own_hold, aid_hold}
-use Rattle.kc_machine_effects.specs.Stands.{Stand, Turn, At, Meets, Ends, Leaves, Own, NoOwn, Owns, Runs, Waits, Passing, NoPass, Over, Aiding, NoAid, Aids, Passes}
+use Rattle.kc_machine_traces.specs.kc_machine_steps.declared.aid.Aided.{Aided}
+use Rattle.kc_machine_traces.specs.kc_machine_steps.declared.pass.PassStep.TheVariants.{Install, Check, CheckHold, CheckStatus, CheckFirst, CheckDrop, Decide, Release}
+use Rattle.kc_machine_traces.specs.kc_machine_words.declared.words.Handle.{Handle}
+use Rattle.kc_machine_traces.specs.kc_machine_words.declared.words.Reference.{Reference}
+use Rattle.kc_machine_traces.specs.kc_machine_steps.declared.aid.AidStep.TheVariants as aid
+use Rattle.kc_machine_traces.specs.kc_machine_steps.declared.aid.AidNext.{AidNext}
+use Rattle.kc_machine_traces.specs.kc_machine_steps.declared.aid.AidNext.TheVariants as aiding
+use Rattle.kc_machine_traces.specs.kc_machine.Machine.{World}
+use Rattle.kc_machine_traces.specs.kc_machine_claims.Claims.{turn_owes, PassOwes, OwnOwes, next_owes, AidOwes, OwesRelease}
+use Rattle.kc_machine_traces.specs.kc_machine_effects.Holds.{Proper, Has, held, own_hold, aid_hold}
+use Rattle.kc_machine_traces.specs.kc_machine_effects.Stands.{Stand, Turn, At, Meets, Ends, Leaves, Own, NoOwn, Owns, Runs, Waits, Passing, NoPass, Over, Aiding, NoAid, Aids, Passes}
 use Rattle.kc_machine_passes.proofs.Targets.{course}
-use Rattle.kc_machine_pool.proofs.Phases.{Undecides}
-use Rattle.kc_machine_pool.proofs.Shapes.{Shape, goes_over, own_course, aid_course, same_course, runs, works}
-use Rattle.kc_machine_pool.specs.Owners.{phase_released, phase_of_pass}
+use Rattle.kc_machine_traces.proofs.kc_machine_pool.Phases.{Undecides}
+use Rattle.kc_machine_traces.proofs.kc_machine_pool.Shapes.{Shape, goes_over, own_course, aid_course, same_course, runs, works}
+use Rattle.kc_machine_traces.specs.kc_machine_pool.Owners.{phase_released, phase_of_pass}
 use Rattle.kc_machine_traces.proofs.Copies.{Copies}
 
 pub same_handle : (h : Handle) (d g : ℕ) → Proper h.descriptor h.generation ≡ Proper d g → h ≡ record { descriptor = d; generation = g }

@@ -4,31 +4,31 @@ use Rattle.std.specs.Prelude.{slice_get}
 use borrow.Author.Tests.{eqb-true, eqb-false}
 use Rattle.kc_model.specs.declared.footprint.Line.{Line}
 use Rattle.kc_model.specs.declared.footprint.TheConstants.{MOST}
-use Rattle.kc_machine_steps.specs.declared.line.Pick.TheVariants.{Installed}
-use Rattle.kc_machine_steps.specs.declared.pass.AfterCheck.{AfterCheck}
-use Rattle.kc_machine_steps.specs.declared.pass.PassStep.{PassStep}
-use Rattle.kc_machine_steps.specs.declared.pass.PassStep.TheVariants.{Install, Check, CheckHold, CheckStatus, CheckFirst, CheckDrop, Decide, Release}
-use Rattle.kc_machine_words.specs.declared.words.Handle.{Handle}
-use Rattle.kc_machine_words.specs.declared.words.Mode.{Mode}
-use Rattle.kc_machine_words.specs.declared.words.Phase.{Phase}
-use Rattle.kc_machine_words.specs.declared.words.Phase.TheVariants.{Active, Succeeded, Failed, Crossed, Halted}
-use Rattle.kc_machine_steps.specs.declared.pass.AfterCheck.TheVariants as checked
-use Rattle.kc_machine_steps.specs.declared.aid.AidStep.TheVariants as aid
-use Rattle.kc_machine.proofs.Functions.{put_here}
-use Rattle.kc_machine.specs.Machine.{World}
-use Rattle.kc_machine_commits.specs.Halts.{halted_pass, halted_aid_pass}
-use Rattle.kc_machine_effects.proofs.Tests.{some_line}
-use Rattle.kc_machine_effects.specs.Changes.{with_word, with_status, held_once_less}
-use Rattle.kc_machine_effects.specs.Effects
-use Rattle.kc_machine_effects.specs.Stands.{Stand, Turn, turn}
+use Rattle.kc_machine_traces.specs.kc_machine_steps.declared.line.Pick.TheVariants.{Installed}
+use Rattle.kc_machine_traces.specs.kc_machine_steps.declared.pass.AfterCheck.{AfterCheck}
+use Rattle.kc_machine_traces.specs.kc_machine_steps.declared.pass.PassStep.{PassStep}
+use Rattle.kc_machine_traces.specs.kc_machine_steps.declared.pass.PassStep.TheVariants.{Install, Check, CheckHold, CheckStatus, CheckFirst, CheckDrop, Decide, Release}
+use Rattle.kc_machine_traces.specs.kc_machine_words.declared.words.Handle.{Handle}
+use Rattle.kc_machine_traces.specs.kc_machine_words.declared.words.Mode.{Mode}
+use Rattle.kc_machine_traces.specs.kc_machine_words.declared.words.Phase.{Phase}
+use Rattle.kc_machine_traces.specs.kc_machine_words.declared.words.Phase.TheVariants.{Active, Succeeded, Failed, Crossed, Halted}
+use Rattle.kc_machine_traces.specs.kc_machine_steps.declared.pass.AfterCheck.TheVariants as checked
+use Rattle.kc_machine_traces.specs.kc_machine_steps.declared.aid.AidStep.TheVariants as aid
+use Rattle.kc_machine_traces.proofs.kc_machine.Functions.{put_here}
+use Rattle.kc_machine_traces.specs.kc_machine.Machine.{World}
+use Rattle.kc_machine_traces.specs.kc_machine_commits.Halts.{halted_pass, halted_aid_pass}
+use Rattle.kc_machine_traces.proofs.kc_machine_effects.Tests.{some_line}
+use Rattle.kc_machine_traces.specs.kc_machine_effects.Changes.{with_word, with_status, held_once_less}
+use Rattle.kc_machine_traces.specs.kc_machine_effects.Effects
+use Rattle.kc_machine_traces.specs.kc_machine_effects.Stands.{Stand, Turn, turn}
 use Rattle.kc_machine_passes.proofs.Gone.{gone_check, gone_install}
 use Rattle.kc_machine_passes.proofs.Owing.{released}
 use Rattle.kc_machine_passes.specs.Passed.{gone_by_phase, gone_by_step, gone_by, IsActive, InstalledBelow, PassedAreInstalled, WaitingAreInstalled}
-use Rattle.kc_machine_pool.proofs.Filled.{one_behind}
-use Rattle.kc_machine_pool.proofs.Phases.{same_step}
-use Rattle.kc_machine_pool.proofs.Shapes.{Shape, same_course}
-use Rattle.kc_machine_steps.specs.Lines.{next_line, after_line, word_of, is_installed}
-use Rattle.kc_machine_steps.specs.Passes.{status, from_install, from_release, release_or_finish, check_drop_next, decided_as}
+use Rattle.kc_machine_traces.proofs.kc_machine_pool.Filled.{one_behind}
+use Rattle.kc_machine_traces.proofs.kc_machine_pool.Phases.{same_step}
+use Rattle.kc_machine_traces.proofs.kc_machine_pool.Shapes.{Shape, same_course}
+use Rattle.kc_machine_traces.specs.kc_machine_steps.Lines.{next_line, after_line, word_of, is_installed}
+use Rattle.kc_machine_traces.specs.kc_machine_steps.Passes.{status, from_install, from_release, release_or_finish, check_drop_next, decided_as}
 
 gone_phase : (p : Phase) → gone_by_phase p ≤ MOST
 gone_phase Active = omega arith

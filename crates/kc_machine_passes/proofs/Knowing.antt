@@ -1,27 +1,27 @@
 -- What a seat knows of the phase by which it releases.
 use Rattle.std.proofs.Common.{◌≡◌, ◌≢◌, ℕ, ◌∙◌, refl, sym, ap, subst, None, Some}
-use Rattle.kc_machine_steps.specs.declared.aid.AidStep.{AidStep}
-use Rattle.kc_machine_steps.specs.declared.pass.PassStep.{PassStep}
-use Rattle.kc_machine_steps.specs.declared.pass.PassStep.TheVariants.{Install, Check, CheckHold, CheckStatus, CheckFirst, CheckDrop, Decide, Release}
-use Rattle.kc_machine_words.specs.declared.words.First.{First}
-use Rattle.kc_machine_words.specs.declared.words.Handle.{Handle}
-use Rattle.kc_machine_words.specs.declared.words.Phase.{Phase}
-use Rattle.kc_machine_words.specs.declared.words.Phase.TheVariants.{Active, Succeeded}
-use Rattle.kc_machine_words.specs.declared.words.Reference.{Reference}
-use Rattle.kc_machine_words.specs.declared.words.Status.{Status}
-use Rattle.kc_machine_steps.specs.declared.aid.AidStep.TheVariants as aid
-use Rattle.kc_machine.proofs.Functions.{put_here}
-use Rattle.kc_machine.specs.Machine.{World}
-use Rattle.kc_machine_commits.specs.Halts.{halted_aid, halted_aid_pass}
-use Rattle.kc_machine_effects.specs.Effects
-use Rattle.kc_machine_effects.specs.Stands.{Stand, Turn, At, Passing, NoPass, Over}
+use Rattle.kc_machine_traces.specs.kc_machine_steps.declared.aid.AidStep.{AidStep}
+use Rattle.kc_machine_traces.specs.kc_machine_steps.declared.pass.PassStep.{PassStep}
+use Rattle.kc_machine_traces.specs.kc_machine_steps.declared.pass.PassStep.TheVariants.{Install, Check, CheckHold, CheckStatus, CheckFirst, CheckDrop, Decide, Release}
+use Rattle.kc_machine_traces.specs.kc_machine_words.declared.words.First.{First}
+use Rattle.kc_machine_traces.specs.kc_machine_words.declared.words.Handle.{Handle}
+use Rattle.kc_machine_traces.specs.kc_machine_words.declared.words.Phase.{Phase}
+use Rattle.kc_machine_traces.specs.kc_machine_words.declared.words.Phase.TheVariants.{Active, Succeeded}
+use Rattle.kc_machine_traces.specs.kc_machine_words.declared.words.Reference.{Reference}
+use Rattle.kc_machine_traces.specs.kc_machine_words.declared.words.Status.{Status}
+use Rattle.kc_machine_traces.specs.kc_machine_steps.declared.aid.AidStep.TheVariants as aid
+use Rattle.kc_machine_traces.proofs.kc_machine.Functions.{put_here}
+use Rattle.kc_machine_traces.specs.kc_machine.Machine.{World}
+use Rattle.kc_machine_traces.specs.kc_machine_commits.Halts.{halted_aid, halted_aid_pass}
+use Rattle.kc_machine_traces.specs.kc_machine_effects.Effects
+use Rattle.kc_machine_traces.specs.kc_machine_effects.Stands.{Stand, Turn, At, Passing, NoPass, Over}
 use Rattle.kc_machine_passes.proofs.Targets.{Grounds}
 use Rattle.kc_machine_passes.specs.Phases.{IsDecided, StepKnows, AidKnows}
-use Rattle.kc_machine_pool.proofs.Phases.{check_unread, install_unread, drop_unread, release_reads, halt_reads, halt_aided_reads, turn_reads, found_decided}
-use Rattle.kc_machine_pool.specs.Owners.{phase_released}
-use Rattle.kc_machine_seats.proofs.FitSteps.{succeeded_decided}
-use Rattle.kc_machine_steps.specs.Lines.{after_line, joined}
-use Rattle.kc_machine_steps.specs.Passes.{status, decided_as}
+use Rattle.kc_machine_traces.proofs.kc_machine_pool.Phases.{check_unread, install_unread, drop_unread, release_reads, halt_reads, halt_aided_reads, turn_reads, found_decided}
+use Rattle.kc_machine_traces.specs.kc_machine_pool.Owners.{phase_released}
+use Rattle.kc_machine_traces.proofs.kc_machine_seats.FitSteps.{succeeded_decided}
+use Rattle.kc_machine_traces.specs.kc_machine_steps.Lines.{after_line, joined}
+use Rattle.kc_machine_traces.specs.kc_machine_steps.Passes.{status, decided_as}
 
 -- a phase by which a pass releases is its status's
 abbrev pub PassKnows : World → Passing → Type 0

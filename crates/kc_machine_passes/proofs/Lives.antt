@@ -1,27 +1,27 @@
 -- A life that a seat holds stays as it is.
 use Rattle.std.proofs.Common.{◌≡◌, ℕ, ◌<◌, ◌≤◌, ◌∙◌, ⊎_elim, ap, subst, arith, true}
-use Rattle.kc_machine.specs.Machine.{World}
-use Rattle.kc_machine_effects.proofs.Counted.{one_here}
-use Rattle.kc_machine_effects.proofs.Held.{Fits, stays}
-use Rattle.kc_machine_effects.proofs.Sums.{total_part}
-use Rattle.kc_machine_effects.specs.Effects.{Effect}
-use Rattle.kc_machine_effects.specs.Holds.{Proper, Has, on, holds_on}
-use Rattle.kc_machine_effects.specs.Stands.{Stand}
+use Rattle.kc_machine_traces.specs.kc_machine.Machine.{World}
+use Rattle.kc_machine_traces.proofs.kc_machine_effects.Counted.{one_here}
+use Rattle.kc_machine_traces.proofs.kc_machine_effects.Held.{Fits, stays}
+use Rattle.kc_machine_traces.proofs.kc_machine_effects.Sums.{total_part}
+use Rattle.kc_machine_traces.specs.kc_machine_effects.Effects.{Effect}
+use Rattle.kc_machine_traces.specs.kc_machine_effects.Holds.{Proper, Has, on, holds_on}
+use Rattle.kc_machine_traces.specs.kc_machine_effects.Stands.{Stand}
 use Rattle.kc_machine_passes.specs.Lines.{IsLastLife, IsInstalledLine}
 use Rattle.kc_machine_passes.specs.Phases.{IsDecided}
-use Rattle.kc_machine_pool.proofs.Lives.{Lives, fitting}
-use Rattle.kc_machine_pool.proofs.Phases.{decided_moves}
-use Rattle.kc_machine_pool.proofs.Statuses.{status_moves}
-use Rattle.kc_machine_pool.specs.Owners.{Follows}
-use Rattle.kc_machine_pool.specs.Started.{line_of_words}
-use Rattle.kc_machine_steps.specs.Lines.{joined, is_installed}
+use Rattle.kc_machine_traces.proofs.kc_machine_pool.Lives.{Lives, fitting}
+use Rattle.kc_machine_traces.proofs.kc_machine_pool.Phases.{decided_moves}
+use Rattle.kc_machine_traces.proofs.kc_machine_pool.Statuses.{status_moves}
+use Rattle.kc_machine_traces.specs.kc_machine_pool.Owners.{Follows}
+use Rattle.kc_machine_traces.specs.kc_machine_pool.Started.{line_of_words}
+use Rattle.kc_machine_traces.specs.kc_machine_steps.Lines.{joined, is_installed}
 use Rattle.kc_machine_traces.proofs.Copies.{SameWords, Filling, owner_fills, first_fills, second_fills}
-use Rattle.kc_machine_words.specs.declared.words.First.{First}
-use Rattle.kc_machine_words.specs.declared.words.Handle.{Handle}
-use Rattle.kc_machine_words.specs.declared.words.Owner.{Owner}
-use Rattle.kc_machine_words.specs.declared.words.Phase.{Phase}
-use Rattle.kc_machine_words.specs.declared.words.Second.{Second}
-use Rattle.kc_machine_words.specs.declared.words.Status.{Status}
+use Rattle.kc_machine_traces.specs.kc_machine_words.declared.words.First.{First}
+use Rattle.kc_machine_traces.specs.kc_machine_words.declared.words.Handle.{Handle}
+use Rattle.kc_machine_traces.specs.kc_machine_words.declared.words.Owner.{Owner}
+use Rattle.kc_machine_traces.specs.kc_machine_words.declared.words.Phase.{Phase}
+use Rattle.kc_machine_traces.specs.kc_machine_words.declared.words.Second.{Second}
+use Rattle.kc_machine_traces.specs.kc_machine_words.declared.words.Status.{Status}
 
 pub record SameLife (w v : World) (d : ℕ) : Type 0 where
   pub control : (v.control d).generation ≡ (w.control d).generation

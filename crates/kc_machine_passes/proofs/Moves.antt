@@ -1,28 +1,28 @@
 -- How words come to refer to a line, and cease to.
 use Rattle.std.proofs.Common.{◌≡◌, ℕ, ◌<◌, ◌⊎◌, ◌∙◌, inl, inr, refl, sym, ap, true, false, List, None, Some}
 use Rattle.std.specs.Prelude.{slice_get}
-use Rattle.kc_machine_steps.specs.declared.aid.Aided.{Aided}
+use Rattle.kc_machine_traces.specs.kc_machine_steps.declared.aid.Aided.{Aided}
 use Rattle.kc_model.specs.declared.footprint.Line.{Line}
-use Rattle.kc_machine_steps.specs.declared.pass.PassStep.{PassStep}
-use Rattle.kc_machine_steps.specs.declared.pass.PassStep.TheVariants.{Install, Release}
-use Rattle.kc_machine_words.specs.declared.words.Handle.{Handle}
-use Rattle.kc_machine_words.specs.declared.words.Mode.{Mode}
-use Rattle.kc_machine_words.specs.declared.words.Phase.{Phase}
-use Rattle.kc_machine_words.specs.declared.words.Reference.{Reference}
+use Rattle.kc_machine_traces.specs.kc_machine_steps.declared.pass.PassStep.{PassStep}
+use Rattle.kc_machine_traces.specs.kc_machine_steps.declared.pass.PassStep.TheVariants.{Install, Release}
+use Rattle.kc_machine_traces.specs.kc_machine_words.declared.words.Handle.{Handle}
+use Rattle.kc_machine_traces.specs.kc_machine_words.declared.words.Mode.{Mode}
+use Rattle.kc_machine_traces.specs.kc_machine_words.declared.words.Phase.{Phase}
+use Rattle.kc_machine_traces.specs.kc_machine_words.declared.words.Reference.{Reference}
 use Rattle.kc_model.specs.declared.footprint.TheConstants.{MOST}
 use Rattle.kc_model.specs.declared.word.Word.TheVariants.{Ref}
-use Rattle.kc_machine_steps.specs.declared.aid.AidStep.TheVariants as aid
-use Rattle.kc_machine_steps.specs.declared.aid.AidNext.TheVariants as aiding
-use Rattle.kc_machine.proofs.Functions.{put_cases}
-use Rattle.kc_machine.specs.Machine.{World}
-use Rattle.kc_machine_effects.specs.Changes.{with_word}
-use Rattle.kc_machine_effects.specs.Effects
-use Rattle.kc_machine_effects.specs.Stands.{Stand, At, Over, Aids, Swaps, idle}
+use Rattle.kc_machine_traces.specs.kc_machine_steps.declared.aid.AidStep.TheVariants as aid
+use Rattle.kc_machine_traces.specs.kc_machine_steps.declared.aid.AidNext.TheVariants as aiding
+use Rattle.kc_machine_traces.proofs.kc_machine.Functions.{put_cases}
+use Rattle.kc_machine_traces.specs.kc_machine.Machine.{World}
+use Rattle.kc_machine_traces.specs.kc_machine_effects.Changes.{with_word}
+use Rattle.kc_machine_traces.specs.kc_machine_effects.Effects
+use Rattle.kc_machine_traces.specs.kc_machine_effects.Stands.{Stand, At, Over, Aids, Swaps, idle}
 use Rattle.kc_machine_passes.proofs.Owing.{released}
-use Rattle.kc_machine_steps.specs.Lines.{after_line, one_more, word_of, is_installed}
-use Rattle.kc_machine_steps.specs.Swaps.{word_after}
-use Rattle.kc_machine_steps.specs.declared.swap.SwapStep.TheVariants as swap
-use Rattle.kc_machine_steps.specs.Passes.{from_install}
+use Rattle.kc_machine_traces.specs.kc_machine_steps.Lines.{after_line, one_more, word_of, is_installed}
+use Rattle.kc_machine_traces.specs.kc_machine_steps.Swaps.{word_after}
+use Rattle.kc_machine_traces.specs.kc_machine_steps.declared.swap.SwapStep.TheVariants as swap
+use Rattle.kc_machine_traces.specs.kc_machine_steps.Passes.{from_install}
 
 -- the seat's pass installs line i of life (d, g) at l, and goes on
 pub record Installs (w w' : World) (s s' : Stand) (l g d i : ℕ) : Type 0 where

@@ -3,36 +3,36 @@ use Rattle.std.proofs.Common.{◌≡◌, ◌≢◌, ℕ, ◌+◌, ◌<◌, ◌�
 use Rattle.std.specs.Prelude.{slice_get, nat_lt}
 use borrow.Author.Tests.{ltb-false}
 use Rattle.kc_model.specs.declared.footprint.Line.{Line}
-use Rattle.kc_machine_steps.specs.declared.line.Pick.TheVariants.{Installed, Checked}
-use Rattle.kc_machine_steps.specs.declared.pass.AfterCheck.{AfterCheck}
-use Rattle.kc_machine_steps.specs.declared.pass.PassStep.{PassStep}
-use Rattle.kc_machine_steps.specs.declared.pass.PassStep.TheVariants.{Install, Check, CheckHold, CheckStatus, CheckFirst, CheckDrop, Decide, Release}
-use Rattle.kc_machine_words.specs.declared.words.Handle.{Handle}
-use Rattle.kc_machine_words.specs.declared.words.Mode.{Mode}
-use Rattle.kc_machine_words.specs.declared.words.Phase.{Phase}
-use Rattle.kc_machine_words.specs.declared.words.Phase.TheVariants.{Active, Succeeded, Halted}
-use Rattle.kc_machine_words.specs.declared.words.Reference.{Reference}
+use Rattle.kc_machine_traces.specs.kc_machine_steps.declared.line.Pick.TheVariants.{Installed, Checked}
+use Rattle.kc_machine_traces.specs.kc_machine_steps.declared.pass.AfterCheck.{AfterCheck}
+use Rattle.kc_machine_traces.specs.kc_machine_steps.declared.pass.PassStep.{PassStep}
+use Rattle.kc_machine_traces.specs.kc_machine_steps.declared.pass.PassStep.TheVariants.{Install, Check, CheckHold, CheckStatus, CheckFirst, CheckDrop, Decide, Release}
+use Rattle.kc_machine_traces.specs.kc_machine_words.declared.words.Handle.{Handle}
+use Rattle.kc_machine_traces.specs.kc_machine_words.declared.words.Mode.{Mode}
+use Rattle.kc_machine_traces.specs.kc_machine_words.declared.words.Phase.{Phase}
+use Rattle.kc_machine_traces.specs.kc_machine_words.declared.words.Phase.TheVariants.{Active, Succeeded, Halted}
+use Rattle.kc_machine_traces.specs.kc_machine_words.declared.words.Reference.{Reference}
 use Rattle.kc_model.specs.declared.word.Word.{Word}
 use Rattle.kc_model.specs.declared.word.Word.TheVariants.{Plain}
 use Rattle.kc_model.specs.declared.footprint.TheConstants.{MOST}
-use Rattle.kc_machine_steps.specs.declared.pass.AfterCheck.TheVariants as checked
-use Rattle.kc_machine_steps.specs.declared.aid.AidStep.{AidStep}
-use Rattle.kc_machine_steps.specs.declared.aid.AidStep.TheVariants as aid
-use Rattle.kc_machine_steps.specs.declared.aid.AidNext.TheVariants as aiding
-use Rattle.kc_machine.proofs.Functions.{put_here}
-use Rattle.kc_machine.specs.Machine.{World, put}
-use Rattle.kc_machine_claims.specs.Claims.{step_owes, turn_owes, PassOwes, OwnOwes, next_owes, AidOwes, OwesRelease}
-use Rattle.kc_machine_commits.specs.Halts.{halted_pass, halted_aid_pass, halted_aid}
-use Rattle.kc_machine_effects.specs.Effects
-use Rattle.kc_machine_effects.specs.Stands.{Stand, Turn, Own, turn}
+use Rattle.kc_machine_traces.specs.kc_machine_steps.declared.pass.AfterCheck.TheVariants as checked
+use Rattle.kc_machine_traces.specs.kc_machine_steps.declared.aid.AidStep.{AidStep}
+use Rattle.kc_machine_traces.specs.kc_machine_steps.declared.aid.AidStep.TheVariants as aid
+use Rattle.kc_machine_traces.specs.kc_machine_steps.declared.aid.AidNext.TheVariants as aiding
+use Rattle.kc_machine_traces.proofs.kc_machine.Functions.{put_here}
+use Rattle.kc_machine_traces.specs.kc_machine.Machine.{World, put}
+use Rattle.kc_machine_traces.specs.kc_machine_claims.Claims.{step_owes, turn_owes, PassOwes, OwnOwes, next_owes, AidOwes, OwesRelease}
+use Rattle.kc_machine_traces.specs.kc_machine_commits.Halts.{halted_pass, halted_aid_pass, halted_aid}
+use Rattle.kc_machine_traces.specs.kc_machine_effects.Effects
+use Rattle.kc_machine_traces.specs.kc_machine_effects.Stands.{Stand, Turn, Own, turn}
 use Rattle.kc_machine_passes.proofs.Gone.{release_owes}
 use Rattle.kc_machine_passes.proofs.Targets.{Target, Grounds}
 use Rattle.kc_machine_passes.specs.Lines.{IsInstalledLine}
-use Rattle.kc_machine_pool.proofs.Filled.{is_there}
-use Rattle.kc_machine_pool.proofs.Phases.{same_step}
-use Rattle.kc_machine_pool.proofs.Shapes.{own_course, same_course, aids_course, waits}
-use Rattle.kc_machine_steps.specs.Lines.{next_line, after_line, word_of, is_installed, first_of, second_of, resolved_version, resolved_value}
-use Rattle.kc_machine_steps.specs.Passes.{from_install, install_or_check, from_check, check_or_decide, from_release, decided_as, check_drop_next}
+use Rattle.kc_machine_traces.proofs.kc_machine_pool.Filled.{is_there}
+use Rattle.kc_machine_traces.proofs.kc_machine_pool.Phases.{same_step}
+use Rattle.kc_machine_traces.proofs.kc_machine_pool.Shapes.{own_course, same_course, aids_course, waits}
+use Rattle.kc_machine_traces.specs.kc_machine_steps.Lines.{next_line, after_line, word_of, is_installed, first_of, second_of, resolved_version, resolved_value}
+use Rattle.kc_machine_traces.specs.kc_machine_steps.Passes.{from_install, install_or_check, from_check, check_or_decide, from_release, decided_as, check_drop_next}
 
 -- the line that a reference names is one of those that a pass goes over
 pub named : (w : World) (h : Handle) (mode : Mode) (xs : List Line) (i : ℕ) → Target w h mode xs → IsInstalledLine w h.descriptor i → (x : Line) × (slice_get xs i ≡ Some x) × (is_installed mode x ≡ true)

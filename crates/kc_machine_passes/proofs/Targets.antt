@@ -1,30 +1,30 @@
 -- What a pass goes over is what its descriptor's words say, whoever's pass it is.
 use Rattle.std.proofs.Common.{◌≡◌, ℕ, zero, suc, ◌<◌, ◌∙◌, inl, inr, refl, sym, ap, subst, arith, true, false, List, length, Option, Some}
 use Rattle.std.specs.Prelude.{slice_get}
-use Rattle.kc_machine_steps.specs.declared.aid.Aided.{Aided}
-use Rattle.kc_machine_steps.specs.declared.line.Intent.{Intent}
+use Rattle.kc_machine_traces.specs.kc_machine_steps.declared.aid.Aided.{Aided}
+use Rattle.kc_machine_traces.specs.kc_machine_steps.declared.line.Intent.{Intent}
 use Rattle.kc_model.specs.declared.footprint.Line.{Line}
-use Rattle.kc_machine_words.specs.declared.words.Handle.{Handle}
-use Rattle.kc_machine_words.specs.declared.words.Mode.{Mode}
-use Rattle.kc_machine_words.specs.declared.words.Owner.{Owner}
-use Rattle.kc_machine_words.specs.declared.words.Reference.{Reference}
-use Rattle.kc_machine_steps.specs.declared.aid.AidStep.TheVariants as aid
-use Rattle.kc_machine_steps.specs.declared.aid.AidNext.TheVariants as aiding
-use Rattle.kc_machine.specs.Machine.{World}
-use Rattle.kc_machine_commits.specs.declared.commit.OwnStep.{OwnStep}
-use Rattle.kc_machine_effects.proofs.Held.{Fits}
-use Rattle.kc_machine_effects.specs.Holds.{Proper, Has, held, own_hold, aid_hold}
-use Rattle.kc_machine_effects.specs.Stands.{Stand, Own, NoOwn, Owns, Runs, Waits, Aiding, NoAid, Aids, Passes}
+use Rattle.kc_machine_traces.specs.kc_machine_words.declared.words.Handle.{Handle}
+use Rattle.kc_machine_traces.specs.kc_machine_words.declared.words.Mode.{Mode}
+use Rattle.kc_machine_traces.specs.kc_machine_words.declared.words.Owner.{Owner}
+use Rattle.kc_machine_traces.specs.kc_machine_words.declared.words.Reference.{Reference}
+use Rattle.kc_machine_traces.specs.kc_machine_steps.declared.aid.AidStep.TheVariants as aid
+use Rattle.kc_machine_traces.specs.kc_machine_steps.declared.aid.AidNext.TheVariants as aiding
+use Rattle.kc_machine_traces.specs.kc_machine.Machine.{World}
+use Rattle.kc_machine_traces.specs.kc_machine_commits.declared.commit.OwnStep.{OwnStep}
+use Rattle.kc_machine_traces.proofs.kc_machine_effects.Held.{Fits}
+use Rattle.kc_machine_traces.specs.kc_machine_effects.Holds.{Proper, Has, held, own_hold, aid_hold}
+use Rattle.kc_machine_traces.specs.kc_machine_effects.Stands.{Stand, Own, NoOwn, Owns, Runs, Waits, Aiding, NoAid, Aids, Passes}
 use Rattle.kc_machine_passes.specs.Lines.{IsLastLife}
-use Rattle.kc_machine_pool.proofs.Filled.{task_held}
-use Rattle.kc_machine_pool.proofs.Lives.{Lives, fitting}
-use Rattle.kc_machine_pool.proofs.Shapes.{Shape, goes_over, aid_course, own_course, same_course, works}
-use Rattle.kc_machine_pool.proofs.Started.{line_again}
-use Rattle.kc_machine_pool.specs.Filled.{task, Stored}
-use Rattle.kc_machine_pool.specs.Owners.{is_filling, Follows}
-use Rattle.kc_machine_pool.specs.References.{met_by_aid}
-use Rattle.kc_machine_pool.specs.Started.{listed, line_of_words}
-use Rattle.kc_machine_steps.specs.Lines.{joined, first_of}
+use Rattle.kc_machine_traces.proofs.kc_machine_pool.Filled.{task_held}
+use Rattle.kc_machine_traces.proofs.kc_machine_pool.Lives.{Lives, fitting}
+use Rattle.kc_machine_traces.proofs.kc_machine_pool.Shapes.{Shape, goes_over, aid_course, own_course, same_course, works}
+use Rattle.kc_machine_traces.proofs.kc_machine_pool.Started.{line_again}
+use Rattle.kc_machine_traces.specs.kc_machine_pool.Filled.{task, Stored}
+use Rattle.kc_machine_traces.specs.kc_machine_pool.Owners.{is_filling, Follows}
+use Rattle.kc_machine_traces.specs.kc_machine_pool.References.{met_by_aid}
+use Rattle.kc_machine_traces.specs.kc_machine_pool.Started.{listed, line_of_words}
+use Rattle.kc_machine_traces.specs.kc_machine_steps.Lines.{joined, first_of}
 use Rattle.kc_machine_traces.proofs.Copies.{Copies}
 use Rattle.kc_machine_traces.proofs.Whole.{Bound}
 use Rattle.kc_machine_traces.specs.Copies.{CopyIsTrue, LoadedOf}

@@ -1,24 +1,24 @@
 -- Passes go over what words say, over every opening and every schedule.
 use Rattle.std.proofs.Common.{◌≡◌, ℕ, ◌<◌, ◌∙◌, sym, ap, subst, true, List, Some}
-use Rattle.kc_machine.specs.Machine.{World, Opening, run}
-use Rattle.kc_machine.specs.Schedules.{IsSchedule}
-use Rattle.kc_machine_commits.specs.Commits.{intent_of}
-use Rattle.kc_machine_effects.specs.Holds.{Proper, own_hold}
-use Rattle.kc_machine_effects.specs.Stands.{Own, NoOwn, Owns, Runs, Waits, stand}
+use Rattle.kc_machine_traces.specs.kc_machine.Machine.{World, Opening, run}
+use Rattle.kc_machine_traces.specs.kc_machine.Schedules.{IsSchedule}
+use Rattle.kc_machine_traces.specs.kc_machine_commits.Commits.{intent_of}
+use Rattle.kc_machine_traces.specs.kc_machine_effects.Holds.{Proper, own_hold}
+use Rattle.kc_machine_traces.specs.kc_machine_effects.Stands.{Own, NoOwn, Owns, Runs, Waits, stand}
 use Rattle.kc_machine_passes.proofs.Holders.{same_handle}
 use Rattle.kc_machine_passes.proofs.Targets.{Target, Course, course, own_target}
 use Rattle.kc_machine_passes.specs.Words.{PassesOver, PassesGoOverTheirWords, PassesAreWellMade, ActivePassesAreTheirOwners}
-use Rattle.kc_machine_pool.proofs.Shapes.{goes_over, works}
-use Rattle.kc_machine_pool.proofs.Started.{lists_again, started_made}
-use Rattle.kc_machine_pool.specs.Filled.{task}
-use Rattle.kc_machine_pool.specs.Started.{listed, line_of_words, intent_of_words}
-use Rattle.kc_machine_seats.specs.Made.{IsWellMadeIntent}
-use Rattle.kc_machine_steps.specs.declared.line.Intent.{Intent}
+use Rattle.kc_machine_traces.proofs.kc_machine_pool.Shapes.{goes_over, works}
+use Rattle.kc_machine_traces.proofs.kc_machine_pool.Started.{lists_again, started_made}
+use Rattle.kc_machine_traces.specs.kc_machine_pool.Filled.{task}
+use Rattle.kc_machine_traces.specs.kc_machine_pool.Started.{listed, line_of_words, intent_of_words}
+use Rattle.kc_machine_traces.specs.kc_machine_seats.Made.{IsWellMadeIntent}
+use Rattle.kc_machine_traces.specs.kc_machine_steps.declared.line.Intent.{Intent}
 use Rattle.kc_model.specs.declared.footprint.Line.{Line}
-use Rattle.kc_machine_steps.specs.declared.task.Event.{Event}
+use Rattle.kc_machine_traces.specs.kc_machine_steps.declared.task.Event.{Event}
 use Rattle.kc_machine_traces.proofs.Copies.{copies_after}
-use Rattle.kc_machine_words.specs.declared.words.Handle.{Handle}
-use Rattle.kc_machine_words.specs.declared.words.Mode.{Mode}
+use Rattle.kc_machine_traces.specs.kc_machine_words.declared.words.Handle.{Handle}
+use Rattle.kc_machine_traces.specs.kc_machine_words.declared.words.Mode.{Mode}
 
 says : (w : World) (h : Handle) (mode : Mode) (xs : List Line) → Target w h mode xs → intent_of_words w h.descriptor ≡ intent_of mode xs
 says w h mode xs t =

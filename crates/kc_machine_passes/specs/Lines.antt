@@ -1,11 +1,11 @@
 -- Which line of which life a reference names.
 use Rattle.std.specs.Prelude.{◌≡◌, ◌<◌, ℕ, true}
-use Rattle.kc_machine.specs.Machine.{World, State}
-use Rattle.kc_machine_effects.specs.Stands.{stand}
-use Rattle.kc_machine_pool.specs.References.{Remembers}
-use Rattle.kc_machine_pool.specs.Started.{line_of_words}
-use Rattle.kc_machine_steps.specs.Lines.{is_installed}
-use Rattle.kc_machine_words.specs.declared.words.Reference.{Reference}
+use Rattle.kc_machine_traces.specs.kc_machine.Machine.{World, State}
+use Rattle.kc_machine_traces.specs.kc_machine_effects.Stands.{stand}
+use Rattle.kc_machine_traces.specs.kc_machine_pool.References.{Remembers}
+use Rattle.kc_machine_traces.specs.kc_machine_pool.Started.{line_of_words}
+use Rattle.kc_machine_traces.specs.kc_machine_steps.Lines.{is_installed}
+use Rattle.kc_machine_traces.specs.kc_machine_words.declared.words.Reference.{Reference}
 use Rattle.kc_model.specs.declared.footprint.TheConstants.{MOST}
 use Rattle.kc_model.specs.declared.word.Word.TheVariants.{Ref}
 

@@ -1,17 +1,17 @@
 -- How far a pass has installed.
 use Rattle.std.specs.Prelude.{◌≡◌, ◌<◌, ℕ, List, true, Some, slice_get}
-use Rattle.kc_machine.specs.Machine.{World, State}
-use Rattle.kc_machine_effects.specs.Stands.{Turn, At, Meets, Ends, Leaves, Passing, NoPass, Over, Own, NoOwn, Owns, Runs, Waits, stand}
+use Rattle.kc_machine_traces.specs.kc_machine.Machine.{World, State}
+use Rattle.kc_machine_traces.specs.kc_machine_effects.Stands.{Turn, At, Meets, Ends, Leaves, Passing, NoPass, Over, Own, NoOwn, Owns, Runs, Waits, stand}
 use Rattle.kc_machine_passes.specs.Lines.{IsInstalledLine}
-use Rattle.kc_machine_steps.specs.Lines.{is_installed, word_of}
-use Rattle.kc_machine_steps.specs.Passes.{status}
+use Rattle.kc_machine_traces.specs.kc_machine_steps.Lines.{is_installed, word_of}
+use Rattle.kc_machine_traces.specs.kc_machine_steps.Passes.{status}
 use Rattle.kc_model.specs.declared.footprint.Line.{Line}
-use Rattle.kc_machine_steps.specs.declared.pass.PassStep.{PassStep}
-use Rattle.kc_machine_steps.specs.declared.pass.PassStep.TheVariants.{Install, Check, CheckHold, CheckStatus, CheckFirst, CheckDrop, Decide, Release}
-use Rattle.kc_machine_words.specs.declared.words.Handle.{Handle}
-use Rattle.kc_machine_words.specs.declared.words.Mode.{Mode}
-use Rattle.kc_machine_words.specs.declared.words.Phase.{Phase}
-use Rattle.kc_machine_words.specs.declared.words.Phase.TheVariants.{Active, Succeeded}
+use Rattle.kc_machine_traces.specs.kc_machine_steps.declared.pass.PassStep.{PassStep}
+use Rattle.kc_machine_traces.specs.kc_machine_steps.declared.pass.PassStep.TheVariants.{Install, Check, CheckHold, CheckStatus, CheckFirst, CheckDrop, Decide, Release}
+use Rattle.kc_machine_traces.specs.kc_machine_words.declared.words.Handle.{Handle}
+use Rattle.kc_machine_traces.specs.kc_machine_words.declared.words.Mode.{Mode}
+use Rattle.kc_machine_traces.specs.kc_machine_words.declared.words.Phase.{Phase}
+use Rattle.kc_machine_traces.specs.kc_machine_words.declared.words.Phase.TheVariants.{Active, Succeeded}
 use Rattle.kc_model.specs.declared.footprint.TheConstants.{MOST}
 use Rattle.kc_model.specs.declared.word.Word.TheVariants.{Ref}
 

@@ -1,22 +1,22 @@
 -- Who knows by which phase a line is released, and who has still to release it.
 use Rattle.std.specs.Prelude.{◌≡◌, ◌≢◌, ◌<◌, ℕ, List, true}
-use Rattle.kc_machine_steps.specs.declared.aid.AidStep.{AidStep}
+use Rattle.kc_machine_traces.specs.kc_machine_steps.declared.aid.AidStep.{AidStep}
 use Rattle.kc_model.specs.declared.footprint.Line.{Line}
-use Rattle.kc_machine_steps.specs.declared.pass.PassStep.TheVariants.{Decide, Release}
-use Rattle.kc_machine_words.specs.declared.words.Handle.{Handle}
-use Rattle.kc_machine_words.specs.declared.words.Mode.{Mode}
-use Rattle.kc_machine_words.specs.declared.words.Phase.{Phase}
-use Rattle.kc_machine_words.specs.declared.words.Phase.TheVariants.{Active, Halted}
-use Rattle.kc_machine_words.specs.declared.words.Reference.{Reference}
+use Rattle.kc_machine_traces.specs.kc_machine_steps.declared.pass.PassStep.TheVariants.{Decide, Release}
+use Rattle.kc_machine_traces.specs.kc_machine_words.declared.words.Handle.{Handle}
+use Rattle.kc_machine_traces.specs.kc_machine_words.declared.words.Mode.{Mode}
+use Rattle.kc_machine_traces.specs.kc_machine_words.declared.words.Phase.{Phase}
+use Rattle.kc_machine_traces.specs.kc_machine_words.declared.words.Phase.TheVariants.{Active, Halted}
+use Rattle.kc_machine_traces.specs.kc_machine_words.declared.words.Reference.{Reference}
 use Rattle.kc_model.specs.declared.word.Word.TheVariants.{Ref}
-use Rattle.kc_machine_steps.specs.declared.aid.AidStep.TheVariants as aid
-use Rattle.kc_machine_steps.specs.declared.aid.AidNext.TheVariants as aiding
-use Rattle.kc_machine.specs.Machine.{World, State}
-use Rattle.kc_machine_claims.specs.Claims.{SomeoneReleases}
-use Rattle.kc_machine_effects.specs.Holds.{Proper, own_hold}
-use Rattle.kc_machine_effects.specs.Stands.{Aiding, NoAid, Aids, Passes, At, Over, stand}
-use Rattle.kc_machine_pool.specs.Started.{line_of_words}
-use Rattle.kc_machine_steps.specs.Passes.{status}
+use Rattle.kc_machine_traces.specs.kc_machine_steps.declared.aid.AidStep.TheVariants as aid
+use Rattle.kc_machine_traces.specs.kc_machine_steps.declared.aid.AidNext.TheVariants as aiding
+use Rattle.kc_machine_traces.specs.kc_machine.Machine.{World, State}
+use Rattle.kc_machine_traces.specs.kc_machine_claims.Claims.{SomeoneReleases}
+use Rattle.kc_machine_traces.specs.kc_machine_effects.Holds.{Proper, own_hold}
+use Rattle.kc_machine_traces.specs.kc_machine_effects.Stands.{Aiding, NoAid, Aids, Passes, At, Over, stand}
+use Rattle.kc_machine_traces.specs.kc_machine_pool.Started.{line_of_words}
+use Rattle.kc_machine_traces.specs.kc_machine_steps.Passes.{status}
 
 -- a word refers to line k of a life that isn't Active: some seat has a pass over it, or leaves its aid, and has still to release that line
 abbrev pub ReferencesAreOwed : State → Type 0

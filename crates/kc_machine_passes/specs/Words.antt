@@ -1,18 +1,18 @@
 -- What passes go over.
 use Rattle.std.specs.Prelude.{◌≡◌, ◌<◌, ℕ, List, Some}
-use Rattle.kc_machine.specs.Machine.{State}
-use Rattle.kc_machine_commits.specs.Commits.{intent_of}
-use Rattle.kc_machine_effects.specs.Holds.{Holds}
-use Rattle.kc_machine_effects.specs.Stands.{Turn, Over, stand}
+use Rattle.kc_machine_traces.specs.kc_machine.Machine.{State}
+use Rattle.kc_machine_traces.specs.kc_machine_commits.Commits.{intent_of}
+use Rattle.kc_machine_traces.specs.kc_machine_effects.Holds.{Holds}
+use Rattle.kc_machine_traces.specs.kc_machine_effects.Stands.{Turn, Over, stand}
 use Rattle.kc_machine_passes.specs.Lines.{IsLastLife}
-use Rattle.kc_machine_pool.specs.Filled.{task}
-use Rattle.kc_machine_pool.specs.Started.{intent_of_words}
-use Rattle.kc_machine_seats.specs.Made.{IsWellMadeIntent}
-use Rattle.kc_machine_steps.specs.Passes.{status}
+use Rattle.kc_machine_traces.specs.kc_machine_pool.Filled.{task}
+use Rattle.kc_machine_traces.specs.kc_machine_pool.Started.{intent_of_words}
+use Rattle.kc_machine_traces.specs.kc_machine_seats.Made.{IsWellMadeIntent}
+use Rattle.kc_machine_traces.specs.kc_machine_steps.Passes.{status}
 use Rattle.kc_model.specs.declared.footprint.Line.{Line}
-use Rattle.kc_machine_words.specs.declared.words.Handle.{Handle}
-use Rattle.kc_machine_words.specs.declared.words.Mode.{Mode}
-use Rattle.kc_machine_words.specs.declared.words.Phase.TheVariants.{Active}
+use Rattle.kc_machine_traces.specs.kc_machine_words.declared.words.Handle.{Handle}
+use Rattle.kc_machine_traces.specs.kc_machine_words.declared.words.Mode.{Mode}
+use Rattle.kc_machine_traces.specs.kc_machine_words.declared.words.Phase.TheVariants.{Active}
 
 -- seat j has a pass over life h, by this mode and these lines
 abbrev pub PassesOver : State → ℕ → Handle → Mode → List Line → Type 0

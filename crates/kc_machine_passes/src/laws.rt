@@ -1,13 +1,13 @@
 //! What holds after every schedule of every opening. An empty body: the contract is the law.
 
-ghost use Rattle.kc_machine_claims.specs.Claims.{ReferencesAreHeld};
-ghost use Rattle.kc_machine.specs.Machine.{Opening, run};
-ghost use Rattle.kc_machine.specs.Schedules.{IsSchedule};
+ghost use Rattle.kc_machine_traces.specs.kc_machine_claims.Claims.{ReferencesAreHeld};
+ghost use Rattle.kc_machine_traces.specs.kc_machine.Machine.{Opening, run};
+ghost use Rattle.kc_machine_traces.specs.kc_machine.Schedules.{IsSchedule};
 ghost use Rattle.kc_machine_passes.specs.Words.{ActivePassesAreTheirOwners, PassesAreWellMade, PassesGoOverTheirWords};
 ghost use Rattle.kc_machine_passes.specs.Lines.{MetLinesExist, ReferencesFitTheirLines};
 ghost use Rattle.kc_machine_passes.specs.Passed.{InstalledLinesAreAPrefix, PassedLinesAreInstalled};
 ghost use Rattle.kc_machine_passes.specs.Phases.{AidsKnowTheirLine, OnlyHaltedOwnersDecideHalted, ReferencesAreOwed, ReleasesKnowThePhase};
-ghost use Rattle.kc_machine_steps.specs.declared.task.Event.{Event};
+ghost use Rattle.kc_machine_traces.specs.kc_machine_steps.declared.task.Event.{Event};
 ghost use Rattle.std.specs.Prelude.{List};
 
 /// A pass goes over a life that its seat holds, the last of its descriptor, which was started; the words of the descriptor say the pass's mode and lines, whoever's pass it is. Where the tasks are well made these are. While the life is Active, its owner's intent is the same.

@@ -1,11 +1,11 @@
 -- A seat has at most three holds: no seat looks while it commits.
 use Rattle.std.proofs.Common.{◌≡◌, ◌≤◌, ap, arith}
-use Rattle.kc_machine.specs.Works.{Work}
-use Rattle.kc_machine.specs.declared.seat.Seat.{Seat}
-use Rattle.kc_machine.specs.Works as work
-use Rattle.kc_machine.specs.Waits.{Hang}
-use Rattle.kc_machine.specs.declared.hang.HangStep.{HangStep}
-use Rattle.kc_machine.specs.declared.hang.HangStep.TheVariants as hang
+use Rattle.kc_machine_effects.specs.kc_machine.Works.{Work}
+use Rattle.kc_machine_effects.specs.kc_machine.declared.seat.Seat.{Seat}
+use Rattle.kc_machine_effects.specs.kc_machine.Works as work
+use Rattle.kc_machine_effects.specs.kc_machine.Waits.{Hang}
+use Rattle.kc_machine_effects.specs.kc_machine.declared.hang.HangStep.{HangStep}
+use Rattle.kc_machine_effects.specs.kc_machine.declared.hang.HangStep.TheVariants as hang
 use Rattle.kc_machine_effects.proofs.Left.{commit_leaves}
 use Rattle.kc_machine_effects.specs.Holds.{Hold, NoHold, Proper, Stray, own_hold, check_hold, aid_hold, look_hold}
 use Rattle.kc_machine_effects.specs.Stands.{Stand, NoLook, stand, works, resting, hangs}

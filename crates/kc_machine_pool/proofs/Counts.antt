@@ -1,19 +1,19 @@
 -- The bound of the generations, and of the calls.
 use Rattle.std.proofs.Common.{◌≡◌, ℕ, zero, suc, ◌+◌, ◌-◌, ◌<◌, ◌≤◌, ◌⊎◌, ⊎_elim, inl, inr, refl, sym, ap, subst, arith, Bool, true, false, if◌then◌else◌}
 use Rattle.std.specs.Prelude.{nat_lt}
-use Rattle.kc_machine.proofs.Functions.{put_cases}
-use Rattle.kc_machine.specs.Machine.{World, put}
-use Rattle.kc_machine.specs.Words.{control}
+use Rattle.kc_machine_effects.proofs.kc_machine.Functions.{put_cases}
+use Rattle.kc_machine_effects.specs.kc_machine.Machine.{World, put}
+use Rattle.kc_machine_effects.specs.kc_machine.Words.{control}
 use Rattle.kc_machine_effects.proofs.Counted.{cells}
 use Rattle.kc_machine_effects.proofs.Sums.{total_put}
 use Rattle.kc_machine_effects.proofs.Worn.{Placed, Scanning_at, place}
 use Rattle.kc_machine_effects.specs.Effects
 use Rattle.kc_machine_effects.specs.Holds.{total}
 use Rattle.kc_machine_effects.specs.Stands.{Stand}
-use Rattle.kc_machine_steps.specs.Lines.{one_more}
-use Rattle.kc_machine_steps.specs.declared.swap.TheConstants.{MOST_SWAPS}
-use Rattle.kc_machine_words.specs.declared.words.Control.{Control}
-use Rattle.kc_machine_words.specs.declared.words.TheConstants.{LAST_GENERATION}
+use Rattle.kc_machine_effects.specs.kc_machine_steps.Lines.{one_more}
+use Rattle.kc_machine_effects.specs.kc_machine_steps.declared.swap.TheConstants.{MOST_SWAPS}
+use Rattle.kc_machine_effects.specs.kc_machine_words.declared.words.Control.{Control}
+use Rattle.kc_machine_effects.specs.kc_machine_words.declared.words.TheConstants.{LAST_GENERATION}
 
 -- descriptor d is taken from generation g
 pub record Takes (w w' : World) (s s' : Stand) : Type 0 where

@@ -3,22 +3,22 @@ use Rattle.std.proofs.Common.{◌≡◌, ℕ, zero, suc, [], ◌∷◌, ◌+◌,
 use Rattle.std.specs.Prelude.{slice_get, nat_lt}
 use Rattle.std.proofs.lemmas.Option.{slice_get_cases, slice_get_within}
 use Rattle.std.proofs.lemmas.Bool.{ltb-false}
-use Rattle.kc_machine_steps.specs.declared.line.Intent.{Intent}
+use Rattle.kc_machine_effects.specs.kc_machine_steps.declared.line.Intent.{Intent}
 use Rattle.kc_model.specs.declared.footprint.Line.{Line}
 use Rattle.kc_model.specs.declared.footprint.TheConstants.{MOST}
-use Rattle.kc_machine_words.specs.declared.words.First.{First}
-use Rattle.kc_machine_words.specs.declared.words.Handle.{Handle}
-use Rattle.kc_machine_words.specs.declared.words.Second.{Second}
-use Rattle.kc_machine_commits.specs.declared.commit.OwnStep.TheVariants as own
-use Rattle.kc_machine.proofs.Functions.{put_here, put_cases}
-use Rattle.kc_machine.specs.Machine.{World, put}
-use Rattle.kc_machine_commits.specs.Commits.{fill_next, fill_or_start}
+use Rattle.kc_machine_effects.specs.kc_machine_words.declared.words.First.{First}
+use Rattle.kc_machine_effects.specs.kc_machine_words.declared.words.Handle.{Handle}
+use Rattle.kc_machine_effects.specs.kc_machine_words.declared.words.Second.{Second}
+use Rattle.kc_machine_effects.specs.kc_machine_commits.declared.commit.OwnStep.TheVariants as own
+use Rattle.kc_machine_effects.proofs.kc_machine.Functions.{put_here, put_cases}
+use Rattle.kc_machine_effects.specs.kc_machine.Machine.{World, put}
+use Rattle.kc_machine_effects.specs.kc_machine_commits.Commits.{fill_next, fill_or_start}
 use Rattle.kc_machine_effects.proofs.Tests.{some_line}
 use Rattle.kc_machine_effects.specs.Effects
 use Rattle.kc_machine_effects.specs.Holds.{Proper, own_hold}
 use Rattle.kc_machine_effects.specs.Stands.{Stand, Own, NoOwn, Owns, Runs, Waits}
 use Rattle.kc_machine_pool.specs.Filled.{task, FirstStored, SecondStored, owner_word, OwnerIsFilled, FirstsAreFilled, SecondsAreFilled}
-use Rattle.kc_machine_steps.specs.Lines.{after_line, first_of, second_of}
+use Rattle.kc_machine_effects.specs.kc_machine_steps.Lines.{after_line, first_of, second_of}
 
 -- ---- what other seats do
 

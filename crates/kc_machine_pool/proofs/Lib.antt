@@ -10,3 +10,7 @@ pub mod AtMostThree
 pub mod Lives
 pub mod LifeLaws
 pub mod Started
+pub use Rattle.kc_machine_effects.proofs.kc_machine as kc_machine
+pub use Rattle.kc_machine_effects.proofs as kc_machine_effects
+pub use Rattle.kc_machine_effects.proofs.kc_machine_seats as kc_machine_seats
+pub use Rattle.kc_machine_effects.proofs.kc_machine_steps as kc_machine_steps

@@ -1,6 +1,6 @@
 -- The laws of the pool, over every opening and every schedule.
 use Rattle.std.proofs.Common.{ℕ, zero, suc, ◌<◌, ◌≤◌, ◌≡◌, ap, refl, ⊎_elim, subst, arith, List}
-use Rattle.kc_machine.specs.Machine.{World, Opening, put, run, opened}
+use Rattle.kc_machine_effects.specs.kc_machine.Machine.{World, Opening, put, run, opened}
 use Rattle.kc_machine_effects.proofs.PoolLaws.{opened_pool, holds_kept}
 use Rattle.kc_machine_effects.proofs.Pools.{Pool, pool_effect}
 use Rattle.kc_machine_effects.proofs.Runs.{holds_after}
@@ -16,8 +16,8 @@ use Rattle.kc_machine_pool.specs.Counts.{AtMostThree, CallsFit, GenerationsFit, 
 use Rattle.kc_machine_pool.specs.Filled.{OwnedWordsAreFilled}
 use Rattle.kc_machine_pool.specs.Owners.{ActiveHasItsOwner, Follows, OwnersDiffer, OwnersKnowThePhase, StatusesAreBehind, StatusesFollow}
 use Rattle.kc_machine_pool.specs.References.{RememberedArePublished, WordsArePublished, HeldAreStarted, IsPublished}
-use Rattle.kc_machine_steps.specs.declared.task.Event.{Event}
-use Rattle.kc_machine_words.specs.declared.words.Status.{Status}
+use Rattle.kc_machine_effects.specs.kc_machine_steps.declared.task.Event.{Event}
+use Rattle.kc_machine_effects.specs.kc_machine_words.declared.words.Status.{Status}
 
 pub opened_lives : (o : Opening) → Lives o.callers (opened o).descriptors (opened o).world (λ k. stand ((opened o).seats k))
 opened_lives o = record {

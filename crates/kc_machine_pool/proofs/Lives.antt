@@ -1,7 +1,7 @@
 -- The facts of the lives of descriptors, which each effect keeps.
 use Rattle.std.proofs.Common.{◌≡◌, ◌≢◌, ℕ, ◌<◌, ◌≤◌, ◌∙◌, ⊎_elim, sym, subst, arith}
-use Rattle.kc_machine.proofs.Functions.{put_here, put_cases}
-use Rattle.kc_machine.specs.Machine.{World, put}
+use Rattle.kc_machine_effects.proofs.kc_machine.Functions.{put_here, put_cases}
+use Rattle.kc_machine_effects.specs.kc_machine.Machine.{World, put}
 use Rattle.kc_machine_effects.proofs.Held.{Fits}
 use Rattle.kc_machine_effects.proofs.Pools.{Pool, pool_effect}
 use Rattle.kc_machine_effects.proofs.Sums.{total_part}
@@ -18,9 +18,9 @@ use Rattle.kc_machine_pool.proofs.Statuses.{Owned, status_moves, control_grows, 
 use Rattle.kc_machine_pool.specs.Filled.{Filled}
 use Rattle.kc_machine_pool.specs.Owners.{is_filling, Follows}
 use Rattle.kc_machine_pool.specs.References.{met_by_pass, met_by_aid, onward_by_aid, met_by_look}
-use Rattle.kc_machine_steps.specs.Passes.{status}
-use Rattle.kc_machine_words.specs.declared.words.Phase.{Phase}
-use Rattle.kc_machine_words.specs.declared.words.Phase.TheVariants.{Active}
+use Rattle.kc_machine_effects.specs.kc_machine_steps.Passes.{status}
+use Rattle.kc_machine_effects.specs.kc_machine_words.declared.words.Phase.{Phase}
+use Rattle.kc_machine_effects.specs.kc_machine_words.declared.words.Phase.TheVariants.{Active}
 
 -- what a seat remembers was started
 pub record Met (w : World) (s : Stand) : Type 0 where

@@ -1,6 +1,6 @@
 -- Two seats never own the same descriptor: a take finds no hold.
 use Rattle.std.proofs.Common.{◌≡◌, ℕ, ◌<◌, ◌≤◌, ◌⊎◌, inl, inr, ap, arith}
-use Rattle.kc_machine.specs.Machine.{World}
+use Rattle.kc_machine_effects.specs.kc_machine.Machine.{World}
 use Rattle.kc_machine_effects.proofs.Counted.{cells, one_here}
 use Rattle.kc_machine_effects.specs.Effects
 use Rattle.kc_machine_effects.specs.Holds.{Proper, own_hold, on, holds_on}

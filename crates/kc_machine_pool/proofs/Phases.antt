@@ -1,34 +1,34 @@
 -- What an owner knows of its phase.
 use Rattle.std.proofs.Common.{◌≡◌, ◌≢◌, ℕ, ◌⊎◌, ◌∙◌, inl, inr, refl, sym, ap, subst, Bool, true, false, ◌==◌, if◌then◌else◌, List, Option, None, Some}
-use Rattle.kc_machine_words.specs.declared.words.Handle.{Handle}
-use Rattle.kc_machine_words.specs.declared.words.Mode.{Mode}
-use Rattle.kc_machine_words.specs.declared.words.Phase.{Phase}
-use Rattle.kc_machine_words.specs.declared.words.Phase.TheVariants.{Active, Succeeded, Failed, Crossed, Halted}
-use Rattle.kc_machine_words.specs.declared.words.Status.{Status}
-use Rattle.kc_machine_words.specs.declared.access.Found.TheVariants as found
-use Rattle.kc_machine_steps.specs.declared.line.Intent.{Intent}
+use Rattle.kc_machine_effects.specs.kc_machine_words.declared.words.Handle.{Handle}
+use Rattle.kc_machine_effects.specs.kc_machine_words.declared.words.Mode.{Mode}
+use Rattle.kc_machine_effects.specs.kc_machine_words.declared.words.Phase.{Phase}
+use Rattle.kc_machine_effects.specs.kc_machine_words.declared.words.Phase.TheVariants.{Active, Succeeded, Failed, Crossed, Halted}
+use Rattle.kc_machine_effects.specs.kc_machine_words.declared.words.Status.{Status}
+use Rattle.kc_machine_effects.specs.kc_machine_words.declared.access.Found.TheVariants as found
+use Rattle.kc_machine_effects.specs.kc_machine_steps.declared.line.Intent.{Intent}
 use Rattle.kc_model.specs.declared.footprint.Line.{Line}
-use Rattle.kc_machine_steps.specs.declared.line.Pick.TheVariants.{Put, Installed, Checked}
-use Rattle.kc_machine_steps.specs.declared.pass.AfterCheck.{AfterCheck}
-use Rattle.kc_machine_steps.specs.declared.pass.PassStep.{PassStep}
-use Rattle.kc_machine_steps.specs.declared.pass.PassStep.TheVariants.{Install, Check, CheckHold, CheckStatus, CheckFirst, CheckDrop, Decide, Release}
-use Rattle.kc_machine_steps.specs.declared.pass.AfterCheck.TheVariants as checked
-use Rattle.kc_machine_steps.specs.declared.aid.AidStep.TheVariants as aid
-use Rattle.kc_machine_commits.specs.declared.commit.OwnStep.TheVariants as own
+use Rattle.kc_machine_effects.specs.kc_machine_steps.declared.line.Pick.TheVariants.{Put, Installed, Checked}
+use Rattle.kc_machine_effects.specs.kc_machine_steps.declared.pass.AfterCheck.{AfterCheck}
+use Rattle.kc_machine_effects.specs.kc_machine_steps.declared.pass.PassStep.{PassStep}
+use Rattle.kc_machine_effects.specs.kc_machine_steps.declared.pass.PassStep.TheVariants.{Install, Check, CheckHold, CheckStatus, CheckFirst, CheckDrop, Decide, Release}
+use Rattle.kc_machine_effects.specs.kc_machine_steps.declared.pass.AfterCheck.TheVariants as checked
+use Rattle.kc_machine_effects.specs.kc_machine_steps.declared.aid.AidStep.TheVariants as aid
+use Rattle.kc_machine_effects.specs.kc_machine_commits.declared.commit.OwnStep.TheVariants as own
 use Rattle.std.specs.Prelude.{slice_get}
-use Rattle.kc_machine.proofs.Functions.{put_cases}
-use Rattle.kc_machine.specs.Machine.{World, put}
-use Rattle.kc_machine_commits.specs.Commits.{fill_next, fill_or_start, finished, wake_or_drop, wake_next, wake_or_signal, owed_next}
-use Rattle.kc_machine_commits.specs.Halts.{halted_pass, halted_aid_pass}
+use Rattle.kc_machine_effects.proofs.kc_machine.Functions.{put_cases}
+use Rattle.kc_machine_effects.specs.kc_machine.Machine.{World, put}
+use Rattle.kc_machine_effects.specs.kc_machine_commits.Commits.{fill_next, fill_or_start, finished, wake_or_drop, wake_next, wake_or_signal, owed_next}
+use Rattle.kc_machine_effects.specs.kc_machine_commits.Halts.{halted_pass, halted_aid_pass}
 use Rattle.kc_machine_effects.specs.Effects
 use Rattle.kc_machine_effects.specs.Holds.{Proper, own_hold}
 use Rattle.kc_machine_effects.specs.Stands.{Stand, Own, NoOwn, Owns, Runs, Waits, Turn, At, Passing, NoPass, Over, turn}
 use Rattle.kc_machine_pool.proofs.Shapes.{Shape, aid_course, runs, works, runs_over, runs_started, aids_apart}
 use Rattle.kc_machine_pool.proofs.Statuses.{Owned, Fills}
 use Rattle.kc_machine_pool.specs.Owners.{phase_released, phase_of_pass, phase_of_step, phase_read, is_filling, Follows, Undecided}
-use Rattle.kc_machine_seats.proofs.FitSteps.{succeeded_decided}
-use Rattle.kc_machine_steps.specs.Lines.{next_line, after_line}
-use Rattle.kc_machine_steps.specs.Passes.{status, from_install, install_or_check, from_check, check_or_decide, from_release, release_or_finish, decided_as, check_drop_next}
+use Rattle.kc_machine_effects.proofs.kc_machine_seats.FitSteps.{succeeded_decided}
+use Rattle.kc_machine_effects.specs.kc_machine_steps.Lines.{next_line, after_line}
+use Rattle.kc_machine_effects.specs.kc_machine_steps.Passes.{status, from_install, install_or_check, from_check, check_or_decide, from_release, release_or_finish, decided_as, check_drop_next}
 
 pub same_step : (p q : PassStep) → aid.Pass p ≡ aid.Pass q → q ≡ p
 same_step p q e = cc

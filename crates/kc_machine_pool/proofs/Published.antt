@@ -1,18 +1,18 @@
 -- References are published: those in words, and those that a seat remembers.
 use Rattle.std.proofs.Common.{◌≡◌, ℕ, ◌≤◌, ⊎_elim, refl, subst, arith, Bool, true, false, Option, Some}
-use Rattle.kc_machine_words.specs.declared.words.Handle.{Handle}
-use Rattle.kc_machine_words.specs.declared.words.Phase.TheVariants.{Active}
-use Rattle.kc_machine_words.specs.declared.words.Reference.{Reference}
+use Rattle.kc_machine_effects.specs.kc_machine_words.declared.words.Handle.{Handle}
+use Rattle.kc_machine_effects.specs.kc_machine_words.declared.words.Phase.TheVariants.{Active}
+use Rattle.kc_machine_effects.specs.kc_machine_words.declared.words.Reference.{Reference}
 use Rattle.kc_model.specs.declared.word.Word.{Word}
 use Rattle.kc_model.specs.declared.word.Word.TheVariants.{Ref}
-use Rattle.kc_machine_steps.specs.Swaps.{word_after}
-use Rattle.kc_machine_steps.specs.declared.look.LookStep.TheVariants as look
-use Rattle.kc_machine_steps.specs.declared.look.LookNext.TheVariants as looking
-use Rattle.kc_machine_steps.specs.declared.pass.PassStep.TheVariants.{Install, Check, CheckHold, CheckStatus, CheckFirst, CheckDrop, Decide, Release}
-use Rattle.kc_machine_steps.specs.declared.aid.AidStep.TheVariants as aid
-use Rattle.kc_machine_steps.specs.declared.aid.AidNext.TheVariants as aiding
-use Rattle.kc_machine.proofs.Functions.{put_here, put_cases}
-use Rattle.kc_machine.specs.Machine.{World, put}
+use Rattle.kc_machine_effects.specs.kc_machine_steps.Swaps.{word_after}
+use Rattle.kc_machine_effects.specs.kc_machine_steps.declared.look.LookStep.TheVariants as look
+use Rattle.kc_machine_effects.specs.kc_machine_steps.declared.look.LookNext.TheVariants as looking
+use Rattle.kc_machine_effects.specs.kc_machine_steps.declared.pass.PassStep.TheVariants.{Install, Check, CheckHold, CheckStatus, CheckFirst, CheckDrop, Decide, Release}
+use Rattle.kc_machine_effects.specs.kc_machine_steps.declared.aid.AidStep.TheVariants as aid
+use Rattle.kc_machine_effects.specs.kc_machine_steps.declared.aid.AidNext.TheVariants as aiding
+use Rattle.kc_machine_effects.proofs.kc_machine.Functions.{put_here, put_cases}
+use Rattle.kc_machine_effects.specs.kc_machine.Machine.{World, put}
 use Rattle.kc_machine_effects.specs.Effects
 use Rattle.kc_machine_effects.specs.Holds.{Proper, dropping, check_hold, aid_hold, look_hold}
 use Rattle.kc_machine_effects.specs.Stands.{Stand, At, Meets, Ends, Leaves, Passing, NoPass, Over, Aiding, NoAid, Aids, Passes, Looking, NoLook, Looks}
@@ -20,8 +20,8 @@ use Rattle.kc_machine_pool.proofs.Shapes.{pass_life}
 use Rattle.kc_machine_pool.proofs.Statuses.{Owned, status_moves}
 use Rattle.kc_machine_pool.specs.Owners.{Follows}
 use Rattle.kc_machine_pool.specs.References.{met_by_pass, met_by_aid, met_by_look, IsPublished}
-use Rattle.kc_machine_steps.specs.Lines.{word_of}
-use Rattle.kc_machine_steps.specs.Passes.{status}
+use Rattle.kc_machine_effects.specs.kc_machine_steps.Lines.{word_of}
+use Rattle.kc_machine_effects.specs.kc_machine_steps.Passes.{status}
 
 abbrev pub Words : World → Type 0
 Words w = (l g d j : ℕ) → w.word l ≡ Ref g d j → IsPublished w d g

@@ -2,29 +2,29 @@
 -- effects keep it is for the caller to show.
 use Rattle.std.proofs.Common.{◌≡◌, ℕ, ◌∙◌, refl, sym, ap, subst, List, Option, None, Some}
 use Rattle.kc_model.specs.declared.footprint.Line.{Line}
-use Rattle.kc_machine_steps.specs.declared.line.Pick.TheVariants.{Installed, Checked}
-use Rattle.kc_machine_steps.specs.declared.pass.AfterCheck.{AfterCheck}
-use Rattle.kc_machine_steps.specs.declared.pass.PassStep.{PassStep}
-use Rattle.kc_machine_steps.specs.declared.pass.PassStep.TheVariants.{Install, Check, CheckHold, CheckStatus, CheckFirst, CheckDrop, Decide, Release}
-use Rattle.kc_machine_words.specs.declared.words.Mode.{Mode}
-use Rattle.kc_machine_words.specs.declared.words.Phase.{Phase}
-use Rattle.kc_machine_words.specs.declared.words.Phase.TheVariants.{Succeeded, Halted}
-use Rattle.kc_machine_words.specs.declared.words.Reference.{Reference}
+use Rattle.kc_machine_effects.specs.kc_machine_steps.declared.line.Pick.TheVariants.{Installed, Checked}
+use Rattle.kc_machine_effects.specs.kc_machine_steps.declared.pass.AfterCheck.{AfterCheck}
+use Rattle.kc_machine_effects.specs.kc_machine_steps.declared.pass.PassStep.{PassStep}
+use Rattle.kc_machine_effects.specs.kc_machine_steps.declared.pass.PassStep.TheVariants.{Install, Check, CheckHold, CheckStatus, CheckFirst, CheckDrop, Decide, Release}
+use Rattle.kc_machine_effects.specs.kc_machine_words.declared.words.Mode.{Mode}
+use Rattle.kc_machine_effects.specs.kc_machine_words.declared.words.Phase.{Phase}
+use Rattle.kc_machine_effects.specs.kc_machine_words.declared.words.Phase.TheVariants.{Succeeded, Halted}
+use Rattle.kc_machine_effects.specs.kc_machine_words.declared.words.Reference.{Reference}
 use Rattle.kc_model.specs.declared.footprint.Loc.{Loc}
 use Rattle.kc_model.specs.declared.footprint.Seen.{Seen}
 use Rattle.kc_model.specs.declared.word.Word.TheVariants.{Ref}
-use Rattle.kc_machine_steps.specs.declared.pass.AfterCheck.TheVariants as checked
-use Rattle.kc_machine_steps.specs.declared.aid.AidStep.{AidStep}
-use Rattle.kc_machine_steps.specs.declared.aid.AidStep.TheVariants as aid
-use Rattle.kc_machine.specs.Machine.{World}
-use Rattle.kc_machine_commits.specs.Halts.{halted_pass, halted_aid_pass, halted_aid}
+use Rattle.kc_machine_effects.specs.kc_machine_steps.declared.pass.AfterCheck.TheVariants as checked
+use Rattle.kc_machine_effects.specs.kc_machine_steps.declared.aid.AidStep.{AidStep}
+use Rattle.kc_machine_effects.specs.kc_machine_steps.declared.aid.AidStep.TheVariants as aid
+use Rattle.kc_machine_effects.specs.kc_machine.Machine.{World}
+use Rattle.kc_machine_effects.specs.kc_machine_commits.Halts.{halted_pass, halted_aid_pass, halted_aid}
 use Rattle.kc_machine_effects.specs.Effects
 use Rattle.kc_machine_effects.specs.Stands.{Stand, Turn, Looks, turn}
 use Rattle.kc_machine_pool.proofs.Phases.{same_step}
 use Rattle.kc_machine_pool.specs.References.{met_by_step, met_by_turn, met_by_pass, met_by_aid, onward_by_step, onward_by_aid, met_by_look}
-use Rattle.kc_machine_steps.specs.Lines.{next_line, after_line}
-use Rattle.kc_machine_steps.specs.Looks.{reference_of, again_or_saw}
-use Rattle.kc_machine_steps.specs.Passes.{from_install, install_or_check, from_check, check_or_decide, from_release, release_or_finish, decided_as, check_drop_next}
+use Rattle.kc_machine_effects.specs.kc_machine_steps.Lines.{next_line, after_line}
+use Rattle.kc_machine_effects.specs.kc_machine_steps.Looks.{reference_of, again_or_saw}
+use Rattle.kc_machine_effects.specs.kc_machine_steps.Passes.{from_install, install_or_check, from_check, check_or_decide, from_release, release_or_finish, decided_as, check_drop_next}
 
 check_unmet : (m : Mode) (xs : List Line) (j : ℕ) → met_by_step (from_check m xs j) ≡ None
 check_unmet m xs j = go (next_line Checked m xs j)

@@ -1,13 +1,13 @@
 -- The shape of a stand: a pass goes over the own descriptor, or over the copy of the aid for which the own pass waits; only then is there an aid.
 use Rattle.std.proofs.Common.{◌≡◌, ℕ, refl, ap, Bool, true, false, List, Option, None, Some}
-use Rattle.kc_machine.specs.Machine.{World}
+use Rattle.kc_machine_effects.specs.kc_machine.Machine.{World}
 use Rattle.kc_machine_effects.specs.Effects
 use Rattle.kc_machine_effects.specs.Holds.{Hold, NoHold, Proper, own_hold}
 use Rattle.kc_machine_effects.specs.Stands.{Stand, Own, NoOwn, Owns, Runs, Waits, Passing, NoPass, Over, Aiding, NoAid, Aids, Passes}
 use Rattle.kc_machine_pool.specs.Owners.{is_filling}
 use Rattle.kc_model.specs.declared.footprint.Line.{Line}
-use Rattle.kc_machine_words.specs.declared.words.Handle.{Handle}
-use Rattle.kc_machine_words.specs.declared.words.Mode.{Mode}
+use Rattle.kc_machine_effects.specs.kc_machine_words.declared.words.Handle.{Handle}
+use Rattle.kc_machine_effects.specs.kc_machine_words.declared.words.Mode.{Mode}
 
 abbrev pub runs : Own → Bool
 runs (Runs h i) = true

@@ -3,53 +3,53 @@ use Rattle.std.proofs.Common.{◌≡◌, ℕ, suc, ◌<◌, ◌≤◌, ◌+◌, 
 use Rattle.std.specs.Prelude.{slice_get, nat_lt}
 use Rattle.std.proofs.lemmas.List.Elements.{All-nil, All-head, All-tail, All-push}
 use borrow.Author.Tests.{ltb-true, eqb-true}
-use Rattle.kc_machine_words.specs.declared.access.Grip.{Grip}
-use Rattle.kc_machine_words.specs.declared.words.Control.{Control}
-use Rattle.kc_machine_words.specs.declared.words.First.{First}
-use Rattle.kc_machine_words.specs.declared.words.Handle.{Handle}
-use Rattle.kc_machine_words.specs.declared.words.Owner.{Owner}
-use Rattle.kc_machine_words.specs.declared.words.Phase.{Phase}
-use Rattle.kc_machine_words.specs.declared.words.Phase.TheVariants.{Active}
-use Rattle.kc_machine_words.specs.declared.words.Reference.{Reference}
-use Rattle.kc_machine_words.specs.declared.words.Second.{Second}
-use Rattle.kc_machine_words.specs.declared.words.Status.{Status}
+use Rattle.kc_machine_effects.specs.kc_machine_words.declared.access.Grip.{Grip}
+use Rattle.kc_machine_effects.specs.kc_machine_words.declared.words.Control.{Control}
+use Rattle.kc_machine_effects.specs.kc_machine_words.declared.words.First.{First}
+use Rattle.kc_machine_effects.specs.kc_machine_words.declared.words.Handle.{Handle}
+use Rattle.kc_machine_effects.specs.kc_machine_words.declared.words.Owner.{Owner}
+use Rattle.kc_machine_effects.specs.kc_machine_words.declared.words.Phase.{Phase}
+use Rattle.kc_machine_effects.specs.kc_machine_words.declared.words.Phase.TheVariants.{Active}
+use Rattle.kc_machine_effects.specs.kc_machine_words.declared.words.Reference.{Reference}
+use Rattle.kc_machine_effects.specs.kc_machine_words.declared.words.Second.{Second}
+use Rattle.kc_machine_effects.specs.kc_machine_words.declared.words.Status.{Status}
 use Rattle.kc_model.specs.declared.footprint.Loc.{Loc}
 use Rattle.kc_model.specs.declared.footprint.Seen.{Seen}
-use Rattle.kc_machine_words.specs.declared.access.Grip.TheVariants as grip
-use Rattle.kc_machine_words.specs.declared.access.Access.TheVariants as access
-use Rattle.kc_machine_steps.specs.Swaps.{swap_access_at}
-use Rattle.kc_machine_steps.specs.declared.swap.Swap.{Swap}
-use Rattle.kc_machine_steps.specs.declared.swap.SwapStep.{SwapStep}
-use Rattle.kc_machine_steps.specs.declared.swap.SwapStep.TheVariants as swap
-use Rattle.kc_machine_steps.specs.declared.line.Intent.{Intent}
+use Rattle.kc_machine_effects.specs.kc_machine_words.declared.access.Grip.TheVariants as grip
+use Rattle.kc_machine_effects.specs.kc_machine_words.declared.access.Access.TheVariants as access
+use Rattle.kc_machine_effects.specs.kc_machine_steps.Swaps.{swap_access_at}
+use Rattle.kc_machine_effects.specs.kc_machine_steps.declared.swap.Swap.{Swap}
+use Rattle.kc_machine_effects.specs.kc_machine_steps.declared.swap.SwapStep.{SwapStep}
+use Rattle.kc_machine_effects.specs.kc_machine_steps.declared.swap.SwapStep.TheVariants as swap
+use Rattle.kc_machine_effects.specs.kc_machine_steps.declared.line.Intent.{Intent}
 use Rattle.kc_model.specs.declared.footprint.Line.{Line}
-use Rattle.kc_machine_steps.specs.declared.look.LookStep.{LookStep}
-use Rattle.kc_machine_steps.specs.declared.task.Event.{Event}
-use Rattle.kc_machine_steps.specs.declared.task.Event.TheVariants.{Begin, Step, Halt}
-use Rattle.kc_machine_steps.specs.declared.look.LookStep.TheVariants as look
-use Rattle.kc_machine_steps.specs.declared.aid.AidStep.{AidStep}
-use Rattle.kc_machine_steps.specs.declared.pass.PassStep.{PassStep}
-use Rattle.kc_machine_steps.specs.declared.pass.PassStep.TheVariants.{Install, Check, CheckHold, CheckStatus, CheckFirst, CheckDrop, Decide, Release}
-use Rattle.kc_machine_steps.specs.declared.aid.AidStep.TheVariants as aid
-use Rattle.kc_machine_commits.specs.declared.commit.Commit.{Commit}
-use Rattle.kc_machine_commits.specs.declared.commit.OwnStep.{OwnStep}
-use Rattle.kc_machine_commits.specs.declared.commit.Stage.{Stage}
-use Rattle.kc_machine_commits.specs.declared.commit.Stage.TheVariants.{Scan, Take, Own}
-use Rattle.kc_machine_commits.specs.declared.commit.OwnStep.TheVariants as own
-use Rattle.kc_machine.specs.declared.hang.HangStep.{HangStep}
-use Rattle.kc_machine.specs.declared.hang.HangStep.TheVariants as hang
-use Rattle.kc_machine.specs.declared.hang.LeaveStep.{LeaveStep}
-use Rattle.kc_machine.specs.declared.hang.LeaveStep.TheVariants as leave
-use Rattle.kc_machine.specs.Works.{Work}
-use Rattle.kc_machine.specs.Works as work
-use Rattle.kc_machine.proofs.Functions.{put_cases}
-use Rattle.kc_machine.specs.Hangs.{hang_access_of, leave_access_at, clear_access, read_of}
-use Rattle.kc_machine.specs.Machine.{World, State, Opening, put, put_some, touched, found_at, possible, stepped, happened, event_of, seat_of, run_from, run, opened}
-use Rattle.kc_machine.specs.Schedules.{BeginsWellMade, IsSchedule}
-use Rattle.kc_machine.specs.Seats.{work_access, access_of, answer_of}
-use Rattle.kc_machine.specs.Words.{control, gripped, status_is}
-use Rattle.kc_machine.specs.declared.seat.Seat.{Seat}
-use Rattle.kc_machine_commits.specs.Commits.{own_access, stage_access, fill_first, fill_second, wake_access}
+use Rattle.kc_machine_effects.specs.kc_machine_steps.declared.look.LookStep.{LookStep}
+use Rattle.kc_machine_effects.specs.kc_machine_steps.declared.task.Event.{Event}
+use Rattle.kc_machine_effects.specs.kc_machine_steps.declared.task.Event.TheVariants.{Begin, Step, Halt}
+use Rattle.kc_machine_effects.specs.kc_machine_steps.declared.look.LookStep.TheVariants as look
+use Rattle.kc_machine_effects.specs.kc_machine_steps.declared.aid.AidStep.{AidStep}
+use Rattle.kc_machine_effects.specs.kc_machine_steps.declared.pass.PassStep.{PassStep}
+use Rattle.kc_machine_effects.specs.kc_machine_steps.declared.pass.PassStep.TheVariants.{Install, Check, CheckHold, CheckStatus, CheckFirst, CheckDrop, Decide, Release}
+use Rattle.kc_machine_effects.specs.kc_machine_steps.declared.aid.AidStep.TheVariants as aid
+use Rattle.kc_machine_effects.specs.kc_machine_commits.declared.commit.Commit.{Commit}
+use Rattle.kc_machine_effects.specs.kc_machine_commits.declared.commit.OwnStep.{OwnStep}
+use Rattle.kc_machine_effects.specs.kc_machine_commits.declared.commit.Stage.{Stage}
+use Rattle.kc_machine_effects.specs.kc_machine_commits.declared.commit.Stage.TheVariants.{Scan, Take, Own}
+use Rattle.kc_machine_effects.specs.kc_machine_commits.declared.commit.OwnStep.TheVariants as own
+use Rattle.kc_machine_effects.specs.kc_machine.declared.hang.HangStep.{HangStep}
+use Rattle.kc_machine_effects.specs.kc_machine.declared.hang.HangStep.TheVariants as hang
+use Rattle.kc_machine_effects.specs.kc_machine.declared.hang.LeaveStep.{LeaveStep}
+use Rattle.kc_machine_effects.specs.kc_machine.declared.hang.LeaveStep.TheVariants as leave
+use Rattle.kc_machine_effects.specs.kc_machine.Works.{Work}
+use Rattle.kc_machine_effects.specs.kc_machine.Works as work
+use Rattle.kc_machine_effects.proofs.kc_machine.Functions.{put_cases}
+use Rattle.kc_machine_effects.specs.kc_machine.Hangs.{hang_access_of, leave_access_at, clear_access, read_of}
+use Rattle.kc_machine_effects.specs.kc_machine.Machine.{World, State, Opening, put, put_some, touched, found_at, possible, stepped, happened, event_of, seat_of, run_from, run, opened}
+use Rattle.kc_machine_effects.specs.kc_machine.Schedules.{BeginsWellMade, IsSchedule}
+use Rattle.kc_machine_effects.specs.kc_machine.Seats.{work_access, access_of, answer_of}
+use Rattle.kc_machine_effects.specs.kc_machine.Words.{control, gripped, status_is}
+use Rattle.kc_machine_effects.specs.kc_machine.declared.seat.Seat.{Seat}
+use Rattle.kc_machine_effects.specs.kc_machine_commits.Commits.{own_access, stage_access, fill_first, fill_second, wake_access}
 use Rattle.kc_machine_effects.proofs.PoolLaws.{holds_kept}
 use Rattle.kc_machine_effects.proofs.Tests.{status_active}
 use Rattle.kc_machine_effects.specs.Holds.{Proper, own_hold}
@@ -58,12 +58,12 @@ use Rattle.kc_machine_pool.proofs.LifeLaws.{lives_after}
 use Rattle.kc_machine_pool.proofs.Statuses.{Owned, decision_keeps}
 use Rattle.kc_machine_pool.specs.Filled.{owner_word, Filled}
 use Rattle.kc_machine_pool.specs.Started.{listed, line_of_words, intent_of_words, IsStarted, StartedWordsAreWellMade}
-use Rattle.kc_machine_seats.proofs.MadeSteps.{intents_made}
-use Rattle.kc_machine_seats.specs.Made.{IsWellMadeIntent, IsWellMadeLine, IntentIsMade}
-use Rattle.kc_machine_steps.specs.Aids.{aid_access}
-use Rattle.kc_machine_steps.specs.Lines.{first_of, second_of, joined}
-use Rattle.kc_machine_steps.specs.Looks.{look_access}
-use Rattle.kc_machine_steps.specs.Passes.{pass_access, install_access, check_access, release_at, status}
+use Rattle.kc_machine_effects.proofs.kc_machine_seats.MadeSteps.{intents_made}
+use Rattle.kc_machine_effects.specs.kc_machine_seats.Made.{IsWellMadeIntent, IsWellMadeLine, IntentIsMade}
+use Rattle.kc_machine_effects.specs.kc_machine_steps.Aids.{aid_access}
+use Rattle.kc_machine_effects.specs.kc_machine_steps.Lines.{first_of, second_of, joined}
+use Rattle.kc_machine_effects.specs.kc_machine_steps.Looks.{look_access}
+use Rattle.kc_machine_effects.specs.kc_machine_steps.Passes.{pass_access, install_access, check_access, release_at, status}
 
 -- ---- what the words of an intent say
 

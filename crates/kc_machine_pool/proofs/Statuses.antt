@@ -1,28 +1,28 @@
 -- How a status follows its control, and the owner of its descriptor.
 use Rattle.std.proofs.Common.{◌≡◌, ℕ, ◌≤◌, ◌⊎◌, inl, inr, refl, sym, ap, subst, Bool, true, false, ◌==◌, if◌then◌else◌, List, Option, None, Some}
 use Rattle.std.specs.Prelude.{slice_get}
-use Rattle.kc_machine_steps.specs.declared.line.Intent.{Intent}
+use Rattle.kc_machine_effects.specs.kc_machine_steps.declared.line.Intent.{Intent}
 use Rattle.kc_model.specs.declared.footprint.Line.{Line}
-use Rattle.kc_machine_steps.specs.declared.line.Pick.TheVariants.{Put}
-use Rattle.kc_machine_words.specs.declared.words.Handle.{Handle}
-use Rattle.kc_machine_words.specs.declared.words.Phase.{Phase}
-use Rattle.kc_machine_words.specs.declared.words.Phase.TheVariants.{Active, Succeeded, Failed, Crossed, Halted}
-use Rattle.kc_machine_words.specs.declared.words.Status.{Status}
-use Rattle.kc_machine_words.specs.declared.access.Found.TheVariants as found
-use Rattle.kc_machine_commits.specs.declared.commit.OwnStep.{OwnStep}
-use Rattle.kc_machine_steps.specs.declared.aid.AidStep.{AidStep}
-use Rattle.kc_machine_commits.specs.declared.commit.OwnStep.TheVariants as own
-use Rattle.kc_machine.proofs.Functions.{put_cases}
-use Rattle.kc_machine.specs.Machine.{World, put}
-use Rattle.kc_machine_commits.specs.Commits.{fill_next, fill_or_start, finished, wake_or_drop, wake_next, wake_or_signal, owed_next}
-use Rattle.kc_machine_commits.specs.Halts.{halted_own, halted_aid, aid_or_decide}
+use Rattle.kc_machine_effects.specs.kc_machine_steps.declared.line.Pick.TheVariants.{Put}
+use Rattle.kc_machine_effects.specs.kc_machine_words.declared.words.Handle.{Handle}
+use Rattle.kc_machine_effects.specs.kc_machine_words.declared.words.Phase.{Phase}
+use Rattle.kc_machine_effects.specs.kc_machine_words.declared.words.Phase.TheVariants.{Active, Succeeded, Failed, Crossed, Halted}
+use Rattle.kc_machine_effects.specs.kc_machine_words.declared.words.Status.{Status}
+use Rattle.kc_machine_effects.specs.kc_machine_words.declared.access.Found.TheVariants as found
+use Rattle.kc_machine_effects.specs.kc_machine_commits.declared.commit.OwnStep.{OwnStep}
+use Rattle.kc_machine_effects.specs.kc_machine_steps.declared.aid.AidStep.{AidStep}
+use Rattle.kc_machine_effects.specs.kc_machine_commits.declared.commit.OwnStep.TheVariants as own
+use Rattle.kc_machine_effects.proofs.kc_machine.Functions.{put_cases}
+use Rattle.kc_machine_effects.specs.kc_machine.Machine.{World, put}
+use Rattle.kc_machine_effects.specs.kc_machine_commits.Commits.{fill_next, fill_or_start, finished, wake_or_drop, wake_next, wake_or_signal, owed_next}
+use Rattle.kc_machine_effects.specs.kc_machine_commits.Halts.{halted_own, halted_aid, aid_or_decide}
 use Rattle.kc_machine_effects.proofs.Counted.{cells}
 use Rattle.kc_machine_effects.specs.Effects
 use Rattle.kc_machine_effects.specs.Holds.{Proper, own_hold}
 use Rattle.kc_machine_effects.specs.Stands.{Stand, Own, Owns, NoPass}
 use Rattle.kc_machine_pool.specs.Owners.{fills, is_filling, Follows}
-use Rattle.kc_machine_steps.specs.Lines.{next_line}
-use Rattle.kc_machine_steps.specs.Passes.{status}
+use Rattle.kc_machine_effects.specs.kc_machine_steps.Lines.{next_line}
+use Rattle.kc_machine_effects.specs.kc_machine_steps.Passes.{status}
 
 -- ---- which steps fill
 

@@ -1,10 +1,10 @@
 -- The bounds of generations, calls and holds.
 use Rattle.std.specs.Prelude.{◌≤◌, ◌+◌, ◌-◌, ℕ}
-use Rattle.kc_machine.specs.Machine.{State, Opening}
+use Rattle.kc_machine_effects.specs.kc_machine.Machine.{State, Opening}
 use Rattle.kc_machine_effects.specs.Holds.{Hold, NoHold, Proper, Stray, own_hold, check_hold, aid_hold, look_hold, total}
 use Rattle.kc_machine_effects.specs.Stands.{Stand, stand}
-use Rattle.kc_machine_steps.specs.declared.swap.TheConstants.{MOST_SWAPS}
-use Rattle.kc_machine_words.specs.declared.words.TheConstants.{LAST_GENERATION}
+use Rattle.kc_machine_effects.specs.kc_machine_steps.declared.swap.TheConstants.{MOST_SWAPS}
+use Rattle.kc_machine_effects.specs.kc_machine_words.declared.words.TheConstants.{LAST_GENERATION}
 
 -- generations stay in their range where the opening's is in it
 abbrev pub GenerationsFit : Opening → State → Type 0

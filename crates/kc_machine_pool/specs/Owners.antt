@@ -1,14 +1,14 @@
 -- Who owns which life of a descriptor, and what its status says then.
 use Rattle.std.specs.Prelude.{◌≡◌, ◌≢◌, ◌<◌, ◌≤◌, ℕ, Bool, true, false, Option, None, Some}
-use Rattle.kc_machine_commits.specs.declared.commit.OwnStep.{OwnStep}
-use Rattle.kc_machine_steps.specs.declared.pass.PassStep.TheVariants.{Release}
-use Rattle.kc_machine_words.specs.declared.words.Phase.{Phase}
-use Rattle.kc_machine_words.specs.declared.words.Phase.TheVariants.{Active, Succeeded}
-use Rattle.kc_machine_commits.specs.declared.commit.OwnStep.TheVariants as own
-use Rattle.kc_machine.specs.Machine.{State}
+use Rattle.kc_machine_effects.specs.kc_machine_commits.declared.commit.OwnStep.{OwnStep}
+use Rattle.kc_machine_effects.specs.kc_machine_steps.declared.pass.PassStep.TheVariants.{Release}
+use Rattle.kc_machine_effects.specs.kc_machine_words.declared.words.Phase.{Phase}
+use Rattle.kc_machine_effects.specs.kc_machine_words.declared.words.Phase.TheVariants.{Active, Succeeded}
+use Rattle.kc_machine_effects.specs.kc_machine_commits.declared.commit.OwnStep.TheVariants as own
+use Rattle.kc_machine_effects.specs.kc_machine.Machine.{State}
 use Rattle.kc_machine_effects.specs.Holds.{Proper, own_hold}
 use Rattle.kc_machine_effects.specs.Stands.{Own, NoOwn, Owns, Runs, Waits, Turn, At, Ends, Passing, NoPass, Over, stand}
-use Rattle.kc_machine_steps.specs.Passes.{status}
+use Rattle.kc_machine_effects.specs.kc_machine_steps.Passes.{status}
 
 -- seat k owns (d, g), from the take to the drop
 abbrev pub OwnsLife : State → ℕ → ℕ → ℕ → Type 0

@@ -1,14 +1,14 @@
 -- The references that stand in words and that seats remember.
 use Rattle.std.specs.Prelude.{◌≡◌, ◌<◌, ◌≤◌, ◌⊎◌, ℕ, false, Option, None, Some}
-use Rattle.kc_machine_words.specs.declared.words.Reference.{Reference}
+use Rattle.kc_machine_effects.specs.kc_machine_words.declared.words.Reference.{Reference}
 use Rattle.kc_model.specs.declared.word.Word.TheVariants.{Ref}
-use Rattle.kc_machine_steps.specs.declared.look.LookNext.TheVariants as looking
-use Rattle.kc_machine_steps.specs.declared.aid.AidStep.{AidStep}
-use Rattle.kc_machine_steps.specs.declared.pass.PassStep.{PassStep}
-use Rattle.kc_machine_steps.specs.declared.pass.PassStep.TheVariants.{CheckHold, CheckStatus, CheckFirst, CheckDrop}
-use Rattle.kc_machine_steps.specs.declared.aid.AidStep.TheVariants as aid
-use Rattle.kc_machine_steps.specs.declared.aid.AidNext.TheVariants as aiding
-use Rattle.kc_machine.specs.Machine.{World, State}
+use Rattle.kc_machine_effects.specs.kc_machine_steps.declared.look.LookNext.TheVariants as looking
+use Rattle.kc_machine_effects.specs.kc_machine_steps.declared.aid.AidStep.{AidStep}
+use Rattle.kc_machine_effects.specs.kc_machine_steps.declared.pass.PassStep.{PassStep}
+use Rattle.kc_machine_effects.specs.kc_machine_steps.declared.pass.PassStep.TheVariants.{CheckHold, CheckStatus, CheckFirst, CheckDrop}
+use Rattle.kc_machine_effects.specs.kc_machine_steps.declared.aid.AidStep.TheVariants as aid
+use Rattle.kc_machine_effects.specs.kc_machine_steps.declared.aid.AidNext.TheVariants as aiding
+use Rattle.kc_machine_effects.specs.kc_machine.Machine.{World, State}
 use Rattle.kc_machine_effects.specs.Holds.{Holds}
 use Rattle.kc_machine_effects.specs.Stands.{Stand, Turn, At, Meets, Passing, NoPass, Over, Aiding, NoAid, Aids, Passes, Looking, NoLook, Looks, met_by_look_step, stand}
 use Rattle.kc_machine_pool.specs.Owners.{is_filling}

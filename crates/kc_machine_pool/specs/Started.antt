@@ -1,9 +1,9 @@
 -- What the words of a descriptor say, from its start until it is taken again.
 use Rattle.std.specs.Prelude.{◌≡◌, ℕ, zero, suc, List, [], ◌∷◌}
-use Rattle.kc_machine.specs.Machine.{World, State, Opening}
-use Rattle.kc_machine_seats.specs.Made.{IsWellMadeIntent}
-use Rattle.kc_machine_steps.specs.Lines.{joined}
-use Rattle.kc_machine_steps.specs.declared.line.Intent.{Intent}
+use Rattle.kc_machine_effects.specs.kc_machine.Machine.{World, State, Opening}
+use Rattle.kc_machine_effects.specs.kc_machine_seats.Made.{IsWellMadeIntent}
+use Rattle.kc_machine_effects.specs.kc_machine_steps.Lines.{joined}
+use Rattle.kc_machine_effects.specs.kc_machine_steps.declared.line.Intent.{Intent}
 use Rattle.kc_model.specs.declared.footprint.Line.{Line}
 
 -- f 0, .., f (n - 1)

@@ -1,13 +1,13 @@
 //! What holds after every schedule of every opening. An empty body: the contract is the law.
 
 ghost use Rattle.std.specs.Prelude.{List};
-ghost use Rattle.kc_machine.specs.Machine.{Opening, run};
-ghost use Rattle.kc_machine_steps.specs.declared.task.Event.{Event};
+ghost use Rattle.kc_machine_effects.specs.kc_machine.Machine.{Opening, run};
+ghost use Rattle.kc_machine_effects.specs.kc_machine_steps.declared.task.Event.{Event};
 ghost use Rattle.kc_machine_pool.specs.Owners.{ActiveHasItsOwner, OwnersDiffer, OwnersKnowThePhase, StatusesAreBehind, StatusesFollow};
 ghost use Rattle.kc_machine_pool.specs.References.{HeldAreStarted, RememberedArePublished, WordsArePublished};
 ghost use Rattle.kc_machine_pool.specs.Filled.{OwnedWordsAreFilled};
 ghost use Rattle.kc_machine_pool.specs.Started.{StartedWordsAreWellMade};
-ghost use Rattle.kc_machine.specs.Schedules.{IsSchedule};
+ghost use Rattle.kc_machine_effects.specs.kc_machine.Schedules.{IsSchedule};
 ghost use Rattle.kc_machine_pool.specs.Counts.{AtMostThree, CallsFit, GenerationsFit, GenerationsGrow};
 
 /// No two seats own the same descriptor.
@@ -48,7 +48,7 @@ pub fn started_words_are_well_made()
     ensures { (o : Opening) (schedule : List Event) → IsSchedule o schedule → StartedWordsAreWellMade o (run o schedule) }
 {}
 
-/// No generation is below the opening's, and all stay in their range where the opening's is in it. The calls of all seats are at most the lives that descriptors began.
+/// No generation is below the opening's, and all stay in their range where the opening's is in it. The calls of all seats, less `MOST_SWAPS` for each, are at most the lives that descriptors began.
 pub fn counters_fit()
     ensures range { (o : Opening) (schedule : List Event) → GenerationsFit o (run o schedule) }
     ensures grow { (o : Opening) (schedule : List Event) → GenerationsGrow o (run o schedule) }

@@ -6,55 +6,55 @@ use Rattle.std.proofs.lemmas.Option.{slice_get_within, get_or_from_slice_get}
 use Rattle.std.proofs.lemmas.List.Elements.{All-get_or}
 use borrow.Author.Tests.{ltb-true}
 use Rattle.kc_model.specs.declared.footprint.Line.{Line}
-use Rattle.kc_machine_steps.specs.declared.look.LookStep.{LookStep}
-use Rattle.kc_machine_words.specs.declared.words.First.{First}
-use Rattle.kc_machine_words.specs.declared.words.Handle.{Handle}
-use Rattle.kc_machine_words.specs.declared.words.Mode.{Mode}
-use Rattle.kc_machine_words.specs.declared.words.Phase.{Phase}
-use Rattle.kc_machine_words.specs.declared.words.Phase.TheVariants.{Halted}
-use Rattle.kc_machine_words.specs.declared.words.Reference.{Reference}
+use Rattle.kc_machine_traces.specs.kc_machine_steps.declared.look.LookStep.{LookStep}
+use Rattle.kc_machine_traces.specs.kc_machine_words.declared.words.First.{First}
+use Rattle.kc_machine_traces.specs.kc_machine_words.declared.words.Handle.{Handle}
+use Rattle.kc_machine_traces.specs.kc_machine_words.declared.words.Mode.{Mode}
+use Rattle.kc_machine_traces.specs.kc_machine_words.declared.words.Phase.{Phase}
+use Rattle.kc_machine_traces.specs.kc_machine_words.declared.words.Phase.TheVariants.{Halted}
+use Rattle.kc_machine_traces.specs.kc_machine_words.declared.words.Reference.{Reference}
 use Rattle.kc_model.specs.declared.footprint.Loc.{Loc}
 use Rattle.kc_model.specs.declared.footprint.Seen.{Seen}
-use Rattle.kc_machine_steps.specs.declared.look.LookStep.TheVariants as look
-use Rattle.kc_machine_steps.specs.declared.pass.AfterCheck.{AfterCheck}
-use Rattle.kc_machine_steps.specs.declared.pass.PassStep.{PassStep}
-use Rattle.kc_machine_steps.specs.declared.pass.PassStep.TheVariants.{Install, Check, CheckHold, CheckStatus, CheckFirst, CheckDrop, Decide, Release}
-use Rattle.kc_machine_steps.specs.declared.pass.AfterCheck.TheVariants as checked
-use Rattle.kc_machine_steps.specs.declared.aid.AidStep.{AidStep}
-use Rattle.kc_machine_steps.specs.declared.aid.Aided.{Aided}
-use Rattle.kc_machine_steps.specs.declared.aid.AidStep.TheVariants as aid
-use Rattle.kc_machine_commits.specs.declared.commit.OwnStep.{OwnStep}
-use Rattle.kc_machine_commits.specs.declared.commit.OwnStep.TheVariants as own
-use Rattle.kc_machine.specs.declared.hang.HangStep.{HangStep}
-use Rattle.kc_machine_commits.specs.declared.commit.Commit.{Commit}
-use Rattle.kc_machine_commits.specs.declared.commit.Stage.{Stage}
-use Rattle.kc_machine_commits.specs.declared.commit.Stage.TheVariants.{Scan, Take, Own}
-use Rattle.kc_machine.specs.declared.hang.HangStep.TheVariants as hang
-use Rattle.kc_machine.specs.declared.hang.LeaveStep.{LeaveStep}
-use Rattle.kc_machine.specs.declared.hang.LeaveStep.TheVariants as leave
-use Rattle.kc_machine.specs.Works.{Work}
-use Rattle.kc_machine.specs.Works as work
-use Rattle.kc_machine.specs.Hangs.{hang_access_of, hang_access_at, leave_access_at, clear_access, read_of}
-use Rattle.kc_machine.specs.Machine.{Opening, pool_size}
-use Rattle.kc_machine.specs.Schedules.{AreBelow}
-use Rattle.kc_machine.specs.Seats.{work_access, is_idle}
-use Rattle.kc_machine_commits.specs.Commits.{own_access, stage_access, fill_first, fill_second, wake_access}
-use Rattle.kc_machine_pool.proofs.Filled.{is_there}
+use Rattle.kc_machine_traces.specs.kc_machine_steps.declared.look.LookStep.TheVariants as look
+use Rattle.kc_machine_traces.specs.kc_machine_steps.declared.pass.AfterCheck.{AfterCheck}
+use Rattle.kc_machine_traces.specs.kc_machine_steps.declared.pass.PassStep.{PassStep}
+use Rattle.kc_machine_traces.specs.kc_machine_steps.declared.pass.PassStep.TheVariants.{Install, Check, CheckHold, CheckStatus, CheckFirst, CheckDrop, Decide, Release}
+use Rattle.kc_machine_traces.specs.kc_machine_steps.declared.pass.AfterCheck.TheVariants as checked
+use Rattle.kc_machine_traces.specs.kc_machine_steps.declared.aid.AidStep.{AidStep}
+use Rattle.kc_machine_traces.specs.kc_machine_steps.declared.aid.Aided.{Aided}
+use Rattle.kc_machine_traces.specs.kc_machine_steps.declared.aid.AidStep.TheVariants as aid
+use Rattle.kc_machine_traces.specs.kc_machine_commits.declared.commit.OwnStep.{OwnStep}
+use Rattle.kc_machine_traces.specs.kc_machine_commits.declared.commit.OwnStep.TheVariants as own
+use Rattle.kc_machine_traces.specs.kc_machine.declared.hang.HangStep.{HangStep}
+use Rattle.kc_machine_traces.specs.kc_machine_commits.declared.commit.Commit.{Commit}
+use Rattle.kc_machine_traces.specs.kc_machine_commits.declared.commit.Stage.{Stage}
+use Rattle.kc_machine_traces.specs.kc_machine_commits.declared.commit.Stage.TheVariants.{Scan, Take, Own}
+use Rattle.kc_machine_traces.specs.kc_machine.declared.hang.HangStep.TheVariants as hang
+use Rattle.kc_machine_traces.specs.kc_machine.declared.hang.LeaveStep.{LeaveStep}
+use Rattle.kc_machine_traces.specs.kc_machine.declared.hang.LeaveStep.TheVariants as leave
+use Rattle.kc_machine_traces.specs.kc_machine.Works.{Work}
+use Rattle.kc_machine_traces.specs.kc_machine.Works as work
+use Rattle.kc_machine_traces.specs.kc_machine.Hangs.{hang_access_of, hang_access_at, leave_access_at, clear_access, read_of}
+use Rattle.kc_machine_traces.specs.kc_machine.Machine.{Opening, pool_size}
+use Rattle.kc_machine_traces.specs.kc_machine.Schedules.{AreBelow}
+use Rattle.kc_machine_traces.specs.kc_machine.Seats.{work_access, is_idle}
+use Rattle.kc_machine_traces.specs.kc_machine_commits.Commits.{own_access, stage_access, fill_first, fill_second, wake_access}
+use Rattle.kc_machine_traces.proofs.kc_machine_pool.Filled.{is_there}
 use Rattle.kc_machine_ranges.specs.Ranges.{HandleIn, ReferenceIn, LineIn, WordIn, TouchIn, AccessIn}
 use Rattle.kc_machine_ranges.specs.Seats.{LookIn, PassIn, AidIn, CopyIn, OwnIn, HangIn, SwapIn, WorkIn, StageIn}
-use Rattle.kc_machine_seats.specs.Fits.{StepFits, AidFits, OwnFits, WorkFits, StageFits}
-use Rattle.kc_machine_seats.specs.Formed.{OwnIsFormed, IsCopy, SwapIsFormed, WorkIsFormed, LeaveIsFormed, HangStands, StageIsFormed}
-use Rattle.kc_machine_seats.specs.Made.{IsWellMadeIntent, IsWellMadeLine, IntentIsMade, ReadsAreMade}
-use Rattle.kc_machine_seats.specs.Seated.{WorkSearches, StageSearches}
-use Rattle.kc_machine_steps.specs.Aids.{aid_access}
-use Rattle.kc_machine_steps.specs.Swaps.{may_swap, seen_word, word_after, swap_access_at}
-use Rattle.kc_machine_steps.specs.declared.swap.SwapStep.{SwapStep}
-use Rattle.kc_machine_steps.specs.declared.swap.SwapStep.TheVariants as swap
-use Rattle.kc_machine_words.specs.declared.access.Touch.TheVariants.{Load, CompareExchange}
+use Rattle.kc_machine_traces.specs.kc_machine_seats.Fits.{StepFits, AidFits, OwnFits, WorkFits, StageFits}
+use Rattle.kc_machine_traces.specs.kc_machine_seats.Formed.{OwnIsFormed, IsCopy, SwapIsFormed, WorkIsFormed, LeaveIsFormed, HangStands, StageIsFormed}
+use Rattle.kc_machine_traces.specs.kc_machine_seats.Made.{IsWellMadeIntent, IsWellMadeLine, IntentIsMade, ReadsAreMade}
+use Rattle.kc_machine_traces.specs.kc_machine_seats.Seated.{WorkSearches, StageSearches}
+use Rattle.kc_machine_traces.specs.kc_machine_steps.Aids.{aid_access}
+use Rattle.kc_machine_traces.specs.kc_machine_steps.Swaps.{may_swap, seen_word, word_after, swap_access_at}
+use Rattle.kc_machine_traces.specs.kc_machine_steps.declared.swap.SwapStep.{SwapStep}
+use Rattle.kc_machine_traces.specs.kc_machine_steps.declared.swap.SwapStep.TheVariants as swap
+use Rattle.kc_machine_traces.specs.kc_machine_words.declared.access.Touch.TheVariants.{Load, CompareExchange}
 use Rattle.kc_model.specs.declared.footprint.TheConstants.{LAST_VERSION, MOST}
-use Rattle.kc_machine_steps.specs.Lines.{next_version, resolved_version, succeeds, first_of}
-use Rattle.kc_machine_steps.specs.Looks.{look_access}
-use Rattle.kc_machine_steps.specs.Passes.{pass_access, install_access, check_access, release_access, release_at}
+use Rattle.kc_machine_traces.specs.kc_machine_steps.Lines.{next_version, resolved_version, succeeds, first_of}
+use Rattle.kc_machine_traces.specs.kc_machine_steps.Looks.{look_access}
+use Rattle.kc_machine_traces.specs.kc_machine_steps.Passes.{pass_access, install_access, check_access, release_access, release_at}
 
 -- ---- lists, versions, bits
 

@@ -1,19 +1,19 @@
 -- What is in its range has its bits.
 use Rattle.std.proofs.Common.{arith}
-use Rattle.kc_machine_words.specs.declared.access.Touch.{Touch}
+use Rattle.kc_machine_traces.specs.kc_machine_words.declared.access.Touch.{Touch}
 use Rattle.kc_model.specs.Word.{IsPackable}
 use Rattle.kc_model.specs.declared.word.Word.{Word}
 use Rattle.kc_model.specs.declared.word.Word.TheVariants.{Plain, Ref}
-use Rattle.kc_machine_words.specs.declared.access.Touch.TheVariants as touch
-use Rattle.kc_machine_words.specs.declared.access.Grip.{Grip}
-use Rattle.kc_machine_words.specs.declared.access.Grip.TheVariants as grip
-use Rattle.kc_machine_words.specs.declared.access.Access.{Access}
-use Rattle.kc_machine_words.specs.declared.access.Access.TheVariants as access
-use Rattle.kc_machine.specs.Machine.{Opening}
-use Rattle.kc_machine.specs.Schedules.{IsInRange}
+use Rattle.kc_machine_traces.specs.kc_machine_words.declared.access.Touch.TheVariants as touch
+use Rattle.kc_machine_traces.specs.kc_machine_words.declared.access.Grip.{Grip}
+use Rattle.kc_machine_traces.specs.kc_machine_words.declared.access.Grip.TheVariants as grip
+use Rattle.kc_machine_traces.specs.kc_machine_words.declared.access.Access.{Access}
+use Rattle.kc_machine_traces.specs.kc_machine_words.declared.access.Access.TheVariants as access
+use Rattle.kc_machine_traces.specs.kc_machine.Machine.{Opening}
+use Rattle.kc_machine_traces.specs.kc_machine.Schedules.{IsInRange}
 use Rattle.kc_machine_ranges.specs.Bits.{ValueFits, ValuesFit, GripFits, AccessFits}
 use Rattle.kc_machine_ranges.specs.Ranges.{WordIn, StatusIn, OwnerIn, FirstIn, StoredIn, TouchIn, GripIn, AccessIn}
-use Rattle.kc_machine_words.specs.Packing.{StatusFits, OwnerFits, FirstFits, SecondFits}
+use Rattle.kc_machine_traces.specs.kc_machine_words.Packing.{StatusFits, OwnerFits, FirstFits, SecondFits}
 
 touch_fits : {A : Type 0} (P V Q : A → Type 0) → ((x : A) → P x → V x → Q x) → (t : Touch A) → TouchIn P t → TouchIn V t → TouchIn Q t
 touch_fits P V Q h touch.Load y v = tt

@@ -6,31 +6,31 @@ use Rattle.std.proofs.lemmas.Nat.{pow_pos}
 use Rattle.std.proofs.lemmas.Nat.Bits.{and_pow, bit_at_above}
 use Rattle.std.proofs.Math.Pow.{pow-lt}
 use borrow.Author.Tests.{ltb-true, ltb-false}
-use Rattle.kc_machine_steps.specs.declared.aid.AidStep.{AidStep}
-use Rattle.kc_machine_steps.specs.declared.aid.Aided.{Aided}
-use Rattle.kc_machine_steps.specs.declared.line.Intent.{Intent}
-use Rattle.kc_machine_words.specs.declared.words.Handle.{Handle}
-use Rattle.kc_machine_words.specs.declared.words.Reference.{Reference}
-use Rattle.kc_machine_steps.specs.declared.aid.AidStep.TheVariants as aid
-use Rattle.kc_machine_commits.specs.declared.commit.OwnStep.{OwnStep}
-use Rattle.kc_machine_commits.specs.declared.commit.OwnStep.TheVariants as own
-use Rattle.kc_machine.specs.declared.hang.HangStep.{HangStep}
-use Rattle.kc_machine_commits.specs.declared.commit.Stage.{Stage}
-use Rattle.kc_machine_commits.specs.declared.commit.Stage.TheVariants.{Scan, Take, Own}
-use Rattle.kc_machine.specs.declared.hang.HangStep.TheVariants as hang
-use Rattle.kc_machine.specs.Works.{Work}
-use Rattle.kc_machine.specs.declared.seat.Seat.{Seat}
-use Rattle.kc_machine.specs.Works as work
-use Rattle.kc_machine.specs.Machine.{Opening}
-use Rattle.kc_machine.specs.Words.{bit_of}
-use Rattle.kc_machine_claims.specs.Claims.{has_bit, owed_by, owed_by_swap}
-use Rattle.kc_machine_effects.specs.Stands.{Stand, Waits, resting, aids, owns, commits, hangs, works, stand}
-use Rattle.kc_machine_effects.specs.Stands.{Swaps}
+use Rattle.kc_machine_traces.specs.kc_machine_steps.declared.aid.AidStep.{AidStep}
+use Rattle.kc_machine_traces.specs.kc_machine_steps.declared.aid.Aided.{Aided}
+use Rattle.kc_machine_traces.specs.kc_machine_steps.declared.line.Intent.{Intent}
+use Rattle.kc_machine_traces.specs.kc_machine_words.declared.words.Handle.{Handle}
+use Rattle.kc_machine_traces.specs.kc_machine_words.declared.words.Reference.{Reference}
+use Rattle.kc_machine_traces.specs.kc_machine_steps.declared.aid.AidStep.TheVariants as aid
+use Rattle.kc_machine_traces.specs.kc_machine_commits.declared.commit.OwnStep.{OwnStep}
+use Rattle.kc_machine_traces.specs.kc_machine_commits.declared.commit.OwnStep.TheVariants as own
+use Rattle.kc_machine_traces.specs.kc_machine.declared.hang.HangStep.{HangStep}
+use Rattle.kc_machine_traces.specs.kc_machine_commits.declared.commit.Stage.{Stage}
+use Rattle.kc_machine_traces.specs.kc_machine_commits.declared.commit.Stage.TheVariants.{Scan, Take, Own}
+use Rattle.kc_machine_traces.specs.kc_machine.declared.hang.HangStep.TheVariants as hang
+use Rattle.kc_machine_traces.specs.kc_machine.Works.{Work}
+use Rattle.kc_machine_traces.specs.kc_machine.declared.seat.Seat.{Seat}
+use Rattle.kc_machine_traces.specs.kc_machine.Works as work
+use Rattle.kc_machine_traces.specs.kc_machine.Machine.{Opening}
+use Rattle.kc_machine_traces.specs.kc_machine.Words.{bit_of}
+use Rattle.kc_machine_traces.specs.kc_machine_claims.Claims.{has_bit, owed_by, owed_by_swap}
+use Rattle.kc_machine_traces.specs.kc_machine_effects.Stands.{Stand, Waits, resting, aids, owns, commits, hangs, works, stand}
+use Rattle.kc_machine_traces.specs.kc_machine_effects.Stands.{Swaps}
 use Rattle.kc_machine_traces.proofs.Swapping.{swap_of, stand_swap}
 use Rattle.kc_machine_ranges.specs.Seats.{SwapIn}
-use Rattle.kc_machine_steps.specs.declared.swap.Swap.{Swap}
-use Rattle.kc_machine_steps.specs.declared.swap.SwapStep.{SwapStep}
-use Rattle.kc_machine_steps.specs.declared.swap.SwapStep.TheVariants as swap
+use Rattle.kc_machine_traces.specs.kc_machine_steps.declared.swap.Swap.{Swap}
+use Rattle.kc_machine_traces.specs.kc_machine_steps.declared.swap.SwapStep.{SwapStep}
+use Rattle.kc_machine_traces.specs.kc_machine_steps.declared.swap.SwapStep.TheVariants as swap
 use Rattle.kc_machine_ranges.specs.Ranges.{CallersIn}
 use Rattle.kc_machine_ranges.specs.Seats.{OwnIn, StageIn, WorkIn}
 

@@ -3,48 +3,48 @@ use Rattle.std.proofs.Common.{◌≡◌, ℕ, zero, suc, ◌*◌, ◌<◌, ◌�
 use Rattle.std.specs.Prelude.{nat_lt, slice_get}
 use Rattle.std.proofs.lemmas.Bool.Decides.{nat_tests}
 use borrow.Author.Tests.{eq-eqb}
-use Rattle.kc_machine_words.specs.declared.words.Handle.{Handle}
-use Rattle.kc_machine_words.specs.declared.words.Reference.{Reference}
-use Rattle.kc_machine_words.specs.declared.access.Grip.TheVariants as grip
-use Rattle.kc_machine_words.specs.declared.access.Access.{Access}
-use Rattle.kc_machine_words.specs.declared.access.Access.TheVariants as access
+use Rattle.kc_machine_traces.specs.kc_machine_words.declared.words.Handle.{Handle}
+use Rattle.kc_machine_traces.specs.kc_machine_words.declared.words.Reference.{Reference}
+use Rattle.kc_machine_traces.specs.kc_machine_words.declared.access.Grip.TheVariants as grip
+use Rattle.kc_machine_traces.specs.kc_machine_words.declared.access.Access.{Access}
+use Rattle.kc_machine_traces.specs.kc_machine_words.declared.access.Access.TheVariants as access
 use Rattle.kc_model.specs.declared.footprint.Line.{Line}
-use Rattle.kc_machine_steps.specs.declared.look.LookStep.{LookStep}
+use Rattle.kc_machine_traces.specs.kc_machine_steps.declared.look.LookStep.{LookStep}
 use Rattle.kc_model.specs.declared.footprint.Loc.{Loc}
 use Rattle.kc_model.specs.declared.footprint.Seen.{Seen}
-use Rattle.kc_machine_steps.specs.declared.look.LookStep.TheVariants as look
-use Rattle.kc_machine_steps.specs.declared.aid.AidStep.{AidStep}
-use Rattle.kc_machine_steps.specs.declared.aid.Aided.{Aided}
-use Rattle.kc_machine_steps.specs.declared.pass.PassStep.{PassStep}
-use Rattle.kc_machine_steps.specs.declared.pass.PassStep.TheVariants.{Install, Check, CheckHold, CheckStatus, CheckFirst, CheckDrop, Decide, Release}
-use Rattle.kc_machine_steps.specs.declared.aid.AidStep.TheVariants as aid
-use Rattle.kc_machine_commits.specs.declared.commit.Commit.{Commit}
-use Rattle.kc_machine_commits.specs.declared.commit.OwnStep.{OwnStep}
-use Rattle.kc_machine_commits.specs.declared.commit.Stage.{Stage}
-use Rattle.kc_machine_commits.specs.declared.commit.Stage.TheVariants.{Scan, Take, Own}
-use Rattle.kc_machine_commits.specs.declared.commit.OwnStep.TheVariants as own
-use Rattle.kc_machine.specs.declared.hang.HangStep.{HangStep}
-use Rattle.kc_machine.specs.declared.hang.HangStep.TheVariants as hang
-use Rattle.kc_machine.specs.declared.hang.LeaveStep.{LeaveStep}
-use Rattle.kc_machine.specs.declared.hang.LeaveStep.TheVariants as leave
-use Rattle.kc_machine.specs.Works.{Work}
-use Rattle.kc_machine.specs.Works as work
-use Rattle.kc_machine_steps.specs.Swaps.{swap_access_at}
-use Rattle.kc_machine_steps.specs.declared.swap.SwapStep.{SwapStep}
-use Rattle.kc_machine_steps.specs.declared.swap.SwapStep.TheVariants as swap
-use Rattle.kc_machine.specs.Hangs.{hang_access_of, leave_access_at, clear_access, read_of}
-use Rattle.kc_machine.specs.Machine.{State}
-use Rattle.kc_machine.specs.Seats.{work_access, access_of}
-use Rattle.kc_machine_commits.specs.Commits.{own_access, stage_access, fill_first, fill_second, wake_access}
-use Rattle.kc_machine_effects.proofs.Sums.{total_part}
-use Rattle.kc_machine_effects.specs.Claims.{HoldsAreCounted}
-use Rattle.kc_machine_effects.specs.Holds.{Hold, NoHold, Proper, Stray, on, one_at, dropping, holds_on, own_hold, check_hold, aid_hold, look_hold, total, step_hold, look_step_hold}
-use Rattle.kc_machine_effects.specs.Stands.{Stand, stand, works, resting, Waits, aids, owns, hangs, commits}
-use Rattle.kc_machine_pool.specs.Counts.{one_if_held, holds_of, AtMostThree}
+use Rattle.kc_machine_traces.specs.kc_machine_steps.declared.look.LookStep.TheVariants as look
+use Rattle.kc_machine_traces.specs.kc_machine_steps.declared.aid.AidStep.{AidStep}
+use Rattle.kc_machine_traces.specs.kc_machine_steps.declared.aid.Aided.{Aided}
+use Rattle.kc_machine_traces.specs.kc_machine_steps.declared.pass.PassStep.{PassStep}
+use Rattle.kc_machine_traces.specs.kc_machine_steps.declared.pass.PassStep.TheVariants.{Install, Check, CheckHold, CheckStatus, CheckFirst, CheckDrop, Decide, Release}
+use Rattle.kc_machine_traces.specs.kc_machine_steps.declared.aid.AidStep.TheVariants as aid
+use Rattle.kc_machine_traces.specs.kc_machine_commits.declared.commit.Commit.{Commit}
+use Rattle.kc_machine_traces.specs.kc_machine_commits.declared.commit.OwnStep.{OwnStep}
+use Rattle.kc_machine_traces.specs.kc_machine_commits.declared.commit.Stage.{Stage}
+use Rattle.kc_machine_traces.specs.kc_machine_commits.declared.commit.Stage.TheVariants.{Scan, Take, Own}
+use Rattle.kc_machine_traces.specs.kc_machine_commits.declared.commit.OwnStep.TheVariants as own
+use Rattle.kc_machine_traces.specs.kc_machine.declared.hang.HangStep.{HangStep}
+use Rattle.kc_machine_traces.specs.kc_machine.declared.hang.HangStep.TheVariants as hang
+use Rattle.kc_machine_traces.specs.kc_machine.declared.hang.LeaveStep.{LeaveStep}
+use Rattle.kc_machine_traces.specs.kc_machine.declared.hang.LeaveStep.TheVariants as leave
+use Rattle.kc_machine_traces.specs.kc_machine.Works.{Work}
+use Rattle.kc_machine_traces.specs.kc_machine.Works as work
+use Rattle.kc_machine_traces.specs.kc_machine_steps.Swaps.{swap_access_at}
+use Rattle.kc_machine_traces.specs.kc_machine_steps.declared.swap.SwapStep.{SwapStep}
+use Rattle.kc_machine_traces.specs.kc_machine_steps.declared.swap.SwapStep.TheVariants as swap
+use Rattle.kc_machine_traces.specs.kc_machine.Hangs.{hang_access_of, leave_access_at, clear_access, read_of}
+use Rattle.kc_machine_traces.specs.kc_machine.Machine.{State}
+use Rattle.kc_machine_traces.specs.kc_machine.Seats.{work_access, access_of}
+use Rattle.kc_machine_traces.specs.kc_machine_commits.Commits.{own_access, stage_access, fill_first, fill_second, wake_access}
+use Rattle.kc_machine_traces.proofs.kc_machine_effects.Sums.{total_part}
+use Rattle.kc_machine_traces.specs.kc_machine_effects.Claims.{HoldsAreCounted}
+use Rattle.kc_machine_traces.specs.kc_machine_effects.Holds.{Hold, NoHold, Proper, Stray, on, one_at, dropping, holds_on, own_hold, check_hold, aid_hold, look_hold, total, step_hold, look_step_hold}
+use Rattle.kc_machine_traces.specs.kc_machine_effects.Stands.{Stand, stand, works, resting, Waits, aids, owns, hangs, commits}
+use Rattle.kc_machine_traces.specs.kc_machine_pool.Counts.{one_if_held, holds_of, AtMostThree}
 use Rattle.kc_machine_ranges.specs.Room.{AddsHaveRoom, SubtractsHaveRoom}
-use Rattle.kc_machine_steps.specs.Aids.{aid_access}
-use Rattle.kc_machine_steps.specs.Looks.{look_access}
-use Rattle.kc_machine_steps.specs.Passes.{pass_access, install_access, check_access, release_at}
+use Rattle.kc_machine_traces.specs.kc_machine_steps.Aids.{aid_access}
+use Rattle.kc_machine_traces.specs.kc_machine_steps.Looks.{look_access}
+use Rattle.kc_machine_traces.specs.kc_machine_steps.Passes.{pass_access, install_access, check_access, release_at}
 
 -- ---- at most three to a seat
 

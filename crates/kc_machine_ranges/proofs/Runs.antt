@@ -1,41 +1,41 @@
 -- Words and seats stay in their ranges through every schedule of well-made tasks, so each step is possible.
 use Rattle.std.proofs.Common.{◌≡◌, ℕ, ◌-◌, ◌<◌, ⊎_elim, ◌∙◌, Bool, true, false, List, [], ◌∷◌, ◌++◌, All, refl, sym, subst, arith, if◌then◌else◌}
 use Rattle.std.specs.Prelude.{nat_lt}
-use Rattle.kc_machine_steps.specs.declared.swap.TheConstants.{MOST_SWAPS}
+use Rattle.kc_machine_traces.specs.kc_machine_steps.declared.swap.TheConstants.{MOST_SWAPS}
 use Rattle.std.proofs.lemmas.List.Elements.{All-nil, All-head, All-tail, All-push}
 use borrow.Author.Tests.{ltb-true}
-use Rattle.kc_machine_words.specs.declared.access.Grip.{Grip}
-use Rattle.kc_machine_words.specs.declared.access.Grip.TheVariants as grip
-use Rattle.kc_machine_words.specs.declared.access.Access.{Access}
-use Rattle.kc_machine_words.specs.declared.access.Access.TheVariants as access
-use Rattle.kc_machine.specs.Works.{Work}
-use Rattle.kc_machine.specs.declared.seat.Seat.{Seat}
-use Rattle.kc_machine_steps.specs.declared.task.Event.{Event}
-use Rattle.kc_machine_steps.specs.declared.task.Event.TheVariants.{Begin, Step, Halt}
-use Rattle.kc_machine.specs.Works as work
-use Rattle.kc_machine.proofs.Functions.{put_cases}
-use Rattle.kc_machine.specs.Machine.{State, Opening, put, touched, found_at, room, possible, stepped, happened, event_of, seat_of, run_from, run, opened, pool_size}
-use Rattle.kc_machine.specs.Schedules.{BeginsWellMade, IsSchedule}
-use Rattle.kc_machine.specs.Seats.{work_access, access_of, answer_of, is_idle}
-use Rattle.kc_machine_steps.specs.declared.aid.AidStep.{AidStep}
-use Rattle.kc_machine_steps.specs.declared.aid.Aided.{Aided}
-use Rattle.kc_machine_steps.specs.declared.line.Intent.{Intent}
-use Rattle.kc_machine_words.specs.declared.words.Handle.{Handle}
-use Rattle.kc_machine_words.specs.declared.words.Reference.{Reference}
+use Rattle.kc_machine_traces.specs.kc_machine_words.declared.access.Grip.{Grip}
+use Rattle.kc_machine_traces.specs.kc_machine_words.declared.access.Grip.TheVariants as grip
+use Rattle.kc_machine_traces.specs.kc_machine_words.declared.access.Access.{Access}
+use Rattle.kc_machine_traces.specs.kc_machine_words.declared.access.Access.TheVariants as access
+use Rattle.kc_machine_traces.specs.kc_machine.Works.{Work}
+use Rattle.kc_machine_traces.specs.kc_machine.declared.seat.Seat.{Seat}
+use Rattle.kc_machine_traces.specs.kc_machine_steps.declared.task.Event.{Event}
+use Rattle.kc_machine_traces.specs.kc_machine_steps.declared.task.Event.TheVariants.{Begin, Step, Halt}
+use Rattle.kc_machine_traces.specs.kc_machine.Works as work
+use Rattle.kc_machine_traces.proofs.kc_machine.Functions.{put_cases}
+use Rattle.kc_machine_traces.specs.kc_machine.Machine.{State, Opening, put, touched, found_at, room, possible, stepped, happened, event_of, seat_of, run_from, run, opened, pool_size}
+use Rattle.kc_machine_traces.specs.kc_machine.Schedules.{BeginsWellMade, IsSchedule}
+use Rattle.kc_machine_traces.specs.kc_machine.Seats.{work_access, access_of, answer_of, is_idle}
+use Rattle.kc_machine_traces.specs.kc_machine_steps.declared.aid.AidStep.{AidStep}
+use Rattle.kc_machine_traces.specs.kc_machine_steps.declared.aid.Aided.{Aided}
+use Rattle.kc_machine_traces.specs.kc_machine_steps.declared.line.Intent.{Intent}
+use Rattle.kc_machine_traces.specs.kc_machine_words.declared.words.Handle.{Handle}
+use Rattle.kc_machine_traces.specs.kc_machine_words.declared.words.Reference.{Reference}
 use Rattle.kc_model.specs.declared.footprint.Seen.{Seen}
 use Rattle.kc_model.specs.declared.footprint.TheConstants.{MOST}
-use Rattle.kc_machine_steps.specs.declared.aid.AidStep.TheVariants as aid
-use Rattle.kc_machine_commits.specs.declared.commit.OwnStep.{OwnStep}
-use Rattle.kc_machine_commits.specs.declared.commit.OwnStep.TheVariants as own
-use Rattle.kc_machine.specs.declared.hang.HangStep.{HangStep}
-use Rattle.kc_machine_commits.specs.declared.commit.Stage.{Stage}
-use Rattle.kc_machine_commits.specs.declared.commit.Stage.TheVariants.{Scan, Take, Own}
-use Rattle.kc_machine.specs.declared.hang.HangStep.TheVariants as hang
-use Rattle.kc_machine_claims.specs.Claims.{owed_by, owed_by_swap}
-use Rattle.kc_machine_effects.proofs.PoolLaws.{holds_counted}
-use Rattle.kc_machine_effects.proofs.Sums.{total_part}
-use Rattle.kc_machine_effects.specs.Stands.{Stand, Waits, resting, aids, owns, commits, hangs, works, stand}
-use Rattle.kc_machine_pool.proofs.LifeLaws.{generations_fit, calls_fit, three_holds}
+use Rattle.kc_machine_traces.specs.kc_machine_steps.declared.aid.AidStep.TheVariants as aid
+use Rattle.kc_machine_traces.specs.kc_machine_commits.declared.commit.OwnStep.{OwnStep}
+use Rattle.kc_machine_traces.specs.kc_machine_commits.declared.commit.OwnStep.TheVariants as own
+use Rattle.kc_machine_traces.specs.kc_machine.declared.hang.HangStep.{HangStep}
+use Rattle.kc_machine_traces.specs.kc_machine_commits.declared.commit.Stage.{Stage}
+use Rattle.kc_machine_traces.specs.kc_machine_commits.declared.commit.Stage.TheVariants.{Scan, Take, Own}
+use Rattle.kc_machine_traces.specs.kc_machine.declared.hang.HangStep.TheVariants as hang
+use Rattle.kc_machine_traces.specs.kc_machine_claims.Claims.{owed_by, owed_by_swap}
+use Rattle.kc_machine_traces.proofs.kc_machine_effects.PoolLaws.{holds_counted}
+use Rattle.kc_machine_traces.proofs.kc_machine_effects.Sums.{total_part}
+use Rattle.kc_machine_traces.specs.kc_machine_effects.Stands.{Stand, Waits, resting, aids, owns, commits, hangs, works, stand}
+use Rattle.kc_machine_traces.proofs.kc_machine_pool.LifeLaws.{generations_fit, calls_fit, three_holds}
 use Rattle.kc_machine_ranges.proofs.Accesses.{work_touches}
 use Rattle.kc_machine_ranges.proofs.Callers.{caller_of, owed_in, owed_in_swap}
 use Rattle.kc_machine_ranges.proofs.Room.{total_most, lt_is, adds_room, subtracts_room}
@@ -45,10 +45,10 @@ use Rattle.kc_machine_ranges.specs.Callers.{AwaitersAreCallers, OwedAreCallers}
 use Rattle.kc_machine_ranges.specs.Possible.{StepsArePossible, StepsHappen, one_step}
 use Rattle.kc_machine_ranges.specs.Ranges.{WorldIn, AccessIn}
 use Rattle.kc_machine_ranges.specs.Seats.{WorkIn, SeatsIn}
-use Rattle.kc_machine_seats.proofs.FitSeats.{fit_always}
-use Rattle.kc_machine_seats.proofs.FormedSteps.{formed_always}
-use Rattle.kc_machine_seats.proofs.MadeSteps.{intents_made, reads_made, hangs_stand}
-use Rattle.kc_machine_seats.proofs.SeatedSteps.{seats_stay, searches_in_range}
+use Rattle.kc_machine_traces.proofs.kc_machine_seats.FitSeats.{fit_always}
+use Rattle.kc_machine_traces.proofs.kc_machine_seats.FormedSteps.{formed_always}
+use Rattle.kc_machine_traces.proofs.kc_machine_seats.MadeSteps.{intents_made, reads_made, hangs_stand}
+use Rattle.kc_machine_traces.proofs.kc_machine_seats.SeatedSteps.{seats_stay, searches_in_range}
 use Rattle.kc_machine_traces.proofs.Others.{run_shape}
 
 -- ---- the calls of a stand are the seat's

@@ -4,81 +4,81 @@ use Rattle.std.specs.Prelude.{slice_get, nat_lt, bit_or, bit_and}
 use Rattle.std.proofs.lemmas.Nat.{or_lt, and_le_l, pow_pos}
 use Rattle.std.proofs.lemmas.Option.{slice_get_within}
 use Rattle.std.proofs.lemmas.List.Elements.{All-nil, All-push}
-use Rattle.kc_machine_words.specs.declared.access.Found.{Found}
-use Rattle.kc_machine_words.specs.declared.words.First.{First}
-use Rattle.kc_machine_words.specs.declared.words.Handle.{Handle}
-use Rattle.kc_machine_words.specs.declared.words.Mode.{Mode}
-use Rattle.kc_machine_words.specs.declared.words.Phase.{Phase}
-use Rattle.kc_machine_words.specs.declared.words.Phase.TheVariants.{Active, Succeeded, Failed, Crossed, Halted}
-use Rattle.kc_machine_words.specs.declared.words.Reference.{Reference}
+use Rattle.kc_machine_traces.specs.kc_machine_words.declared.access.Found.{Found}
+use Rattle.kc_machine_traces.specs.kc_machine_words.declared.words.First.{First}
+use Rattle.kc_machine_traces.specs.kc_machine_words.declared.words.Handle.{Handle}
+use Rattle.kc_machine_traces.specs.kc_machine_words.declared.words.Mode.{Mode}
+use Rattle.kc_machine_traces.specs.kc_machine_words.declared.words.Phase.{Phase}
+use Rattle.kc_machine_traces.specs.kc_machine_words.declared.words.Phase.TheVariants.{Active, Succeeded, Failed, Crossed, Halted}
+use Rattle.kc_machine_traces.specs.kc_machine_words.declared.words.Reference.{Reference}
 use Rattle.kc_model.specs.declared.footprint.Loc.{Loc}
 use Rattle.kc_model.specs.declared.footprint.Seen.{Seen}
 use Rattle.kc_model.specs.declared.word.Word.TheVariants.{Plain, Ref}
-use Rattle.kc_machine_words.specs.declared.access.Found.TheVariants as found
-use Rattle.kc_machine_steps.specs.declared.task.Task.{Task}
-use Rattle.kc_machine_steps.specs.declared.task.Task.TheVariants as task
+use Rattle.kc_machine_traces.specs.kc_machine_words.declared.access.Found.TheVariants as found
+use Rattle.kc_machine_traces.specs.kc_machine_steps.declared.task.Task.{Task}
+use Rattle.kc_machine_traces.specs.kc_machine_steps.declared.task.Task.TheVariants as task
 use Rattle.kc_model.specs.declared.footprint.Line.{Line}
 use Rattle.kc_model.specs.declared.footprint.TheConstants.{MOST}
-use Rattle.kc_machine_steps.specs.declared.line.Pick.TheVariants.{Installed, Checked, Put}
-use Rattle.kc_machine_steps.specs.declared.look.Look.{Look}
-use Rattle.kc_machine_steps.specs.declared.look.LookStep.{LookStep}
-use Rattle.kc_machine_steps.specs.declared.look.LookStep.TheVariants as look
-use Rattle.kc_machine_steps.specs.declared.look.LookNext.{LookNext}
-use Rattle.kc_machine_steps.specs.declared.look.LookNext.TheVariants as looking
-use Rattle.kc_machine_steps.specs.declared.pass.AfterCheck.{AfterCheck}
-use Rattle.kc_machine_steps.specs.declared.pass.PassStep.{PassStep}
-use Rattle.kc_machine_steps.specs.declared.pass.PassStep.TheVariants.{Install, Check, CheckHold, CheckStatus, CheckFirst, CheckDrop, Decide, Release}
-use Rattle.kc_machine_steps.specs.declared.pass.AfterCheck.TheVariants as checked
-use Rattle.kc_machine_steps.specs.declared.pass.PassNext.{PassNext}
-use Rattle.kc_machine_steps.specs.declared.pass.PassNext.TheVariants as pass
-use Rattle.kc_machine_steps.specs.declared.aid.AidStep.{AidStep}
-use Rattle.kc_machine_steps.specs.declared.aid.Aided.{Aided}
-use Rattle.kc_machine_steps.specs.declared.aid.AidStep.TheVariants as aid
-use Rattle.kc_machine_steps.specs.declared.aid.AidNext.{AidNext}
-use Rattle.kc_machine_steps.specs.declared.aid.AidNext.TheVariants as aiding
-use Rattle.kc_machine_commits.specs.declared.commit.OwnStep.{OwnStep}
-use Rattle.kc_machine_commits.specs.declared.commit.OwnStep.TheVariants as own
-use Rattle.kc_machine_commits.specs.Nexts.{Next}
-use Rattle.kc_machine_commits.specs.declared.commit.Commit.{Commit}
-use Rattle.kc_machine_commits.specs.declared.commit.Stage.{Stage}
-use Rattle.kc_machine_commits.specs.declared.commit.Stage.TheVariants.{Scan, Take, Own}
-use Rattle.kc_machine_commits.specs.Nexts as next
-use Rattle.kc_machine.specs.Waits.{Hang, Leave}
-use Rattle.kc_machine.specs.declared.hang.HangStep.{HangStep}
-use Rattle.kc_machine.specs.declared.hang.HangStep.TheVariants as hang
-use Rattle.kc_machine.specs.declared.hang.HangNext.{HangNext}
-use Rattle.kc_machine.specs.declared.hang.HangNext.TheVariants as hanging
-use Rattle.kc_machine.specs.Works.{Work}
-use Rattle.kc_machine.specs.Works as work
-use Rattle.kc_machine.specs.declared.seat.Seat.{Seat}
-use Rattle.kc_machine_steps.specs.Lines.{next_line, after_line, resolved_version, joined}
-use Rattle.kc_machine_steps.specs.Looks.{look_next, looks_on, told_by, reference_of, halts_at_once, look_halted_at}
-use Rattle.kc_machine_steps.specs.Looks as looks
-use Rattle.kc_machine.specs.Hangs.{set_or_look, after_set, clear_or_changed, after_clear, look_or_end, look_goes_on, look_of, hang_next, hangs_on, onward_of, leaves_on, unblocks_or_tells}
-use Rattle.kc_machine.specs.Machine.{Opening, pool_size}
-use Rattle.kc_machine.specs.Seats.{answer_of, answer_by, after, begun, begun_idle, is_idle, working, halted, halted_by, ended}
-use Rattle.kc_machine.specs.Seats.{hanging as hanging_of}
-use Rattle.kc_machine_commits.specs.Commits.{own_next, stage_next, tells_or_goes, fill_or_start, fill_next, after_own_pass, onward_or_back, aid_or_back, finished, wake_or_drop, wake_or_signal, wake_next, owed_next, copy_by_own, copy_by, loaded, gone_on, onward_by, after_scan, take_next}
-use Rattle.kc_machine_commits.specs.Halts.{halted_pass, halted_aid_pass, halted_own, unowned, halted_at}
+use Rattle.kc_machine_traces.specs.kc_machine_steps.declared.line.Pick.TheVariants.{Installed, Checked, Put}
+use Rattle.kc_machine_traces.specs.kc_machine_steps.declared.look.Look.{Look}
+use Rattle.kc_machine_traces.specs.kc_machine_steps.declared.look.LookStep.{LookStep}
+use Rattle.kc_machine_traces.specs.kc_machine_steps.declared.look.LookStep.TheVariants as look
+use Rattle.kc_machine_traces.specs.kc_machine_steps.declared.look.LookNext.{LookNext}
+use Rattle.kc_machine_traces.specs.kc_machine_steps.declared.look.LookNext.TheVariants as looking
+use Rattle.kc_machine_traces.specs.kc_machine_steps.declared.pass.AfterCheck.{AfterCheck}
+use Rattle.kc_machine_traces.specs.kc_machine_steps.declared.pass.PassStep.{PassStep}
+use Rattle.kc_machine_traces.specs.kc_machine_steps.declared.pass.PassStep.TheVariants.{Install, Check, CheckHold, CheckStatus, CheckFirst, CheckDrop, Decide, Release}
+use Rattle.kc_machine_traces.specs.kc_machine_steps.declared.pass.AfterCheck.TheVariants as checked
+use Rattle.kc_machine_traces.specs.kc_machine_steps.declared.pass.PassNext.{PassNext}
+use Rattle.kc_machine_traces.specs.kc_machine_steps.declared.pass.PassNext.TheVariants as pass
+use Rattle.kc_machine_traces.specs.kc_machine_steps.declared.aid.AidStep.{AidStep}
+use Rattle.kc_machine_traces.specs.kc_machine_steps.declared.aid.Aided.{Aided}
+use Rattle.kc_machine_traces.specs.kc_machine_steps.declared.aid.AidStep.TheVariants as aid
+use Rattle.kc_machine_traces.specs.kc_machine_steps.declared.aid.AidNext.{AidNext}
+use Rattle.kc_machine_traces.specs.kc_machine_steps.declared.aid.AidNext.TheVariants as aiding
+use Rattle.kc_machine_traces.specs.kc_machine_commits.declared.commit.OwnStep.{OwnStep}
+use Rattle.kc_machine_traces.specs.kc_machine_commits.declared.commit.OwnStep.TheVariants as own
+use Rattle.kc_machine_traces.specs.kc_machine_commits.Nexts.{Next}
+use Rattle.kc_machine_traces.specs.kc_machine_commits.declared.commit.Commit.{Commit}
+use Rattle.kc_machine_traces.specs.kc_machine_commits.declared.commit.Stage.{Stage}
+use Rattle.kc_machine_traces.specs.kc_machine_commits.declared.commit.Stage.TheVariants.{Scan, Take, Own}
+use Rattle.kc_machine_traces.specs.kc_machine_commits.Nexts as next
+use Rattle.kc_machine_traces.specs.kc_machine.Waits.{Hang, Leave}
+use Rattle.kc_machine_traces.specs.kc_machine.declared.hang.HangStep.{HangStep}
+use Rattle.kc_machine_traces.specs.kc_machine.declared.hang.HangStep.TheVariants as hang
+use Rattle.kc_machine_traces.specs.kc_machine.declared.hang.HangNext.{HangNext}
+use Rattle.kc_machine_traces.specs.kc_machine.declared.hang.HangNext.TheVariants as hanging
+use Rattle.kc_machine_traces.specs.kc_machine.Works.{Work}
+use Rattle.kc_machine_traces.specs.kc_machine.Works as work
+use Rattle.kc_machine_traces.specs.kc_machine.declared.seat.Seat.{Seat}
+use Rattle.kc_machine_traces.specs.kc_machine_steps.Lines.{next_line, after_line, resolved_version, joined}
+use Rattle.kc_machine_traces.specs.kc_machine_steps.Looks.{look_next, looks_on, told_by, reference_of, halts_at_once, look_halted_at}
+use Rattle.kc_machine_traces.specs.kc_machine_steps.Looks as looks
+use Rattle.kc_machine_traces.specs.kc_machine.Hangs.{set_or_look, after_set, clear_or_changed, after_clear, look_or_end, look_goes_on, look_of, hang_next, hangs_on, onward_of, leaves_on, unblocks_or_tells}
+use Rattle.kc_machine_traces.specs.kc_machine.Machine.{Opening, pool_size}
+use Rattle.kc_machine_traces.specs.kc_machine.Seats.{answer_of, answer_by, after, begun, begun_idle, is_idle, working, halted, halted_by, ended}
+use Rattle.kc_machine_traces.specs.kc_machine.Seats.{hanging as hanging_of}
+use Rattle.kc_machine_traces.specs.kc_machine_commits.Commits.{own_next, stage_next, tells_or_goes, fill_or_start, fill_next, after_own_pass, onward_or_back, aid_or_back, finished, wake_or_drop, wake_or_signal, wake_next, owed_next, copy_by_own, copy_by, loaded, gone_on, onward_by, after_scan, take_next}
+use Rattle.kc_machine_traces.specs.kc_machine_commits.Halts.{halted_pass, halted_aid_pass, halted_own, unowned, halted_at}
 use Rattle.kc_machine_ranges.proofs.Words.{FoundIn}
 use Rattle.kc_machine_ranges.specs.Ranges.{HandleIn, ReferenceIn, CallersIn, FirstIn, LineIn}
 use Rattle.kc_machine_ranges.specs.Seats.{OnwardIn, LookIn, AfterIn, PassIn, AidIn, CopyIn, OwnIn, StageIn, HangIn, SwapIn, WorkIn}
-use Rattle.kc_machine_seats.proofs.Searches.{scanned}
-use Rattle.kc_machine_seats.specs.Fits.{StepFits, AidFits, OwnFits, StageFits, WorkFits}
-use Rattle.kc_machine_seats.specs.Formed.{IsCopy, WorkIsFormed}
-use Rattle.kc_machine_seats.specs.Made.{IntentIsMade}
-use Rattle.kc_machine_seats.specs.Seated.{StageSearches, WorkSearches}
-use Rattle.kc_machine_steps.specs.declared.task.Told.TheVariants as told
-use Rattle.kc_machine_steps.specs.Swaps.{may_swap, exchange_next, swap_next_at, swaps_on, ends_at_once}
-use Rattle.kc_machine_steps.specs.Swaps.{owed_next as owed_by_swap}
-use Rattle.kc_machine_steps.specs.Swaps.{onward_of as onward_of_swap}
-use Rattle.kc_machine_steps.specs.declared.swap.Swap.{Swap}
-use Rattle.kc_machine_steps.specs.declared.swap.SwapNext.{SwapNext}
-use Rattle.kc_machine_steps.specs.declared.swap.SwapNext.TheVariants as swapping
-use Rattle.kc_machine_steps.specs.declared.swap.SwapStep.{SwapStep}
-use Rattle.kc_machine_steps.specs.declared.swap.SwapStep.TheVariants as swap
-use Rattle.kc_machine_steps.specs.Aids.{aid_copy, copy_owner, copy_line, aid_next, hold_next, owner_or_first, status_next, first_next, second_next, load_next, owner_next, load_first_next, load_second_next, after_pass, drop_or_release, leave_next}
-use Rattle.kc_machine_steps.specs.Passes.{check_or_decide, from_check, install_or_check, from_install, release_or_finish, from_release, fits, refers_to, install_found, check_found, check_hold_next, crossed_or_first, check_status_next, agrees_or_fails, check_first_found, check_drop_next, decided_as, decide_next, pass_next}
+use Rattle.kc_machine_traces.proofs.kc_machine_seats.Searches.{scanned}
+use Rattle.kc_machine_traces.specs.kc_machine_seats.Fits.{StepFits, AidFits, OwnFits, StageFits, WorkFits}
+use Rattle.kc_machine_traces.specs.kc_machine_seats.Formed.{IsCopy, WorkIsFormed}
+use Rattle.kc_machine_traces.specs.kc_machine_seats.Made.{IntentIsMade}
+use Rattle.kc_machine_traces.specs.kc_machine_seats.Seated.{StageSearches, WorkSearches}
+use Rattle.kc_machine_traces.specs.kc_machine_steps.declared.task.Told.TheVariants as told
+use Rattle.kc_machine_traces.specs.kc_machine_steps.Swaps.{may_swap, exchange_next, swap_next_at, swaps_on, ends_at_once}
+use Rattle.kc_machine_traces.specs.kc_machine_steps.Swaps.{owed_next as owed_by_swap}
+use Rattle.kc_machine_traces.specs.kc_machine_steps.Swaps.{onward_of as onward_of_swap}
+use Rattle.kc_machine_traces.specs.kc_machine_steps.declared.swap.Swap.{Swap}
+use Rattle.kc_machine_traces.specs.kc_machine_steps.declared.swap.SwapNext.{SwapNext}
+use Rattle.kc_machine_traces.specs.kc_machine_steps.declared.swap.SwapNext.TheVariants as swapping
+use Rattle.kc_machine_traces.specs.kc_machine_steps.declared.swap.SwapStep.{SwapStep}
+use Rattle.kc_machine_traces.specs.kc_machine_steps.declared.swap.SwapStep.TheVariants as swap
+use Rattle.kc_machine_traces.specs.kc_machine_steps.Aids.{aid_copy, copy_owner, copy_line, aid_next, hold_next, owner_or_first, status_next, first_next, second_next, load_next, owner_next, load_first_next, load_second_next, after_pass, drop_or_release, leave_next}
+use Rattle.kc_machine_traces.specs.kc_machine_steps.Passes.{check_or_decide, from_check, install_or_check, from_install, release_or_finish, from_release, fits, refers_to, install_found, check_found, check_hold_next, crossed_or_first, check_status_next, agrees_or_fails, check_first_found, check_drop_next, decided_as, decide_next, pass_next}
 
 if_in : {A : Type 0} (P : A → Type 0) (b : Bool) (x y : A) → P x → P y → P (if b then x else y)
 if_in P true x y p q = p

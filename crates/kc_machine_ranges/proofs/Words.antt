@@ -5,23 +5,23 @@ use Rattle.std.specs.Int.{bit_not, w64}
 use Rattle.std.proofs.lemmas.Nat.{or_lt, and_le_l, pow_pos}
 use Rattle.std.proofs.Math.Nat.{mod-le}
 use Rattle.std.proofs.Math.Pow.{pow-lt}
-use Rattle.kc_machine_words.specs.declared.access.Touch.{Touch}
-use Rattle.kc_machine_words.specs.declared.words.First.{First}
-use Rattle.kc_machine_words.specs.declared.words.Owner.{Owner}
-use Rattle.kc_machine_words.specs.declared.words.Second.{Second}
-use Rattle.kc_machine_words.specs.declared.words.Status.{Status}
+use Rattle.kc_machine_traces.specs.kc_machine_words.declared.access.Touch.{Touch}
+use Rattle.kc_machine_traces.specs.kc_machine_words.declared.words.First.{First}
+use Rattle.kc_machine_traces.specs.kc_machine_words.declared.words.Owner.{Owner}
+use Rattle.kc_machine_traces.specs.kc_machine_words.declared.words.Second.{Second}
+use Rattle.kc_machine_traces.specs.kc_machine_words.declared.words.Status.{Status}
 use Rattle.kc_model.specs.declared.word.Word.{Word}
-use Rattle.kc_machine_words.specs.declared.access.Touch.TheVariants as touch
-use Rattle.kc_machine_words.specs.declared.access.Bits.{Bits}
-use Rattle.kc_machine_words.specs.declared.access.Bits.TheVariants as bits
-use Rattle.kc_machine_words.specs.declared.access.Access.{Access}
-use Rattle.kc_machine_words.specs.declared.access.Access.TheVariants as access
-use Rattle.kc_machine_words.specs.declared.access.Found.{Found}
-use Rattle.kc_machine_words.specs.declared.access.Found.TheVariants as found
-use Rattle.kc_machine.proofs.Functions.{put_cases}
-use Rattle.kc_machine.specs.Machine.{World, Opening, put, put_some, put_line, found_at, touched, opened}
-use Rattle.kc_machine.specs.Schedules.{IsInRange}
-use Rattle.kc_machine.specs.Words.{word_is, status_is, stored_word, stored_status, stored_owner, stored_first, stored_second, bit_of, bits_after}
+use Rattle.kc_machine_traces.specs.kc_machine_words.declared.access.Touch.TheVariants as touch
+use Rattle.kc_machine_traces.specs.kc_machine_words.declared.access.Bits.{Bits}
+use Rattle.kc_machine_traces.specs.kc_machine_words.declared.access.Bits.TheVariants as bits
+use Rattle.kc_machine_traces.specs.kc_machine_words.declared.access.Access.{Access}
+use Rattle.kc_machine_traces.specs.kc_machine_words.declared.access.Access.TheVariants as access
+use Rattle.kc_machine_traces.specs.kc_machine_words.declared.access.Found.{Found}
+use Rattle.kc_machine_traces.specs.kc_machine_words.declared.access.Found.TheVariants as found
+use Rattle.kc_machine_traces.proofs.kc_machine.Functions.{put_cases}
+use Rattle.kc_machine_traces.specs.kc_machine.Machine.{World, Opening, put, put_some, put_line, found_at, touched, opened}
+use Rattle.kc_machine_traces.specs.kc_machine.Schedules.{IsInRange}
+use Rattle.kc_machine_traces.specs.kc_machine.Words.{word_is, status_is, stored_word, stored_status, stored_owner, stored_first, stored_second, bit_of, bits_after}
 use Rattle.kc_machine_ranges.specs.Ranges.{WordIn, CallersIn, StatusIn, OwnerIn, FirstIn, SecondIn, StoredIn, WorldIn, TouchIn, BitsIn, AccessIn}
 
 abbrev Stores : {A : Type 0} → (A → Type 0) → Option A → Type 0

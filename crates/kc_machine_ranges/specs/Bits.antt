@@ -1,15 +1,15 @@
 -- What an access stores or compares can be packed.
 use Rattle.std.specs.Prelude.{◌<◌, ◌+◌, ◌^◌}
-use Rattle.kc_machine_words.specs.declared.access.Grip.{Grip}
+use Rattle.kc_machine_traces.specs.kc_machine_words.declared.access.Grip.{Grip}
 use Rattle.kc_model.specs.Word.{IsPackable}
 use Rattle.kc_model.specs.declared.word.Word.{Word}
 use Rattle.kc_model.specs.declared.word.Word.TheVariants.{Plain, Ref}
-use Rattle.kc_machine_words.specs.declared.access.Grip.TheVariants as grip
-use Rattle.kc_machine_words.specs.declared.access.Access.{Access}
-use Rattle.kc_machine_words.specs.declared.access.Access.TheVariants as access
-use Rattle.kc_machine.specs.Words.{control}
+use Rattle.kc_machine_traces.specs.kc_machine_words.declared.access.Grip.TheVariants as grip
+use Rattle.kc_machine_traces.specs.kc_machine_words.declared.access.Access.{Access}
+use Rattle.kc_machine_traces.specs.kc_machine_words.declared.access.Access.TheVariants as access
+use Rattle.kc_machine_traces.specs.kc_machine.Words.{control}
 use Rattle.kc_machine_ranges.specs.Ranges.{TouchIn}
-use Rattle.kc_machine_words.specs.Packing.{ControlFits, StatusFits, OwnerFits, FirstFits, SecondFits}
+use Rattle.kc_machine_traces.specs.kc_machine_words.Packing.{ControlFits, StatusFits, OwnerFits, FirstFits, SecondFits}
 
 abbrev pub ValueFits : Word → Type 0
 ValueFits (Plain v x) = x < 2 ^ 32

@@ -1,8 +1,8 @@
 -- Who awaits and who is owed a wake are callers.
 use Rattle.std.specs.Prelude.{◌≡◌, ◌<◌, ℕ, true}
-use Rattle.kc_machine.specs.Machine.{State}
-use Rattle.kc_machine_claims.specs.Claims.{has_bit, Owes}
-use Rattle.kc_machine_effects.specs.Stands.{stand}
+use Rattle.kc_machine_traces.specs.kc_machine.Machine.{State}
+use Rattle.kc_machine_traces.specs.kc_machine_claims.Claims.{has_bit, Owes}
+use Rattle.kc_machine_traces.specs.kc_machine_effects.Stands.{stand}
 
 abbrev pub AwaitersAreCallers : State → Type 0
 AwaitersAreCallers m = (l c : ℕ) → has_bit (m.world.awaiters l) c ≡ true → c < m.callers

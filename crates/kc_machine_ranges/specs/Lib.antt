@@ -4,3 +4,12 @@ pub mod Seats
 pub mod Possible
 pub mod Bits
 pub mod Callers
+pub use Rattle.kc_machine_traces.specs.kc_machine as kc_machine
+pub use Rattle.kc_machine_traces.specs.kc_machine_claims as kc_machine_claims
+pub use Rattle.kc_machine_traces.specs.kc_machine_commits as kc_machine_commits
+pub use Rattle.kc_machine_traces.specs.kc_machine_effects as kc_machine_effects
+pub use Rattle.kc_machine_traces.specs.kc_machine_pool as kc_machine_pool
+pub use Rattle.kc_machine_traces.specs.kc_machine_seats as kc_machine_seats
+pub use Rattle.kc_machine_traces.specs.kc_machine_steps as kc_machine_steps
+pub use Rattle.kc_machine_traces.specs as kc_machine_traces
+pub use Rattle.kc_machine_traces.specs.kc_machine_words as kc_machine_words

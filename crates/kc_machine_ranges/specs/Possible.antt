@@ -1,10 +1,10 @@
 -- A seat that isn't idle makes its next step.
 use Rattle.std.specs.Prelude.{◌≡◌, ◌<◌, ◌++◌, ◌∷◌, ℕ, List, [], true, false}
-use Rattle.kc_machine.specs.Machine.{State, Opening, put, touched, found_at, possible, run}
-use Rattle.kc_machine.specs.Seats.{access_of, answer_of, is_idle}
+use Rattle.kc_machine_traces.specs.kc_machine.Machine.{State, Opening, put, touched, found_at, possible, run}
+use Rattle.kc_machine_traces.specs.kc_machine.Seats.{access_of, answer_of, is_idle}
 use Rattle.kc_machine_ranges.specs.Ranges.{AccessIn}
-use Rattle.kc_machine_steps.specs.declared.task.Event.{Event}
-use Rattle.kc_machine_steps.specs.declared.task.Event.TheVariants.{Step}
+use Rattle.kc_machine_traces.specs.kc_machine_steps.declared.task.Event.{Event}
+use Rattle.kc_machine_traces.specs.kc_machine_steps.declared.task.Event.TheVariants.{Step}
 
 -- the word that its next step touches is there, a count of holds has room, and what it touches with is in its range
 abbrev pub StepsArePossible : Opening → State → Type 0

@@ -1,28 +1,28 @@
 -- In which range the numbers lie that stand in words, that a step touches a word with, and that a seat remembers.
 use Rattle.std.specs.Prelude.{◌<◌, ◌≤◌, ◌^◌, ℕ}
-use Rattle.kc_machine_words.specs.declared.access.Touch.{Touch}
-use Rattle.kc_machine_words.specs.declared.words.First.{First}
-use Rattle.kc_machine_words.specs.declared.words.Handle.{Handle}
-use Rattle.kc_machine_words.specs.declared.words.Owner.{Owner}
-use Rattle.kc_machine_words.specs.declared.words.Phase.{Phase}
-use Rattle.kc_machine_words.specs.declared.words.Reference.{Reference}
-use Rattle.kc_machine_words.specs.declared.words.Second.{Second}
-use Rattle.kc_machine_words.specs.declared.words.Status.{Status}
-use Rattle.kc_machine_words.specs.declared.words.TheConstants.{LAST_GENERATION}
+use Rattle.kc_machine_traces.specs.kc_machine_words.declared.access.Touch.{Touch}
+use Rattle.kc_machine_traces.specs.kc_machine_words.declared.words.First.{First}
+use Rattle.kc_machine_traces.specs.kc_machine_words.declared.words.Handle.{Handle}
+use Rattle.kc_machine_traces.specs.kc_machine_words.declared.words.Owner.{Owner}
+use Rattle.kc_machine_traces.specs.kc_machine_words.declared.words.Phase.{Phase}
+use Rattle.kc_machine_traces.specs.kc_machine_words.declared.words.Reference.{Reference}
+use Rattle.kc_machine_traces.specs.kc_machine_words.declared.words.Second.{Second}
+use Rattle.kc_machine_traces.specs.kc_machine_words.declared.words.Status.{Status}
+use Rattle.kc_machine_traces.specs.kc_machine_words.declared.words.TheConstants.{LAST_GENERATION}
 use Rattle.kc_model.specs.declared.footprint.TheConstants.{LAST_VERSION, MOST}
 use Rattle.kc_model.specs.declared.word.Word.{Word}
 use Rattle.kc_model.specs.declared.word.Word.TheVariants.{Plain, Ref}
-use Rattle.kc_machine_words.specs.declared.access.Touch.TheVariants as touch
-use Rattle.kc_machine_words.specs.declared.access.Grip.{Grip}
-use Rattle.kc_machine_words.specs.declared.access.Grip.TheVariants as grip
-use Rattle.kc_machine_words.specs.declared.access.Bits.{Bits}
-use Rattle.kc_machine_words.specs.declared.access.Bits.TheVariants as bits
-use Rattle.kc_machine_words.specs.declared.access.Access.{Access}
-use Rattle.kc_machine_words.specs.declared.access.Access.TheVariants as access
-use Rattle.kc_machine.specs.Machine.{World, Opening, pool_size}
-use Rattle.kc_machine_steps.specs.Looks.{reference_of}
+use Rattle.kc_machine_traces.specs.kc_machine_words.declared.access.Touch.TheVariants as touch
+use Rattle.kc_machine_traces.specs.kc_machine_words.declared.access.Grip.{Grip}
+use Rattle.kc_machine_traces.specs.kc_machine_words.declared.access.Grip.TheVariants as grip
+use Rattle.kc_machine_traces.specs.kc_machine_words.declared.access.Bits.{Bits}
+use Rattle.kc_machine_traces.specs.kc_machine_words.declared.access.Bits.TheVariants as bits
+use Rattle.kc_machine_traces.specs.kc_machine_words.declared.access.Access.{Access}
+use Rattle.kc_machine_traces.specs.kc_machine_words.declared.access.Access.TheVariants as access
+use Rattle.kc_machine_traces.specs.kc_machine.Machine.{World, Opening, pool_size}
+use Rattle.kc_machine_traces.specs.kc_machine_steps.Looks.{reference_of}
 use Rattle.kc_model.specs.declared.footprint.Line.{Line}
-use Rattle.kc_machine_words.specs.Packing.{phase_line}
+use Rattle.kc_machine_traces.specs.kc_machine_words.Packing.{phase_line}
 
 -- ---- what stands in words
 
@@ -47,7 +47,7 @@ PhaseIn p = phase_line p < MOST
 abbrev pub StatusIn : Status → Type 0
 StatusIn s = (s.generation ≤ LAST_GENERATION) × PhaseIn s.phase
 
--- a caller's calls are at most the lives of all descriptors
+-- a caller's calls, but for `MOST_SWAPS`, are at most the lives of all descriptors
 abbrev pub OwnerIn : Owner → Type 0
 OwnerIn x = (x.caller < 64) × (x.lines ≤ MOST) × (x.number < 2 ^ 48)
 

@@ -1,9 +1,9 @@
 -- Counts of holds stay in their range.
 use Rattle.std.specs.Prelude.{◌≡◌, ◌<◌, ◌≤◌, ℕ, true}
-use Rattle.kc_machine_words.specs.declared.access.Grip.TheVariants as grip
-use Rattle.kc_machine_words.specs.declared.access.Access.TheVariants as access
-use Rattle.kc_machine.specs.Machine.{State, room}
-use Rattle.kc_machine.specs.Seats.{access_of}
+use Rattle.kc_machine_traces.specs.kc_machine_words.declared.access.Grip.TheVariants as grip
+use Rattle.kc_machine_traces.specs.kc_machine_words.declared.access.Access.TheVariants as access
+use Rattle.kc_machine_traces.specs.kc_machine.Machine.{State, room}
+use Rattle.kc_machine_traces.specs.kc_machine.Seats.{access_of}
 
 -- a count has room for one hold more
 abbrev pub AddsHaveRoom : State → Type 0

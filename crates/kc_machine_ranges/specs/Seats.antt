@@ -1,27 +1,27 @@
 -- What a seat remembers is in its range.
 use Rattle.std.specs.Prelude.{◌<◌, ◌≤◌, ℕ, All, Option, None, Some}
-use Rattle.kc_machine_steps.specs.declared.look.LookStep.{LookStep}
-use Rattle.kc_machine_words.specs.declared.words.Reference.{Reference}
+use Rattle.kc_machine_traces.specs.kc_machine_steps.declared.look.LookStep.{LookStep}
+use Rattle.kc_machine_traces.specs.kc_machine_words.declared.words.Reference.{Reference}
 use Rattle.kc_model.specs.declared.footprint.TheConstants.{MOST}
-use Rattle.kc_machine_steps.specs.declared.look.LookStep.TheVariants as look
-use Rattle.kc_machine_steps.specs.declared.pass.AfterCheck.{AfterCheck}
-use Rattle.kc_machine_steps.specs.declared.pass.PassStep.{PassStep}
-use Rattle.kc_machine_steps.specs.declared.pass.PassStep.TheVariants.{CheckHold, CheckStatus, CheckFirst, CheckDrop, Decide}
-use Rattle.kc_machine_steps.specs.declared.pass.AfterCheck.TheVariants as checked
-use Rattle.kc_machine_steps.specs.declared.aid.AidStep.{AidStep}
-use Rattle.kc_machine_steps.specs.declared.aid.Aided.{Aided}
-use Rattle.kc_machine_steps.specs.declared.aid.AidStep.TheVariants as aid
-use Rattle.kc_machine_commits.specs.declared.commit.OwnStep.{OwnStep}
-use Rattle.kc_machine_commits.specs.declared.commit.OwnStep.TheVariants as own
-use Rattle.kc_machine.specs.declared.hang.HangStep.{HangStep}
-use Rattle.kc_machine_commits.specs.declared.commit.Stage.{Stage}
-use Rattle.kc_machine_commits.specs.declared.commit.Stage.TheVariants.{Own}
-use Rattle.kc_machine.specs.declared.hang.HangStep.TheVariants as hang
-use Rattle.kc_machine.specs.Works.{Work}
-use Rattle.kc_machine.specs.Works as work
-use Rattle.kc_machine_steps.specs.declared.swap.SwapStep.{SwapStep}
-use Rattle.kc_machine_steps.specs.declared.swap.SwapStep.TheVariants as swap
-use Rattle.kc_machine.specs.Machine.{State, Opening}
+use Rattle.kc_machine_traces.specs.kc_machine_steps.declared.look.LookStep.TheVariants as look
+use Rattle.kc_machine_traces.specs.kc_machine_steps.declared.pass.AfterCheck.{AfterCheck}
+use Rattle.kc_machine_traces.specs.kc_machine_steps.declared.pass.PassStep.{PassStep}
+use Rattle.kc_machine_traces.specs.kc_machine_steps.declared.pass.PassStep.TheVariants.{CheckHold, CheckStatus, CheckFirst, CheckDrop, Decide}
+use Rattle.kc_machine_traces.specs.kc_machine_steps.declared.pass.AfterCheck.TheVariants as checked
+use Rattle.kc_machine_traces.specs.kc_machine_steps.declared.aid.AidStep.{AidStep}
+use Rattle.kc_machine_traces.specs.kc_machine_steps.declared.aid.Aided.{Aided}
+use Rattle.kc_machine_traces.specs.kc_machine_steps.declared.aid.AidStep.TheVariants as aid
+use Rattle.kc_machine_traces.specs.kc_machine_commits.declared.commit.OwnStep.{OwnStep}
+use Rattle.kc_machine_traces.specs.kc_machine_commits.declared.commit.OwnStep.TheVariants as own
+use Rattle.kc_machine_traces.specs.kc_machine.declared.hang.HangStep.{HangStep}
+use Rattle.kc_machine_traces.specs.kc_machine_commits.declared.commit.Stage.{Stage}
+use Rattle.kc_machine_traces.specs.kc_machine_commits.declared.commit.Stage.TheVariants.{Own}
+use Rattle.kc_machine_traces.specs.kc_machine.declared.hang.HangStep.TheVariants as hang
+use Rattle.kc_machine_traces.specs.kc_machine.Works.{Work}
+use Rattle.kc_machine_traces.specs.kc_machine.Works as work
+use Rattle.kc_machine_traces.specs.kc_machine_steps.declared.swap.SwapStep.{SwapStep}
+use Rattle.kc_machine_traces.specs.kc_machine_steps.declared.swap.SwapStep.TheVariants as swap
+use Rattle.kc_machine_traces.specs.kc_machine.Machine.{State, Opening}
 use Rattle.kc_machine_ranges.specs.Ranges.{HandleIn, ReferenceIn, CallersIn, PhaseIn, FirstIn, LineIn}
 
 abbrev pub OnwardIn : Opening → Option Reference → Type 0

@@ -1,16 +1,16 @@
 //! What holds after every schedule of every opening. An empty body: the contract is the law.
 
 ghost use Rattle.std.specs.Prelude.{List};
-ghost use Rattle.kc_machine.specs.Machine.{Opening, run};
-ghost use Rattle.kc_machine.specs.Schedules.{IsInRange, IsSchedule};
+ghost use Rattle.kc_machine_traces.specs.kc_machine.Machine.{Opening, run};
+ghost use Rattle.kc_machine_traces.specs.kc_machine.Schedules.{IsInRange, IsSchedule};
 ghost use Rattle.kc_machine_ranges.specs.Bits.{AccessFits, ValuesFit};
 ghost use Rattle.kc_machine_ranges.specs.Callers.{AwaitersAreCallers, OwedAreCallers};
 ghost use Rattle.kc_machine_ranges.specs.Possible.{StepsArePossible, StepsHappen};
 ghost use Rattle.kc_machine_ranges.specs.Ranges.{AccessIn, WorldIn};
 ghost use Rattle.kc_machine_ranges.specs.Room.{AddsHaveRoom, SubtractsHaveRoom};
 ghost use Rattle.kc_machine_ranges.specs.Seats.{SeatsIn};
-ghost use Rattle.kc_machine_steps.specs.declared.task.Event.{Event};
-ghost use Rattle.kc_machine_words.specs.declared.access.Access.{Access};
+ghost use Rattle.kc_machine_traces.specs.kc_machine_steps.declared.task.Event.{Event};
+ghost use Rattle.kc_machine_traces.specs.kc_machine_words.declared.access.Access.{Access};
 
 /// Where at most 64 callers are, each count of holds has room for one more; and a seat that is about to give a hold back has it.
 pub fn counts_have_room()

@@ -1,23 +1,23 @@
 -- Which pass may decide behind an event, and what it installs.
 use Rattle.std.proofs.Common.{eqb-true}
 use Rattle.std.proofs.Common.{◌==◌, Bool, cond, zero, suc}
-use Rattle.kc_machine_claims.specs.Traces.{swap_line}
-use Rattle.kc_machine_claims.specs.Histories.{footprint_of}
+use Rattle.kc_machine_histories.specs.kc_machine_claims.Traces.{swap_line}
+use Rattle.kc_machine_histories.specs.kc_machine_claims.Histories.{footprint_of}
 use Rattle.kc_model.specs.declared.word.Word.TheVariants.{Plain}
-use Rattle.kc_machine_traces.specs.Swaps.{SwapOf}
+use Rattle.kc_machine_histories.specs.kc_machine_traces.Swaps.{SwapOf}
 use Rattle.std.proofs.Common.{⊎_elim}
 use Rattle.std.proofs.Common.{arith, ◌≡◌, ◌≢◌, ◌<◌, ◌≤◌, ◌⊎◌, inl, inr, ℕ, zero, suc, ◌++◌, Bool, true, false, List, [], ◌∷◌, length, Option, None, Some, refl, sym, ap, subst, ◌∙◌, Contains}
 use Rattle.std.specs.Prelude.{nat_lt, slice_get}
 use Rattle.std.specs.Option.{is_some}
 use Rattle.std.proofs.lemmas.Bool.{ltb-true}
 use Rattle.std.proofs.lemmas.List.{length-append}
-use Rattle.kc_machine.proofs.Functions.{put_cases}
-use Rattle.kc_machine.specs.Machine.{World, State, Opening, event_of, seat_of, run}
-use Rattle.kc_machine.specs.Schedules.{IsSchedule}
-use Rattle.kc_machine_claims.specs.Histories.{Placed}
-use Rattle.kc_machine_claims.specs.Traces.{is_placed, is_placed_in, trace}
-use Rattle.kc_machine_effects.specs.Holds.{own_hold}
-use Rattle.kc_machine_effects.specs.Stands.{Over, Turn, At, Meets, Ends, Leaves, stand}
+use Rattle.kc_machine_histories.proofs.kc_machine.Functions.{put_cases}
+use Rattle.kc_machine_histories.specs.kc_machine.Machine.{World, State, Opening, event_of, seat_of, run}
+use Rattle.kc_machine_histories.specs.kc_machine.Schedules.{IsSchedule}
+use Rattle.kc_machine_histories.specs.kc_machine_claims.Histories.{Placed}
+use Rattle.kc_machine_histories.specs.kc_machine_claims.Traces.{is_placed, is_placed_in, trace}
+use Rattle.kc_machine_histories.specs.kc_machine_effects.Holds.{own_hold}
+use Rattle.kc_machine_histories.specs.kc_machine_effects.Stands.{Over, Turn, At, Meets, Ends, Leaves, stand}
 use Rattle.kc_machine_histories.proofs.Begun.{placed_over}
 use Rattle.kc_machine_histories.proofs.Decisions.{history_moves}
 use Rattle.kc_machine_histories.proofs.Filters.{got}
@@ -32,25 +32,25 @@ use Rattle.kc_machine_histories.specs.Places.{pass_of, place_of}
 use Rattle.kc_machine_passes.proofs.Always.{facts_after, passed_installed}
 use Rattle.kc_machine_passes.proofs.Targets.{Target, course}
 use Rattle.kc_machine_passes.specs.Passed.{PassedAreInstalled, gone_by}
-use Rattle.kc_machine_pool.proofs.LifeLaws.{statuses_follow, held_started}
-use Rattle.kc_machine_pool.proofs.Shapes.{goes_over}
-use Rattle.kc_machine_pool.proofs.Started.{started_made}
-use Rattle.kc_machine_pool.specs.Owners.{Follows, is_filling}
-use Rattle.kc_machine_pool.specs.Started.{listed, line_of_words}
+use Rattle.kc_machine_histories.proofs.kc_machine_pool.LifeLaws.{statuses_follow, held_started}
+use Rattle.kc_machine_histories.proofs.kc_machine_pool.Shapes.{goes_over}
+use Rattle.kc_machine_histories.proofs.kc_machine_pool.Started.{started_made}
+use Rattle.kc_machine_histories.specs.kc_machine_pool.Owners.{Follows, is_filling}
+use Rattle.kc_machine_histories.specs.kc_machine_pool.Started.{listed, line_of_words}
 use Rattle.kc_machine_resolving.proofs.Changes.{Changes, other, filled, started, installed, released, decided, event_changes}
 use Rattle.kc_machine_resolving.specs.Settled.{Settled, CheckedAreSettled}
-use Rattle.kc_machine_steps.specs.Lines.{is_installed, word_of}
-use Rattle.kc_machine_steps.specs.Passes.{status}
+use Rattle.kc_machine_histories.specs.kc_machine_steps.Lines.{is_installed, word_of}
+use Rattle.kc_machine_histories.specs.kc_machine_steps.Passes.{status}
 use Rattle.kc_model.specs.declared.footprint.Line.{Line}
-use Rattle.kc_machine_steps.specs.declared.pass.PassStep.TheVariants.{Install, Check, CheckHold, CheckStatus, CheckFirst, CheckDrop, Decide, Release}
-use Rattle.kc_machine_steps.specs.declared.task.Event.{Event}
-use Rattle.kc_machine_traces.proofs.Joins.{run-append}
-use Rattle.kc_machine_traces.proofs.Others.{run_shape, event_out}
-use Rattle.kc_machine_words.specs.declared.words.Handle.{Handle}
-use Rattle.kc_machine_words.specs.declared.words.Mode.{Mode}
-use Rattle.kc_machine_words.specs.declared.words.Phase.TheVariants.{Active, Succeeded}
-use Rattle.kc_machine_words.specs.declared.words.Phase.TheVariants.{Failed, Crossed, Halted}
-use Rattle.kc_machine_words.specs.declared.words.Status.{Status}
+use Rattle.kc_machine_histories.specs.kc_machine_steps.declared.pass.PassStep.TheVariants.{Install, Check, CheckHold, CheckStatus, CheckFirst, CheckDrop, Decide, Release}
+use Rattle.kc_machine_histories.specs.kc_machine_steps.declared.task.Event.{Event}
+use Rattle.kc_machine_histories.proofs.kc_machine_traces.Joins.{run-append}
+use Rattle.kc_machine_histories.proofs.kc_machine_traces.Others.{run_shape, event_out}
+use Rattle.kc_machine_histories.specs.kc_machine_words.declared.words.Handle.{Handle}
+use Rattle.kc_machine_histories.specs.kc_machine_words.declared.words.Mode.{Mode}
+use Rattle.kc_machine_histories.specs.kc_machine_words.declared.words.Phase.TheVariants.{Active, Succeeded}
+use Rattle.kc_machine_histories.specs.kc_machine_words.declared.words.Phase.TheVariants.{Failed, Crossed, Halted}
+use Rattle.kc_machine_histories.specs.kc_machine_words.declared.words.Status.{Status}
 use Rattle.kc_model.specs.Footprint.{Reads, put_at}
 use Rattle.kc_model.specs.declared.footprint.Footprint.{Footprint}
 use Rattle.kc_model.specs.declared.footprint.Put.{Put}

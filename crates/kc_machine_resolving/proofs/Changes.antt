@@ -4,64 +4,64 @@ use Rattle.std.proofs.Common.{◌∙◌}
 use Rattle.std.proofs.Common.{inr}
 use Rattle.std.proofs.Common.{inl}
 use Rattle.std.proofs.Common.{◌⊎◌}
-use Rattle.kc_machine.proofs.Functions.{put_here}
-use Rattle.kc_machine_claims.specs.Histories.{Placed}
-use Rattle.kc_machine_steps.specs.Swaps.{may_swap, exchange, seen_word, word_after, swap_access_at}
-use Rattle.kc_machine_steps.specs.declared.swap.SwapStep.{SwapStep}
-use Rattle.kc_machine_steps.specs.declared.swap.SwapStep.TheVariants as swap
-use Rattle.kc_machine_traces.proofs.Swapping.{exchanging, takes_place}
-use Rattle.kc_machine_traces.specs.Swaps.{SwapOf, swap_at, takes}
-use Rattle.kc_machine_words.specs.declared.access.Access.TheVariants as access
-use Rattle.kc_machine_words.specs.declared.access.Touch.TheVariants.{Load, CompareExchange}
+use Rattle.kc_machine_histories.proofs.kc_machine.Functions.{put_here}
+use Rattle.kc_machine_histories.specs.kc_machine_claims.Histories.{Placed}
+use Rattle.kc_machine_histories.specs.kc_machine_steps.Swaps.{may_swap, exchange, seen_word, word_after, swap_access_at}
+use Rattle.kc_machine_histories.specs.kc_machine_steps.declared.swap.SwapStep.{SwapStep}
+use Rattle.kc_machine_histories.specs.kc_machine_steps.declared.swap.SwapStep.TheVariants as swap
+use Rattle.kc_machine_histories.proofs.kc_machine_traces.Swapping.{exchanging, takes_place}
+use Rattle.kc_machine_histories.specs.kc_machine_traces.Swaps.{SwapOf, swap_at, takes}
+use Rattle.kc_machine_histories.specs.kc_machine_words.declared.access.Access.TheVariants as access
+use Rattle.kc_machine_histories.specs.kc_machine_words.declared.access.Touch.TheVariants.{Load, CompareExchange}
 use Rattle.std.proofs.Common.{◌≡◌, ◌≢◌, ℕ, Bool, true, false, List, Option, None, Some, refl, sym, if◌then◌else◌}
 use Rattle.std.specs.Prelude.{slice_get, nat_lt}
-use Rattle.kc_machine_steps.specs.declared.line.Intent.{Intent}
+use Rattle.kc_machine_histories.specs.kc_machine_steps.declared.line.Intent.{Intent}
 use Rattle.kc_model.specs.declared.footprint.Line.{Line}
-use Rattle.kc_machine_steps.specs.declared.look.LookStep.{LookStep}
-use Rattle.kc_machine_words.specs.declared.words.Handle.{Handle}
-use Rattle.kc_machine_words.specs.declared.words.Mode.{Mode}
-use Rattle.kc_machine_words.specs.declared.words.Phase.{Phase}
-use Rattle.kc_machine_words.specs.declared.words.Phase.TheVariants.{Active}
-use Rattle.kc_machine_words.specs.declared.words.Reference.{Reference}
+use Rattle.kc_machine_histories.specs.kc_machine_steps.declared.look.LookStep.{LookStep}
+use Rattle.kc_machine_histories.specs.kc_machine_words.declared.words.Handle.{Handle}
+use Rattle.kc_machine_histories.specs.kc_machine_words.declared.words.Mode.{Mode}
+use Rattle.kc_machine_histories.specs.kc_machine_words.declared.words.Phase.{Phase}
+use Rattle.kc_machine_histories.specs.kc_machine_words.declared.words.Phase.TheVariants.{Active}
+use Rattle.kc_machine_histories.specs.kc_machine_words.declared.words.Reference.{Reference}
 use Rattle.kc_model.specs.declared.footprint.Loc.{Loc}
 use Rattle.kc_model.specs.declared.footprint.Seen.{Seen}
 use Rattle.kc_model.specs.declared.word.Word.{Word}
 use Rattle.kc_model.specs.declared.word.Word.TheVariants.{Plain, Ref}
-use Rattle.kc_machine_steps.specs.declared.look.LookStep.TheVariants as look
-use Rattle.kc_machine_steps.specs.declared.aid.AidStep.{AidStep}
-use Rattle.kc_machine_steps.specs.declared.aid.Aided.{Aided}
-use Rattle.kc_machine_steps.specs.declared.pass.PassStep.{PassStep}
-use Rattle.kc_machine_steps.specs.declared.pass.PassStep.TheVariants.{Install, Check, CheckHold, CheckStatus, CheckFirst, CheckDrop, Decide, Release}
-use Rattle.kc_machine_steps.specs.declared.aid.AidStep.TheVariants as aid
-use Rattle.kc_machine_steps.specs.declared.aid.AidNext.TheVariants as aiding
-use Rattle.kc_machine_commits.specs.declared.commit.Commit.{Commit}
-use Rattle.kc_machine_commits.specs.declared.commit.Stage.{Stage}
-use Rattle.kc_machine_commits.specs.declared.commit.Stage.TheVariants as stage
-use Rattle.kc_machine_commits.specs.declared.commit.OwnStep.{OwnStep}
-use Rattle.kc_machine_commits.specs.declared.commit.OwnStep.TheVariants as own
-use Rattle.kc_machine.specs.declared.hang.HangStep.{HangStep}
-use Rattle.kc_machine_commits.specs.Commits.{own_access, stage_access, fill_first, fill_second, wake_access, owner_of}
-use Rattle.kc_machine_steps.specs.Aids.{aid_access}
-use Rattle.kc_machine_steps.specs.Lines.{first_of, second_of, resolved_version, resolved_value, word_of}
-use Rattle.kc_machine_steps.specs.Looks.{look_access}
-use Rattle.kc_machine_steps.specs.Passes.{pass_access, install_access, check_access, release_at, release_access, status}
-use Rattle.kc_machine_steps.specs.declared.task.Event.{Event}
-use Rattle.kc_machine_steps.specs.declared.task.Event.TheVariants.{Begin, Step, Halt}
-use Rattle.kc_machine.specs.declared.hang.HangStep.TheVariants as hang
-use Rattle.kc_machine.specs.declared.hang.LeaveStep.{LeaveStep}
-use Rattle.kc_machine.specs.declared.hang.LeaveStep.TheVariants as leave
-use Rattle.kc_machine.specs.Hangs.{hang_access_of, leave_access_at, clear_access, read_of}
-use Rattle.kc_machine.specs.Works.{Work}
-use Rattle.kc_machine.specs.Works as work
-use Rattle.kc_machine.proofs.Functions.{put_else}
-use Rattle.kc_machine.specs.Machine.{World, State, put, put_some, touched, found_at, possible, happened, event_of, seat_of}
-use Rattle.kc_machine.specs.Seats.{access_of, answer_of, work_access}
-use Rattle.kc_machine.specs.Words.{word_is, status_is}
-use Rattle.kc_machine.specs.declared.seat.Seat.{Seat}
-use Rattle.kc_machine_effects.proofs.Tests.{status_active, word_same, plain_same}
-use Rattle.kc_machine_effects.specs.Stands.{Stand, Owns, Waits, Over, At, Aids, stand, resting, works, commits, owns, aids}
-use Rattle.kc_machine_pool.specs.Owners.{fills}
-use Rattle.kc_machine_traces.proofs.Copies.{SameWords}
+use Rattle.kc_machine_histories.specs.kc_machine_steps.declared.look.LookStep.TheVariants as look
+use Rattle.kc_machine_histories.specs.kc_machine_steps.declared.aid.AidStep.{AidStep}
+use Rattle.kc_machine_histories.specs.kc_machine_steps.declared.aid.Aided.{Aided}
+use Rattle.kc_machine_histories.specs.kc_machine_steps.declared.pass.PassStep.{PassStep}
+use Rattle.kc_machine_histories.specs.kc_machine_steps.declared.pass.PassStep.TheVariants.{Install, Check, CheckHold, CheckStatus, CheckFirst, CheckDrop, Decide, Release}
+use Rattle.kc_machine_histories.specs.kc_machine_steps.declared.aid.AidStep.TheVariants as aid
+use Rattle.kc_machine_histories.specs.kc_machine_steps.declared.aid.AidNext.TheVariants as aiding
+use Rattle.kc_machine_histories.specs.kc_machine_commits.declared.commit.Commit.{Commit}
+use Rattle.kc_machine_histories.specs.kc_machine_commits.declared.commit.Stage.{Stage}
+use Rattle.kc_machine_histories.specs.kc_machine_commits.declared.commit.Stage.TheVariants as stage
+use Rattle.kc_machine_histories.specs.kc_machine_commits.declared.commit.OwnStep.{OwnStep}
+use Rattle.kc_machine_histories.specs.kc_machine_commits.declared.commit.OwnStep.TheVariants as own
+use Rattle.kc_machine_histories.specs.kc_machine.declared.hang.HangStep.{HangStep}
+use Rattle.kc_machine_histories.specs.kc_machine_commits.Commits.{own_access, stage_access, fill_first, fill_second, wake_access, owner_of}
+use Rattle.kc_machine_histories.specs.kc_machine_steps.Aids.{aid_access}
+use Rattle.kc_machine_histories.specs.kc_machine_steps.Lines.{first_of, second_of, resolved_version, resolved_value, word_of}
+use Rattle.kc_machine_histories.specs.kc_machine_steps.Looks.{look_access}
+use Rattle.kc_machine_histories.specs.kc_machine_steps.Passes.{pass_access, install_access, check_access, release_at, release_access, status}
+use Rattle.kc_machine_histories.specs.kc_machine_steps.declared.task.Event.{Event}
+use Rattle.kc_machine_histories.specs.kc_machine_steps.declared.task.Event.TheVariants.{Begin, Step, Halt}
+use Rattle.kc_machine_histories.specs.kc_machine.declared.hang.HangStep.TheVariants as hang
+use Rattle.kc_machine_histories.specs.kc_machine.declared.hang.LeaveStep.{LeaveStep}
+use Rattle.kc_machine_histories.specs.kc_machine.declared.hang.LeaveStep.TheVariants as leave
+use Rattle.kc_machine_histories.specs.kc_machine.Hangs.{hang_access_of, leave_access_at, clear_access, read_of}
+use Rattle.kc_machine_histories.specs.kc_machine.Works.{Work}
+use Rattle.kc_machine_histories.specs.kc_machine.Works as work
+use Rattle.kc_machine_histories.proofs.kc_machine.Functions.{put_else}
+use Rattle.kc_machine_histories.specs.kc_machine.Machine.{World, State, put, put_some, touched, found_at, possible, happened, event_of, seat_of}
+use Rattle.kc_machine_histories.specs.kc_machine.Seats.{access_of, answer_of, work_access}
+use Rattle.kc_machine_histories.specs.kc_machine.Words.{word_is, status_is}
+use Rattle.kc_machine_histories.specs.kc_machine.declared.seat.Seat.{Seat}
+use Rattle.kc_machine_histories.proofs.kc_machine_effects.Tests.{status_active, word_same, plain_same}
+use Rattle.kc_machine_histories.specs.kc_machine_effects.Stands.{Stand, Owns, Waits, Over, At, Aids, stand, resting, works, commits, owns, aids}
+use Rattle.kc_machine_histories.specs.kc_machine_pool.Owners.{fills}
+use Rattle.kc_machine_histories.proofs.kc_machine_traces.Copies.{SameWords}
 
 -- the plain word that a release of a line leaves
 abbrev pub left_by : Line → Phase → Word

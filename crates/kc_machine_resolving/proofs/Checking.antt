@@ -1,62 +1,62 @@
 -- What a pass in its checks knows of the locations that it has checked.
 use Rattle.std.proofs.Common.{⊎_elim}
-use Rattle.kc_machine_steps.specs.Swaps.{word_after}
-use Rattle.kc_machine_traces.specs.Swaps.{SwapOf}
-use Rattle.kc_machine_claims.specs.Histories.{Placed}
+use Rattle.kc_machine_histories.specs.kc_machine_steps.Swaps.{word_after}
+use Rattle.kc_machine_histories.specs.kc_machine_traces.Swaps.{SwapOf}
+use Rattle.kc_machine_histories.specs.kc_machine_claims.Histories.{Placed}
 use Rattle.std.proofs.Common.{arith, ◌≡◌, ◌≢◌, ◌<◌, ◌≤◌, ◌+◌, ◌-◌, ◌⊎◌, inl, inr, ℕ, ◌++◌, ◌==◌, ◌&&◌, Bool, true, false, not, List, [], ◌∷◌, length, Option, None, Some, refl, sym, ap, subst, ◌∙◌, if◌then◌else◌}
 use Rattle.std.specs.Prelude.{nat_lt, slice_get}
 use Rattle.std.proofs.lemmas.Bool.{ltb-true, lt-ltb, cases_lt}
 use borrow.Author.Tests.{eqb-true}
-use Rattle.kc_machine_words.specs.declared.access.Grip.{Grip}
-use Rattle.kc_machine_words.specs.declared.words.Control.{Control}
-use Rattle.kc_machine_words.specs.declared.words.Handle.{Handle}
-use Rattle.kc_machine_words.specs.declared.words.Mode.{Mode}
-use Rattle.kc_machine_words.specs.declared.words.Phase.{Phase}
-use Rattle.kc_machine_words.specs.declared.words.Phase.TheVariants.{Active, Succeeded, Failed, Crossed, Halted}
-use Rattle.kc_machine_words.specs.declared.words.Reference.{Reference}
-use Rattle.kc_machine_words.specs.declared.words.Status.{Status}
+use Rattle.kc_machine_histories.specs.kc_machine_words.declared.access.Grip.{Grip}
+use Rattle.kc_machine_histories.specs.kc_machine_words.declared.words.Control.{Control}
+use Rattle.kc_machine_histories.specs.kc_machine_words.declared.words.Handle.{Handle}
+use Rattle.kc_machine_histories.specs.kc_machine_words.declared.words.Mode.{Mode}
+use Rattle.kc_machine_histories.specs.kc_machine_words.declared.words.Phase.{Phase}
+use Rattle.kc_machine_histories.specs.kc_machine_words.declared.words.Phase.TheVariants.{Active, Succeeded, Failed, Crossed, Halted}
+use Rattle.kc_machine_histories.specs.kc_machine_words.declared.words.Reference.{Reference}
+use Rattle.kc_machine_histories.specs.kc_machine_words.declared.words.Status.{Status}
 use Rattle.kc_model.specs.declared.word.Word.{Word}
 use Rattle.kc_model.specs.declared.word.Word.TheVariants.{Plain, Ref}
-use Rattle.kc_machine_words.specs.declared.access.Grip.TheVariants as grip
-use Rattle.kc_machine_words.specs.declared.access.Access.{Access}
-use Rattle.kc_machine_words.specs.declared.access.Access.TheVariants as access
-use Rattle.kc_machine_words.specs.declared.access.Found.TheVariants as found
+use Rattle.kc_machine_histories.specs.kc_machine_words.declared.access.Grip.TheVariants as grip
+use Rattle.kc_machine_histories.specs.kc_machine_words.declared.access.Access.{Access}
+use Rattle.kc_machine_histories.specs.kc_machine_words.declared.access.Access.TheVariants as access
+use Rattle.kc_machine_histories.specs.kc_machine_words.declared.access.Found.TheVariants as found
 use Rattle.kc_model.specs.declared.footprint.Line.{Line}
 use Rattle.kc_model.specs.declared.footprint.TheConstants.{MOST}
-use Rattle.kc_machine_steps.specs.declared.line.Pick.TheVariants.{Installed, Checked}
-use Rattle.kc_machine_steps.specs.declared.pass.AfterCheck.{AfterCheck}
-use Rattle.kc_machine_steps.specs.declared.pass.PassStep.{PassStep}
-use Rattle.kc_machine_steps.specs.declared.pass.PassStep.TheVariants.{Install, Check, CheckHold, CheckStatus, CheckFirst, CheckDrop, Decide, Release}
-use Rattle.kc_machine_steps.specs.declared.pass.AfterCheck.TheVariants as checked
-use Rattle.kc_machine_steps.specs.declared.pass.PassNext.TheVariants as pass
-use Rattle.kc_machine.proofs.Functions.{put_cases}
-use Rattle.kc_machine.specs.Machine.{World, State, Opening, put, put_some, touched, found_at, possible, happened, event_of, seat_of, run}
-use Rattle.kc_machine.specs.Schedules.{IsSchedule}
-use Rattle.kc_machine.specs.Seats.{access_of, answer_of}
-use Rattle.kc_machine.specs.Words.{control, gripped, status_is}
-use Rattle.kc_machine_claims.specs.Traces.{is_placed_at}
-use Rattle.kc_machine_effects.proofs.PoolLaws.{holds_kept}
-use Rattle.kc_machine_effects.proofs.Tests.{status_active, status_other}
-use Rattle.kc_machine_effects.specs.Holds.{held, check_hold}
-use Rattle.kc_machine_effects.specs.Stands.{Over, At, stand}
+use Rattle.kc_machine_histories.specs.kc_machine_steps.declared.line.Pick.TheVariants.{Installed, Checked}
+use Rattle.kc_machine_histories.specs.kc_machine_steps.declared.pass.AfterCheck.{AfterCheck}
+use Rattle.kc_machine_histories.specs.kc_machine_steps.declared.pass.PassStep.{PassStep}
+use Rattle.kc_machine_histories.specs.kc_machine_steps.declared.pass.PassStep.TheVariants.{Install, Check, CheckHold, CheckStatus, CheckFirst, CheckDrop, Decide, Release}
+use Rattle.kc_machine_histories.specs.kc_machine_steps.declared.pass.AfterCheck.TheVariants as checked
+use Rattle.kc_machine_histories.specs.kc_machine_steps.declared.pass.PassNext.TheVariants as pass
+use Rattle.kc_machine_histories.proofs.kc_machine.Functions.{put_cases}
+use Rattle.kc_machine_histories.specs.kc_machine.Machine.{World, State, Opening, put, put_some, touched, found_at, possible, happened, event_of, seat_of, run}
+use Rattle.kc_machine_histories.specs.kc_machine.Schedules.{IsSchedule}
+use Rattle.kc_machine_histories.specs.kc_machine.Seats.{access_of, answer_of}
+use Rattle.kc_machine_histories.specs.kc_machine.Words.{control, gripped, status_is}
+use Rattle.kc_machine_histories.specs.kc_machine_claims.Traces.{is_placed_at}
+use Rattle.kc_machine_histories.proofs.kc_machine_effects.PoolLaws.{holds_kept}
+use Rattle.kc_machine_histories.proofs.kc_machine_effects.Tests.{status_active, status_other}
+use Rattle.kc_machine_histories.specs.kc_machine_effects.Holds.{held, check_hold}
+use Rattle.kc_machine_histories.specs.kc_machine_effects.Stands.{Over, At, stand}
 use Rattle.kc_machine_histories.specs.Places.{pass_of}
 use Rattle.kc_machine_passes.proofs.Always.{phase_known, line_known}
 use Rattle.kc_machine_passes.proofs.Gone.{next_skips}
 use Rattle.kc_machine_passes.specs.Phases.{IsDecided, AidKnows}
-use Rattle.kc_machine_pool.proofs.LifeLaws.{statuses_behind, words_published, remembered_published}
-use Rattle.kc_machine_pool.specs.References.{met_by_pass}
+use Rattle.kc_machine_histories.proofs.kc_machine_pool.LifeLaws.{statuses_behind, words_published, remembered_published}
+use Rattle.kc_machine_histories.specs.kc_machine_pool.References.{met_by_pass}
 use Rattle.kc_machine_resolving.proofs.Before.{same_word, settled_by, settled_on}
 use Rattle.kc_machine_resolving.proofs.Changes.{Changes, other, filled, started, installed, released, decided, Releasing, in_pass, in_aid, event_changes}
 use Rattle.kc_machine_resolving.proofs.Comings.{comes_to, install_comes_to}
 use Rattle.kc_machine_resolving.specs.Settled.{Settled, checked_by, MetStands, StepMet}
-use Rattle.kc_machine_seats.proofs.Searches.{IsPicked, next_fits}
-use Rattle.kc_machine_steps.specs.Lines.{after_line, is_installed, next_line, picks, word_of, resolved_version}
-use Rattle.kc_machine_steps.specs.Looks.{reference_of}
-use Rattle.kc_machine_steps.specs.Passes.{status, fits, from_check, check_or_decide, from_install, install_or_check, release_or_finish, pass_access, check_access, pass_next, check_found, crossed_or_first, agrees_or_fails, check_first_found, decided_as}
-use Rattle.kc_machine_steps.specs.declared.task.Event.{Event}
-use Rattle.kc_machine_steps.specs.declared.task.Event.TheVariants.{Begin, Step, Halt}
-use Rattle.kc_machine_traces.proofs.Joins.{run-append}
-use Rattle.kc_machine_traces.proofs.Others.{run_shape, event_out}
+use Rattle.kc_machine_histories.proofs.kc_machine_seats.Searches.{IsPicked, next_fits}
+use Rattle.kc_machine_histories.specs.kc_machine_steps.Lines.{after_line, is_installed, next_line, picks, word_of, resolved_version}
+use Rattle.kc_machine_histories.specs.kc_machine_steps.Looks.{reference_of}
+use Rattle.kc_machine_histories.specs.kc_machine_steps.Passes.{status, fits, from_check, check_or_decide, from_install, install_or_check, release_or_finish, pass_access, check_access, pass_next, check_found, crossed_or_first, agrees_or_fails, check_first_found, decided_as}
+use Rattle.kc_machine_histories.specs.kc_machine_steps.declared.task.Event.{Event}
+use Rattle.kc_machine_histories.specs.kc_machine_steps.declared.task.Event.TheVariants.{Begin, Step, Halt}
+use Rattle.kc_machine_histories.proofs.kc_machine_traces.Joins.{run-append}
+use Rattle.kc_machine_histories.proofs.kc_machine_traces.Others.{run_shape, event_out}
 
 -- ---- generations of controls never fall
 

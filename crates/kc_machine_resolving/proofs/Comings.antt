@@ -1,21 +1,21 @@
 -- What holds of the steps that a pass comes to, where it is placed there.
 use Rattle.std.proofs.Common.{◌≡◌, ℕ, Bool, true, false, List, Option, None, Some, ap, subst, ◌∙◌, if◌then◌else◌}
 use Rattle.std.specs.Prelude.{slice_get}
-use Rattle.kc_machine_words.specs.declared.words.Handle.{Handle}
-use Rattle.kc_machine_words.specs.declared.words.Mode.{Mode}
-use Rattle.kc_machine_words.specs.declared.words.Phase.TheVariants.{Failed}
+use Rattle.kc_machine_histories.specs.kc_machine_words.declared.words.Handle.{Handle}
+use Rattle.kc_machine_histories.specs.kc_machine_words.declared.words.Mode.{Mode}
+use Rattle.kc_machine_histories.specs.kc_machine_words.declared.words.Phase.TheVariants.{Failed}
 use Rattle.kc_model.specs.declared.word.Word.{Word}
 use Rattle.kc_model.specs.declared.word.Word.TheVariants.{Plain, Ref}
-use Rattle.kc_machine_words.specs.declared.access.Found.TheVariants as found
+use Rattle.kc_machine_histories.specs.kc_machine_words.declared.access.Found.TheVariants as found
 use Rattle.kc_model.specs.declared.footprint.Line.{Line}
-use Rattle.kc_machine_steps.specs.declared.pass.PassStep.{PassStep}
-use Rattle.kc_machine_steps.specs.declared.pass.PassStep.TheVariants.{Install, Decide}
-use Rattle.kc_machine_steps.specs.declared.pass.PassNext.TheVariants as pass
-use Rattle.kc_machine.specs.Machine.{World, found_at}
-use Rattle.kc_machine_claims.specs.Traces.{is_placed_at}
-use Rattle.kc_machine_steps.specs.Lines.{after_line}
-use Rattle.kc_machine_steps.specs.Looks.{reference_of}
-use Rattle.kc_machine_steps.specs.Passes.{fits, refers_to, from_install, pass_access, install_access, pass_next, install_found}
+use Rattle.kc_machine_histories.specs.kc_machine_steps.declared.pass.PassStep.{PassStep}
+use Rattle.kc_machine_histories.specs.kc_machine_steps.declared.pass.PassStep.TheVariants.{Install, Decide}
+use Rattle.kc_machine_histories.specs.kc_machine_steps.declared.pass.PassNext.TheVariants as pass
+use Rattle.kc_machine_histories.specs.kc_machine.Machine.{World, found_at}
+use Rattle.kc_machine_histories.specs.kc_machine_claims.Traces.{is_placed_at}
+use Rattle.kc_machine_histories.specs.kc_machine_steps.Lines.{after_line}
+use Rattle.kc_machine_histories.specs.kc_machine_steps.Looks.{reference_of}
+use Rattle.kc_machine_histories.specs.kc_machine_steps.Passes.{fits, refers_to, from_install, pass_access, install_access, pass_next, install_found}
 
 goes_as : {a b : PassStep} → pass.Goes a ≡ pass.Goes b → a ≡ b
 goes_as e = cc

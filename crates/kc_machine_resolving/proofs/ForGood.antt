@@ -3,10 +3,10 @@ use Rattle.std.proofs.Common.{arith, ◌≡◌, ◌<◌, ◌≤◌, ◌⊎◌, i
 use Rattle.std.specs.Option.{is_some}
 use Rattle.std.proofs.lemmas.Bool.{cases_lt}
 use Rattle.std.proofs.lemmas.List.{length-append}
-use Rattle.kc_machine.specs.Machine.{Opening, seat_of}
-use Rattle.kc_machine_claims.specs.Histories.{Placed, inserted, at_place}
-use Rattle.kc_machine_claims.specs.Traces.{first_store, trace}
-use Rattle.kc_machine_effects.specs.Stands.{At}
+use Rattle.kc_machine_histories.specs.kc_machine.Machine.{Opening, seat_of}
+use Rattle.kc_machine_histories.specs.kc_machine_claims.Histories.{Placed, inserted, at_place}
+use Rattle.kc_machine_histories.specs.kc_machine_claims.Traces.{first_store, trace}
+use Rattle.kc_machine_histories.specs.kc_machine_effects.Stands.{At}
 use Rattle.kc_machine_histories.proofs.Decisions.{history_moves}
 use Rattle.kc_machine_histories.proofs.Growing.{line_that_puts, puts_installed}
 use Rattle.kc_machine_histories.proofs.Insertions.{at_lower, at_else}
@@ -14,10 +14,10 @@ use Rattle.kc_machine_histories.specs.Decisions.{Decision}
 use Rattle.kc_machine_histories.specs.Insertions.{put_by}
 use Rattle.kc_machine_resolving.proofs.Before.{settled_on}
 use Rattle.kc_machine_resolving.specs.Settled.{Settled}
-use Rattle.kc_machine_steps.specs.declared.pass.PassStep.TheVariants.{Decide}
-use Rattle.kc_machine_steps.specs.declared.task.Event.{Event}
-use Rattle.kc_machine_traces.proofs.Joins.{every}
-use Rattle.kc_machine_words.specs.declared.words.Phase.TheVariants.{Succeeded}
+use Rattle.kc_machine_histories.specs.kc_machine_steps.declared.pass.PassStep.TheVariants.{Decide}
+use Rattle.kc_machine_histories.specs.kc_machine_steps.declared.task.Event.{Event}
+use Rattle.kc_machine_histories.proofs.kc_machine_traces.Joins.{every}
+use Rattle.kc_machine_histories.specs.kc_machine_words.declared.words.Phase.TheVariants.{Succeeded}
 use Rattle.kc_model.specs.Footprint.{put_at}
 use Rattle.kc_model.specs.declared.footprint.Footprint.{Footprint}
 use Rattle.kc_model.specs.declared.footprint.Put.{Put}

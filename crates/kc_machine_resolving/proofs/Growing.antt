@@ -4,32 +4,32 @@ use Rattle.std.specs.Option.{is_some}
 use Rattle.std.proofs.Math.ListN.{take-append-drop}
 use Rattle.std.proofs.lemmas.List.{length-append}
 use borrow.Author.Tests.{eqb-true, eqb-false}
-use Rattle.kc_machine_steps.specs.declared.line.Intent.{Intent}
+use Rattle.kc_machine_histories.specs.kc_machine_steps.declared.line.Intent.{Intent}
 use Rattle.kc_model.specs.declared.footprint.Line.{Line}
-use Rattle.kc_machine_steps.specs.declared.pass.AfterCheck.{AfterCheck}
-use Rattle.kc_machine_steps.specs.declared.pass.PassStep.{PassStep}
-use Rattle.kc_machine_steps.specs.declared.pass.PassStep.TheVariants.{Install, Check, CheckHold, CheckStatus, CheckFirst, CheckDrop, Decide, Release}
-use Rattle.kc_machine_words.specs.declared.words.Handle.{Handle}
-use Rattle.kc_machine_words.specs.declared.words.Mode.{Mode}
-use Rattle.kc_machine_words.specs.declared.words.Phase.TheVariants.{Succeeded, Failed, Crossed, Halted}
-use Rattle.kc_machine_words.specs.declared.words.Reference.{Reference}
-use Rattle.kc_machine_steps.specs.declared.pass.AfterCheck.TheVariants as checked
-use Rattle.kc_machine_steps.specs.declared.aid.AidStep.{AidStep}
-use Rattle.kc_machine_steps.specs.declared.aid.Aided.{Aided}
-use Rattle.kc_machine_steps.specs.declared.aid.AidStep.TheVariants as aid
-use Rattle.kc_machine_commits.specs.declared.commit.Stage.{Stage}
-use Rattle.kc_machine_commits.specs.declared.commit.Stage.TheVariants as stage
-use Rattle.kc_machine_commits.specs.declared.commit.OwnStep.{OwnStep}
-use Rattle.kc_machine_commits.specs.declared.commit.OwnStep.TheVariants as own
-use Rattle.kc_machine.specs.Works.{Work}
-use Rattle.kc_machine_steps.specs.declared.task.Event.{Event}
-use Rattle.kc_machine.specs.Works as work
-use Rattle.kc_machine.specs.Machine.{State, Opening, event_of, seat_of, run}
-use Rattle.kc_machine.specs.Schedules.{IsSchedule}
-use Rattle.kc_machine.specs.declared.seat.Seat.{Seat}
-use Rattle.kc_machine_claims.specs.Claims.{HistoriesGrow}
-use Rattle.kc_machine_claims.specs.Traces.{is_placed, is_placed_at}
-use Rattle.kc_machine_effects.specs.Stands.{Passing, Over, At, stand}
+use Rattle.kc_machine_histories.specs.kc_machine_steps.declared.pass.AfterCheck.{AfterCheck}
+use Rattle.kc_machine_histories.specs.kc_machine_steps.declared.pass.PassStep.{PassStep}
+use Rattle.kc_machine_histories.specs.kc_machine_steps.declared.pass.PassStep.TheVariants.{Install, Check, CheckHold, CheckStatus, CheckFirst, CheckDrop, Decide, Release}
+use Rattle.kc_machine_histories.specs.kc_machine_words.declared.words.Handle.{Handle}
+use Rattle.kc_machine_histories.specs.kc_machine_words.declared.words.Mode.{Mode}
+use Rattle.kc_machine_histories.specs.kc_machine_words.declared.words.Phase.TheVariants.{Succeeded, Failed, Crossed, Halted}
+use Rattle.kc_machine_histories.specs.kc_machine_words.declared.words.Reference.{Reference}
+use Rattle.kc_machine_histories.specs.kc_machine_steps.declared.pass.AfterCheck.TheVariants as checked
+use Rattle.kc_machine_histories.specs.kc_machine_steps.declared.aid.AidStep.{AidStep}
+use Rattle.kc_machine_histories.specs.kc_machine_steps.declared.aid.Aided.{Aided}
+use Rattle.kc_machine_histories.specs.kc_machine_steps.declared.aid.AidStep.TheVariants as aid
+use Rattle.kc_machine_histories.specs.kc_machine_commits.declared.commit.Stage.{Stage}
+use Rattle.kc_machine_histories.specs.kc_machine_commits.declared.commit.Stage.TheVariants as stage
+use Rattle.kc_machine_histories.specs.kc_machine_commits.declared.commit.OwnStep.{OwnStep}
+use Rattle.kc_machine_histories.specs.kc_machine_commits.declared.commit.OwnStep.TheVariants as own
+use Rattle.kc_machine_histories.specs.kc_machine.Works.{Work}
+use Rattle.kc_machine_histories.specs.kc_machine_steps.declared.task.Event.{Event}
+use Rattle.kc_machine_histories.specs.kc_machine.Works as work
+use Rattle.kc_machine_histories.specs.kc_machine.Machine.{State, Opening, event_of, seat_of, run}
+use Rattle.kc_machine_histories.specs.kc_machine.Schedules.{IsSchedule}
+use Rattle.kc_machine_histories.specs.kc_machine.declared.seat.Seat.{Seat}
+use Rattle.kc_machine_histories.specs.kc_machine_claims.Claims.{HistoriesGrow}
+use Rattle.kc_machine_histories.specs.kc_machine_claims.Traces.{is_placed, is_placed_at}
+use Rattle.kc_machine_histories.specs.kc_machine_effects.Stands.{Passing, Over, At, stand}
 use Rattle.kc_machine_histories.proofs.Growing.{histories_grow}
 use Rattle.kc_machine_histories.proofs.Passes.{aid_pass, own_pass, stage_pass, work_pass, pass_is}
 use Rattle.kc_machine_histories.proofs.Places.{has_place, within, place_was}
@@ -39,10 +39,10 @@ use Rattle.kc_machine_resolving.proofs.Before.{was_soon, later_on}
 use Rattle.kc_machine_resolving.proofs.Checking.{Good, OldChecks, from_step, kept_step, halted_step, entered_step}
 use Rattle.kc_machine_resolving.proofs.Ways.{placed_judges, Way, stays, steps, enters, halts, Onto, event_onto}
 use Rattle.kc_machine_resolving.specs.Settled.{checked_by, CheckedAreSettled, StepMet, MetAreSettled}
-use Rattle.kc_machine_seats.proofs.FitSeats.{fit_always}
-use Rattle.kc_machine_seats.specs.Fits.{StepFits, FollowsOr, AidFits, OwnFits, StageFits, WorkFits}
-use Rattle.kc_machine_traces.proofs.Joins.{run-append, every, made_parts}
-use Rattle.kc_machine_traces.proofs.Others.{event_else}
+use Rattle.kc_machine_histories.proofs.kc_machine_seats.FitSeats.{fit_always}
+use Rattle.kc_machine_histories.specs.kc_machine_seats.Fits.{StepFits, FollowsOr, AidFits, OwnFits, StageFits, WorkFits}
+use Rattle.kc_machine_histories.proofs.kc_machine_traces.Joins.{run-append, every, made_parts}
+use Rattle.kc_machine_histories.proofs.kc_machine_traces.Others.{event_else}
 
 -- ---- what follows a check's drop is never the decision for success
 

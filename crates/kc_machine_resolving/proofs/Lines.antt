@@ -5,28 +5,28 @@ use Rattle.std.specs.Option.{is_some}
 use Rattle.std.specs.List.{filter_map}
 use Rattle.std.proofs.lemmas.Bool.{lt-ltb}
 use borrow.Author.Tests.{eq-eqb, ne_eqb}
-use Rattle.kc_machine.specs.Machine.{Opening, run}
-use Rattle.kc_machine.specs.Schedules.{IsSchedule}
-use Rattle.kc_machine_claims.specs.Histories.{put_of_line}
-use Rattle.kc_machine_effects.specs.Stands.{Over, Turn}
+use Rattle.kc_machine_histories.specs.kc_machine.Machine.{Opening, run}
+use Rattle.kc_machine_histories.specs.kc_machine.Schedules.{IsSchedule}
+use Rattle.kc_machine_histories.specs.kc_machine_claims.Histories.{put_of_line}
+use Rattle.kc_machine_histories.specs.kc_machine_effects.Stands.{Over, Turn}
 use Rattle.kc_machine_histories.proofs.Filters.{found}
 use Rattle.kc_machine_histories.proofs.Footprints.{later_above, rest_rises}
 use Rattle.kc_machine_histories.proofs.Growing.{line_that_puts}
 use Rattle.kc_machine_histories.specs.Places.{pass_of}
-use Rattle.kc_machine_pool.proofs.Started.{started_made}
-use Rattle.kc_machine_pool.specs.Started.{listed, line_of_words}
+use Rattle.kc_machine_histories.proofs.kc_machine_pool.Started.{started_made}
+use Rattle.kc_machine_histories.specs.kc_machine_pool.Started.{listed, line_of_words}
 use Rattle.kc_machine_resolving.proofs.Before.{target}
-use Rattle.kc_machine_seats.specs.Made.{IsWellMadeIntent, line_location}
-use Rattle.kc_machine_steps.specs.Lines.{has_put, value_after, joined, first_of, second_of, succeeds, next_version, resolved_version, resolved_value}
+use Rattle.kc_machine_histories.specs.kc_machine_seats.Made.{IsWellMadeIntent, line_location}
+use Rattle.kc_machine_histories.specs.kc_machine_steps.Lines.{has_put, value_after, joined, first_of, second_of, succeeds, next_version, resolved_version, resolved_value}
 use Rattle.kc_model.specs.declared.footprint.Line.{Line}
-use Rattle.kc_machine_steps.specs.declared.task.Event.{Event}
-use Rattle.kc_machine_traces.proofs.Entries.{lists_again}
-use Rattle.kc_machine_words.specs.declared.words.First.{First}
-use Rattle.kc_machine_words.specs.declared.words.Handle.{Handle}
-use Rattle.kc_machine_words.specs.declared.words.Mode.{Mode}
-use Rattle.kc_machine_words.specs.declared.words.Phase.{Phase}
-use Rattle.kc_machine_words.specs.declared.words.Phase.TheVariants.{Succeeded}
-use Rattle.kc_machine_words.specs.declared.words.Second.{Second}
+use Rattle.kc_machine_histories.specs.kc_machine_steps.declared.task.Event.{Event}
+use Rattle.kc_machine_histories.proofs.kc_machine_traces.Entries.{lists_again}
+use Rattle.kc_machine_histories.specs.kc_machine_words.declared.words.First.{First}
+use Rattle.kc_machine_histories.specs.kc_machine_words.declared.words.Handle.{Handle}
+use Rattle.kc_machine_histories.specs.kc_machine_words.declared.words.Mode.{Mode}
+use Rattle.kc_machine_histories.specs.kc_machine_words.declared.words.Phase.{Phase}
+use Rattle.kc_machine_histories.specs.kc_machine_words.declared.words.Phase.TheVariants.{Succeeded}
+use Rattle.kc_machine_histories.specs.kc_machine_words.declared.words.Second.{Second}
 use Rattle.kc_model.specs.Footprint.{put_at}
 use Rattle.kc_model.specs.Rising.{IsRising}
 use Rattle.kc_model.specs.Store.{cell_after}

@@ -5,12 +5,12 @@ use Rattle.kc_model.specs.Store.{Store}
 use Rattle.kc_model.specs.declared.footprint.Seen.{Seen}
 use Rattle.kc_model.specs.declared.plain_store.Cell.{Cell}
 use Rattle.std.specs.Option.{option_map}
-use Rattle.kc_machine.specs.Machine.{Opening, run}
-use Rattle.kc_machine.specs.Schedules.{IsSchedule}
-use Rattle.kc_machine_claims.specs.Histories.{History, ending, at_place, cell_of, IsKnown, Grows}
-use Rattle.kc_machine_claims.specs.Traces.{IsHonest, first_store, trace}
-use Rattle.kc_machine_commits.specs.Commits.{intent_of}
-use Rattle.kc_machine_effects.specs.Stands.{Own, NoOwn, Owns, Runs, Waits}
+use Rattle.kc_machine_histories.specs.kc_machine.Machine.{Opening, run}
+use Rattle.kc_machine_histories.specs.kc_machine.Schedules.{IsSchedule}
+use Rattle.kc_machine_histories.specs.kc_machine_claims.Histories.{History, ending, at_place, cell_of, IsKnown, Grows}
+use Rattle.kc_machine_histories.specs.kc_machine_claims.Traces.{IsHonest, first_store, trace}
+use Rattle.kc_machine_histories.specs.kc_machine_commits.Commits.{intent_of}
+use Rattle.kc_machine_histories.specs.kc_machine_effects.Stands.{Own, NoOwn, Owns, Runs, Waits}
 use Rattle.kc_machine_histories.proofs.Growth.{bounded, same_at}
 use Rattle.kc_machine_histories.proofs.Insertions.{at_end}
 use Rattle.kc_machine_histories.proofs.Knew.{knew_its_reads}
@@ -20,18 +20,18 @@ use Rattle.kc_machine_histories.specs.Insertions.{IsBelowPlace}
 use Rattle.kc_machine_histories.specs.Places.{began}
 use Rattle.kc_machine_passes.proofs.Words.{over_owners}
 use Rattle.kc_machine_passes.specs.Words.{PassesOver}
-use Rattle.kc_machine_pool.specs.Filled.{task}
+use Rattle.kc_machine_histories.specs.kc_machine_pool.Filled.{task}
 use Rattle.kc_machine_resolving.proofs.Growing.{grow}
-use Rattle.kc_machine_steps.specs.Passes.{status}
-use Rattle.kc_machine_steps.specs.declared.line.Intent.{Intent}
+use Rattle.kc_machine_histories.specs.kc_machine_steps.Passes.{status}
+use Rattle.kc_machine_histories.specs.kc_machine_steps.declared.line.Intent.{Intent}
 use Rattle.kc_model.specs.declared.footprint.Line.{Line}
-use Rattle.kc_machine_steps.specs.declared.task.Event.{Event}
-use Rattle.kc_machine_traces.proofs.Moments.{begun_moment}
-use Rattle.kc_machine_traces.proofs.Others.{run_shape}
-use Rattle.kc_machine_traces.specs.Entries.{own_intent}
-use Rattle.kc_machine_words.specs.declared.words.Handle.{Handle}
-use Rattle.kc_machine_words.specs.declared.words.Mode.{Mode}
-use Rattle.kc_machine_words.specs.declared.words.Phase.TheVariants.{Active}
+use Rattle.kc_machine_histories.specs.kc_machine_steps.declared.task.Event.{Event}
+use Rattle.kc_machine_histories.proofs.kc_machine_traces.Moments.{begun_moment}
+use Rattle.kc_machine_histories.proofs.kc_machine_traces.Others.{run_shape}
+use Rattle.kc_machine_histories.specs.kc_machine_traces.Entries.{own_intent}
+use Rattle.kc_machine_histories.specs.kc_machine_words.declared.words.Handle.{Handle}
+use Rattle.kc_machine_histories.specs.kc_machine_words.declared.words.Mode.{Mode}
+use Rattle.kc_machine_histories.specs.kc_machine_words.declared.words.Phase.TheVariants.{Active}
 
 module _ (o : Opening) (es : List Event) (w : IsSchedule o es) where
   abbrev s : Store

@@ -1,21 +1,21 @@
 -- Words stand for what the history makes.
 use Rattle.std.proofs.Common.{ne_eqb}
 use Rattle.std.proofs.lemmas.Bool.Decides.{nat_tests}
-use Rattle.kc_machine_claims.specs.Traces.{swap_line}
-use Rattle.kc_machine_claims.specs.Histories.{footprint_of}
-use Rattle.kc_machine_effects.specs.Stands.{NoPass}
-use Rattle.kc_machine_steps.specs.Swaps.{word_after}
+use Rattle.kc_machine_histories.specs.kc_machine_claims.Traces.{swap_line}
+use Rattle.kc_machine_histories.specs.kc_machine_claims.Histories.{footprint_of}
+use Rattle.kc_machine_histories.specs.kc_machine_effects.Stands.{NoPass}
+use Rattle.kc_machine_histories.specs.kc_machine_steps.Swaps.{word_after}
 use Rattle.std.proofs.Common.{eq-eqb}
-use Rattle.kc_machine_traces.specs.Swaps.{SwapOf}
+use Rattle.kc_machine_histories.specs.kc_machine_traces.Swaps.{SwapOf}
 use Rattle.std.proofs.Common.{⊎_elim}
 use Rattle.kc_machine_histories.proofs.Growing.{swap_grows, swap_ends_by}
 use Rattle.kc_machine_histories.proofs.Decisions.{Calm}
-use Rattle.kc_machine_effects.specs.Changes.{with_word}
-use Rattle.kc_machine_seats.proofs.MadeSteps.{reads_made}
-use Rattle.kc_machine_seats.specs.Made.{ReadsAreMade}
-use Rattle.kc_machine_steps.specs.Lines.{next_version}
-use Rattle.kc_machine_traces.proofs.Swapping.{swap_passless}
-use Rattle.kc_machine_steps.specs.declared.swap.SwapStep.TheVariants as swap
+use Rattle.kc_machine_histories.specs.kc_machine_effects.Changes.{with_word}
+use Rattle.kc_machine_histories.proofs.kc_machine_seats.MadeSteps.{reads_made}
+use Rattle.kc_machine_histories.specs.kc_machine_seats.Made.{ReadsAreMade}
+use Rattle.kc_machine_histories.specs.kc_machine_steps.Lines.{next_version}
+use Rattle.kc_machine_histories.proofs.kc_machine_traces.Swapping.{swap_passless}
+use Rattle.kc_machine_histories.specs.kc_machine_steps.declared.swap.SwapStep.TheVariants as swap
 use Rattle.kc_model.specs.declared.footprint.TheConstants.{LAST_VERSION}
 use Rattle.kc_machine_resolving.proofs.Changes.{calm_changes}
 use Rattle.std.proofs.Common.{cond}
@@ -24,19 +24,19 @@ use Rattle.std.specs.Prelude.{nat_lt, slice_get}
 use Rattle.std.specs.Option.{is_some}
 use Rattle.std.proofs.lemmas.Bool.{ltb-true}
 use Rattle.std.proofs.lemmas.Option.{slice_get_within}
-use Rattle.kc_machine_seats.specs.Made.{IsWellMadeIntent, IsWellMadeLine}
+use Rattle.kc_machine_histories.specs.kc_machine_seats.Made.{IsWellMadeIntent, IsWellMadeLine}
 use Rattle.std.proofs.lemmas.List.Elements.{All-contains}
 use borrow.Author.Tests.{eqb-true, eqb-false}
-use Rattle.kc_machine.proofs.Functions.{put_cases, put_else, put_here}
-use Rattle.kc_machine.specs.Machine.{World, State, Opening, put, event_of, seat_of, run}
-use Rattle.kc_machine.specs.Schedules.{IsSchedule}
-use Rattle.kc_machine.specs.Words.{phase_is}
-use Rattle.kc_machine_claims.specs.Claims.{stands_for, WordsResolve}
-use Rattle.kc_machine_claims.specs.Histories.{History, Placed, inserted, ending, put_of_line, installs, cell_of, FindsInstalled, IsLegalWhereInstalled}
-use Rattle.kc_machine_claims.specs.Traces.{is_success, decides, first_store, trace}
-use Rattle.kc_machine_effects.proofs.PoolLaws.{holds_kept}
-use Rattle.kc_machine_effects.specs.Holds.{Proper, own_hold}
-use Rattle.kc_machine_effects.specs.Stands.{Over, Turn, At, stand}
+use Rattle.kc_machine_histories.proofs.kc_machine.Functions.{put_cases, put_else, put_here}
+use Rattle.kc_machine_histories.specs.kc_machine.Machine.{World, State, Opening, put, event_of, seat_of, run}
+use Rattle.kc_machine_histories.specs.kc_machine.Schedules.{IsSchedule}
+use Rattle.kc_machine_histories.specs.kc_machine.Words.{phase_is}
+use Rattle.kc_machine_histories.specs.kc_machine_claims.Claims.{stands_for, WordsResolve}
+use Rattle.kc_machine_histories.specs.kc_machine_claims.Histories.{History, Placed, inserted, ending, put_of_line, installs, cell_of, FindsInstalled, IsLegalWhereInstalled}
+use Rattle.kc_machine_histories.specs.kc_machine_claims.Traces.{is_success, decides, first_store, trace}
+use Rattle.kc_machine_histories.proofs.kc_machine_effects.PoolLaws.{holds_kept}
+use Rattle.kc_machine_histories.specs.kc_machine_effects.Holds.{Proper, own_hold}
+use Rattle.kc_machine_histories.specs.kc_machine_effects.Stands.{Over, Turn, At, stand}
 use Rattle.kc_machine_histories.proofs.Decisions.{Undecides, history_moves_by}
 use Rattle.kc_machine_histories.proofs.Filters.{found, got}
 use Rattle.kc_machine_histories.proofs.Growing.{line_that_puts, line_that_reads, puts_installed, ends_by, grows_by, legal_once}
@@ -47,33 +47,33 @@ use Rattle.kc_machine_histories.specs.Places.{pass_of}
 use Rattle.kc_machine_passes.proofs.Always.{references_fit, phase_known, line_known}
 use Rattle.kc_machine_passes.proofs.Targets.{Target}
 use Rattle.kc_machine_passes.specs.Phases.{AidKnows}
-use Rattle.kc_machine_pool.proofs.LifeLaws.{statuses_follow, statuses_behind}
-use Rattle.kc_machine_pool.specs.Owners.{Follows, is_filling}
-use Rattle.kc_machine_pool.specs.Started.{line_of_words}
+use Rattle.kc_machine_histories.proofs.kc_machine_pool.LifeLaws.{statuses_follow, statuses_behind}
+use Rattle.kc_machine_histories.specs.kc_machine_pool.Owners.{Follows, is_filling}
+use Rattle.kc_machine_histories.specs.kc_machine_pool.Started.{line_of_words}
 use Rattle.kc_machine_resolving.proofs.Before.{target, stands_installed}
 use Rattle.kc_machine_resolving.proofs.Changes.{Changes, other, filled, started, installed, released, decided, Releasing, in_pass, in_aid, left_by, event_changes}
 use Rattle.kc_machine_resolving.proofs.Checking.{controls_rise}
 use Rattle.kc_machine_resolving.proofs.Growing.{known}
 use Rattle.kc_machine_resolving.proofs.Lines.{cell_by, first_again, after_again, unresolved, put_lands, still_puts, put_of_its_line, made_lines}
 use Rattle.kc_machine_resolving.specs.Past.{PutsArePast}
-use Rattle.kc_machine_steps.specs.Lines.{has_put, joined, first_of, second_of, succeeds, is_installed, word_of}
-use Rattle.kc_machine_steps.specs.Passes.{status}
+use Rattle.kc_machine_histories.specs.kc_machine_steps.Lines.{has_put, joined, first_of, second_of, succeeds, is_installed, word_of}
+use Rattle.kc_machine_histories.specs.kc_machine_steps.Passes.{status}
 use Rattle.kc_model.specs.declared.footprint.Line.{Line}
-use Rattle.kc_machine_steps.specs.declared.pass.PassStep.TheVariants.{Install, Decide, Release}
-use Rattle.kc_machine_steps.specs.declared.task.Event.{Event}
-use Rattle.kc_machine_traces.proofs.Copies.{SameWords}
-use Rattle.kc_machine_traces.proofs.Joins.{run-append, every, made_parts}
-use Rattle.kc_machine_traces.proofs.Known.{versions_rise}
-use Rattle.kc_machine_traces.proofs.Others.{run_shape, event_out}
-use Rattle.kc_machine_words.specs.declared.words.First.{First}
-use Rattle.kc_machine_words.specs.declared.words.Handle.{Handle}
-use Rattle.kc_machine_words.specs.declared.words.Mode.{Mode}
-use Rattle.kc_machine_words.specs.declared.words.Mode.TheVariants.{All, Light}
-use Rattle.kc_machine_words.specs.declared.words.Owner.{Owner}
-use Rattle.kc_machine_words.specs.declared.words.Phase.{Phase}
-use Rattle.kc_machine_words.specs.declared.words.Phase.TheVariants.{Active, Succeeded, Failed, Crossed, Halted}
-use Rattle.kc_machine_words.specs.declared.words.Second.{Second}
-use Rattle.kc_machine_words.specs.declared.words.Status.{Status}
+use Rattle.kc_machine_histories.specs.kc_machine_steps.declared.pass.PassStep.TheVariants.{Install, Decide, Release}
+use Rattle.kc_machine_histories.specs.kc_machine_steps.declared.task.Event.{Event}
+use Rattle.kc_machine_histories.proofs.kc_machine_traces.Copies.{SameWords}
+use Rattle.kc_machine_histories.proofs.kc_machine_traces.Joins.{run-append, every, made_parts}
+use Rattle.kc_machine_histories.proofs.kc_machine_traces.Known.{versions_rise}
+use Rattle.kc_machine_histories.proofs.kc_machine_traces.Others.{run_shape, event_out}
+use Rattle.kc_machine_histories.specs.kc_machine_words.declared.words.First.{First}
+use Rattle.kc_machine_histories.specs.kc_machine_words.declared.words.Handle.{Handle}
+use Rattle.kc_machine_histories.specs.kc_machine_words.declared.words.Mode.{Mode}
+use Rattle.kc_machine_histories.specs.kc_machine_words.declared.words.Mode.TheVariants.{All, Light}
+use Rattle.kc_machine_histories.specs.kc_machine_words.declared.words.Owner.{Owner}
+use Rattle.kc_machine_histories.specs.kc_machine_words.declared.words.Phase.{Phase}
+use Rattle.kc_machine_histories.specs.kc_machine_words.declared.words.Phase.TheVariants.{Active, Succeeded, Failed, Crossed, Halted}
+use Rattle.kc_machine_histories.specs.kc_machine_words.declared.words.Second.{Second}
+use Rattle.kc_machine_histories.specs.kc_machine_words.declared.words.Status.{Status}
 use Rattle.kc_model.specs.Footprint.{Reads, put_at}
 use Rattle.kc_model.specs.Store.{Store, cell_after}
 use Rattle.kc_model.specs.declared.footprint.Footprint.{Footprint}

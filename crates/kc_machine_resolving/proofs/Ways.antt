@@ -1,59 +1,59 @@
 -- By which ways a pass comes to stand at a check, or before a decision.
-use Rattle.kc_machine_steps.specs.Swaps.{swap_onward}
-use Rattle.kc_machine_steps.specs.Swaps.{ends_at_once}
-use Rattle.kc_machine_steps.specs.Swaps.{swap_after}
+use Rattle.kc_machine_histories.specs.kc_machine_steps.Swaps.{swap_onward}
+use Rattle.kc_machine_histories.specs.kc_machine_steps.Swaps.{ends_at_once}
+use Rattle.kc_machine_histories.specs.kc_machine_steps.Swaps.{swap_after}
 use Rattle.std.proofs.Common.{arith, ◌≡◌, ◌≤◌, ◌⊎◌, inl, inr, ◌+◌, ◌-◌, ℕ, ◌==◌, ◌&&◌, Bool, true, false, List, length, Option, None, Some, refl, sym, ap, subst, if◌then◌else◌}
 use Rattle.std.specs.Prelude.{slice_get, nat_lt, bit_or, bit_and}
-use Rattle.kc_machine_words.specs.declared.access.Found.{Found}
-use Rattle.kc_machine_words.specs.declared.words.First.{First}
-use Rattle.kc_machine_words.specs.declared.words.Handle.{Handle}
-use Rattle.kc_machine_words.specs.declared.words.Mode.{Mode}
-use Rattle.kc_machine_words.specs.declared.words.Phase.{Phase}
-use Rattle.kc_machine_words.specs.declared.words.Phase.TheVariants.{Active, Succeeded, Failed, Crossed, Halted}
-use Rattle.kc_machine_words.specs.declared.words.Reference.{Reference}
-use Rattle.kc_machine_words.specs.declared.access.Found.TheVariants as found
-use Rattle.kc_machine_steps.specs.declared.line.Intent.{Intent}
+use Rattle.kc_machine_histories.specs.kc_machine_words.declared.access.Found.{Found}
+use Rattle.kc_machine_histories.specs.kc_machine_words.declared.words.First.{First}
+use Rattle.kc_machine_histories.specs.kc_machine_words.declared.words.Handle.{Handle}
+use Rattle.kc_machine_histories.specs.kc_machine_words.declared.words.Mode.{Mode}
+use Rattle.kc_machine_histories.specs.kc_machine_words.declared.words.Phase.{Phase}
+use Rattle.kc_machine_histories.specs.kc_machine_words.declared.words.Phase.TheVariants.{Active, Succeeded, Failed, Crossed, Halted}
+use Rattle.kc_machine_histories.specs.kc_machine_words.declared.words.Reference.{Reference}
+use Rattle.kc_machine_histories.specs.kc_machine_words.declared.access.Found.TheVariants as found
+use Rattle.kc_machine_histories.specs.kc_machine_steps.declared.line.Intent.{Intent}
 use Rattle.kc_model.specs.declared.footprint.Line.{Line}
-use Rattle.kc_machine_steps.specs.declared.line.Pick.TheVariants.{Installed, Put}
-use Rattle.kc_machine_steps.specs.declared.task.Task.{Task}
-use Rattle.kc_machine_steps.specs.declared.task.Told.TheVariants as told
-use Rattle.kc_machine_steps.specs.declared.pass.AfterCheck.{AfterCheck}
-use Rattle.kc_machine_steps.specs.declared.pass.PassStep.{PassStep}
-use Rattle.kc_machine_steps.specs.declared.pass.PassStep.TheVariants.{Install, Check, CheckHold, CheckStatus, CheckFirst, CheckDrop, Decide, Release}
-use Rattle.kc_machine_steps.specs.declared.task.Event.{Event}
-use Rattle.kc_machine_steps.specs.declared.task.Event.TheVariants.{Begin, Step, Halt}
-use Rattle.kc_machine_steps.specs.declared.pass.AfterCheck.TheVariants as checked
-use Rattle.kc_machine_steps.specs.declared.pass.PassNext.{PassNext}
-use Rattle.kc_machine_steps.specs.declared.pass.PassNext.TheVariants as pass
-use Rattle.kc_machine_steps.specs.declared.aid.AidStep.{AidStep}
-use Rattle.kc_machine_steps.specs.declared.aid.Aided.{Aided}
-use Rattle.kc_machine_steps.specs.declared.aid.AidStep.TheVariants as aid
-use Rattle.kc_machine_commits.specs.declared.commit.Commit.{Commit}
-use Rattle.kc_machine_commits.specs.declared.commit.Stage.{Stage}
-use Rattle.kc_machine_commits.specs.declared.commit.Stage.TheVariants as stage
-use Rattle.kc_machine_commits.specs.declared.commit.OwnStep.{OwnStep}
-use Rattle.kc_machine_commits.specs.declared.commit.OwnStep.TheVariants as own
-use Rattle.kc_machine_commits.specs.Nexts.{Next}
-use Rattle.kc_machine_commits.specs.Nexts as next
-use Rattle.kc_machine_commits.specs.Commits.{after_scan, scan_next, take_next, fill_next, fill_or_start, wake_next, wake_or_signal, owed_next, after_own_pass, finished, onward_or_back, stage_next, copy_by, loaded}
-use Rattle.kc_machine_commits.specs.Halts.{unowned, halted_pass, halted_aid_pass, halted_own, halted_at}
-use Rattle.kc_machine_steps.specs.Aids.{hold_next, status_next, owner_or_first, first_next, second_next, load_next, owner_next, load_first_next, load_second_next, after_pass, leave_next, drop_or_release}
-use Rattle.kc_machine_steps.specs.Lines.{next_line, after_line}
-use Rattle.kc_machine_steps.specs.Looks.{look_after, look_tells, look_halted, halts_at_once}
-use Rattle.kc_machine_steps.specs.Passes.{pass_access, pass_next, from_install, release_or_finish}
-use Rattle.kc_machine_steps.specs.declared.task.Onward.{Onward}
-use Rattle.kc_machine_steps.specs.declared.task.Onward.TheVariants as onward
-use Rattle.kc_machine.specs.Hangs.{hang_after, hang_onward, leave_after, leave_onward}
-use Rattle.kc_machine.specs.Works.{Work}
-use Rattle.kc_machine.specs.Works as work
-use Rattle.kc_machine.specs.Machine.{World, State, found_at, event_of, seat_of}
-use Rattle.kc_machine.specs.Seats.{access_of, work_access, answer_of, answer_by, after, is_idle, begun, begun_idle, halted, halted_by, ended}
-use Rattle.kc_machine.specs.declared.seat.Seat.{Seat}
-use Rattle.kc_machine_claims.specs.Traces.{is_placed_at}
-use Rattle.kc_machine_effects.specs.Stands.{Passing, NoPass, Over, At, Meets, Ends, Leaves, stand}
+use Rattle.kc_machine_histories.specs.kc_machine_steps.declared.line.Pick.TheVariants.{Installed, Put}
+use Rattle.kc_machine_histories.specs.kc_machine_steps.declared.task.Task.{Task}
+use Rattle.kc_machine_histories.specs.kc_machine_steps.declared.task.Told.TheVariants as told
+use Rattle.kc_machine_histories.specs.kc_machine_steps.declared.pass.AfterCheck.{AfterCheck}
+use Rattle.kc_machine_histories.specs.kc_machine_steps.declared.pass.PassStep.{PassStep}
+use Rattle.kc_machine_histories.specs.kc_machine_steps.declared.pass.PassStep.TheVariants.{Install, Check, CheckHold, CheckStatus, CheckFirst, CheckDrop, Decide, Release}
+use Rattle.kc_machine_histories.specs.kc_machine_steps.declared.task.Event.{Event}
+use Rattle.kc_machine_histories.specs.kc_machine_steps.declared.task.Event.TheVariants.{Begin, Step, Halt}
+use Rattle.kc_machine_histories.specs.kc_machine_steps.declared.pass.AfterCheck.TheVariants as checked
+use Rattle.kc_machine_histories.specs.kc_machine_steps.declared.pass.PassNext.{PassNext}
+use Rattle.kc_machine_histories.specs.kc_machine_steps.declared.pass.PassNext.TheVariants as pass
+use Rattle.kc_machine_histories.specs.kc_machine_steps.declared.aid.AidStep.{AidStep}
+use Rattle.kc_machine_histories.specs.kc_machine_steps.declared.aid.Aided.{Aided}
+use Rattle.kc_machine_histories.specs.kc_machine_steps.declared.aid.AidStep.TheVariants as aid
+use Rattle.kc_machine_histories.specs.kc_machine_commits.declared.commit.Commit.{Commit}
+use Rattle.kc_machine_histories.specs.kc_machine_commits.declared.commit.Stage.{Stage}
+use Rattle.kc_machine_histories.specs.kc_machine_commits.declared.commit.Stage.TheVariants as stage
+use Rattle.kc_machine_histories.specs.kc_machine_commits.declared.commit.OwnStep.{OwnStep}
+use Rattle.kc_machine_histories.specs.kc_machine_commits.declared.commit.OwnStep.TheVariants as own
+use Rattle.kc_machine_histories.specs.kc_machine_commits.Nexts.{Next}
+use Rattle.kc_machine_histories.specs.kc_machine_commits.Nexts as next
+use Rattle.kc_machine_histories.specs.kc_machine_commits.Commits.{after_scan, scan_next, take_next, fill_next, fill_or_start, wake_next, wake_or_signal, owed_next, after_own_pass, finished, onward_or_back, stage_next, copy_by, loaded}
+use Rattle.kc_machine_histories.specs.kc_machine_commits.Halts.{unowned, halted_pass, halted_aid_pass, halted_own, halted_at}
+use Rattle.kc_machine_histories.specs.kc_machine_steps.Aids.{hold_next, status_next, owner_or_first, first_next, second_next, load_next, owner_next, load_first_next, load_second_next, after_pass, leave_next, drop_or_release}
+use Rattle.kc_machine_histories.specs.kc_machine_steps.Lines.{next_line, after_line}
+use Rattle.kc_machine_histories.specs.kc_machine_steps.Looks.{look_after, look_tells, look_halted, halts_at_once}
+use Rattle.kc_machine_histories.specs.kc_machine_steps.Passes.{pass_access, pass_next, from_install, release_or_finish}
+use Rattle.kc_machine_histories.specs.kc_machine_steps.declared.task.Onward.{Onward}
+use Rattle.kc_machine_histories.specs.kc_machine_steps.declared.task.Onward.TheVariants as onward
+use Rattle.kc_machine_histories.specs.kc_machine.Hangs.{hang_after, hang_onward, leave_after, leave_onward}
+use Rattle.kc_machine_histories.specs.kc_machine.Works.{Work}
+use Rattle.kc_machine_histories.specs.kc_machine.Works as work
+use Rattle.kc_machine_histories.specs.kc_machine.Machine.{World, State, found_at, event_of, seat_of}
+use Rattle.kc_machine_histories.specs.kc_machine.Seats.{access_of, work_access, answer_of, answer_by, after, is_idle, begun, begun_idle, halted, halted_by, ended}
+use Rattle.kc_machine_histories.specs.kc_machine.declared.seat.Seat.{Seat}
+use Rattle.kc_machine_histories.specs.kc_machine_claims.Traces.{is_placed_at}
+use Rattle.kc_machine_histories.specs.kc_machine_effects.Stands.{Passing, NoPass, Over, At, Meets, Ends, Leaves, stand}
 use Rattle.kc_machine_histories.proofs.Passes.{aid_pass, own_pass, stage_pass, work_pass, next_pass, pass_is, next_is, Nexts, finish_ends, begun_fresh}
 use Rattle.kc_machine_resolving.specs.Settled.{checked_by}
-use Rattle.kc_machine_traces.proofs.Answers.{moved, seat_cases}
+use Rattle.kc_machine_histories.proofs.kc_machine_traces.Answers.{moved, seat_cases}
 
 -- at a check, or before a decision that no halt brought
 abbrev pub judges_phase : Phase → Bool

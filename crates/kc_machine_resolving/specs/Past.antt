@@ -1,11 +1,11 @@
 -- Puts that succeeded.
 use Rattle.std.specs.Prelude.{◌≡◌, ◌<◌, ℕ, List, true}
-use Rattle.kc_machine.specs.Machine.{Opening, run}
-use Rattle.kc_machine_claims.specs.Histories.{ending}
-use Rattle.kc_machine_claims.specs.Traces.{first_store, trace}
-use Rattle.kc_machine_pool.specs.Started.{IsStarted}
-use Rattle.kc_machine_steps.specs.declared.task.Event.{Event}
-use Rattle.kc_machine_words.specs.declared.words.Phase.TheVariants.{Succeeded}
+use Rattle.kc_machine_histories.specs.kc_machine.Machine.{Opening, run}
+use Rattle.kc_machine_histories.specs.kc_machine_claims.Histories.{ending}
+use Rattle.kc_machine_histories.specs.kc_machine_claims.Traces.{first_store, trace}
+use Rattle.kc_machine_histories.specs.kc_machine_pool.Started.{IsStarted}
+use Rattle.kc_machine_histories.specs.kc_machine_steps.declared.task.Event.{Event}
+use Rattle.kc_machine_histories.specs.kc_machine_words.declared.words.Phase.TheVariants.{Succeeded}
 
 -- the version from which a line of a succeeded descriptor put is below what the history makes there: it doesn't fit again
 abbrev pub PutsArePast : Opening → List Event → Type 0

@@ -1,20 +1,20 @@
 -- Locations that no pass may still touch below a place, and what of that a pass in its checks knows.
 use Rattle.std.specs.Prelude.{◌≡◌, ◌≢◌, ◌<◌, ◌⊎◌, ℕ, suc, List, Contains, Some, slice_get, true, false}
 use Rattle.kc_model.specs.declared.footprint.Line.{Line}
-use Rattle.kc_machine_steps.specs.declared.pass.PassStep.{PassStep}
-use Rattle.kc_machine_steps.specs.declared.pass.PassStep.TheVariants.{Install, Check, CheckHold, CheckStatus, CheckFirst, CheckDrop, Decide, Release}
-use Rattle.kc_machine_words.specs.declared.words.Mode.{Mode}
-use Rattle.kc_machine_words.specs.declared.words.Phase.TheVariants.{Active}
-use Rattle.kc_machine_words.specs.declared.words.Reference.{Reference}
+use Rattle.kc_machine_histories.specs.kc_machine_steps.declared.pass.PassStep.{PassStep}
+use Rattle.kc_machine_histories.specs.kc_machine_steps.declared.pass.PassStep.TheVariants.{Install, Check, CheckHold, CheckStatus, CheckFirst, CheckDrop, Decide, Release}
+use Rattle.kc_machine_histories.specs.kc_machine_words.declared.words.Mode.{Mode}
+use Rattle.kc_machine_histories.specs.kc_machine_words.declared.words.Phase.TheVariants.{Active}
+use Rattle.kc_machine_histories.specs.kc_machine_words.declared.words.Reference.{Reference}
 use Rattle.kc_model.specs.declared.footprint.TheConstants.{MOST}
 use Rattle.kc_model.specs.declared.word.Word.TheVariants.{Ref}
-use Rattle.kc_machine_steps.specs.declared.pass.AfterCheck.TheVariants as checked
-use Rattle.kc_machine.specs.Machine.{Opening, run}
-use Rattle.kc_machine_effects.specs.Stands.{At}
+use Rattle.kc_machine_histories.specs.kc_machine_steps.declared.pass.AfterCheck.TheVariants as checked
+use Rattle.kc_machine_histories.specs.kc_machine.Machine.{Opening, run}
+use Rattle.kc_machine_histories.specs.kc_machine_effects.Stands.{At}
 use Rattle.kc_machine_histories.specs.Later.{DecidesSoon}
-use Rattle.kc_machine_steps.specs.Lines.{is_installed}
-use Rattle.kc_machine_steps.specs.Passes.{status}
-use Rattle.kc_machine_steps.specs.declared.task.Event.{Event}
+use Rattle.kc_machine_histories.specs.kc_machine_steps.Lines.{is_installed}
+use Rattle.kc_machine_histories.specs.kc_machine_steps.Passes.{status}
+use Rattle.kc_machine_histories.specs.kc_machine_steps.declared.task.Event.{Event}
 
 -- no pass that may decide at a place below p installs a line of location l
 abbrev pub Settled : Opening → List Event → ℕ → ℕ → Type 0

@@ -6,10 +6,10 @@ use Rattle.kc_machine.proofs.Functions.{put_cases}
 use Rattle.kc_machine.specs.Machine.{State, Opening, put, touched, found_at, possible, stepped, happened, event_of, seat_of, run_from, run, opened}
 use Rattle.kc_machine.specs.Seats.{access_of, answer_of, begun, halted}
 use Rattle.kc_machine.specs.declared.seat.Seat.{Seat}
-use Rattle.kc_machine_steps.specs.declared.task.Event.{Event}
-use Rattle.kc_machine_steps.specs.declared.task.Event.TheVariants.{Begin, Step, Halt}
-use Rattle.kc_machine_steps.specs.declared.task.Task.{Task}
-use Rattle.kc_machine_words.specs.declared.access.Found.{Found}
+use Rattle.kc_machine.specs.kc_machine_steps.declared.task.Event.{Event}
+use Rattle.kc_machine.specs.kc_machine_steps.declared.task.Event.TheVariants.{Begin, Step, Halt}
+use Rattle.kc_machine.specs.kc_machine_steps.declared.task.Task.{Task}
+use Rattle.kc_machine.specs.kc_machine_words.declared.access.Found.{Found}
 
 -- P k of seat k, through the events of which E holds
 module _ (o : Opening) (P : ℕ → Seat → Type 0) (E : Event → Type 0) (starts : (k : ℕ) → P k ((opened o).seats k)) (answers : (k : ℕ) (s : Seat) (f : Found) → P k s → P k (answer_of s f)) (begins : (k : ℕ) (s : Seat) (t : Task) → E (Begin k t) → P k s → P k (begun s t)) (halts : (k : ℕ) (s : Seat) → P k s → P k (halted s)) where

@@ -2,40 +2,40 @@
 use Rattle.std.proofs.Common.{◌≡◌, inr, ℕ, Bool, true, false, refl, ◌==◌, if◌then◌else◌, Option, None, Some, List}
 use Rattle.std.specs.Prelude.{nat_lt, length, slice_get, bit_or, bit_and, ◌-◌}
 use borrow.Author.Tests.{ltb-true}
-use Rattle.kc_machine_words.specs.declared.access.Found.{Found}
-use Rattle.kc_machine_words.specs.declared.words.First.{First}
-use Rattle.kc_machine_words.specs.declared.words.Handle.{Handle}
-use Rattle.kc_machine_words.specs.declared.words.Mode.{Mode}
-use Rattle.kc_machine_words.specs.declared.words.Phase.{Phase}
-use Rattle.kc_machine_words.specs.declared.words.Phase.TheVariants.{Active, Succeeded, Failed, Crossed, Halted}
-use Rattle.kc_machine_words.specs.declared.words.Reference.{Reference}
+use Rattle.kc_machine.specs.kc_machine_words.declared.access.Found.{Found}
+use Rattle.kc_machine.specs.kc_machine_words.declared.words.First.{First}
+use Rattle.kc_machine.specs.kc_machine_words.declared.words.Handle.{Handle}
+use Rattle.kc_machine.specs.kc_machine_words.declared.words.Mode.{Mode}
+use Rattle.kc_machine.specs.kc_machine_words.declared.words.Phase.{Phase}
+use Rattle.kc_machine.specs.kc_machine_words.declared.words.Phase.TheVariants.{Active, Succeeded, Failed, Crossed, Halted}
+use Rattle.kc_machine.specs.kc_machine_words.declared.words.Reference.{Reference}
 use Rattle.kc_model.specs.declared.footprint.Seen.{Seen}
-use Rattle.kc_machine_words.specs.declared.access.Found.TheVariants as found
-use Rattle.kc_machine_steps.specs.declared.task.Task.{Task}
-use Rattle.kc_machine_steps.specs.declared.task.Task.TheVariants as task
+use Rattle.kc_machine.specs.kc_machine_words.declared.access.Found.TheVariants as found
+use Rattle.kc_machine.specs.kc_machine_steps.declared.task.Task.{Task}
+use Rattle.kc_machine.specs.kc_machine_steps.declared.task.Task.TheVariants as task
 use Rattle.kc_model.specs.declared.footprint.Line.{Line}
-use Rattle.kc_machine_steps.specs.declared.line.Pick.TheVariants.{Put}
-use Rattle.kc_machine_steps.specs.declared.look.Look.{Look}
-use Rattle.kc_machine_steps.specs.declared.look.LookNext.{LookNext}
-use Rattle.kc_machine_steps.specs.declared.look.LookNext.TheVariants as looking
-use Rattle.kc_machine_steps.specs.declared.pass.AfterCheck.{AfterCheck}
-use Rattle.kc_machine_steps.specs.declared.pass.PassStep.{PassStep}
-use Rattle.kc_machine_steps.specs.declared.pass.PassStep.TheVariants.{Install, Check, CheckHold, CheckStatus, CheckFirst, CheckDrop, Decide, Release}
-use Rattle.kc_machine_steps.specs.declared.pass.AfterCheck.TheVariants as checked
-use Rattle.kc_machine_steps.specs.declared.pass.PassNext.{PassNext}
-use Rattle.kc_machine_steps.specs.declared.pass.PassNext.TheVariants as pass
-use Rattle.kc_machine_steps.specs.declared.aid.AidStep.{AidStep}
-use Rattle.kc_machine_steps.specs.declared.aid.Aided.{Aided}
-use Rattle.kc_machine_steps.specs.declared.aid.AidStep.TheVariants as aid
-use Rattle.kc_machine_steps.specs.declared.aid.AidNext.{AidNext}
-use Rattle.kc_machine_steps.specs.declared.aid.AidNext.TheVariants as aiding
-use Rattle.kc_machine_commits.specs.declared.commit.OwnStep.{OwnStep}
-use Rattle.kc_machine_commits.specs.declared.commit.OwnStep.TheVariants as own
-use Rattle.kc_machine_commits.specs.Nexts.{Next}
-use Rattle.kc_machine_commits.specs.declared.commit.Commit.{Commit}
-use Rattle.kc_machine_commits.specs.declared.commit.Stage.{Stage}
-use Rattle.kc_machine_commits.specs.declared.commit.Stage.TheVariants.{Scan, Take, Own}
-use Rattle.kc_machine_commits.specs.Nexts as next
+use Rattle.kc_machine.specs.kc_machine_steps.declared.line.Pick.TheVariants.{Put}
+use Rattle.kc_machine.specs.kc_machine_steps.declared.look.Look.{Look}
+use Rattle.kc_machine.specs.kc_machine_steps.declared.look.LookNext.{LookNext}
+use Rattle.kc_machine.specs.kc_machine_steps.declared.look.LookNext.TheVariants as looking
+use Rattle.kc_machine.specs.kc_machine_steps.declared.pass.AfterCheck.{AfterCheck}
+use Rattle.kc_machine.specs.kc_machine_steps.declared.pass.PassStep.{PassStep}
+use Rattle.kc_machine.specs.kc_machine_steps.declared.pass.PassStep.TheVariants.{Install, Check, CheckHold, CheckStatus, CheckFirst, CheckDrop, Decide, Release}
+use Rattle.kc_machine.specs.kc_machine_steps.declared.pass.AfterCheck.TheVariants as checked
+use Rattle.kc_machine.specs.kc_machine_steps.declared.pass.PassNext.{PassNext}
+use Rattle.kc_machine.specs.kc_machine_steps.declared.pass.PassNext.TheVariants as pass
+use Rattle.kc_machine.specs.kc_machine_steps.declared.aid.AidStep.{AidStep}
+use Rattle.kc_machine.specs.kc_machine_steps.declared.aid.Aided.{Aided}
+use Rattle.kc_machine.specs.kc_machine_steps.declared.aid.AidStep.TheVariants as aid
+use Rattle.kc_machine.specs.kc_machine_steps.declared.aid.AidNext.{AidNext}
+use Rattle.kc_machine.specs.kc_machine_steps.declared.aid.AidNext.TheVariants as aiding
+use Rattle.kc_machine.specs.kc_machine_commits.declared.commit.OwnStep.{OwnStep}
+use Rattle.kc_machine.specs.kc_machine_commits.declared.commit.OwnStep.TheVariants as own
+use Rattle.kc_machine.specs.kc_machine_commits.Nexts.{Next}
+use Rattle.kc_machine.specs.kc_machine_commits.declared.commit.Commit.{Commit}
+use Rattle.kc_machine.specs.kc_machine_commits.declared.commit.Stage.{Stage}
+use Rattle.kc_machine.specs.kc_machine_commits.declared.commit.Stage.TheVariants.{Scan, Take, Own}
+use Rattle.kc_machine.specs.kc_machine_commits.Nexts as next
 use Rattle.kc_machine.specs.Waits.{Hang}
 use Rattle.kc_machine.specs.declared.hang.HangNext.{HangNext}
 use Rattle.kc_machine.specs.declared.hang.HangNext.TheVariants as hanging
@@ -47,23 +47,23 @@ use Rattle.kc_machine.specs.Machine.{Opening, run}
 use Rattle.kc_machine.specs.Seats.{answer_of, answer_by, after, begun, begun_idle, is_idle, working, halted, halted_by, ended}
 use Rattle.kc_machine.specs.Seats.{hanging as hanging_of}
 use Rattle.kc_machine.specs.declared.seat.Seat.{Seat}
-use Rattle.kc_machine_commits.specs.Commits.{own_next, stage_next, tells_or_goes, fill_or_start, fill_next, after_own_pass, onward_or_back, aid_or_back, finished, wake_or_drop, wake_or_signal, wake_next, owed_next, copy_by_own, copy_by, loaded, gone_on, onward_by, commit_next}
-use Rattle.kc_machine_commits.specs.Halts.{halted_pass, halted_aid_pass, halted_own, unowned, halted_at}
+use Rattle.kc_machine.specs.kc_machine_commits.Commits.{own_next, stage_next, tells_or_goes, fill_or_start, fill_next, after_own_pass, onward_or_back, aid_or_back, finished, wake_or_drop, wake_or_signal, wake_next, owed_next, copy_by_own, copy_by, loaded, gone_on, onward_by, commit_next}
+use Rattle.kc_machine.specs.kc_machine_commits.Halts.{halted_pass, halted_aid_pass, halted_own, unowned, halted_at}
 use Rattle.kc_machine_seats.proofs.Always.{always, any_event, all_any}
 use Rattle.kc_machine_seats.proofs.FitSteps.{NextFits, pass_fits, install_starts, release_starts, succeeded_decided, failed_decided, crossed_decided, halted_decided}
 use Rattle.kc_machine_seats.proofs.Searches.{scanned, taken}
 use Rattle.kc_machine_seats.specs.Fits.{IsInstalledAt, LoadsOn, MayDecide, StepFits, AidFits, OwnFits, StageFits, WorkFits, PassStepsFit}
-use Rattle.kc_machine_steps.specs.Aids
-use Rattle.kc_machine_steps.specs.Aids.{aid_next, aid_copy, no_copy, hold_next, owner_or_first, status_next, load_next, owner_next, load_second_next, after_pass, drop_or_release, leave_next}
-use Rattle.kc_machine_steps.specs.Lines.{next_line, after_line}
-use Rattle.kc_machine_steps.specs.Swaps.{swap_next, swaps_on, ends_at_once}
-use Rattle.kc_machine_steps.specs.Swaps.{onward_of as onward_of_swap}
-use Rattle.kc_machine_steps.specs.declared.swap.Swap.{Swap}
-use Rattle.kc_machine_steps.specs.declared.swap.SwapNext.{SwapNext}
-use Rattle.kc_machine_steps.specs.declared.swap.SwapNext.TheVariants as swapping
-use Rattle.kc_machine_steps.specs.Looks.{look_next, looks_on, told_by, halts_at_once, look_halted}
-use Rattle.kc_machine_steps.specs.Passes.{from_install}
-use Rattle.kc_machine_steps.specs.declared.task.Event.{Event}
+use Rattle.kc_machine.specs.kc_machine_steps.Aids
+use Rattle.kc_machine.specs.kc_machine_steps.Aids.{aid_next, aid_copy, no_copy, hold_next, owner_or_first, status_next, load_next, owner_next, load_second_next, after_pass, drop_or_release, leave_next}
+use Rattle.kc_machine.specs.kc_machine_steps.Lines.{next_line, after_line}
+use Rattle.kc_machine.specs.kc_machine_steps.Swaps.{swap_next, swaps_on, ends_at_once}
+use Rattle.kc_machine.specs.kc_machine_steps.Swaps.{onward_of as onward_of_swap}
+use Rattle.kc_machine.specs.kc_machine_steps.declared.swap.Swap.{Swap}
+use Rattle.kc_machine.specs.kc_machine_steps.declared.swap.SwapNext.{SwapNext}
+use Rattle.kc_machine.specs.kc_machine_steps.declared.swap.SwapNext.TheVariants as swapping
+use Rattle.kc_machine.specs.kc_machine_steps.Looks.{look_next, looks_on, told_by, halts_at_once, look_halted}
+use Rattle.kc_machine.specs.kc_machine_steps.Passes.{from_install}
+use Rattle.kc_machine.specs.kc_machine_steps.declared.task.Event.{Event}
 
 -- ---- an aid
 

@@ -1,27 +1,27 @@
 -- Each step of a pass leaves it at a step that fits, whatever it finds.
 use Rattle.std.proofs.Common.{◌≡◌, ◌≢◌, ◌∙◌, ap, inl, inr, sym, subst, ℕ, Bool, true, false, not, refl, ◌==◌, if◌then◌else◌, Option, None, Some, List}
 use Rattle.std.specs.Prelude.{slice_get}
-use Rattle.kc_machine_words.specs.declared.access.Found.{Found}
-use Rattle.kc_machine_words.specs.declared.words.Handle.{Handle}
-use Rattle.kc_machine_words.specs.declared.words.Mode.{Mode}
-use Rattle.kc_machine_words.specs.declared.words.Phase.{Phase}
-use Rattle.kc_machine_words.specs.declared.words.Phase.TheVariants.{Active, Succeeded, Failed, Crossed, Halted}
-use Rattle.kc_machine_words.specs.declared.words.Reference.{Reference}
+use Rattle.kc_machine.specs.kc_machine_words.declared.access.Found.{Found}
+use Rattle.kc_machine.specs.kc_machine_words.declared.words.Handle.{Handle}
+use Rattle.kc_machine.specs.kc_machine_words.declared.words.Mode.{Mode}
+use Rattle.kc_machine.specs.kc_machine_words.declared.words.Phase.{Phase}
+use Rattle.kc_machine.specs.kc_machine_words.declared.words.Phase.TheVariants.{Active, Succeeded, Failed, Crossed, Halted}
+use Rattle.kc_machine.specs.kc_machine_words.declared.words.Reference.{Reference}
 use Rattle.kc_model.specs.declared.word.Word.TheVariants.{Plain, Ref}
-use Rattle.kc_machine_words.specs.declared.access.Found.TheVariants as found
+use Rattle.kc_machine.specs.kc_machine_words.declared.access.Found.TheVariants as found
 use Rattle.kc_model.specs.declared.footprint.Line.{Line}
-use Rattle.kc_machine_steps.specs.declared.line.Pick.TheVariants.{Installed, Checked}
-use Rattle.kc_machine_steps.specs.declared.pass.AfterCheck.{AfterCheck}
-use Rattle.kc_machine_steps.specs.declared.pass.PassStep.{PassStep}
-use Rattle.kc_machine_steps.specs.declared.pass.PassStep.TheVariants.{Install, Check, CheckHold, CheckStatus, CheckFirst, CheckDrop, Decide, Release}
-use Rattle.kc_machine_steps.specs.declared.pass.AfterCheck.TheVariants as checked
-use Rattle.kc_machine_steps.specs.declared.pass.PassNext.{PassNext}
-use Rattle.kc_machine_steps.specs.declared.pass.PassNext.TheVariants as pass
+use Rattle.kc_machine.specs.kc_machine_steps.declared.line.Pick.TheVariants.{Installed, Checked}
+use Rattle.kc_machine.specs.kc_machine_steps.declared.pass.AfterCheck.{AfterCheck}
+use Rattle.kc_machine.specs.kc_machine_steps.declared.pass.PassStep.{PassStep}
+use Rattle.kc_machine.specs.kc_machine_steps.declared.pass.PassStep.TheVariants.{Install, Check, CheckHold, CheckStatus, CheckFirst, CheckDrop, Decide, Release}
+use Rattle.kc_machine.specs.kc_machine_steps.declared.pass.AfterCheck.TheVariants as checked
+use Rattle.kc_machine.specs.kc_machine_steps.declared.pass.PassNext.{PassNext}
+use Rattle.kc_machine.specs.kc_machine_steps.declared.pass.PassNext.TheVariants as pass
 use Rattle.kc_machine_seats.proofs.Searches.{IsPicked, next_fits}
 use Rattle.kc_machine_seats.specs.Fits.{IsInstalledAt, IsCheckedAt, Follows, FollowsOr, MayDecide, StepFits}
-use Rattle.kc_machine_steps.specs.Lines.{next_line, after_line}
-use Rattle.kc_machine_steps.specs.Looks.{reference_of}
-use Rattle.kc_machine_steps.specs.Passes.{pass_next, install_found, check_found, check_hold_next, check_status_next, crossed_or_first, check_first_found, agrees_or_fails, check_drop_next, decide_next, decided_as, fits, refers_to, from_check, check_or_decide, from_install, install_or_check, from_release, release_or_finish}
+use Rattle.kc_machine.specs.kc_machine_steps.Lines.{next_line, after_line}
+use Rattle.kc_machine.specs.kc_machine_steps.Looks.{reference_of}
+use Rattle.kc_machine.specs.kc_machine_steps.Passes.{pass_next, install_found, check_found, check_hold_next, check_status_next, crossed_or_first, check_first_found, agrees_or_fails, check_drop_next, decide_next, decided_as, fits, refers_to, from_check, check_or_decide, from_install, install_or_check, from_release, release_or_finish}
 
 not_true : (b : Bool) → not b ≡ true → b ≡ false
 not_true true e = cc

@@ -4,40 +4,40 @@ use Rattle.std.specs.Prelude.{nat_lt, length, slice_get, bit_or, bit_and}
 use Rattle.std.proofs.lemmas.List.{length-append}
 use Rattle.std.proofs.lemmas.Option.{slice_get_within}
 use borrow.Author.Tests.{eqb-false, ltb-false}
-use Rattle.kc_machine_words.specs.declared.access.Found.{Found}
-use Rattle.kc_machine_words.specs.declared.words.First.{First}
-use Rattle.kc_machine_words.specs.declared.words.Handle.{Handle}
-use Rattle.kc_machine_words.specs.declared.words.Phase.{Phase}
-use Rattle.kc_machine_words.specs.declared.words.Phase.TheVariants.{Active, Succeeded, Failed, Crossed, Halted}
-use Rattle.kc_machine_words.specs.declared.words.Reference.{Reference}
+use Rattle.kc_machine.specs.kc_machine_words.declared.access.Found.{Found}
+use Rattle.kc_machine.specs.kc_machine_words.declared.words.First.{First}
+use Rattle.kc_machine.specs.kc_machine_words.declared.words.Handle.{Handle}
+use Rattle.kc_machine.specs.kc_machine_words.declared.words.Phase.{Phase}
+use Rattle.kc_machine.specs.kc_machine_words.declared.words.Phase.TheVariants.{Active, Succeeded, Failed, Crossed, Halted}
+use Rattle.kc_machine.specs.kc_machine_words.declared.words.Reference.{Reference}
 use Rattle.kc_model.specs.declared.footprint.Seen.{Seen}
-use Rattle.kc_machine_words.specs.declared.access.Found.TheVariants as found
-use Rattle.kc_machine_steps.specs.declared.task.Task.{Task}
-use Rattle.kc_machine_steps.specs.declared.task.Task.TheVariants as task
+use Rattle.kc_machine.specs.kc_machine_words.declared.access.Found.TheVariants as found
+use Rattle.kc_machine.specs.kc_machine_steps.declared.task.Task.{Task}
+use Rattle.kc_machine.specs.kc_machine_steps.declared.task.Task.TheVariants as task
 use Rattle.kc_model.specs.declared.footprint.Line.{Line}
-use Rattle.kc_machine_steps.specs.declared.line.Pick.TheVariants.{Put}
-use Rattle.kc_machine_steps.specs.declared.look.Look.{Look}
-use Rattle.kc_machine_steps.specs.declared.look.LookStep.{LookStep}
-use Rattle.kc_machine_steps.specs.declared.task.Event.{Event}
-use Rattle.kc_machine_steps.specs.declared.look.LookStep.TheVariants as look
-use Rattle.kc_machine_steps.specs.declared.look.LookNext.{LookNext}
-use Rattle.kc_machine_steps.specs.declared.look.LookNext.TheVariants as looking
-use Rattle.kc_machine_steps.specs.declared.pass.PassStep.{PassStep}
-use Rattle.kc_machine_steps.specs.declared.pass.AfterCheck.TheVariants as checked
-use Rattle.kc_machine_steps.specs.declared.pass.PassNext.{PassNext}
-use Rattle.kc_machine_steps.specs.declared.pass.PassNext.TheVariants as pass
-use Rattle.kc_machine_steps.specs.declared.aid.AidStep.{AidStep}
-use Rattle.kc_machine_steps.specs.declared.aid.Aided.{Aided}
-use Rattle.kc_machine_steps.specs.declared.aid.AidStep.TheVariants as aid
-use Rattle.kc_machine_steps.specs.declared.aid.AidNext.{AidNext}
-use Rattle.kc_machine_steps.specs.declared.aid.AidNext.TheVariants as aiding
-use Rattle.kc_machine_commits.specs.declared.commit.OwnStep.{OwnStep}
-use Rattle.kc_machine_commits.specs.declared.commit.OwnStep.TheVariants as own
-use Rattle.kc_machine_commits.specs.Nexts.{Next}
-use Rattle.kc_machine_commits.specs.declared.commit.Commit.{Commit}
-use Rattle.kc_machine_commits.specs.declared.commit.Stage.{Stage}
-use Rattle.kc_machine_commits.specs.declared.commit.Stage.TheVariants.{Scan, Take, Own}
-use Rattle.kc_machine_commits.specs.Nexts as next
+use Rattle.kc_machine.specs.kc_machine_steps.declared.line.Pick.TheVariants.{Put}
+use Rattle.kc_machine.specs.kc_machine_steps.declared.look.Look.{Look}
+use Rattle.kc_machine.specs.kc_machine_steps.declared.look.LookStep.{LookStep}
+use Rattle.kc_machine.specs.kc_machine_steps.declared.task.Event.{Event}
+use Rattle.kc_machine.specs.kc_machine_steps.declared.look.LookStep.TheVariants as look
+use Rattle.kc_machine.specs.kc_machine_steps.declared.look.LookNext.{LookNext}
+use Rattle.kc_machine.specs.kc_machine_steps.declared.look.LookNext.TheVariants as looking
+use Rattle.kc_machine.specs.kc_machine_steps.declared.pass.PassStep.{PassStep}
+use Rattle.kc_machine.specs.kc_machine_steps.declared.pass.AfterCheck.TheVariants as checked
+use Rattle.kc_machine.specs.kc_machine_steps.declared.pass.PassNext.{PassNext}
+use Rattle.kc_machine.specs.kc_machine_steps.declared.pass.PassNext.TheVariants as pass
+use Rattle.kc_machine.specs.kc_machine_steps.declared.aid.AidStep.{AidStep}
+use Rattle.kc_machine.specs.kc_machine_steps.declared.aid.Aided.{Aided}
+use Rattle.kc_machine.specs.kc_machine_steps.declared.aid.AidStep.TheVariants as aid
+use Rattle.kc_machine.specs.kc_machine_steps.declared.aid.AidNext.{AidNext}
+use Rattle.kc_machine.specs.kc_machine_steps.declared.aid.AidNext.TheVariants as aiding
+use Rattle.kc_machine.specs.kc_machine_commits.declared.commit.OwnStep.{OwnStep}
+use Rattle.kc_machine.specs.kc_machine_commits.declared.commit.OwnStep.TheVariants as own
+use Rattle.kc_machine.specs.kc_machine_commits.Nexts.{Next}
+use Rattle.kc_machine.specs.kc_machine_commits.declared.commit.Commit.{Commit}
+use Rattle.kc_machine.specs.kc_machine_commits.declared.commit.Stage.{Stage}
+use Rattle.kc_machine.specs.kc_machine_commits.declared.commit.Stage.TheVariants.{Scan, Take, Own}
+use Rattle.kc_machine.specs.kc_machine_commits.Nexts as next
 use Rattle.kc_machine.specs.Waits.{Hang}
 use Rattle.kc_machine.specs.declared.hang.HangStep.{HangStep}
 use Rattle.kc_machine.specs.declared.hang.HangStep.TheVariants as hang
@@ -51,29 +51,29 @@ use Rattle.kc_machine.specs.Machine.{Opening, run}
 use Rattle.kc_machine.specs.Seats.{answer_of, answer_by, after, begun, begun_idle, is_idle, working, halted, halted_by, ended}
 use Rattle.kc_machine.specs.Seats.{hanging as hanging_of}
 use Rattle.kc_machine.specs.declared.seat.Seat.{Seat}
-use Rattle.kc_machine_commits.specs.Commits.{own_next, stage_next, tells_or_goes, fill_or_start, fill_next, after_own_pass, onward_or_back, aid_or_back, finished, wake_or_drop, wake_or_signal, wake_next, owed_next, copy_by_own, copy_by, loaded, gone_on, onward_by, commit_next}
-use Rattle.kc_machine_commits.specs.Halts.{halted_own, unowned, halted_at}
+use Rattle.kc_machine.specs.kc_machine_commits.Commits.{own_next, stage_next, tells_or_goes, fill_or_start, fill_next, after_own_pass, onward_or_back, aid_or_back, finished, wake_or_drop, wake_or_signal, wake_next, owed_next, copy_by_own, copy_by, loaded, gone_on, onward_by, commit_next}
+use Rattle.kc_machine.specs.kc_machine_commits.Halts.{halted_own, unowned, halted_at}
 use Rattle.kc_machine_seats.proofs.Always.{always, any_event, all_any}
 use Rattle.kc_machine_seats.proofs.FitSeats.{SeatFits, answer_fits, begun_fits, halted_fits}
 use Rattle.kc_machine_seats.proofs.FitSteps.{NextFits, pass_fits, succeeded_decided, halted_decided}
 use Rattle.kc_machine_seats.proofs.Searches.{IsPicked, next_fits, scanned, taken}
 use Rattle.kc_machine_seats.specs.Fits.{IsInstalledAt, OwnFits, StageFits, WorkFits}
 use Rattle.kc_machine_seats.specs.Formed.{OwnIsFormed, StageIsFormed, StandsAtARead, IsCopy, WorkIsFormed, IsWellFormed, SeatsAreWellFormed}
-use Rattle.kc_machine_steps.specs.Aids.{aid_copy, copy_owner, copy_line}
-use Rattle.kc_machine_steps.specs.Lines.{one_more, next_line, after_line, joined}
+use Rattle.kc_machine.specs.kc_machine_steps.Aids.{aid_copy, copy_owner, copy_line}
+use Rattle.kc_machine.specs.kc_machine_steps.Lines.{one_more, next_line, after_line, joined}
 use Rattle.kc_machine_seats.specs.Formed.{SwapIsFormed}
-use Rattle.kc_machine_steps.specs.declared.task.Told.TheVariants as told
+use Rattle.kc_machine.specs.kc_machine_steps.declared.task.Told.TheVariants as told
 use Rattle.kc_model.specs.declared.word.Word.TheVariants.{Plain, Ref}
 use Rattle.kc_model.specs.declared.footprint.TheConstants.{MOST}
-use Rattle.kc_machine_steps.specs.Swaps.{may_swap, exchange_next, swap_next, swap_next_at, swaps_on, ends_at_once}
-use Rattle.kc_machine_steps.specs.Swaps.{owed_next as owed_by_swap}
-use Rattle.kc_machine_steps.specs.declared.swap.SwapStep.{SwapStep}
-use Rattle.kc_machine_steps.specs.declared.swap.SwapStep.TheVariants as swap
-use Rattle.kc_machine_steps.specs.Swaps.{onward_of as onward_of_swap}
-use Rattle.kc_machine_steps.specs.declared.swap.Swap.{Swap}
-use Rattle.kc_machine_steps.specs.declared.swap.SwapNext.{SwapNext}
-use Rattle.kc_machine_steps.specs.declared.swap.SwapNext.TheVariants as swapping
-use Rattle.kc_machine_steps.specs.Looks.{look_next, looks_on, told_by, halts_at_once, look_halted_at}
+use Rattle.kc_machine.specs.kc_machine_steps.Swaps.{may_swap, exchange_next, swap_next, swap_next_at, swaps_on, ends_at_once}
+use Rattle.kc_machine.specs.kc_machine_steps.Swaps.{owed_next as owed_by_swap}
+use Rattle.kc_machine.specs.kc_machine_steps.declared.swap.SwapStep.{SwapStep}
+use Rattle.kc_machine.specs.kc_machine_steps.declared.swap.SwapStep.TheVariants as swap
+use Rattle.kc_machine.specs.kc_machine_steps.Swaps.{onward_of as onward_of_swap}
+use Rattle.kc_machine.specs.kc_machine_steps.declared.swap.Swap.{Swap}
+use Rattle.kc_machine.specs.kc_machine_steps.declared.swap.SwapNext.{SwapNext}
+use Rattle.kc_machine.specs.kc_machine_steps.declared.swap.SwapNext.TheVariants as swapping
+use Rattle.kc_machine.specs.kc_machine_steps.Looks.{look_next, looks_on, told_by, halts_at_once, look_halted_at}
 
 -- ---- the own descriptor
 

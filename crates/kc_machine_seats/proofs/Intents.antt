@@ -4,8 +4,8 @@ use Rattle.std.proofs.lemmas.List.{length-map}
 use Rattle.std.proofs.lemmas.List.Elements.{All-map, All-weaker, All-contains_itself}
 use borrow.Author.Tests.{eqb-true}
 use Rattle.kc_machine_seats.specs.Made.{line_location, IsWellMadeLine, IsWellMadeIntent}
-use Rattle.kc_machine_steps.specs.Lines.{has_put, put_of, line_of, lines_of}
-use Rattle.kc_machine_words.specs.declared.words.Mode.{Mode}
+use Rattle.kc_machine.specs.kc_machine_steps.Lines.{has_put, put_of, line_of, lines_of}
+use Rattle.kc_machine.specs.kc_machine_words.declared.words.Mode.{Mode}
 use Rattle.kc_model.proofs.Footprints.{read_at-contained}
 use Rattle.kc_model.specs.Footprint.{Reads, read_at, read_location, IsWellMade, IsBelow}
 use Rattle.kc_model.specs.Rising.{IsRising}

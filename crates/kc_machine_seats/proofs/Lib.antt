@@ -6,3 +6,5 @@ pub mod FormedSteps
 pub mod Intents
 pub mod MadeSteps
 pub mod SeatedSteps
+pub use Rattle.kc_machine.proofs as kc_machine
+pub use Rattle.kc_machine.proofs.kc_machine_steps as kc_machine_steps

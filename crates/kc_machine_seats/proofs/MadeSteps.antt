@@ -1,20 +1,20 @@
 -- What a task has stays through its events.
 use Rattle.std.proofs.Common.{ℕ, Bool, true, false, if◌then◌else◌, Option, None, Some, List}
-use Rattle.kc_machine_steps.specs.declared.task.Task.{Task}
-use Rattle.kc_machine_words.specs.declared.access.Found.{Found}
+use Rattle.kc_machine.specs.kc_machine_steps.declared.task.Task.{Task}
+use Rattle.kc_machine.specs.kc_machine_words.declared.access.Found.{Found}
 use Rattle.kc_model.specs.declared.footprint.Seen.{Seen}
-use Rattle.kc_machine_steps.specs.declared.task.Task.TheVariants as task
-use Rattle.kc_machine_steps.specs.declared.look.Look.{Look}
-use Rattle.kc_machine_steps.specs.declared.look.LookStep.{LookStep}
-use Rattle.kc_machine_steps.specs.declared.task.Event.{Event}
-use Rattle.kc_machine_steps.specs.declared.look.LookStep.TheVariants as look
-use Rattle.kc_machine_steps.specs.declared.look.LookNext.{LookNext}
-use Rattle.kc_machine_steps.specs.declared.look.LookNext.TheVariants as looking
-use Rattle.kc_machine_commits.specs.Nexts.{Next}
-use Rattle.kc_machine_commits.specs.declared.commit.Commit.{Commit}
-use Rattle.kc_machine_commits.specs.declared.commit.Stage.{Stage}
-use Rattle.kc_machine_commits.specs.declared.commit.Stage.TheVariants.{Scan, Take, Own}
-use Rattle.kc_machine_commits.specs.Nexts as next
+use Rattle.kc_machine.specs.kc_machine_steps.declared.task.Task.TheVariants as task
+use Rattle.kc_machine.specs.kc_machine_steps.declared.look.Look.{Look}
+use Rattle.kc_machine.specs.kc_machine_steps.declared.look.LookStep.{LookStep}
+use Rattle.kc_machine.specs.kc_machine_steps.declared.task.Event.{Event}
+use Rattle.kc_machine.specs.kc_machine_steps.declared.look.LookStep.TheVariants as look
+use Rattle.kc_machine.specs.kc_machine_steps.declared.look.LookNext.{LookNext}
+use Rattle.kc_machine.specs.kc_machine_steps.declared.look.LookNext.TheVariants as looking
+use Rattle.kc_machine.specs.kc_machine_commits.Nexts.{Next}
+use Rattle.kc_machine.specs.kc_machine_commits.declared.commit.Commit.{Commit}
+use Rattle.kc_machine.specs.kc_machine_commits.declared.commit.Stage.{Stage}
+use Rattle.kc_machine.specs.kc_machine_commits.declared.commit.Stage.TheVariants.{Scan, Take, Own}
+use Rattle.kc_machine.specs.kc_machine_commits.Nexts as next
 use Rattle.kc_machine.specs.Waits.{Hang}
 use Rattle.kc_machine.specs.declared.hang.HangNext.{HangNext}
 use Rattle.kc_machine.specs.declared.hang.HangNext.TheVariants as hanging
@@ -27,19 +27,19 @@ use Rattle.kc_machine.specs.Schedules.{IsWellMadeTask, BeginsWellMade, IsSchedul
 use Rattle.kc_machine.specs.Seats.{answer_of, answer_by, after, begun, begun_idle, is_idle, working, halted, halted_by, ended}
 use Rattle.kc_machine.specs.Seats.{hanging as hanging_of}
 use Rattle.kc_machine.specs.declared.seat.Seat.{Seat}
-use Rattle.kc_machine_commits.specs.Commits.{loaded, gone_on, onward_by, commit_next}
-use Rattle.kc_machine_commits.specs.Halts.{unowned, halted_at}
+use Rattle.kc_machine.specs.kc_machine_commits.Commits.{loaded, gone_on, onward_by, commit_next}
+use Rattle.kc_machine.specs.kc_machine_commits.Halts.{unowned, halted_at}
 use Rattle.kc_machine_seats.proofs.Always.{always}
 use Rattle.kc_machine_seats.proofs.FormedSteps.{formed_always}
 use Rattle.kc_machine_seats.proofs.Intents.{intent_made}
 use Rattle.kc_machine_seats.specs.Formed.{WorkIsFormed, HangStands, HangsStandAtReads}
 use Rattle.kc_machine_seats.specs.Made.{IntentIsMade, ReadsAreMade, IntentsAreWellMade, ReadsAreWellMade}
-use Rattle.kc_machine_steps.specs.Swaps.{swap_next, swaps_on, ends_at_once}
-use Rattle.kc_machine_steps.specs.Swaps.{onward_of as onward_of_swap}
-use Rattle.kc_machine_steps.specs.declared.swap.Swap.{Swap}
-use Rattle.kc_machine_steps.specs.declared.swap.SwapNext.{SwapNext}
-use Rattle.kc_machine_steps.specs.declared.swap.SwapNext.TheVariants as swapping
-use Rattle.kc_machine_steps.specs.Looks.{look_next, looks_on, told_by, halts_at_once, look_halted_at}
+use Rattle.kc_machine.specs.kc_machine_steps.Swaps.{swap_next, swaps_on, ends_at_once}
+use Rattle.kc_machine.specs.kc_machine_steps.Swaps.{onward_of as onward_of_swap}
+use Rattle.kc_machine.specs.kc_machine_steps.declared.swap.Swap.{Swap}
+use Rattle.kc_machine.specs.kc_machine_steps.declared.swap.SwapNext.{SwapNext}
+use Rattle.kc_machine.specs.kc_machine_steps.declared.swap.SwapNext.TheVariants as swapping
+use Rattle.kc_machine.specs.kc_machine_steps.Looks.{look_next, looks_on, told_by, halts_at_once, look_halted_at}
 
 abbrev Made : ℕ → Work → Type 0
 Made n w = IntentIsMade n w × ReadsAreMade n w

@@ -1,20 +1,20 @@
 -- What a search for the next line finds, and what a search for a descriptor comes to.
 use Rattle.std.proofs.Common.{◌≡◌, ℕ, ◌+◌, ◌-◌, ◌<◌, ◌≤◌, arith, Bool, true, false, refl, zero, suc, ◌==◌, ◌&&◌, if◌then◌else◌, Option, None, Some, List}
 use Rattle.std.specs.Prelude.{slice_get, nat_lt}
-use Rattle.kc_machine_words.specs.declared.access.Found.{Found}
-use Rattle.kc_machine_words.specs.declared.words.Handle.{Handle}
-use Rattle.kc_machine_words.specs.declared.words.Mode.{Mode}
-use Rattle.kc_machine_words.specs.declared.access.Found.TheVariants as found
-use Rattle.kc_machine_steps.specs.declared.task.Told.TheVariants as told
-use Rattle.kc_machine_commits.specs.declared.commit.OwnStep.TheVariants as own
-use Rattle.kc_machine_commits.specs.Commits.{after_scan, scan_next, take_next}
-use Rattle.kc_machine_commits.specs.Nexts.{Next}
-use Rattle.kc_machine_commits.specs.Nexts.{Goes, Takes, Tells}
-use Rattle.kc_machine_commits.specs.declared.commit.Stage.TheVariants.{Scan, Take, Own}
-use Rattle.kc_machine_steps.specs.Lines.{picks, picked, next_among, next_line}
+use Rattle.kc_machine.specs.kc_machine_words.declared.access.Found.{Found}
+use Rattle.kc_machine.specs.kc_machine_words.declared.words.Handle.{Handle}
+use Rattle.kc_machine.specs.kc_machine_words.declared.words.Mode.{Mode}
+use Rattle.kc_machine.specs.kc_machine_words.declared.access.Found.TheVariants as found
+use Rattle.kc_machine.specs.kc_machine_steps.declared.task.Told.TheVariants as told
+use Rattle.kc_machine.specs.kc_machine_commits.declared.commit.OwnStep.TheVariants as own
+use Rattle.kc_machine.specs.kc_machine_commits.Commits.{after_scan, scan_next, take_next}
+use Rattle.kc_machine.specs.kc_machine_commits.Nexts.{Next}
+use Rattle.kc_machine.specs.kc_machine_commits.Nexts.{Goes, Takes, Tells}
+use Rattle.kc_machine.specs.kc_machine_commits.declared.commit.Stage.TheVariants.{Scan, Take, Own}
+use Rattle.kc_machine.specs.kc_machine_steps.Lines.{picks, picked, next_among, next_line}
 use Rattle.kc_model.specs.declared.footprint.Line.{Line}
 use Rattle.kc_model.specs.declared.footprint.TheConstants.{MOST}
-use Rattle.kc_machine_steps.specs.declared.line.Pick.{Pick}
+use Rattle.kc_machine.specs.kc_machine_steps.declared.line.Pick.{Pick}
 
 abbrev pub IsPicked : Pick → Mode → List Line → Option ℕ → Type 0
 IsPicked p m xs None = Unit {0}

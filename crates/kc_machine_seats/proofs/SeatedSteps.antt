@@ -2,26 +2,26 @@
 use Rattle.std.proofs.Common.{arith, ◌≡◌, ◌<◌, ◌+◌, ◌-◌, ◌*◌, ℕ, Bool, true, false, refl, sym, subst, ◌==◌, ◌&&◌, if◌then◌else◌, Option, None, Some, List}
 use Rattle.std.specs.Prelude.{nat_lt}
 use borrow.Author.Tests.{ltb-true}
-use Rattle.kc_machine_words.specs.declared.access.Found.{Found}
-use Rattle.kc_machine_words.specs.declared.words.Handle.{Handle}
+use Rattle.kc_machine.specs.kc_machine_words.declared.access.Found.{Found}
+use Rattle.kc_machine.specs.kc_machine_words.declared.words.Handle.{Handle}
 use Rattle.kc_model.specs.declared.footprint.Seen.{Seen}
-use Rattle.kc_machine_words.specs.declared.access.Found.TheVariants as found
-use Rattle.kc_machine_steps.specs.declared.task.Task.{Task}
-use Rattle.kc_machine_steps.specs.declared.task.Task.TheVariants as task
-use Rattle.kc_machine_steps.specs.declared.task.Event.{Event}
-use Rattle.kc_machine_steps.specs.declared.task.Told.TheVariants as told
-use Rattle.kc_machine_steps.specs.declared.look.Look.{Look}
-use Rattle.kc_machine_steps.specs.declared.look.LookNext.{LookNext}
-use Rattle.kc_machine_steps.specs.declared.look.LookNext.TheVariants as looking
-use Rattle.kc_machine_commits.specs.declared.commit.OwnStep.{OwnStep}
-use Rattle.kc_machine_commits.specs.declared.commit.OwnStep.TheVariants as own
-use Rattle.kc_machine_commits.specs.Nexts.{Next}
-use Rattle.kc_machine_commits.specs.declared.commit.Commit.{Commit}
-use Rattle.kc_machine_commits.specs.declared.commit.Stage.{Stage}
-use Rattle.kc_machine_commits.specs.declared.commit.Stage.TheVariants.{Scan, Take, Own}
-use Rattle.kc_machine_commits.specs.Nexts as next
-use Rattle.kc_machine_steps.specs.declared.task.Onward.{Onward}
-use Rattle.kc_machine_steps.specs.declared.task.Onward.TheVariants as onward
+use Rattle.kc_machine.specs.kc_machine_words.declared.access.Found.TheVariants as found
+use Rattle.kc_machine.specs.kc_machine_steps.declared.task.Task.{Task}
+use Rattle.kc_machine.specs.kc_machine_steps.declared.task.Task.TheVariants as task
+use Rattle.kc_machine.specs.kc_machine_steps.declared.task.Event.{Event}
+use Rattle.kc_machine.specs.kc_machine_steps.declared.task.Told.TheVariants as told
+use Rattle.kc_machine.specs.kc_machine_steps.declared.look.Look.{Look}
+use Rattle.kc_machine.specs.kc_machine_steps.declared.look.LookNext.{LookNext}
+use Rattle.kc_machine.specs.kc_machine_steps.declared.look.LookNext.TheVariants as looking
+use Rattle.kc_machine.specs.kc_machine_commits.declared.commit.OwnStep.{OwnStep}
+use Rattle.kc_machine.specs.kc_machine_commits.declared.commit.OwnStep.TheVariants as own
+use Rattle.kc_machine.specs.kc_machine_commits.Nexts.{Next}
+use Rattle.kc_machine.specs.kc_machine_commits.declared.commit.Commit.{Commit}
+use Rattle.kc_machine.specs.kc_machine_commits.declared.commit.Stage.{Stage}
+use Rattle.kc_machine.specs.kc_machine_commits.declared.commit.Stage.TheVariants.{Scan, Take, Own}
+use Rattle.kc_machine.specs.kc_machine_commits.Nexts as next
+use Rattle.kc_machine.specs.kc_machine_steps.declared.task.Onward.{Onward}
+use Rattle.kc_machine.specs.kc_machine_steps.declared.task.Onward.TheVariants as onward
 use Rattle.kc_machine.specs.Waits.{Hang}
 use Rattle.kc_machine.specs.declared.hang.HangNext.{HangNext}
 use Rattle.kc_machine.specs.declared.hang.HangNext.TheVariants as hanging
@@ -33,16 +33,16 @@ use Rattle.kc_machine.specs.Machine.{Opening, run, pool_size}
 use Rattle.kc_machine.specs.Seats.{answer_of, answer_by, after, begun, begun_idle, is_idle, working, halted, halted_by, ended}
 use Rattle.kc_machine.specs.Seats.{hanging as hanging_of}
 use Rattle.kc_machine.specs.declared.seat.Seat.{Seat}
-use Rattle.kc_machine_commits.specs.Commits.{after_scan, scan_next, take_next, stage_next, tells_or_goes, loaded, gone_on, onward_by, commit_next, commit_onward}
-use Rattle.kc_machine_commits.specs.Halts.{unowned, halted_at}
+use Rattle.kc_machine.specs.kc_machine_commits.Commits.{after_scan, scan_next, take_next, stage_next, tells_or_goes, loaded, gone_on, onward_by, commit_next, commit_onward}
+use Rattle.kc_machine.specs.kc_machine_commits.Halts.{unowned, halted_at}
 use Rattle.kc_machine_seats.proofs.Always.{always, any_event, all_any}
 use Rattle.kc_machine_seats.specs.Seated.{IsSeat, SeatsStay, StageSearches, WorkSearches, SearchesAreInRange}
-use Rattle.kc_machine_steps.specs.Swaps.{swap_next, swaps_on, ends_at_once}
-use Rattle.kc_machine_steps.specs.Swaps.{onward_of as onward_of_swap}
-use Rattle.kc_machine_steps.specs.declared.swap.Swap.{Swap}
-use Rattle.kc_machine_steps.specs.declared.swap.SwapNext.{SwapNext}
-use Rattle.kc_machine_steps.specs.declared.swap.SwapNext.TheVariants as swapping
-use Rattle.kc_machine_steps.specs.Looks.{look_next, look_tells, look_halted, looks_on, told_by, halts_at_once}
+use Rattle.kc_machine.specs.kc_machine_steps.Swaps.{swap_next, swaps_on, ends_at_once}
+use Rattle.kc_machine.specs.kc_machine_steps.Swaps.{onward_of as onward_of_swap}
+use Rattle.kc_machine.specs.kc_machine_steps.declared.swap.Swap.{Swap}
+use Rattle.kc_machine.specs.kc_machine_steps.declared.swap.SwapNext.{SwapNext}
+use Rattle.kc_machine.specs.kc_machine_steps.declared.swap.SwapNext.TheVariants as swapping
+use Rattle.kc_machine.specs.kc_machine_steps.Looks.{look_next, look_tells, look_halted, looks_on, told_by, halts_at_once}
 
 -- ---- what stays
 

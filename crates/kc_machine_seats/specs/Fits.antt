@@ -1,26 +1,26 @@
 -- How the step of a pass fits the lines that the pass goes over.
 use Rattle.std.specs.Prelude.{◌≡◌, ◌≢◌, ◌⊎◌, ◌<◌, ℕ, List, Bool, true, false, Some, slice_get, length}
-use Rattle.kc_machine_steps.specs.declared.line.Intent.{Intent}
+use Rattle.kc_machine.specs.kc_machine_steps.declared.line.Intent.{Intent}
 use Rattle.kc_model.specs.declared.footprint.Line.{Line}
-use Rattle.kc_machine_steps.specs.declared.pass.AfterCheck.{AfterCheck}
-use Rattle.kc_machine_steps.specs.declared.pass.PassStep.{PassStep}
-use Rattle.kc_machine_steps.specs.declared.pass.PassStep.TheVariants.{Install, Check, CheckHold, CheckStatus, CheckFirst, CheckDrop, Decide, Release}
-use Rattle.kc_machine_words.specs.declared.words.Mode.{Mode}
-use Rattle.kc_machine_words.specs.declared.words.Phase.{Phase}
-use Rattle.kc_machine_words.specs.declared.words.Phase.TheVariants.{Active, Failed, Crossed, Halted}
+use Rattle.kc_machine.specs.kc_machine_steps.declared.pass.AfterCheck.{AfterCheck}
+use Rattle.kc_machine.specs.kc_machine_steps.declared.pass.PassStep.{PassStep}
+use Rattle.kc_machine.specs.kc_machine_steps.declared.pass.PassStep.TheVariants.{Install, Check, CheckHold, CheckStatus, CheckFirst, CheckDrop, Decide, Release}
+use Rattle.kc_machine.specs.kc_machine_words.declared.words.Mode.{Mode}
+use Rattle.kc_machine.specs.kc_machine_words.declared.words.Phase.{Phase}
+use Rattle.kc_machine.specs.kc_machine_words.declared.words.Phase.TheVariants.{Active, Failed, Crossed, Halted}
 use Rattle.kc_model.specs.declared.footprint.TheConstants.{MOST}
-use Rattle.kc_machine_steps.specs.declared.pass.AfterCheck.TheVariants as checked
-use Rattle.kc_machine_steps.specs.declared.aid.AidStep.{AidStep}
-use Rattle.kc_machine_steps.specs.declared.aid.Aided.{Aided}
-use Rattle.kc_machine_steps.specs.declared.aid.AidStep.TheVariants as aid
-use Rattle.kc_machine_commits.specs.declared.commit.OwnStep.{OwnStep}
-use Rattle.kc_machine_commits.specs.declared.commit.OwnStep.TheVariants as own
+use Rattle.kc_machine.specs.kc_machine_steps.declared.pass.AfterCheck.TheVariants as checked
+use Rattle.kc_machine.specs.kc_machine_steps.declared.aid.AidStep.{AidStep}
+use Rattle.kc_machine.specs.kc_machine_steps.declared.aid.Aided.{Aided}
+use Rattle.kc_machine.specs.kc_machine_steps.declared.aid.AidStep.TheVariants as aid
+use Rattle.kc_machine.specs.kc_machine_commits.declared.commit.OwnStep.{OwnStep}
+use Rattle.kc_machine.specs.kc_machine_commits.declared.commit.OwnStep.TheVariants as own
 use Rattle.kc_machine.specs.Works.{Work}
-use Rattle.kc_machine_commits.specs.declared.commit.Stage.{Stage}
-use Rattle.kc_machine_commits.specs.declared.commit.Stage.TheVariants.{Own}
+use Rattle.kc_machine.specs.kc_machine_commits.declared.commit.Stage.{Stage}
+use Rattle.kc_machine.specs.kc_machine_commits.declared.commit.Stage.TheVariants.{Own}
 use Rattle.kc_machine.specs.Works as work
 use Rattle.kc_machine.specs.Machine.{State}
-use Rattle.kc_machine_steps.specs.Lines.{is_installed}
+use Rattle.kc_machine.specs.kc_machine_steps.Lines.{is_installed}
 
 -- line k is there, among the most that a descriptor has, and it is installed; likewise checked
 abbrev pub IsInstalledAt : Mode → List Line → ℕ → Type 0

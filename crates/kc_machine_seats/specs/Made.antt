@@ -1,14 +1,14 @@
 -- What is well made in the tasks that seats have, for n locations.
 use Rattle.std.specs.Prelude.{◌≡◌, ◌≢◌, ◌<◌, ◌≤◌, ℕ, [], length, map, All, true}
 use Rattle.kc_machine.specs.Works.{Work}
-use Rattle.kc_machine_steps.specs.declared.line.Intent.{Intent}
+use Rattle.kc_machine.specs.kc_machine_steps.declared.line.Intent.{Intent}
 use Rattle.kc_model.specs.declared.footprint.Line.{Line}
 use Rattle.kc_model.specs.Rising.{IsRising}
 use Rattle.kc_model.specs.declared.footprint.TheConstants.{LAST_VERSION, MOST}
 use Rattle.kc_machine.specs.Works as work
 use Rattle.kc_machine.specs.Machine.{State}
 use Rattle.kc_machine.specs.Schedules.{AreBelow}
-use Rattle.kc_machine_steps.specs.Lines.{has_put}
+use Rattle.kc_machine.specs.kc_machine_steps.Lines.{has_put}
 
 abbrev pub line_location : Line → ℕ
 line_location x = x.seen.loc.0

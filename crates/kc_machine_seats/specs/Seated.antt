@@ -1,9 +1,9 @@
 -- What a seat keeps from the opening, and how its search stands by it.
 use Rattle.std.specs.Prelude.{◌≡◌, ◌<◌, ◌*◌, ℕ}
 use Rattle.kc_machine.specs.Works.{Work}
-use Rattle.kc_machine_commits.specs.declared.commit.Stage.{Stage}
-use Rattle.kc_machine_commits.specs.declared.commit.Stage.TheVariants.{Scan, Take, Own}
-use Rattle.kc_machine_words.specs.declared.words.TheConstants.{LAST_GENERATION}
+use Rattle.kc_machine.specs.kc_machine_commits.declared.commit.Stage.{Stage}
+use Rattle.kc_machine.specs.kc_machine_commits.declared.commit.Stage.TheVariants.{Scan, Take, Own}
+use Rattle.kc_machine.specs.kc_machine_words.declared.words.TheConstants.{LAST_GENERATION}
 use Rattle.kc_machine.specs.Works as work
 use Rattle.kc_machine.specs.Machine.{State, Opening, pool_size}
 use Rattle.kc_machine.specs.declared.seat.Seat.{Seat}

@@ -2,7 +2,7 @@
 
 ghost use Rattle.std.specs.Prelude.{List};
 ghost use Rattle.kc_machine.specs.Machine.{Opening, run};
-ghost use Rattle.kc_machine_steps.specs.declared.task.Event.{Event};
+ghost use Rattle.kc_machine.specs.kc_machine_steps.declared.task.Event.{Event};
 ghost use Rattle.kc_machine_seats.specs.Fits.{PassStepsFit};
 ghost use Rattle.kc_machine.specs.Schedules.{IsSchedule};
 ghost use Rattle.kc_machine_seats.specs.Formed.{SeatsAreWellFormed, HangsStandAtReads};

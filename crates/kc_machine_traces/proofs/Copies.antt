@@ -1,29 +1,29 @@
 -- What an aid has loaded of the owner word is what stands there, as long as it holds the descriptor.
 use Rattle.std.proofs.Common.{◌≡◌, ℕ, zero, suc, ◌<◌, ◌≤◌, ◌⊎◌, ◌∙◌, ⊎_elim, inl, inr, refl, sym, ap, subst, arith, ◌==◌, Bool, true, false, if◌then◌else◌, length, List, [], ◌∷◌, ◌++◌, Some}
-use Rattle.kc_machine_words.specs.declared.words.First.{First}
-use Rattle.kc_machine_words.specs.declared.words.Reference.{Reference}
-use Rattle.kc_machine_words.specs.declared.access.Found.TheVariants as found
-use Rattle.kc_machine_steps.specs.declared.aid.AidStep.{AidStep}
-use Rattle.kc_machine_steps.specs.declared.aid.Aided.{Aided}
-use Rattle.kc_machine_steps.specs.declared.aid.AidStep.TheVariants as aid
-use Rattle.kc_machine_steps.specs.declared.aid.AidNext.TheVariants as aiding
-use Rattle.kc_machine_commits.specs.declared.commit.OwnStep.TheVariants as own
-use Rattle.kc_machine.proofs.Functions.{put_cases}
-use Rattle.kc_machine.specs.Machine.{World, Opening, put, run, opened}
-use Rattle.kc_machine_commits.specs.Halts.{halted_aid, halted_aid_pass}
-use Rattle.kc_machine_effects.specs.Holds.{Proper, aid_hold}
-use Rattle.kc_machine_effects.specs.Stands.{Stand, Owns, Aiding, NoAid, Aids, Passes, stand}
-use Rattle.kc_machine_steps.specs.Aids.{copy_line}
-use Rattle.kc_machine_steps.specs.Lines.{joined}
-use Rattle.kc_machine_steps.specs.declared.pass.PassStep.{PassStep}
-use Rattle.kc_machine_steps.specs.declared.pass.PassStep.TheVariants.{Install, Check, CheckHold, CheckStatus, CheckFirst, CheckDrop, Decide, Release}
-use Rattle.kc_machine_steps.specs.declared.task.Event.{Event}
+use Rattle.kc_machine_pool.specs.kc_machine_words.declared.words.First.{First}
+use Rattle.kc_machine_pool.specs.kc_machine_words.declared.words.Reference.{Reference}
+use Rattle.kc_machine_pool.specs.kc_machine_words.declared.access.Found.TheVariants as found
+use Rattle.kc_machine_pool.specs.kc_machine_steps.declared.aid.AidStep.{AidStep}
+use Rattle.kc_machine_pool.specs.kc_machine_steps.declared.aid.Aided.{Aided}
+use Rattle.kc_machine_pool.specs.kc_machine_steps.declared.aid.AidStep.TheVariants as aid
+use Rattle.kc_machine_pool.specs.kc_machine_steps.declared.aid.AidNext.TheVariants as aiding
+use Rattle.kc_machine_pool.specs.kc_machine_commits.declared.commit.OwnStep.TheVariants as own
+use Rattle.kc_machine_pool.proofs.kc_machine.Functions.{put_cases}
+use Rattle.kc_machine_pool.specs.kc_machine.Machine.{World, Opening, put, run, opened}
+use Rattle.kc_machine_pool.specs.kc_machine_commits.Halts.{halted_aid, halted_aid_pass}
+use Rattle.kc_machine_pool.specs.kc_machine_effects.Holds.{Proper, aid_hold}
+use Rattle.kc_machine_pool.specs.kc_machine_effects.Stands.{Stand, Owns, Aiding, NoAid, Aids, Passes, stand}
+use Rattle.kc_machine_pool.specs.kc_machine_steps.Aids.{copy_line}
+use Rattle.kc_machine_pool.specs.kc_machine_steps.Lines.{joined}
+use Rattle.kc_machine_pool.specs.kc_machine_steps.declared.pass.PassStep.{PassStep}
+use Rattle.kc_machine_pool.specs.kc_machine_steps.declared.pass.PassStep.TheVariants.{Install, Check, CheckHold, CheckStatus, CheckFirst, CheckDrop, Decide, Release}
+use Rattle.kc_machine_pool.specs.kc_machine_steps.declared.task.Event.{Event}
 use Rattle.std.proofs.lemmas.List.{length-append}
-use Rattle.kc_machine_effects.proofs.Held.{Fits}
-use Rattle.kc_machine_effects.proofs.Runs.{holds_after}
-use Rattle.kc_machine_effects.specs.Changes.{with_owner, with_first, with_second}
-use Rattle.kc_machine_effects.specs.Effects
-use Rattle.kc_machine_effects.specs.Effects.{Effect}
+use Rattle.kc_machine_pool.proofs.kc_machine_effects.Held.{Fits}
+use Rattle.kc_machine_pool.proofs.kc_machine_effects.Runs.{holds_after}
+use Rattle.kc_machine_pool.specs.kc_machine_effects.Changes.{with_owner, with_first, with_second}
+use Rattle.kc_machine_pool.specs.kc_machine_effects.Effects
+use Rattle.kc_machine_pool.specs.kc_machine_effects.Effects.{Effect}
 use Rattle.kc_machine_pool.proofs.LifeLaws.{opened_lives}
 use Rattle.kc_machine_pool.proofs.Lives.{Lives, fitting, lives_effect}
 use Rattle.kc_machine_pool.proofs.Shapes.{Shape, is_aiding}
@@ -32,7 +32,7 @@ use Rattle.kc_machine_pool.specs.Filled.{owner_word}
 use Rattle.kc_machine_pool.specs.Owners.{Follows}
 use Rattle.kc_machine_pool.specs.References.{met_by_aid}
 use Rattle.kc_machine_pool.specs.Started.{listed, line_of_words}
-use Rattle.kc_machine_steps.specs.Lines.{first_of, second_of}
+use Rattle.kc_machine_pool.specs.kc_machine_steps.Lines.{first_of, second_of}
 use Rattle.kc_model.specs.declared.footprint.Line.{Line}
 use Rattle.kc_model.specs.declared.footprint.TheConstants.{MOST}
 use Rattle.kc_machine_traces.proofs.Whole.{Bound, bound_own, bound_whole}

@@ -1,22 +1,22 @@
 -- The caller and the call of a stand are its seat's.
 use Rattle.std.proofs.Common.{◌≡◌, refl}
-use Rattle.kc_machine_steps.specs.declared.aid.AidStep.{AidStep}
-use Rattle.kc_machine_steps.specs.declared.aid.Aided.{Aided}
-use Rattle.kc_machine_words.specs.declared.words.Handle.{Handle}
-use Rattle.kc_machine_words.specs.declared.words.Reference.{Reference}
-use Rattle.kc_machine_steps.specs.declared.aid.AidStep.TheVariants as aid
-use Rattle.kc_machine_commits.specs.declared.commit.Commit.{Commit}
-use Rattle.kc_machine_commits.specs.declared.commit.OwnStep.{OwnStep}
-use Rattle.kc_machine_commits.specs.declared.commit.Stage.{Stage}
-use Rattle.kc_machine_commits.specs.declared.commit.Stage.TheVariants.{Scan, Take, Own}
-use Rattle.kc_machine_commits.specs.declared.commit.OwnStep.TheVariants as own
-use Rattle.kc_machine.specs.Works.{Work}
-use Rattle.kc_machine.specs.Works as work
-use Rattle.kc_machine.specs.Waits.{Hang}
-use Rattle.kc_machine.specs.declared.hang.HangStep.{HangStep}
-use Rattle.kc_machine.specs.declared.hang.HangStep.TheVariants as hang
-use Rattle.kc_machine.specs.declared.seat.Seat.{Seat}
-use Rattle.kc_machine_effects.specs.Stands.{Stand, Waits, stand, works, resting, commits, owns, aids, hangs}
+use Rattle.kc_machine_pool.specs.kc_machine_steps.declared.aid.AidStep.{AidStep}
+use Rattle.kc_machine_pool.specs.kc_machine_steps.declared.aid.Aided.{Aided}
+use Rattle.kc_machine_pool.specs.kc_machine_words.declared.words.Handle.{Handle}
+use Rattle.kc_machine_pool.specs.kc_machine_words.declared.words.Reference.{Reference}
+use Rattle.kc_machine_pool.specs.kc_machine_steps.declared.aid.AidStep.TheVariants as aid
+use Rattle.kc_machine_pool.specs.kc_machine_commits.declared.commit.Commit.{Commit}
+use Rattle.kc_machine_pool.specs.kc_machine_commits.declared.commit.OwnStep.{OwnStep}
+use Rattle.kc_machine_pool.specs.kc_machine_commits.declared.commit.Stage.{Stage}
+use Rattle.kc_machine_pool.specs.kc_machine_commits.declared.commit.Stage.TheVariants.{Scan, Take, Own}
+use Rattle.kc_machine_pool.specs.kc_machine_commits.declared.commit.OwnStep.TheVariants as own
+use Rattle.kc_machine_pool.specs.kc_machine.Works.{Work}
+use Rattle.kc_machine_pool.specs.kc_machine.Works as work
+use Rattle.kc_machine_pool.specs.kc_machine.Waits.{Hang}
+use Rattle.kc_machine_pool.specs.kc_machine.declared.hang.HangStep.{HangStep}
+use Rattle.kc_machine_pool.specs.kc_machine.declared.hang.HangStep.TheVariants as hang
+use Rattle.kc_machine_pool.specs.kc_machine.declared.seat.Seat.{Seat}
+use Rattle.kc_machine_pool.specs.kc_machine_effects.Stands.{Stand, Waits, stand, works, resting, commits, owns, aids, hangs}
 
 abbrev SameCall : Stand → Stand → Type 0
 SameCall t s = (t.caller ≡ s.caller) × (t.calls ≡ s.calls)

@@ -3,12 +3,12 @@
 ghost use Rattle.std.specs.Prelude.{◌≡◌, ℕ, ◌<◌, ◌≤◌, ◌++◌, ◌∷◌, List, [], All, true, false, Some, length};
 ghost use Rattle.kc_model.specs.declared.footprint.Seen.{Seen};
 ghost use Rattle.kc_model.specs.Store.{Store};
-ghost use Rattle.kc_machine_steps.specs.declared.task.Task.{Task};
-ghost use Rattle.kc_machine_steps.specs.declared.task.Event.{Event};
-ghost use Rattle.kc_machine_steps.specs.declared.task.Event.TheVariants.{Begin, Step};
-ghost use Rattle.kc_machine.specs.Machine.{Opening, run, run_from, possible, touched, found_at};
-ghost use Rattle.kc_machine.specs.Schedules.{BeginsWellMade, IsSchedule};
-ghost use Rattle.kc_machine.specs.Seats.{access_of, answer_of, begun, is_idle};
+ghost use Rattle.kc_machine_pool.specs.kc_machine_steps.declared.task.Task.{Task};
+ghost use Rattle.kc_machine_pool.specs.kc_machine_steps.declared.task.Event.{Event};
+ghost use Rattle.kc_machine_pool.specs.kc_machine_steps.declared.task.Event.TheVariants.{Begin, Step};
+ghost use Rattle.kc_machine_pool.specs.kc_machine.Machine.{Opening, run, run_from, possible, touched, found_at};
+ghost use Rattle.kc_machine_pool.specs.kc_machine.Schedules.{BeginsWellMade, IsSchedule};
+ghost use Rattle.kc_machine_pool.specs.kc_machine.Seats.{access_of, answer_of, begun, is_idle};
 ghost use Rattle.kc_machine_claims.specs.Claims.{HistoriesGrow};
 ghost use Rattle.kc_machine_claims.specs.Histories.{History, Grows, IsKnown, ending};
 ghost use Rattle.kc_machine_claims.specs.Traces.{trace, trace_from, first_store, IsHonest};

@@ -1,65 +1,65 @@
 -- Every event leaves it so that who listens hears.
-use Rattle.kc_machine_steps.specs.Swaps.{swaps_on, ends_at_once}
-use Rattle.kc_machine_steps.specs.Swaps.{onward_of as onward_of_swap}
-use Rattle.kc_machine_steps.specs.declared.swap.Swap.{Swap}
-use Rattle.kc_machine_steps.specs.declared.swap.SwapNext.{SwapNext}
-use Rattle.kc_machine_steps.specs.declared.swap.SwapNext.TheVariants as swapping
-use Rattle.kc_machine_steps.specs.declared.swap.SwapStep.{SwapStep}
-use Rattle.kc_machine_steps.specs.declared.swap.SwapStep.TheVariants as swap
+use Rattle.kc_machine_looks.specs.kc_machine_steps.Swaps.{swaps_on, ends_at_once}
+use Rattle.kc_machine_looks.specs.kc_machine_steps.Swaps.{onward_of as onward_of_swap}
+use Rattle.kc_machine_looks.specs.kc_machine_steps.declared.swap.Swap.{Swap}
+use Rattle.kc_machine_looks.specs.kc_machine_steps.declared.swap.SwapNext.{SwapNext}
+use Rattle.kc_machine_looks.specs.kc_machine_steps.declared.swap.SwapNext.TheVariants as swapping
+use Rattle.kc_machine_looks.specs.kc_machine_steps.declared.swap.SwapStep.{SwapStep}
+use Rattle.kc_machine_looks.specs.kc_machine_steps.declared.swap.SwapStep.TheVariants as swap
 use Rattle.kc_machine_waiting.proofs.Listening.{SwapTellsSo, swap_calm}
-use Rattle.kc_machine.specs.Seats.{blocked_by}
-use Rattle.kc_machine_traces.specs.Swaps.{swap_at}
+use Rattle.kc_machine_looks.specs.kc_machine.Seats.{blocked_by}
+use Rattle.kc_machine_looks.specs.kc_machine_traces.Swaps.{swap_at}
 use Rattle.std.proofs.Common.{arith, ◌≡◌, ◌≢◌, ◌<◌, ◌≤◌, ◌⊎◌, inl, inr, ◌++◌, ◌==◌, ℕ, Bool, true, false, List, [], ◌∷◌, Option, None, Some, refl, sym, ap, subst, ◌∙◌, if◌then◌else◌}
 use Rattle.std.specs.Prelude.{slice_get, nat_lt, Contains}
 use borrow.Author.Tests.{ltb-true, ltb-false, eqb-true, eqb-false}
 use Rattle.kc_model.specs.declared.footprint.Seen.{Seen}
-use Rattle.kc_machine_words.specs.declared.access.Access.TheVariants as access
-use Rattle.kc_machine_words.specs.declared.access.Bits.TheVariants as bits
-use Rattle.kc_machine_words.specs.declared.access.Found.{Found}
-use Rattle.kc_machine_steps.specs.declared.look.LookStep.TheVariants as look
-use Rattle.kc_machine_steps.specs.declared.look.LookNext.{LookNext}
-use Rattle.kc_machine_steps.specs.declared.look.LookNext.TheVariants as looking
-use Rattle.kc_machine_commits.specs.declared.commit.Commit.{Commit}
-use Rattle.kc_machine_steps.specs.declared.look.Look.{Look}
-use Rattle.kc_machine_steps.specs.declared.task.Task.{Task}
-use Rattle.kc_machine_steps.specs.declared.task.Task.TheVariants as task
-use Rattle.kc_machine_commits.specs.Nexts.{Next}
-use Rattle.kc_machine_steps.specs.declared.task.Event.{Event}
-use Rattle.kc_machine_steps.specs.declared.task.Event.TheVariants.{Begin, Step, Halt}
-use Rattle.kc_machine_commits.specs.Nexts as next
-use Rattle.kc_machine.specs.Waits.{Hang, Leave}
-use Rattle.kc_machine.specs.declared.hang.HangStep.{HangStep}
-use Rattle.kc_machine_commits.specs.Commits.{gone_on, onward_by, loaded}
-use Rattle.kc_machine_commits.specs.Halts.{unowned, commit_halted}
-use Rattle.kc_machine_steps.specs.Lines.{after_line}
-use Rattle.kc_machine_steps.specs.Looks.{looks_on, told_by, halts_at_once, look_halted}
-use Rattle.kc_machine.specs.declared.hang.HangStep.TheVariants as hang
-use Rattle.kc_machine.specs.Hangs.{hang_next, hangs_on, onward_of, set_or_look, clear_or_changed, leaves_on, unblocks_or_tells, next_read, read_of, hang_access_of}
-use Rattle.kc_machine.specs.Words.{bits_after}
-use Rattle.kc_machine.specs.Works.{Work}
-use Rattle.kc_machine.specs.declared.hang.HangNext.{HangNext}
-use Rattle.kc_machine.specs.declared.hang.HangNext.TheVariants.{Goes}
-use Rattle.kc_machine.specs.Works as work
-use Rattle.kc_machine.proofs.Functions.{put_here}
-use Rattle.kc_machine.specs.Machine.{World, State, Opening, touched, found_at, event_of, seat_of, run}
-use Rattle.kc_machine.specs.Schedules.{IsSchedule}
-use Rattle.kc_machine.specs.Seats.{access_of, work_access, answer_of, answer_by, after, is_idle, begun, begun_idle, working, hanging, halted, halted_by, ended}
-use Rattle.kc_machine.specs.declared.seat.Seat.{Seat}
-use Rattle.kc_machine_claims.proofs.Follows.{trace_runs}
-use Rattle.kc_machine_claims.specs.Claims.{has_bit, IsAwake, WakeIsToCome}
-use Rattle.kc_machine_claims.specs.Histories.{History, ending}
-use Rattle.kc_machine_claims.specs.Traces.{Moment, Shadow, Trace, now, trace, first_store, listens, blocking_after, with_task, place_after, shadow_after, begins}
-use Rattle.kc_machine_effects.specs.Stands.{Hangs, HangLooks, NoPass, stand}
-use Rattle.kc_machine_histories.proofs.Decisions.{history_moves}
-use Rattle.kc_machine_histories.proofs.Passes.{pass_is, work_pass}
-use Rattle.kc_machine_ranges.proofs.Room.{lt_is}
-use Rattle.kc_machine_ranges.proofs.Runs.{steps_possible}
-use Rattle.kc_machine_seats.proofs.FormedSteps.{formed_always}
-use Rattle.kc_machine_seats.proofs.SeatedSteps.{seats_stay}
-use Rattle.kc_machine_seats.specs.Formed.{WorkIsFormed}
-use Rattle.kc_machine_traces.proofs.Answers.{moved, seat_cases}
-use Rattle.kc_machine_traces.proofs.Joins.{run-append, trace-append, every, made_parts}
-use Rattle.kc_machine_traces.proofs.Others.{step_world, run_shape, event_out, others_leave, others_leave_shadow}
+use Rattle.kc_machine_looks.specs.kc_machine_words.declared.access.Access.TheVariants as access
+use Rattle.kc_machine_looks.specs.kc_machine_words.declared.access.Bits.TheVariants as bits
+use Rattle.kc_machine_looks.specs.kc_machine_words.declared.access.Found.{Found}
+use Rattle.kc_machine_looks.specs.kc_machine_steps.declared.look.LookStep.TheVariants as look
+use Rattle.kc_machine_looks.specs.kc_machine_steps.declared.look.LookNext.{LookNext}
+use Rattle.kc_machine_looks.specs.kc_machine_steps.declared.look.LookNext.TheVariants as looking
+use Rattle.kc_machine_looks.specs.kc_machine_commits.declared.commit.Commit.{Commit}
+use Rattle.kc_machine_looks.specs.kc_machine_steps.declared.look.Look.{Look}
+use Rattle.kc_machine_looks.specs.kc_machine_steps.declared.task.Task.{Task}
+use Rattle.kc_machine_looks.specs.kc_machine_steps.declared.task.Task.TheVariants as task
+use Rattle.kc_machine_looks.specs.kc_machine_commits.Nexts.{Next}
+use Rattle.kc_machine_looks.specs.kc_machine_steps.declared.task.Event.{Event}
+use Rattle.kc_machine_looks.specs.kc_machine_steps.declared.task.Event.TheVariants.{Begin, Step, Halt}
+use Rattle.kc_machine_looks.specs.kc_machine_commits.Nexts as next
+use Rattle.kc_machine_looks.specs.kc_machine.Waits.{Hang, Leave}
+use Rattle.kc_machine_looks.specs.kc_machine.declared.hang.HangStep.{HangStep}
+use Rattle.kc_machine_looks.specs.kc_machine_commits.Commits.{gone_on, onward_by, loaded}
+use Rattle.kc_machine_looks.specs.kc_machine_commits.Halts.{unowned, commit_halted}
+use Rattle.kc_machine_looks.specs.kc_machine_steps.Lines.{after_line}
+use Rattle.kc_machine_looks.specs.kc_machine_steps.Looks.{looks_on, told_by, halts_at_once, look_halted}
+use Rattle.kc_machine_looks.specs.kc_machine.declared.hang.HangStep.TheVariants as hang
+use Rattle.kc_machine_looks.specs.kc_machine.Hangs.{hang_next, hangs_on, onward_of, set_or_look, clear_or_changed, leaves_on, unblocks_or_tells, next_read, read_of, hang_access_of}
+use Rattle.kc_machine_looks.specs.kc_machine.Words.{bits_after}
+use Rattle.kc_machine_looks.specs.kc_machine.Works.{Work}
+use Rattle.kc_machine_looks.specs.kc_machine.declared.hang.HangNext.{HangNext}
+use Rattle.kc_machine_looks.specs.kc_machine.declared.hang.HangNext.TheVariants.{Goes}
+use Rattle.kc_machine_looks.specs.kc_machine.Works as work
+use Rattle.kc_machine_looks.proofs.kc_machine.Functions.{put_here}
+use Rattle.kc_machine_looks.specs.kc_machine.Machine.{World, State, Opening, touched, found_at, event_of, seat_of, run}
+use Rattle.kc_machine_looks.specs.kc_machine.Schedules.{IsSchedule}
+use Rattle.kc_machine_looks.specs.kc_machine.Seats.{access_of, work_access, answer_of, answer_by, after, is_idle, begun, begun_idle, working, hanging, halted, halted_by, ended}
+use Rattle.kc_machine_looks.specs.kc_machine.declared.seat.Seat.{Seat}
+use Rattle.kc_machine_looks.proofs.kc_machine_claims.Follows.{trace_runs}
+use Rattle.kc_machine_looks.specs.kc_machine_claims.Claims.{has_bit, IsAwake, WakeIsToCome}
+use Rattle.kc_machine_looks.specs.kc_machine_claims.Histories.{History, ending}
+use Rattle.kc_machine_looks.specs.kc_machine_claims.Traces.{Moment, Shadow, Trace, now, trace, first_store, listens, blocking_after, with_task, place_after, shadow_after, begins}
+use Rattle.kc_machine_looks.specs.kc_machine_effects.Stands.{Hangs, HangLooks, NoPass, stand}
+use Rattle.kc_machine_looks.proofs.kc_machine_histories.Decisions.{history_moves}
+use Rattle.kc_machine_looks.proofs.kc_machine_histories.Passes.{pass_is, work_pass}
+use Rattle.kc_machine_looks.proofs.kc_machine_ranges.Room.{lt_is}
+use Rattle.kc_machine_looks.proofs.kc_machine_ranges.Runs.{steps_possible}
+use Rattle.kc_machine_looks.proofs.kc_machine_seats.FormedSteps.{formed_always}
+use Rattle.kc_machine_looks.proofs.kc_machine_seats.SeatedSteps.{seats_stay}
+use Rattle.kc_machine_looks.specs.kc_machine_seats.Formed.{WorkIsFormed}
+use Rattle.kc_machine_looks.proofs.kc_machine_traces.Answers.{moved, seat_cases}
+use Rattle.kc_machine_looks.proofs.kc_machine_traces.Joins.{run-append, trace-append, every, made_parts}
+use Rattle.kc_machine_looks.proofs.kc_machine_traces.Others.{step_world, run_shape, event_out, others_leave, others_leave_shadow}
 use Rattle.kc_machine_waiting.proofs.Bits
 use Rattle.kc_machine_waiting.proofs.Covering.{hears_in, registered_in}
 use Rattle.kc_machine_waiting.proofs.Hearing.{listens_at, listens_by, IsDeaf}

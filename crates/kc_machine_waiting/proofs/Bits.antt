@@ -9,10 +9,10 @@ use Rattle.std.proofs.lemmas.Nat.Bits.{and_pow, bit_at-lt, bit_at-zero, bit_at_a
 use Rattle.std.proofs.Math.Pow.{pow-lt}
 use native.Mathlib.Nat.{div-add-mod'}
 use borrow.Author.Tests.{ltb-true, ltb-false, eqb-true, eqb-false, ne_eqb}
-use Rattle.kc_machine.specs.Words.{bit_of, bits_after}
-use Rattle.kc_machine_words.specs.declared.access.Bits.TheVariants as bits
-use Rattle.kc_machine_claims.specs.Claims.{has_bit}
-use Rattle.kc_machine_ranges.proofs.Room.{lt_is}
+use Rattle.kc_machine_looks.specs.kc_machine.Words.{bit_of, bits_after}
+use Rattle.kc_machine_looks.specs.kc_machine_words.declared.access.Bits.TheVariants as bits
+use Rattle.kc_machine_looks.specs.kc_machine_claims.Claims.{has_bit}
+use Rattle.kc_machine_looks.proofs.kc_machine_ranges.Room.{lt_is}
 
 module _ (c : ℕ) (small : c < 64) where
   bit_is : bit_of c ≡ 1 * 2 ^ c % 2 ^ 64

@@ -1,56 +1,56 @@
 -- Blocked callers are covered.
-use Rattle.kc_machine_steps.specs.Swaps.{swaps_on, ends_at_once}
-use Rattle.kc_machine_steps.specs.Swaps.{onward_of as onward_of_swap}
-use Rattle.kc_machine_steps.specs.declared.swap.Swap.{Swap}
-use Rattle.kc_machine_steps.specs.declared.swap.SwapNext.{SwapNext}
-use Rattle.kc_machine_steps.specs.declared.swap.SwapNext.TheVariants as swapping
+use Rattle.kc_machine_looks.specs.kc_machine_steps.Swaps.{swaps_on, ends_at_once}
+use Rattle.kc_machine_looks.specs.kc_machine_steps.Swaps.{onward_of as onward_of_swap}
+use Rattle.kc_machine_looks.specs.kc_machine_steps.declared.swap.Swap.{Swap}
+use Rattle.kc_machine_looks.specs.kc_machine_steps.declared.swap.SwapNext.{SwapNext}
+use Rattle.kc_machine_looks.specs.kc_machine_steps.declared.swap.SwapNext.TheVariants as swapping
 use Rattle.kc_machine_waiting.proofs.Listening.{SwapTellsSo, swap_calm}
-use Rattle.kc_machine.specs.Seats.{blocked_by}
+use Rattle.kc_machine_looks.specs.kc_machine.Seats.{blocked_by}
 use Rattle.std.proofs.Common.{arith, ◌≡◌, ◌≢◌, ◌<◌, ◌≤◌, ◌⊎◌, inl, inr, ◌++◌, ◌==◌, ℕ, Bool, true, false, List, [], ◌∷◌, Option, None, Some, refl, sym, ap, subst, ◌∙◌, if◌then◌else◌}
 use Rattle.std.specs.Prelude.{Contains, All}
 use Rattle.std.proofs.lemmas.List.Elements.{All-nil, All-cons}
 use borrow.Author.Tests.{eqb-true, eqb-false}
-use Rattle.kc_machine_steps.specs.declared.look.Look.{Look}
-use Rattle.kc_machine_steps.specs.declared.look.LookNext.{LookNext}
-use Rattle.kc_machine_words.specs.declared.access.Found.{Found}
+use Rattle.kc_machine_looks.specs.kc_machine_steps.declared.look.Look.{Look}
+use Rattle.kc_machine_looks.specs.kc_machine_steps.declared.look.LookNext.{LookNext}
+use Rattle.kc_machine_looks.specs.kc_machine_words.declared.access.Found.{Found}
 use Rattle.kc_model.proofs.Stores.{Contains-first, Contains-later}
 use Rattle.kc_model.specs.declared.footprint.Seen.{Seen}
-use Rattle.kc_machine_steps.specs.declared.look.LookNext.TheVariants as looking
-use Rattle.kc_machine_commits.specs.declared.commit.Commit.{Commit}
-use Rattle.kc_machine_steps.specs.declared.task.Task.{Task}
-use Rattle.kc_machine_steps.specs.declared.task.Task.TheVariants as task
-use Rattle.kc_machine_steps.specs.declared.task.Told.TheVariants as told
-use Rattle.kc_machine_commits.specs.Nexts.{Next}
-use Rattle.kc_machine_steps.specs.declared.task.Event.{Event}
-use Rattle.kc_machine_steps.specs.declared.task.Event.TheVariants.{Begin, Step, Halt}
-use Rattle.kc_machine_commits.specs.Nexts as next
-use Rattle.kc_machine.specs.Hangs.{hangs_on, onward_of, leaves_on, unblocks_or_tells}
-use Rattle.kc_machine.specs.Waits.{Hang, Leave}
-use Rattle.kc_machine.specs.Works.{Work}
-use Rattle.kc_machine.specs.declared.hang.HangNext.{HangNext}
-use Rattle.kc_machine.specs.declared.hang.HangNext.TheVariants.{Goes, Tells}
-use Rattle.kc_machine_commits.specs.Commits.{gone_on, onward_by, loaded}
-use Rattle.kc_machine_commits.specs.Halts.{unowned, commit_halted}
-use Rattle.kc_machine_steps.specs.Looks.{looks_on, told_by, halts_at_once, look_halted}
-use Rattle.kc_machine.specs.Works as work
-use Rattle.kc_machine.specs.Machine.{State, Opening, found_at, event_of, seat_of, run}
-use Rattle.kc_machine.specs.Schedules.{IsSchedule}
-use Rattle.kc_machine.specs.Seats.{access_of, answer_of, answer_by, after, is_idle, begun, begun_idle, working, hanging, halted, halted_by, ended}
-use Rattle.kc_machine.specs.declared.seat.Seat.{Seat}
-use Rattle.kc_machine_claims.specs.Claims.{IsAwake, IsCovered, StandsAt, WakeIsToCome, BlockedAreCovered, history_at}
-use Rattle.kc_machine_claims.specs.Histories.{ending}
-use Rattle.kc_machine_claims.specs.Traces.{Moment, Shadow, now, trace, first_store, listens, blocking_after}
-use Rattle.kc_machine_effects.specs.Stands.{Waiting, stand}
-use Rattle.kc_machine_histories.proofs.Growing.{histories_grow_between}
+use Rattle.kc_machine_looks.specs.kc_machine_steps.declared.look.LookNext.TheVariants as looking
+use Rattle.kc_machine_looks.specs.kc_machine_commits.declared.commit.Commit.{Commit}
+use Rattle.kc_machine_looks.specs.kc_machine_steps.declared.task.Task.{Task}
+use Rattle.kc_machine_looks.specs.kc_machine_steps.declared.task.Task.TheVariants as task
+use Rattle.kc_machine_looks.specs.kc_machine_steps.declared.task.Told.TheVariants as told
+use Rattle.kc_machine_looks.specs.kc_machine_commits.Nexts.{Next}
+use Rattle.kc_machine_looks.specs.kc_machine_steps.declared.task.Event.{Event}
+use Rattle.kc_machine_looks.specs.kc_machine_steps.declared.task.Event.TheVariants.{Begin, Step, Halt}
+use Rattle.kc_machine_looks.specs.kc_machine_commits.Nexts as next
+use Rattle.kc_machine_looks.specs.kc_machine.Hangs.{hangs_on, onward_of, leaves_on, unblocks_or_tells}
+use Rattle.kc_machine_looks.specs.kc_machine.Waits.{Hang, Leave}
+use Rattle.kc_machine_looks.specs.kc_machine.Works.{Work}
+use Rattle.kc_machine_looks.specs.kc_machine.declared.hang.HangNext.{HangNext}
+use Rattle.kc_machine_looks.specs.kc_machine.declared.hang.HangNext.TheVariants.{Goes, Tells}
+use Rattle.kc_machine_looks.specs.kc_machine_commits.Commits.{gone_on, onward_by, loaded}
+use Rattle.kc_machine_looks.specs.kc_machine_commits.Halts.{unowned, commit_halted}
+use Rattle.kc_machine_looks.specs.kc_machine_steps.Looks.{looks_on, told_by, halts_at_once, look_halted}
+use Rattle.kc_machine_looks.specs.kc_machine.Works as work
+use Rattle.kc_machine_looks.specs.kc_machine.Machine.{State, Opening, found_at, event_of, seat_of, run}
+use Rattle.kc_machine_looks.specs.kc_machine.Schedules.{IsSchedule}
+use Rattle.kc_machine_looks.specs.kc_machine.Seats.{access_of, answer_of, answer_by, after, is_idle, begun, begun_idle, working, hanging, halted, halted_by, ended}
+use Rattle.kc_machine_looks.specs.kc_machine.declared.seat.Seat.{Seat}
+use Rattle.kc_machine_looks.specs.kc_machine_claims.Claims.{IsAwake, IsCovered, StandsAt, WakeIsToCome, BlockedAreCovered, history_at}
+use Rattle.kc_machine_looks.specs.kc_machine_claims.Histories.{ending}
+use Rattle.kc_machine_looks.specs.kc_machine_claims.Traces.{Moment, Shadow, now, trace, first_store, listens, blocking_after}
+use Rattle.kc_machine_looks.specs.kc_machine_effects.Stands.{Waiting, stand}
+use Rattle.kc_machine_looks.proofs.kc_machine_histories.Growing.{histories_grow_between}
 use Rattle.kc_machine_looks.proofs.Stood.{hung_stood}
-use Rattle.kc_machine_resolving.proofs.Growing.{along, grow}
-use Rattle.kc_machine_seats.proofs.FormedSteps.{formed_always}
-use Rattle.kc_machine_seats.specs.Formed.{WorkIsFormed}
-use Rattle.kc_machine_traces.proofs.Answers.{moved, seat_cases}
-use Rattle.kc_machine_traces.proofs.Joins.{every, made_parts}
-use Rattle.kc_machine_traces.proofs.Known.{versions_on, versions_rise}
-use Rattle.kc_machine_traces.proofs.Moments.{listening_moment}
-use Rattle.kc_machine_traces.proofs.Others.{others_leave, others_leave_shadow}
+use Rattle.kc_machine_looks.proofs.kc_machine_resolving.Growing.{along, grow}
+use Rattle.kc_machine_looks.proofs.kc_machine_seats.FormedSteps.{formed_always}
+use Rattle.kc_machine_looks.specs.kc_machine_seats.Formed.{WorkIsFormed}
+use Rattle.kc_machine_looks.proofs.kc_machine_traces.Answers.{moved, seat_cases}
+use Rattle.kc_machine_looks.proofs.kc_machine_traces.Joins.{every, made_parts}
+use Rattle.kc_machine_looks.proofs.kc_machine_traces.Known.{versions_on, versions_rise}
+use Rattle.kc_machine_looks.proofs.kc_machine_traces.Moments.{listening_moment}
+use Rattle.kc_machine_looks.proofs.kc_machine_traces.Others.{others_leave, others_leave_shadow}
 use Rattle.kc_machine_waiting.proofs.Always.{all_listen, kept_shadow, next_is}
 use Rattle.kc_machine_waiting.proofs.Listening.{work_wait, wait_is, TellsCalm, commit_calm}
 use Rattle.kc_machine_waiting.specs.Awaiting.{version_at, Hears}

@@ -1,16 +1,16 @@
 -- One event, and what a caller hears of it that listens on.
 use Rattle.std.proofs.Common.{zero, suc}
-use Rattle.kc_machine.specs.declared.seat.Seat.{Seat}
+use Rattle.kc_machine_looks.specs.kc_machine.declared.seat.Seat.{Seat}
 use Rattle.std.proofs.Common.{⊎_elim}
 use Rattle.kc_machine_waiting.proofs.Owns.{IsMute, SwapKept, mute, stays}
-use Rattle.kc_machine_effects.specs.Stands.{Swapping, NoSwap, Swaps}
-use Rattle.kc_machine_traces.proofs.Swapping.{swap_of, stand_swap, seat_behind}
-use Rattle.kc_machine_traces.specs.Swaps.{SwapOf}
-use Rattle.kc_machine_resolving.proofs.Resolving.{swap_makes, swap_found}
-use Rattle.kc_machine_ranges.proofs.Callers.{owed_in_swap}
-use Rattle.kc_machine_claims.specs.Claims.{Owes, OwnerWakes, SwapWakes, owed_by_swap}
-use Rattle.kc_machine_claims.specs.Traces.{swap_line}
-use Rattle.kc_machine_steps.specs.declared.swap.SwapStep.TheVariants as swap
+use Rattle.kc_machine_looks.specs.kc_machine_effects.Stands.{Swapping, NoSwap, Swaps}
+use Rattle.kc_machine_looks.proofs.kc_machine_traces.Swapping.{swap_of, stand_swap, seat_behind}
+use Rattle.kc_machine_looks.specs.kc_machine_traces.Swaps.{SwapOf}
+use Rattle.kc_machine_looks.proofs.kc_machine_resolving.Resolving.{swap_makes, swap_found}
+use Rattle.kc_machine_looks.proofs.kc_machine_ranges.Callers.{owed_in_swap}
+use Rattle.kc_machine_looks.specs.kc_machine_claims.Claims.{Owes, OwnerWakes, SwapWakes, owed_by_swap}
+use Rattle.kc_machine_looks.specs.kc_machine_claims.Traces.{swap_line}
+use Rattle.kc_machine_looks.specs.kc_machine_steps.declared.swap.SwapStep.TheVariants as swap
 use Rattle.std.proofs.Common.{arith, ◌≡◌, ◌≢◌, ◌<◌, ◌≤◌, ◌^◌, ◌⊎◌, inl, inr, ◌++◌, ◌==◌, ℕ, Bool, true, false, List, [], ◌∷◌, length, Option, None, Some, refl, sym, ap, subst, ◌∙◌}
 use Rattle.std.specs.Prelude.{slice_get, Contains, bit_and, bit_or, ◌-◌}
 use Rattle.std.specs.Int.Count.{count_trailing_zeros}
@@ -20,58 +20,58 @@ use borrow.Author.Tests.{eqb-true, eqb-false}
 use Rattle.kc_model.specs.declared.footprint.Loc.{Loc}
 use Rattle.kc_model.specs.declared.footprint.Seen.{Seen}
 use Rattle.kc_model.specs.declared.footprint.Put as footprint
-use Rattle.kc_machine_commits.specs.declared.commit.OwnStep.{OwnStep}
-use Rattle.kc_machine_steps.specs.declared.line.Intent.{Intent}
+use Rattle.kc_machine_looks.specs.kc_machine_commits.declared.commit.OwnStep.{OwnStep}
+use Rattle.kc_machine_looks.specs.kc_machine_steps.declared.line.Intent.{Intent}
 use Rattle.kc_model.specs.declared.footprint.Line.{Line}
-use Rattle.kc_machine_words.specs.declared.words.Handle.{Handle}
-use Rattle.kc_machine_words.specs.declared.words.Mode.{Mode}
-use Rattle.kc_machine_words.specs.declared.words.Mode.TheVariants.{All, Light}
-use Rattle.kc_machine_words.specs.declared.words.Phase.{Phase}
-use Rattle.kc_machine_words.specs.declared.words.Phase.TheVariants.{Active, Succeeded, Failed, Crossed, Halted}
-use Rattle.kc_machine_words.specs.declared.words.Status.{Status}
+use Rattle.kc_machine_looks.specs.kc_machine_words.declared.words.Handle.{Handle}
+use Rattle.kc_machine_looks.specs.kc_machine_words.declared.words.Mode.{Mode}
+use Rattle.kc_machine_looks.specs.kc_machine_words.declared.words.Mode.TheVariants.{All, Light}
+use Rattle.kc_machine_looks.specs.kc_machine_words.declared.words.Phase.{Phase}
+use Rattle.kc_machine_looks.specs.kc_machine_words.declared.words.Phase.TheVariants.{Active, Succeeded, Failed, Crossed, Halted}
+use Rattle.kc_machine_looks.specs.kc_machine_words.declared.words.Status.{Status}
 use Rattle.kc_model.specs.Footprint.{Reads, put_at}
 use Rattle.kc_model.specs.Store.{cell_after}
 use Rattle.kc_model.specs.declared.footprint.Footprint.{Footprint}
 use Rattle.kc_model.specs.declared.plain_store.Cell.{Cell}
 use Rattle.kc_model.specs.declared.footprint.TheConstants.{MOST}
-use Rattle.kc_machine_commits.specs.declared.commit.OwnStep.TheVariants as own
-use Rattle.kc_machine_commits.specs.declared.commit.Stage.{Stage}
-use Rattle.kc_machine_steps.specs.Passes.{status}
-use Rattle.kc_machine_steps.specs.declared.task.Event.{Event}
-use Rattle.kc_machine_commits.specs.declared.commit.Stage.TheVariants as stage
-use Rattle.kc_machine.specs.Works.{Work}
-use Rattle.kc_machine_commits.specs.Commits.{finished, wake_or_signal}
-use Rattle.kc_machine_steps.specs.Lines.{next_line, after_line}
-use Rattle.kc_machine_steps.specs.declared.line.Pick.TheVariants.{Put}
-use Rattle.kc_machine.specs.Works as work
-use Rattle.kc_machine.proofs.Functions.{put_cases, put_else, put_here}
-use Rattle.kc_machine.specs.Machine.{World, State, Opening, put, event_of, seat_of, run}
-use Rattle.kc_machine.specs.Schedules.{IsSchedule}
-use Rattle.kc_machine_claims.specs.Claims.{has_bit, owed_by, IsAwake, still_wakes, OwnsSucceeded, WakeIsToCome}
-use Rattle.kc_machine_claims.specs.Histories.{History, Placed, ending, cell_of, inserted, installs}
-use Rattle.kc_machine_claims.specs.Traces.{Moment, now, trace, first_store}
-use Rattle.kc_machine_effects.proofs.PoolLaws.{holds_kept}
-use Rattle.kc_machine_effects.specs.Holds.{Proper, own_hold}
-use Rattle.kc_machine_effects.specs.Stands.{Own, NoOwn, Owns, Runs, Waits, Passing, stand}
-use Rattle.kc_machine_histories.proofs.Decisions.{history_moves}
-use Rattle.kc_machine_histories.proofs.Filters.{got}
-use Rattle.kc_machine_histories.proofs.Growing.{LineThatPuts, line_that_puts}
-use Rattle.kc_machine_histories.specs.Decisions.{Decision}
-use Rattle.kc_machine_histories.specs.Insertions.{put_by}
-use Rattle.kc_machine_passes.proofs.Holders.{same_handle}
-use Rattle.kc_machine_pool.proofs.LifeLaws.{statuses_follow, active_owned, owners_differ, phase_known}
-use Rattle.kc_machine_pool.specs.Owners.{Follows, is_filling, Undecided, phase_read}
-use Rattle.kc_machine_ranges.proofs.Callers.{owed_in}
-use Rattle.kc_machine_ranges.proofs.Runs.{seats_in}
-use Rattle.kc_machine_resolving.proofs.Changes.{Changes, other, filled, started, installed, released, decided, event_changes}
-use Rattle.kc_machine_resolving.proofs.Resolving.{decision_makes, decision_finds}
-use Rattle.kc_machine_seats.proofs.FormedSteps.{formed_always}
-use Rattle.kc_machine_seats.proofs.MadeSteps.{intents_made}
-use Rattle.kc_machine_seats.proofs.SeatedSteps.{seats_stay}
-use Rattle.kc_machine_seats.specs.Made.{IntentIsMade}
-use Rattle.kc_machine_traces.proofs.Joins.{run-append}
-use Rattle.kc_machine_traces.proofs.Others.{run_shape, event_else}
-use Rattle.kc_machine_traces.specs.Entries.{own_intent}
+use Rattle.kc_machine_looks.specs.kc_machine_commits.declared.commit.OwnStep.TheVariants as own
+use Rattle.kc_machine_looks.specs.kc_machine_commits.declared.commit.Stage.{Stage}
+use Rattle.kc_machine_looks.specs.kc_machine_steps.Passes.{status}
+use Rattle.kc_machine_looks.specs.kc_machine_steps.declared.task.Event.{Event}
+use Rattle.kc_machine_looks.specs.kc_machine_commits.declared.commit.Stage.TheVariants as stage
+use Rattle.kc_machine_looks.specs.kc_machine.Works.{Work}
+use Rattle.kc_machine_looks.specs.kc_machine_commits.Commits.{finished, wake_or_signal}
+use Rattle.kc_machine_looks.specs.kc_machine_steps.Lines.{next_line, after_line}
+use Rattle.kc_machine_looks.specs.kc_machine_steps.declared.line.Pick.TheVariants.{Put}
+use Rattle.kc_machine_looks.specs.kc_machine.Works as work
+use Rattle.kc_machine_looks.proofs.kc_machine.Functions.{put_cases, put_else, put_here}
+use Rattle.kc_machine_looks.specs.kc_machine.Machine.{World, State, Opening, put, event_of, seat_of, run}
+use Rattle.kc_machine_looks.specs.kc_machine.Schedules.{IsSchedule}
+use Rattle.kc_machine_looks.specs.kc_machine_claims.Claims.{has_bit, owed_by, IsAwake, still_wakes, OwnsSucceeded, WakeIsToCome}
+use Rattle.kc_machine_looks.specs.kc_machine_claims.Histories.{History, Placed, ending, cell_of, inserted, installs}
+use Rattle.kc_machine_looks.specs.kc_machine_claims.Traces.{Moment, now, trace, first_store}
+use Rattle.kc_machine_looks.proofs.kc_machine_effects.PoolLaws.{holds_kept}
+use Rattle.kc_machine_looks.specs.kc_machine_effects.Holds.{Proper, own_hold}
+use Rattle.kc_machine_looks.specs.kc_machine_effects.Stands.{Own, NoOwn, Owns, Runs, Waits, Passing, stand}
+use Rattle.kc_machine_looks.proofs.kc_machine_histories.Decisions.{history_moves}
+use Rattle.kc_machine_looks.proofs.kc_machine_histories.Filters.{got}
+use Rattle.kc_machine_looks.proofs.kc_machine_histories.Growing.{LineThatPuts, line_that_puts}
+use Rattle.kc_machine_looks.specs.kc_machine_histories.Decisions.{Decision}
+use Rattle.kc_machine_looks.specs.kc_machine_histories.Insertions.{put_by}
+use Rattle.kc_machine_looks.proofs.kc_machine_passes.Holders.{same_handle}
+use Rattle.kc_machine_looks.proofs.kc_machine_pool.LifeLaws.{statuses_follow, active_owned, owners_differ, phase_known}
+use Rattle.kc_machine_looks.specs.kc_machine_pool.Owners.{Follows, is_filling, Undecided, phase_read}
+use Rattle.kc_machine_looks.proofs.kc_machine_ranges.Callers.{owed_in}
+use Rattle.kc_machine_looks.proofs.kc_machine_ranges.Runs.{seats_in}
+use Rattle.kc_machine_looks.proofs.kc_machine_resolving.Changes.{Changes, other, filled, started, installed, released, decided, event_changes}
+use Rattle.kc_machine_looks.proofs.kc_machine_resolving.Resolving.{decision_makes, decision_finds}
+use Rattle.kc_machine_looks.proofs.kc_machine_seats.FormedSteps.{formed_always}
+use Rattle.kc_machine_looks.proofs.kc_machine_seats.MadeSteps.{intents_made}
+use Rattle.kc_machine_looks.proofs.kc_machine_seats.SeatedSteps.{seats_stay}
+use Rattle.kc_machine_looks.specs.kc_machine_seats.Made.{IntentIsMade}
+use Rattle.kc_machine_looks.proofs.kc_machine_traces.Joins.{run-append}
+use Rattle.kc_machine_looks.proofs.kc_machine_traces.Others.{run_shape, event_else}
+use Rattle.kc_machine_looks.specs.kc_machine_traces.Entries.{own_intent}
 use Rattle.kc_machine_waiting.proofs.Bits.{joins_l, joins_r, cleared_else, signalled_or_owed}
 use Rattle.kc_machine_waiting.proofs.Hearing.{Hearing, still, sets, clears, unsignals, wakes, signals, swap_wakes, swap_signals, IsDeaf, event_hears}
 use Rattle.kc_machine_waiting.proofs.Owns.{step_own, stage_own, work_own, own_is, InPass, runs, waits, WakesKept, none, same, goes, ends}

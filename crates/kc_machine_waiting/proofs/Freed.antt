@@ -1,21 +1,21 @@
 -- A seat that was told Free isn't blocked.
-use Rattle.kc_machine_steps.specs.Swaps.{ends_at_once}
+use Rattle.kc_machine_looks.specs.kc_machine_steps.Swaps.{ends_at_once}
 use Rattle.std.proofs.Common.{◌≡◌, ℕ, Bool, true, false, List, Some, refl, ap, if◌then◌else◌}
-use Rattle.kc_machine_steps.specs.declared.task.Task.{Task}
-use Rattle.kc_machine_words.specs.declared.access.Found.{Found}
-use Rattle.kc_machine_steps.specs.declared.task.Task.TheVariants as task
-use Rattle.kc_machine_steps.specs.declared.task.Told.TheVariants as told
-use Rattle.kc_machine_steps.specs.declared.task.Onward.{Onward}
-use Rattle.kc_machine_steps.specs.declared.task.Onward.TheVariants as onward
-use Rattle.kc_machine.specs.Works.{Work}
-use Rattle.kc_machine_commits.specs.Halts.{unowned, commit_halted}
-use Rattle.kc_machine_steps.specs.Looks.{halts_at_once, look_halted}
-use Rattle.kc_machine_steps.specs.declared.task.Event.{Event}
-use Rattle.kc_machine.specs.Works as work
-use Rattle.kc_machine.specs.Machine.{Opening, run}
-use Rattle.kc_machine.specs.Seats.{answer_of, answer_by, after, blocked_by, is_idle, begun, begun_idle, working, hanging, halted, halted_by, ended}
-use Rattle.kc_machine.specs.declared.seat.Seat.{Seat}
-use Rattle.kc_machine_seats.proofs.Always.{always, any_event, all_any}
+use Rattle.kc_machine_looks.specs.kc_machine_steps.declared.task.Task.{Task}
+use Rattle.kc_machine_looks.specs.kc_machine_words.declared.access.Found.{Found}
+use Rattle.kc_machine_looks.specs.kc_machine_steps.declared.task.Task.TheVariants as task
+use Rattle.kc_machine_looks.specs.kc_machine_steps.declared.task.Told.TheVariants as told
+use Rattle.kc_machine_looks.specs.kc_machine_steps.declared.task.Onward.{Onward}
+use Rattle.kc_machine_looks.specs.kc_machine_steps.declared.task.Onward.TheVariants as onward
+use Rattle.kc_machine_looks.specs.kc_machine.Works.{Work}
+use Rattle.kc_machine_looks.specs.kc_machine_commits.Halts.{unowned, commit_halted}
+use Rattle.kc_machine_looks.specs.kc_machine_steps.Looks.{halts_at_once, look_halted}
+use Rattle.kc_machine_looks.specs.kc_machine_steps.declared.task.Event.{Event}
+use Rattle.kc_machine_looks.specs.kc_machine.Works as work
+use Rattle.kc_machine_looks.specs.kc_machine.Machine.{Opening, run}
+use Rattle.kc_machine_looks.specs.kc_machine.Seats.{answer_of, answer_by, after, blocked_by, is_idle, begun, begun_idle, working, hanging, halted, halted_by, ended}
+use Rattle.kc_machine_looks.specs.kc_machine.declared.seat.Seat.{Seat}
+use Rattle.kc_machine_looks.proofs.kc_machine_seats.Always.{always, any_event, all_any}
 
 abbrev Unblocked : Seat → Type 0
 Unblocked s = s.told ≡ Some told.Free → s.blocked ≡ false

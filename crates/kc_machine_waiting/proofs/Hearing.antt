@@ -1,68 +1,68 @@
 -- What an event makes of signals, of awaiters' bits, and of whom its seat owes.
 use Rattle.std.proofs.Common.{◌==◌, eqb-true}
-use Rattle.kc_machine_claims.specs.Claims.{owed_by_swap}
-use Rattle.kc_machine_effects.specs.Stands.{Swapping, NoSwap, Swaps}
-use Rattle.kc_machine_traces.proofs.Swapping.{swap_of}
+use Rattle.kc_machine_looks.specs.kc_machine_claims.Claims.{owed_by_swap}
+use Rattle.kc_machine_looks.specs.kc_machine_effects.Stands.{Swapping, NoSwap, Swaps}
+use Rattle.kc_machine_looks.proofs.kc_machine_traces.Swapping.{swap_of}
 use Rattle.kc_machine_waiting.proofs.Owns.{IsMute, SwapKept, mute, stays}
-use Rattle.kc_machine_steps.specs.Swaps.{swap_access_at, swap_next_at, swaps_on, ends_at_once}
-use Rattle.kc_machine_steps.specs.Swaps.{owed_next as owed_by_it}
-use Rattle.kc_machine_steps.specs.Swaps.{onward_of as onward_of_swap}
-use Rattle.kc_machine_steps.specs.declared.swap.Swap.{Swap}
-use Rattle.kc_machine_steps.specs.declared.swap.SwapNext.{SwapNext}
-use Rattle.kc_machine_steps.specs.declared.swap.SwapNext.TheVariants as swapping
-use Rattle.kc_machine_steps.specs.declared.task.Told.TheVariants as told
-use Rattle.kc_machine_steps.specs.declared.swap.SwapStep.{SwapStep}
-use Rattle.kc_machine_steps.specs.declared.swap.SwapStep.TheVariants as swap
+use Rattle.kc_machine_looks.specs.kc_machine_steps.Swaps.{swap_access_at, swap_next_at, swaps_on, ends_at_once}
+use Rattle.kc_machine_looks.specs.kc_machine_steps.Swaps.{owed_next as owed_by_it}
+use Rattle.kc_machine_looks.specs.kc_machine_steps.Swaps.{onward_of as onward_of_swap}
+use Rattle.kc_machine_looks.specs.kc_machine_steps.declared.swap.Swap.{Swap}
+use Rattle.kc_machine_looks.specs.kc_machine_steps.declared.swap.SwapNext.{SwapNext}
+use Rattle.kc_machine_looks.specs.kc_machine_steps.declared.swap.SwapNext.TheVariants as swapping
+use Rattle.kc_machine_looks.specs.kc_machine_steps.declared.task.Told.TheVariants as told
+use Rattle.kc_machine_looks.specs.kc_machine_steps.declared.swap.SwapStep.{SwapStep}
+use Rattle.kc_machine_looks.specs.kc_machine_steps.declared.swap.SwapStep.TheVariants as swap
 use Rattle.std.proofs.Common.{◌≡◌, ℕ, ◌-◌, Bool, true, false, List, [], Option, None, Some, refl, sym, subst, if◌then◌else◌}
 use Rattle.std.specs.Prelude.{slice_get, bit_or, bit_and, nat_lt}
 use Rattle.std.specs.Int.Count.{count_trailing_zeros}
-use Rattle.kc_machine_words.specs.declared.access.Access.{Access}
-use Rattle.kc_machine_words.specs.declared.words.Handle.{Handle}
-use Rattle.kc_machine_words.specs.declared.words.Reference.{Reference}
+use Rattle.kc_machine_looks.specs.kc_machine_words.declared.access.Access.{Access}
+use Rattle.kc_machine_looks.specs.kc_machine_words.declared.words.Handle.{Handle}
+use Rattle.kc_machine_looks.specs.kc_machine_words.declared.words.Reference.{Reference}
 use Rattle.kc_model.specs.declared.footprint.Loc.{Loc}
 use Rattle.kc_model.specs.declared.footprint.Seen.{Seen}
-use Rattle.kc_machine_words.specs.declared.access.Access.TheVariants as access
-use Rattle.kc_machine_words.specs.declared.access.Bits.TheVariants as bits
-use Rattle.kc_machine_steps.specs.declared.line.Intent.{Intent}
+use Rattle.kc_machine_looks.specs.kc_machine_words.declared.access.Access.TheVariants as access
+use Rattle.kc_machine_looks.specs.kc_machine_words.declared.access.Bits.TheVariants as bits
+use Rattle.kc_machine_looks.specs.kc_machine_steps.declared.line.Intent.{Intent}
 use Rattle.kc_model.specs.declared.footprint.Line.{Line}
-use Rattle.kc_machine_steps.specs.declared.line.Pick.TheVariants.{Put}
-use Rattle.kc_machine_steps.specs.declared.look.LookStep.{LookStep}
-use Rattle.kc_machine_words.specs.declared.access.Found.{Found}
-use Rattle.kc_machine_steps.specs.declared.look.LookStep.TheVariants as look
-use Rattle.kc_machine_steps.specs.declared.aid.AidStep.{AidStep}
-use Rattle.kc_machine_steps.specs.declared.pass.PassStep.{PassStep}
-use Rattle.kc_machine_steps.specs.declared.pass.PassStep.TheVariants.{Install, Check, CheckHold, CheckStatus, CheckFirst, CheckDrop, Decide, Release}
-use Rattle.kc_machine_steps.specs.declared.aid.AidStep.TheVariants as aid
-use Rattle.kc_machine_commits.specs.declared.commit.Commit.{Commit}
-use Rattle.kc_machine_commits.specs.declared.commit.Stage.{Stage}
-use Rattle.kc_machine_commits.specs.declared.commit.Stage.TheVariants as stage
-use Rattle.kc_machine_commits.specs.declared.commit.OwnStep.{OwnStep}
-use Rattle.kc_machine_commits.specs.declared.commit.OwnStep.TheVariants as own
-use Rattle.kc_machine.specs.Waits.{Hang, Leave}
-use Rattle.kc_machine.specs.declared.hang.HangStep.{HangStep}
-use Rattle.kc_machine_commits.specs.Commits.{own_access, own_next, stage_access, stage_next, loaded, gone_on, onward_by, wake_or_signal, owed_next, wake_access, fill_first, fill_second}
-use Rattle.kc_machine_commits.specs.Halts.{unowned, halted_at}
-use Rattle.kc_machine_steps.specs.Aids.{aid_access}
-use Rattle.kc_machine_steps.specs.Lines.{next_line, after_line}
-use Rattle.kc_machine_steps.specs.Looks.{look_access}
-use Rattle.kc_machine_steps.specs.Passes.{pass_access, install_access, check_access, release_at}
-use Rattle.kc_machine_steps.specs.declared.task.Event.{Event}
-use Rattle.kc_machine_steps.specs.declared.task.Event.TheVariants.{Begin, Step, Halt}
-use Rattle.kc_machine_steps.specs.declared.task.Task.{Task}
-use Rattle.kc_machine.specs.declared.hang.HangStep.TheVariants as hang
-use Rattle.kc_machine.specs.declared.hang.LeaveStep.{LeaveStep}
-use Rattle.kc_machine.specs.declared.hang.LeaveStep.TheVariants as leave
-use Rattle.kc_machine.specs.Hangs.{hang_access_of, hang_next, read_of, hangs_on, onward_of, clear_or_changed, leave_access_at, clear_access, leaves_on, unblocks_or_tells, next_read}
-use Rattle.kc_machine.specs.Words.{bits_after}
-use Rattle.kc_machine.specs.Works.{Work}
-use Rattle.kc_machine.specs.Works as work
-use Rattle.kc_machine.proofs.Functions.{put_here}
-use Rattle.kc_machine.specs.Machine.{World, State, put, touched, found_at, possible, happened, event_of, seat_of}
-use Rattle.kc_machine.specs.Seats.{access_of, work_access, answer_of, answer_by, after, is_idle, begun, begun_idle, halted, halted_by, ended}
-use Rattle.kc_machine.specs.declared.seat.Seat.{Seat}
-use Rattle.kc_machine_claims.specs.Claims.{still_wakes, owed_by}
-use Rattle.kc_machine_effects.specs.Stands.{Own, NoOwn, Owns}
-use Rattle.kc_machine_seats.specs.Formed.{WorkIsFormed, IsWellFormed}
+use Rattle.kc_machine_looks.specs.kc_machine_steps.declared.line.Pick.TheVariants.{Put}
+use Rattle.kc_machine_looks.specs.kc_machine_steps.declared.look.LookStep.{LookStep}
+use Rattle.kc_machine_looks.specs.kc_machine_words.declared.access.Found.{Found}
+use Rattle.kc_machine_looks.specs.kc_machine_steps.declared.look.LookStep.TheVariants as look
+use Rattle.kc_machine_looks.specs.kc_machine_steps.declared.aid.AidStep.{AidStep}
+use Rattle.kc_machine_looks.specs.kc_machine_steps.declared.pass.PassStep.{PassStep}
+use Rattle.kc_machine_looks.specs.kc_machine_steps.declared.pass.PassStep.TheVariants.{Install, Check, CheckHold, CheckStatus, CheckFirst, CheckDrop, Decide, Release}
+use Rattle.kc_machine_looks.specs.kc_machine_steps.declared.aid.AidStep.TheVariants as aid
+use Rattle.kc_machine_looks.specs.kc_machine_commits.declared.commit.Commit.{Commit}
+use Rattle.kc_machine_looks.specs.kc_machine_commits.declared.commit.Stage.{Stage}
+use Rattle.kc_machine_looks.specs.kc_machine_commits.declared.commit.Stage.TheVariants as stage
+use Rattle.kc_machine_looks.specs.kc_machine_commits.declared.commit.OwnStep.{OwnStep}
+use Rattle.kc_machine_looks.specs.kc_machine_commits.declared.commit.OwnStep.TheVariants as own
+use Rattle.kc_machine_looks.specs.kc_machine.Waits.{Hang, Leave}
+use Rattle.kc_machine_looks.specs.kc_machine.declared.hang.HangStep.{HangStep}
+use Rattle.kc_machine_looks.specs.kc_machine_commits.Commits.{own_access, own_next, stage_access, stage_next, loaded, gone_on, onward_by, wake_or_signal, owed_next, wake_access, fill_first, fill_second}
+use Rattle.kc_machine_looks.specs.kc_machine_commits.Halts.{unowned, halted_at}
+use Rattle.kc_machine_looks.specs.kc_machine_steps.Aids.{aid_access}
+use Rattle.kc_machine_looks.specs.kc_machine_steps.Lines.{next_line, after_line}
+use Rattle.kc_machine_looks.specs.kc_machine_steps.Looks.{look_access}
+use Rattle.kc_machine_looks.specs.kc_machine_steps.Passes.{pass_access, install_access, check_access, release_at}
+use Rattle.kc_machine_looks.specs.kc_machine_steps.declared.task.Event.{Event}
+use Rattle.kc_machine_looks.specs.kc_machine_steps.declared.task.Event.TheVariants.{Begin, Step, Halt}
+use Rattle.kc_machine_looks.specs.kc_machine_steps.declared.task.Task.{Task}
+use Rattle.kc_machine_looks.specs.kc_machine.declared.hang.HangStep.TheVariants as hang
+use Rattle.kc_machine_looks.specs.kc_machine.declared.hang.LeaveStep.{LeaveStep}
+use Rattle.kc_machine_looks.specs.kc_machine.declared.hang.LeaveStep.TheVariants as leave
+use Rattle.kc_machine_looks.specs.kc_machine.Hangs.{hang_access_of, hang_next, read_of, hangs_on, onward_of, clear_or_changed, leave_access_at, clear_access, leaves_on, unblocks_or_tells, next_read}
+use Rattle.kc_machine_looks.specs.kc_machine.Words.{bits_after}
+use Rattle.kc_machine_looks.specs.kc_machine.Works.{Work}
+use Rattle.kc_machine_looks.specs.kc_machine.Works as work
+use Rattle.kc_machine_looks.proofs.kc_machine.Functions.{put_here}
+use Rattle.kc_machine_looks.specs.kc_machine.Machine.{World, State, put, touched, found_at, possible, happened, event_of, seat_of}
+use Rattle.kc_machine_looks.specs.kc_machine.Seats.{access_of, work_access, answer_of, answer_by, after, is_idle, begun, begun_idle, halted, halted_by, ended}
+use Rattle.kc_machine_looks.specs.kc_machine.declared.seat.Seat.{Seat}
+use Rattle.kc_machine_looks.specs.kc_machine_claims.Claims.{still_wakes, owed_by}
+use Rattle.kc_machine_looks.specs.kc_machine_effects.Stands.{Own, NoOwn, Owns}
+use Rattle.kc_machine_looks.specs.kc_machine_seats.Formed.{WorkIsFormed, IsWellFormed}
 use Rattle.kc_machine_waiting.proofs.Owns.{step_own, stage_own, work_own, WakesKept, none, same, is_waking, own_keeps, halt_keeps}
 
 -- ---- who no longer hears

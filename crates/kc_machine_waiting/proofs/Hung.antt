@@ -1,50 +1,50 @@
 -- Who was told Hung is blocked, by the reads of its hang.
-use Rattle.kc_machine_steps.specs.Swaps.{swap_after, swap_next, ends_at_once}
-use Rattle.kc_machine_steps.specs.Swaps.{onward_of as onward_of_swap}
-use Rattle.kc_machine_steps.specs.declared.swap.SwapNext.{SwapNext}
-use Rattle.kc_machine_steps.specs.declared.swap.SwapNext.TheVariants as swapping
+use Rattle.kc_machine_looks.specs.kc_machine_steps.Swaps.{swap_after, swap_next, ends_at_once}
+use Rattle.kc_machine_looks.specs.kc_machine_steps.Swaps.{onward_of as onward_of_swap}
+use Rattle.kc_machine_looks.specs.kc_machine_steps.declared.swap.SwapNext.{SwapNext}
+use Rattle.kc_machine_looks.specs.kc_machine_steps.declared.swap.SwapNext.TheVariants as swapping
 use Rattle.kc_machine_waiting.proofs.Listening.{SwapTellsSo, swap_tells}
 use Rattle.std.proofs.Common.{◌≡◌, ◌≢◌, ◌<◌, ◌++◌, ◌==◌, ◌∙◌, ◌&&◌, not, ℕ, Bool, true, false, List, [], ◌∷◌, Option, None, Some, refl, sym, ap, subst, if◌then◌else◌}
 use Rattle.std.specs.Prelude.{slice_get}
 use borrow.Author.Tests.{eqb-false, eqb-true}
-use Rattle.kc_machine.specs.Hangs.{hang_step, hangs_on, leave_after, next_read, onward_of, unblocks_or_tells}
-use Rattle.kc_machine.specs.Machine.{Opening, State, event_of, found_at, run, seat_of}
-use Rattle.kc_machine.specs.Schedules.{IsSchedule}
-use Rattle.kc_machine.specs.Seats.{access_of, after, answer_by, answer_of, begun, begun_idle, blocked_by, ended, halted, halted_by, hanging, is_idle, working}
-use Rattle.kc_machine.specs.Waits.{Hang}
-use Rattle.kc_machine.specs.Works.{Work}
-use Rattle.kc_machine.specs.Works as work
-use Rattle.kc_machine.specs.declared.hang.HangNext.{HangNext}
-use Rattle.kc_machine.specs.declared.hang.HangNext.TheVariants as hanging_on
-use Rattle.kc_machine.specs.declared.hang.HangStep.{HangStep}
-use Rattle.kc_machine.specs.declared.hang.HangStep.TheVariants as hang
-use Rattle.kc_machine.specs.declared.seat.Seat.{Seat}
-use Rattle.kc_machine_claims.specs.Traces.{Shadow, begins, blocking_after, now, reads_of, trace, with_task}
-use Rattle.kc_machine_commits.specs.Commits.{commit_after, loaded, onward_by, stage_next, told_of}
-use Rattle.kc_machine_commits.specs.Halts.{commit_halted, unowned}
-use Rattle.kc_machine_commits.specs.Nexts.{Next}
-use Rattle.kc_machine_commits.specs.Nexts as next
-use Rattle.kc_machine_effects.specs.Stands.{stand}
-use Rattle.kc_machine_seats.proofs.FormedSteps.{formed_always}
-use Rattle.kc_machine_seats.specs.Formed.{WorkIsFormed}
-use Rattle.kc_machine_steps.specs.Looks.{halts_at_once, look_after, look_halted, look_next, told_by}
-use Rattle.kc_machine_steps.specs.declared.look.LookNext.{LookNext}
-use Rattle.kc_machine_steps.specs.declared.look.LookNext.TheVariants as looking
-use Rattle.kc_machine_steps.specs.declared.task.Event.{Event}
-use Rattle.kc_machine_steps.specs.declared.task.Event.TheVariants.{Begin, Halt, Step}
-use Rattle.kc_machine_steps.specs.declared.task.Task.{Task}
-use Rattle.kc_machine_steps.specs.declared.task.Task.TheVariants as task
-use Rattle.kc_machine_steps.specs.declared.task.Told.TheVariants as told
-use Rattle.kc_machine_traces.proofs.Answers.{answers_when_done, moved, seat_cases}
-use Rattle.kc_machine_traces.proofs.Joins.{every, made_parts}
-use Rattle.kc_machine_traces.proofs.Others.{others_leave, others_leave_shadow}
+use Rattle.kc_machine_looks.specs.kc_machine.Hangs.{hang_step, hangs_on, leave_after, next_read, onward_of, unblocks_or_tells}
+use Rattle.kc_machine_looks.specs.kc_machine.Machine.{Opening, State, event_of, found_at, run, seat_of}
+use Rattle.kc_machine_looks.specs.kc_machine.Schedules.{IsSchedule}
+use Rattle.kc_machine_looks.specs.kc_machine.Seats.{access_of, after, answer_by, answer_of, begun, begun_idle, blocked_by, ended, halted, halted_by, hanging, is_idle, working}
+use Rattle.kc_machine_looks.specs.kc_machine.Waits.{Hang}
+use Rattle.kc_machine_looks.specs.kc_machine.Works.{Work}
+use Rattle.kc_machine_looks.specs.kc_machine.Works as work
+use Rattle.kc_machine_looks.specs.kc_machine.declared.hang.HangNext.{HangNext}
+use Rattle.kc_machine_looks.specs.kc_machine.declared.hang.HangNext.TheVariants as hanging_on
+use Rattle.kc_machine_looks.specs.kc_machine.declared.hang.HangStep.{HangStep}
+use Rattle.kc_machine_looks.specs.kc_machine.declared.hang.HangStep.TheVariants as hang
+use Rattle.kc_machine_looks.specs.kc_machine.declared.seat.Seat.{Seat}
+use Rattle.kc_machine_looks.specs.kc_machine_claims.Traces.{Shadow, begins, blocking_after, now, reads_of, trace, with_task}
+use Rattle.kc_machine_looks.specs.kc_machine_commits.Commits.{commit_after, loaded, onward_by, stage_next, told_of}
+use Rattle.kc_machine_looks.specs.kc_machine_commits.Halts.{commit_halted, unowned}
+use Rattle.kc_machine_looks.specs.kc_machine_commits.Nexts.{Next}
+use Rattle.kc_machine_looks.specs.kc_machine_commits.Nexts as next
+use Rattle.kc_machine_looks.specs.kc_machine_effects.Stands.{stand}
+use Rattle.kc_machine_looks.proofs.kc_machine_seats.FormedSteps.{formed_always}
+use Rattle.kc_machine_looks.specs.kc_machine_seats.Formed.{WorkIsFormed}
+use Rattle.kc_machine_looks.specs.kc_machine_steps.Looks.{halts_at_once, look_after, look_halted, look_next, told_by}
+use Rattle.kc_machine_looks.specs.kc_machine_steps.declared.look.LookNext.{LookNext}
+use Rattle.kc_machine_looks.specs.kc_machine_steps.declared.look.LookNext.TheVariants as looking
+use Rattle.kc_machine_looks.specs.kc_machine_steps.declared.task.Event.{Event}
+use Rattle.kc_machine_looks.specs.kc_machine_steps.declared.task.Event.TheVariants.{Begin, Halt, Step}
+use Rattle.kc_machine_looks.specs.kc_machine_steps.declared.task.Task.{Task}
+use Rattle.kc_machine_looks.specs.kc_machine_steps.declared.task.Task.TheVariants as task
+use Rattle.kc_machine_looks.specs.kc_machine_steps.declared.task.Told.TheVariants as told
+use Rattle.kc_machine_looks.proofs.kc_machine_traces.Answers.{answers_when_done, moved, seat_cases}
+use Rattle.kc_machine_looks.proofs.kc_machine_traces.Joins.{every, made_parts}
+use Rattle.kc_machine_looks.proofs.kc_machine_traces.Others.{others_leave, others_leave_shadow}
 use Rattle.kc_machine_waiting.proofs.Always.{kept_shadow, kept_task, next_is}
 use Rattle.kc_machine_waiting.proofs.Listening.{TellsSo, commit_tells, hang_wait, wait_is, work_wait}
 use Rattle.kc_machine_waiting.proofs.Told.{WorkGives, all_give, same_reads}
 use Rattle.kc_machine_waiting.specs.Causes.{HungIsBlocked}
-use Rattle.kc_machine_words.specs.declared.access.Found.{Found}
-use Rattle.kc_machine_words.specs.declared.words.Phase.{Phase}
-use Rattle.kc_machine_words.specs.declared.words.Phase.TheVariants.{Active, Crossed, Failed, Halted, Succeeded}
+use Rattle.kc_machine_looks.specs.kc_machine_words.declared.access.Found.{Found}
+use Rattle.kc_machine_looks.specs.kc_machine_words.declared.words.Phase.{Phase}
+use Rattle.kc_machine_looks.specs.kc_machine_words.declared.words.Phase.TheVariants.{Active, Crossed, Failed, Halted, Succeeded}
 use Rattle.kc_model.specs.declared.footprint.Seen.{Seen}
 
 -- ---- by which event a seat comes to have been told so

@@ -10,3 +10,4 @@ pub mod Silence
 pub mod Freed
 pub mod Told
 pub mod Hung
+pub use Rattle.kc_machine_looks.proofs as kc_machine_looks

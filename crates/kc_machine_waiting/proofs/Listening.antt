@@ -1,57 +1,57 @@
 -- Who hangs or is blocked goes on hearing, after every schedule of well-made tasks.
 use Rattle.std.proofs.Common.{if◌then◌else◌, ◌-◌, ◌==◌, ◌&&◌}
 use Rattle.std.specs.Prelude.{bit_and}
-use Rattle.kc_machine.specs.Seats.{blocked_by}
-use Rattle.kc_machine_steps.specs.Swaps.{may_swap, swap_next_at}
-use Rattle.kc_machine_steps.specs.Swaps.{owed_next as owed_by_it}
-use Rattle.kc_machine_steps.specs.declared.swap.SwapNext.{SwapNext}
-use Rattle.kc_machine_steps.specs.declared.swap.SwapNext.TheVariants as swapping
+use Rattle.kc_machine_looks.specs.kc_machine.Seats.{blocked_by}
+use Rattle.kc_machine_looks.specs.kc_machine_steps.Swaps.{may_swap, swap_next_at}
+use Rattle.kc_machine_looks.specs.kc_machine_steps.Swaps.{owed_next as owed_by_it}
+use Rattle.kc_machine_looks.specs.kc_machine_steps.declared.swap.SwapNext.{SwapNext}
+use Rattle.kc_machine_looks.specs.kc_machine_steps.declared.swap.SwapNext.TheVariants as swapping
 use Rattle.kc_model.specs.declared.word.Word.TheVariants.{Plain, Ref}
-use Rattle.kc_machine_words.specs.declared.access.Found.TheVariants as found
-use Rattle.kc_machine_steps.specs.declared.swap.SwapStep.{SwapStep}
-use Rattle.kc_machine_steps.specs.declared.swap.SwapStep.TheVariants as swap
-use Rattle.kc_machine_steps.specs.Lines.{after_line}
+use Rattle.kc_machine_looks.specs.kc_machine_words.declared.access.Found.TheVariants as found
+use Rattle.kc_machine_looks.specs.kc_machine_steps.declared.swap.SwapStep.{SwapStep}
+use Rattle.kc_machine_looks.specs.kc_machine_steps.declared.swap.SwapStep.TheVariants as swap
+use Rattle.kc_machine_looks.specs.kc_machine_steps.Lines.{after_line}
 use borrow.Author.Tests.{ltb-false}
 use Rattle.std.proofs.lemmas.Option.{slice_get_within, slice_get_cases}
 use Rattle.std.proofs.Common.{◌≡◌, inl, inr, ℕ, Bool, true, false, List, Some, refl, sym, ap, subst, ◌∙◌, ◌<◌, ◌≤◌, ◌+◌, ◌⊎◌, if◌then◌else◌, arith, length, None}
 use Rattle.std.specs.Prelude.{slice_get, Contains, get_or, nat_lt}
-use Rattle.kc_machine_steps.specs.declared.aid.AidStep.{AidStep}
-use Rattle.kc_machine_steps.specs.declared.aid.Aided.{Aided}
-use Rattle.kc_machine_steps.specs.declared.line.Intent.{Intent}
-use Rattle.kc_machine_words.specs.declared.access.Found.{Found}
-use Rattle.kc_machine_words.specs.declared.words.Handle.{Handle}
-use Rattle.kc_machine_words.specs.declared.words.Phase.{Phase}
-use Rattle.kc_machine_words.specs.declared.words.Phase.TheVariants.{Active, Succeeded, Failed, Crossed, Halted}
-use Rattle.kc_machine_words.specs.declared.words.Reference.{Reference}
+use Rattle.kc_machine_looks.specs.kc_machine_steps.declared.aid.AidStep.{AidStep}
+use Rattle.kc_machine_looks.specs.kc_machine_steps.declared.aid.Aided.{Aided}
+use Rattle.kc_machine_looks.specs.kc_machine_steps.declared.line.Intent.{Intent}
+use Rattle.kc_machine_looks.specs.kc_machine_words.declared.access.Found.{Found}
+use Rattle.kc_machine_looks.specs.kc_machine_words.declared.words.Handle.{Handle}
+use Rattle.kc_machine_looks.specs.kc_machine_words.declared.words.Phase.{Phase}
+use Rattle.kc_machine_looks.specs.kc_machine_words.declared.words.Phase.TheVariants.{Active, Succeeded, Failed, Crossed, Halted}
+use Rattle.kc_machine_looks.specs.kc_machine_words.declared.words.Reference.{Reference}
 use Rattle.kc_model.specs.declared.footprint.Seen.{Seen}
 use Rattle.kc_model.specs.declared.footprint.TheConstants.{MOST}
-use Rattle.kc_machine_steps.specs.declared.aid.AidStep.TheVariants as aid
-use Rattle.kc_machine_commits.specs.declared.commit.Commit.{Commit}
-use Rattle.kc_machine_commits.specs.declared.commit.Stage.{Stage}
-use Rattle.kc_machine_commits.specs.declared.commit.Stage.TheVariants as stage
-use Rattle.kc_machine_commits.specs.declared.commit.OwnStep.{OwnStep}
-use Rattle.kc_machine_commits.specs.declared.commit.OwnStep.TheVariants as own
-use Rattle.kc_machine_steps.specs.declared.task.Told.{Told}
-use Rattle.kc_machine_steps.specs.declared.task.Told.TheVariants as told
-use Rattle.kc_machine_commits.specs.Nexts.{Next}
-use Rattle.kc_machine_steps.specs.declared.task.Event.{Event}
-use Rattle.kc_machine_commits.specs.Nexts as next
-use Rattle.kc_machine.specs.Waits.{Hang}
-use Rattle.kc_machine.specs.declared.hang.HangStep.{HangStep}
-use Rattle.kc_machine_commits.specs.Commits.{stage_next, tells_or_goes, told_of}
-use Rattle.kc_machine.specs.declared.hang.HangStep.TheVariants as hang
-use Rattle.kc_machine.specs.Hangs.{hangs_on, onward_of}
-use Rattle.kc_machine.specs.Works.{Work}
-use Rattle.kc_machine.specs.declared.hang.HangNext.{HangNext}
-use Rattle.kc_machine.specs.declared.hang.HangNext.TheVariants.{Goes, Tells}
-use Rattle.kc_machine.specs.Works as work
-use Rattle.kc_machine.specs.Machine.{Opening, run}
-use Rattle.kc_machine.specs.Seats.{after, blocked_by}
-use Rattle.kc_machine.specs.declared.seat.Seat.{Seat}
-use Rattle.kc_machine_claims.specs.Traces.{listens, Moment}
-use Rattle.kc_machine_effects.specs.Stands.{Stand, Waits, Waiting, NoWait, Hangs, HangLooks, Leaving, stand, works, resting, commits, owns, aids, hangs}
-use Rattle.kc_machine_histories.proofs.Filters.{got}
-use Rattle.kc_machine_seats.proofs.Searches.{scanned, taken}
+use Rattle.kc_machine_looks.specs.kc_machine_steps.declared.aid.AidStep.TheVariants as aid
+use Rattle.kc_machine_looks.specs.kc_machine_commits.declared.commit.Commit.{Commit}
+use Rattle.kc_machine_looks.specs.kc_machine_commits.declared.commit.Stage.{Stage}
+use Rattle.kc_machine_looks.specs.kc_machine_commits.declared.commit.Stage.TheVariants as stage
+use Rattle.kc_machine_looks.specs.kc_machine_commits.declared.commit.OwnStep.{OwnStep}
+use Rattle.kc_machine_looks.specs.kc_machine_commits.declared.commit.OwnStep.TheVariants as own
+use Rattle.kc_machine_looks.specs.kc_machine_steps.declared.task.Told.{Told}
+use Rattle.kc_machine_looks.specs.kc_machine_steps.declared.task.Told.TheVariants as told
+use Rattle.kc_machine_looks.specs.kc_machine_commits.Nexts.{Next}
+use Rattle.kc_machine_looks.specs.kc_machine_steps.declared.task.Event.{Event}
+use Rattle.kc_machine_looks.specs.kc_machine_commits.Nexts as next
+use Rattle.kc_machine_looks.specs.kc_machine.Waits.{Hang}
+use Rattle.kc_machine_looks.specs.kc_machine.declared.hang.HangStep.{HangStep}
+use Rattle.kc_machine_looks.specs.kc_machine_commits.Commits.{stage_next, tells_or_goes, told_of}
+use Rattle.kc_machine_looks.specs.kc_machine.declared.hang.HangStep.TheVariants as hang
+use Rattle.kc_machine_looks.specs.kc_machine.Hangs.{hangs_on, onward_of}
+use Rattle.kc_machine_looks.specs.kc_machine.Works.{Work}
+use Rattle.kc_machine_looks.specs.kc_machine.declared.hang.HangNext.{HangNext}
+use Rattle.kc_machine_looks.specs.kc_machine.declared.hang.HangNext.TheVariants.{Goes, Tells}
+use Rattle.kc_machine_looks.specs.kc_machine.Works as work
+use Rattle.kc_machine_looks.specs.kc_machine.Machine.{Opening, run}
+use Rattle.kc_machine_looks.specs.kc_machine.Seats.{after, blocked_by}
+use Rattle.kc_machine_looks.specs.kc_machine.declared.seat.Seat.{Seat}
+use Rattle.kc_machine_looks.specs.kc_machine_claims.Traces.{listens, Moment}
+use Rattle.kc_machine_looks.specs.kc_machine_effects.Stands.{Stand, Waits, Waiting, NoWait, Hangs, HangLooks, Leaving, stand, works, resting, commits, owns, aids, hangs}
+use Rattle.kc_machine_looks.proofs.kc_machine_histories.Filters.{got}
+use Rattle.kc_machine_looks.proofs.kc_machine_seats.Searches.{scanned, taken}
 use Rattle.kc_machine_waiting.proofs.Hearing.{listens_at, listens_by, IsDeaf}
 use Rattle.kc_machine_waiting.specs.Awaiting.{is_set, looks, IsRegistered, Hears}
 

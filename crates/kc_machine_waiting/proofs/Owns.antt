@@ -1,36 +1,36 @@
 -- What an event makes of what a seat owes by its own descriptor.
-use Rattle.kc_machine_effects.specs.Stands.{Swapping, Swaps}
-use Rattle.kc_machine_steps.specs.declared.swap.SwapStep.TheVariants as swap
+use Rattle.kc_machine_looks.specs.kc_machine_effects.Stands.{Swapping, Swaps}
+use Rattle.kc_machine_looks.specs.kc_machine_steps.declared.swap.SwapStep.TheVariants as swap
 use Rattle.std.proofs.Common.{◌≡◌, ℕ, Bool, true, false, List, [], Option, None, Some, refl}
-use Rattle.kc_machine_steps.specs.declared.line.Intent.{Intent}
-use Rattle.kc_machine_steps.specs.declared.pass.PassNext.{PassNext}
-use Rattle.kc_machine_words.specs.declared.access.Found.{Found}
-use Rattle.kc_machine_words.specs.declared.words.Handle.{Handle}
-use Rattle.kc_machine_words.specs.declared.words.Phase.{Phase}
-use Rattle.kc_machine_words.specs.declared.words.Reference.{Reference}
+use Rattle.kc_machine_looks.specs.kc_machine_steps.declared.line.Intent.{Intent}
+use Rattle.kc_machine_looks.specs.kc_machine_steps.declared.pass.PassNext.{PassNext}
+use Rattle.kc_machine_looks.specs.kc_machine_words.declared.access.Found.{Found}
+use Rattle.kc_machine_looks.specs.kc_machine_words.declared.words.Handle.{Handle}
+use Rattle.kc_machine_looks.specs.kc_machine_words.declared.words.Phase.{Phase}
+use Rattle.kc_machine_looks.specs.kc_machine_words.declared.words.Reference.{Reference}
 use Rattle.kc_model.specs.declared.footprint.Seen.{Seen}
-use Rattle.kc_machine_steps.specs.declared.pass.PassNext.TheVariants as pass
-use Rattle.kc_machine_steps.specs.declared.aid.AidStep.{AidStep}
-use Rattle.kc_machine_steps.specs.declared.aid.Aided.{Aided}
-use Rattle.kc_machine_steps.specs.declared.aid.AidStep.TheVariants as aid
-use Rattle.kc_machine_steps.specs.declared.aid.AidNext.{AidNext}
-use Rattle.kc_machine_steps.specs.declared.aid.AidNext.TheVariants as aiding
-use Rattle.kc_machine_commits.specs.declared.commit.Commit.{Commit}
-use Rattle.kc_machine_commits.specs.declared.commit.Stage.{Stage}
-use Rattle.kc_machine_commits.specs.declared.commit.Stage.TheVariants as stage
-use Rattle.kc_machine_commits.specs.declared.commit.OwnStep.{OwnStep}
-use Rattle.kc_machine_commits.specs.declared.commit.OwnStep.TheVariants as own
-use Rattle.kc_machine.specs.declared.hang.HangStep.{HangStep}
-use Rattle.kc_machine_commits.specs.Commits.{own_next, finished, after_own_pass, aid_or_back}
-use Rattle.kc_machine_commits.specs.Halts.{halted_own, halted_aid, aid_or_decide}
-use Rattle.kc_machine_steps.specs.Aids.{aid_next}
-use Rattle.kc_machine_steps.specs.Passes.{pass_next}
-use Rattle.kc_machine.specs.declared.hang.HangStep.TheVariants as hang
-use Rattle.kc_machine.specs.Works.{Work}
-use Rattle.kc_machine.specs.Works as work
-use Rattle.kc_machine.specs.declared.seat.Seat.{Seat}
-use Rattle.kc_machine_claims.specs.Claims.{still_wakes, owed_by}
-use Rattle.kc_machine_effects.specs.Stands.{Own, NoOwn, Owns, Runs, Waits, Stand, stand, works, resting, commits, owns, aids, hangs}
+use Rattle.kc_machine_looks.specs.kc_machine_steps.declared.pass.PassNext.TheVariants as pass
+use Rattle.kc_machine_looks.specs.kc_machine_steps.declared.aid.AidStep.{AidStep}
+use Rattle.kc_machine_looks.specs.kc_machine_steps.declared.aid.Aided.{Aided}
+use Rattle.kc_machine_looks.specs.kc_machine_steps.declared.aid.AidStep.TheVariants as aid
+use Rattle.kc_machine_looks.specs.kc_machine_steps.declared.aid.AidNext.{AidNext}
+use Rattle.kc_machine_looks.specs.kc_machine_steps.declared.aid.AidNext.TheVariants as aiding
+use Rattle.kc_machine_looks.specs.kc_machine_commits.declared.commit.Commit.{Commit}
+use Rattle.kc_machine_looks.specs.kc_machine_commits.declared.commit.Stage.{Stage}
+use Rattle.kc_machine_looks.specs.kc_machine_commits.declared.commit.Stage.TheVariants as stage
+use Rattle.kc_machine_looks.specs.kc_machine_commits.declared.commit.OwnStep.{OwnStep}
+use Rattle.kc_machine_looks.specs.kc_machine_commits.declared.commit.OwnStep.TheVariants as own
+use Rattle.kc_machine_looks.specs.kc_machine.declared.hang.HangStep.{HangStep}
+use Rattle.kc_machine_looks.specs.kc_machine_commits.Commits.{own_next, finished, after_own_pass, aid_or_back}
+use Rattle.kc_machine_looks.specs.kc_machine_commits.Halts.{halted_own, halted_aid, aid_or_decide}
+use Rattle.kc_machine_looks.specs.kc_machine_steps.Aids.{aid_next}
+use Rattle.kc_machine_looks.specs.kc_machine_steps.Passes.{pass_next}
+use Rattle.kc_machine_looks.specs.kc_machine.declared.hang.HangStep.TheVariants as hang
+use Rattle.kc_machine_looks.specs.kc_machine.Works.{Work}
+use Rattle.kc_machine_looks.specs.kc_machine.Works as work
+use Rattle.kc_machine_looks.specs.kc_machine.declared.seat.Seat.{Seat}
+use Rattle.kc_machine_looks.specs.kc_machine_claims.Claims.{still_wakes, owed_by}
+use Rattle.kc_machine_looks.specs.kc_machine_effects.Stands.{Own, NoOwn, Owns, Runs, Waits, Stand, stand, works, resting, commits, owns, aids, hangs}
 
 -- ---- what a work owns
 

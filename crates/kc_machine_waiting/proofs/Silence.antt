@@ -1,31 +1,31 @@
 -- Bits that don't stand, and stay so.
-use Rattle.kc_machine_traces.proofs.Swapping.{swap_of}
+use Rattle.kc_machine_looks.proofs.kc_machine_traces.Swapping.{swap_of}
 use Rattle.std.proofs.Common.{arith, ◌≡◌, ◌≢◌, ◌<◌, ◌++◌, ℕ, Bool, true, false, List, [], ◌∷◌, Option, None, Some, refl, sym, ap, subst, ◌∙◌, if◌then◌else◌}
 use Rattle.std.specs.Prelude.{slice_get, nat_lt}
 use borrow.Author.Tests.{ltb-true}
 use Rattle.kc_model.specs.declared.footprint.Seen.{Seen}
-use Rattle.kc_machine_words.specs.declared.access.Access.TheVariants as access
-use Rattle.kc_machine_words.specs.declared.access.Bits.TheVariants as bits
-use Rattle.kc_machine.specs.Waits.{Leave}
-use Rattle.kc_machine.specs.declared.hang.LeaveStep.{LeaveStep}
-use Rattle.kc_machine_steps.specs.declared.task.Event.{Event}
-use Rattle.kc_machine_steps.specs.declared.task.Event.TheVariants.{Begin, Step, Halt}
-use Rattle.kc_machine.specs.declared.hang.LeaveStep.TheVariants as leave
-use Rattle.kc_machine.specs.Hangs.{leave_access_at, clear_access}
-use Rattle.kc_machine.specs.Words.{bits_after}
-use Rattle.kc_machine.specs.Works.{Work}
-use Rattle.kc_machine.specs.Works as work
-use Rattle.kc_machine.proofs.Functions.{put_cases, put_here}
-use Rattle.kc_machine.specs.Machine.{World, State, Opening, put, touched, found_at, possible, happened, event_of, seat_of, run}
-use Rattle.kc_machine.specs.Schedules.{IsSchedule}
-use Rattle.kc_machine.specs.Seats.{access_of, work_access, answer_of, is_idle}
-use Rattle.kc_machine.specs.declared.seat.Seat.{Seat}
-use Rattle.kc_machine_claims.specs.Claims.{has_bit}
-use Rattle.kc_machine_ranges.proofs.Runs.{steps_possible}
-use Rattle.kc_machine_seats.proofs.FormedSteps.{formed_always}
-use Rattle.kc_machine_seats.proofs.SeatedSteps.{seats_stay}
-use Rattle.kc_machine_traces.proofs.Joins.{run-append}
-use Rattle.kc_machine_traces.proofs.Others.{run_shape, event_out, step_world}
+use Rattle.kc_machine_looks.specs.kc_machine_words.declared.access.Access.TheVariants as access
+use Rattle.kc_machine_looks.specs.kc_machine_words.declared.access.Bits.TheVariants as bits
+use Rattle.kc_machine_looks.specs.kc_machine.Waits.{Leave}
+use Rattle.kc_machine_looks.specs.kc_machine.declared.hang.LeaveStep.{LeaveStep}
+use Rattle.kc_machine_looks.specs.kc_machine_steps.declared.task.Event.{Event}
+use Rattle.kc_machine_looks.specs.kc_machine_steps.declared.task.Event.TheVariants.{Begin, Step, Halt}
+use Rattle.kc_machine_looks.specs.kc_machine.declared.hang.LeaveStep.TheVariants as leave
+use Rattle.kc_machine_looks.specs.kc_machine.Hangs.{leave_access_at, clear_access}
+use Rattle.kc_machine_looks.specs.kc_machine.Words.{bits_after}
+use Rattle.kc_machine_looks.specs.kc_machine.Works.{Work}
+use Rattle.kc_machine_looks.specs.kc_machine.Works as work
+use Rattle.kc_machine_looks.proofs.kc_machine.Functions.{put_cases, put_here}
+use Rattle.kc_machine_looks.specs.kc_machine.Machine.{World, State, Opening, put, touched, found_at, possible, happened, event_of, seat_of, run}
+use Rattle.kc_machine_looks.specs.kc_machine.Schedules.{IsSchedule}
+use Rattle.kc_machine_looks.specs.kc_machine.Seats.{access_of, work_access, answer_of, is_idle}
+use Rattle.kc_machine_looks.specs.kc_machine.declared.seat.Seat.{Seat}
+use Rattle.kc_machine_looks.specs.kc_machine_claims.Claims.{has_bit}
+use Rattle.kc_machine_looks.proofs.kc_machine_ranges.Runs.{steps_possible}
+use Rattle.kc_machine_looks.proofs.kc_machine_seats.FormedSteps.{formed_always}
+use Rattle.kc_machine_looks.proofs.kc_machine_seats.SeatedSteps.{seats_stay}
+use Rattle.kc_machine_looks.proofs.kc_machine_traces.Joins.{run-append}
+use Rattle.kc_machine_looks.proofs.kc_machine_traces.Others.{run_shape, event_out, step_world}
 use Rattle.kc_machine_waiting.proofs.Bits.{set_else, was_set, is_cleared}
 use Rattle.kc_machine_waiting.proofs.Hearing.{Hearing, still, sets, clears, unsignals, wakes, signals, swap_wakes, swap_signals, event_hears}
 use Rattle.kc_machine_waiting.proofs.Owns.{work_own}

@@ -1,71 +1,71 @@
 -- What a hang that found a change and a leave know, and so what they are told.
-use Rattle.kc_machine_traces.proofs.Swapping.{swap_of, stand_swap}
+use Rattle.kc_machine_looks.proofs.kc_machine_traces.Swapping.{swap_of, stand_swap}
 use Rattle.kc_machine_waiting.proofs.Listening.{SwapTellsSo, swap_tells}
-use Rattle.kc_machine_steps.specs.Swaps.{swaps_on, ends_at_once}
-use Rattle.kc_machine_steps.specs.Swaps.{onward_of as onward_of_swap}
-use Rattle.kc_machine_steps.specs.declared.swap.Swap.{Swap}
-use Rattle.kc_machine_steps.specs.declared.swap.SwapNext.{SwapNext}
-use Rattle.kc_machine_steps.specs.declared.swap.SwapNext.TheVariants as swapping
+use Rattle.kc_machine_looks.specs.kc_machine_steps.Swaps.{swaps_on, ends_at_once}
+use Rattle.kc_machine_looks.specs.kc_machine_steps.Swaps.{onward_of as onward_of_swap}
+use Rattle.kc_machine_looks.specs.kc_machine_steps.declared.swap.Swap.{Swap}
+use Rattle.kc_machine_looks.specs.kc_machine_steps.declared.swap.SwapNext.{SwapNext}
+use Rattle.kc_machine_looks.specs.kc_machine_steps.declared.swap.SwapNext.TheVariants as swapping
 use Rattle.std.proofs.Common.{arith, ◌≡◌, ◌≢◌, ◌<◌, ◌≤◌, ◌+◌, ◌++◌, ◌==◌, ◌&&◌, not, ℕ, Bool, true, false, List, [], ◌∷◌, Option, None, Some, refl, sym, ap, subst, ◌∙◌, if◌then◌else◌}
 use Rattle.std.specs.Prelude.{slice_get, Contains}
 use Rattle.std.proofs.lemmas.List.{take-append-le, length-append}
 use borrow.Author.Tests.{eqb-true, eqb-false}
-use Rattle.kc_machine_steps.specs.declared.look.LookStep.{LookStep}
-use Rattle.kc_machine_words.specs.declared.access.Found.{Found}
-use Rattle.kc_machine_words.specs.declared.words.Phase.{Phase}
-use Rattle.kc_machine_words.specs.declared.words.Phase.TheVariants.{Active, Succeeded, Failed, Crossed, Halted}
+use Rattle.kc_machine_looks.specs.kc_machine_steps.declared.look.LookStep.{LookStep}
+use Rattle.kc_machine_looks.specs.kc_machine_words.declared.access.Found.{Found}
+use Rattle.kc_machine_looks.specs.kc_machine_words.declared.words.Phase.{Phase}
+use Rattle.kc_machine_looks.specs.kc_machine_words.declared.words.Phase.TheVariants.{Active, Succeeded, Failed, Crossed, Halted}
 use Rattle.kc_model.specs.declared.footprint.Loc.{Loc}
 use Rattle.kc_model.specs.declared.footprint.Seen.{Seen}
 use Rattle.kc_model.specs.declared.plain_store.Cell.{Cell}
-use Rattle.kc_machine_steps.specs.declared.look.LookStep.TheVariants as look
-use Rattle.kc_machine_steps.specs.declared.look.LookNext.{LookNext}
-use Rattle.kc_machine_steps.specs.declared.look.LookNext.TheVariants as looking
-use Rattle.kc_machine_commits.specs.declared.commit.Commit.{Commit}
-use Rattle.kc_machine_steps.specs.declared.look.Look.{Look}
-use Rattle.kc_machine_steps.specs.declared.task.Task.{Task}
-use Rattle.kc_machine_steps.specs.declared.task.Task.TheVariants as task
-use Rattle.kc_machine_steps.specs.declared.task.Told.{Told}
-use Rattle.kc_machine_steps.specs.declared.task.Told.TheVariants as told
-use Rattle.kc_machine_commits.specs.Nexts.{Next}
-use Rattle.kc_machine_steps.specs.declared.task.Event.{Event}
-use Rattle.kc_machine_steps.specs.declared.task.Event.TheVariants.{Begin, Step, Halt}
-use Rattle.kc_machine_commits.specs.Nexts as next
-use Rattle.kc_machine.specs.Waits.{Hang, Leave}
-use Rattle.kc_machine.specs.declared.hang.HangStep.{HangStep}
-use Rattle.kc_machine_commits.specs.Commits.{told_of, gone_on, onward_by, loaded}
-use Rattle.kc_machine_commits.specs.Halts.{unowned, commit_halted}
-use Rattle.kc_machine_steps.specs.Lines.{after_line}
-use Rattle.kc_machine_steps.specs.Looks.{look_access, look_next, looks_on, told_by, halts_at_once, look_halted}
-use Rattle.kc_machine.specs.declared.hang.HangStep.TheVariants as hang
-use Rattle.kc_machine.specs.declared.hang.LeaveStep.{LeaveStep}
-use Rattle.kc_machine.specs.declared.hang.LeaveStep.TheVariants as leave
-use Rattle.kc_machine.specs.Hangs.{hang_next, hangs_on, onward_of, set_or_look, clear_or_changed, look_or_end, look_goes_on, look_of, looked, leaves_on, unblocks_or_tells, next_read, read_of, hang_access_of}
-use Rattle.kc_machine.specs.Works.{Work}
-use Rattle.kc_machine.specs.declared.hang.HangNext.{HangNext}
-use Rattle.kc_machine.specs.declared.hang.HangNext.TheVariants.{Goes, Tells}
-use Rattle.kc_machine.specs.Works as work
-use Rattle.kc_machine.specs.Machine.{State, Opening, found_at, event_of, seat_of, run}
-use Rattle.kc_machine.specs.Schedules.{IsSchedule}
-use Rattle.kc_machine.specs.Seats.{access_of, work_access, answer_of, answer_by, after, is_idle, begun, begun_idle, working, hanging, halted, halted_by, ended}
-use Rattle.kc_machine.specs.declared.seat.Seat.{Seat}
-use Rattle.kc_machine_claims.specs.Claims.{has_bit, history_at}
-use Rattle.kc_machine_claims.specs.Histories.{ending}
-use Rattle.kc_machine_claims.specs.Traces.{Moment, Shadow, now, trace, first_store, listens, begins, with_task}
-use Rattle.kc_machine_effects.specs.Stands.{Waiting, NoWait, Hangs, HangLooks, Looks, stand, works, resting, hangs, location_of}
-use Rattle.kc_machine_histories.proofs.Filters.{got}
-use Rattle.kc_machine_histories.proofs.Growing.{stood_since}
-use Rattle.kc_machine_histories.proofs.Passes.{pass_is, work_pass}
+use Rattle.kc_machine_looks.specs.kc_machine_steps.declared.look.LookStep.TheVariants as look
+use Rattle.kc_machine_looks.specs.kc_machine_steps.declared.look.LookNext.{LookNext}
+use Rattle.kc_machine_looks.specs.kc_machine_steps.declared.look.LookNext.TheVariants as looking
+use Rattle.kc_machine_looks.specs.kc_machine_commits.declared.commit.Commit.{Commit}
+use Rattle.kc_machine_looks.specs.kc_machine_steps.declared.look.Look.{Look}
+use Rattle.kc_machine_looks.specs.kc_machine_steps.declared.task.Task.{Task}
+use Rattle.kc_machine_looks.specs.kc_machine_steps.declared.task.Task.TheVariants as task
+use Rattle.kc_machine_looks.specs.kc_machine_steps.declared.task.Told.{Told}
+use Rattle.kc_machine_looks.specs.kc_machine_steps.declared.task.Told.TheVariants as told
+use Rattle.kc_machine_looks.specs.kc_machine_commits.Nexts.{Next}
+use Rattle.kc_machine_looks.specs.kc_machine_steps.declared.task.Event.{Event}
+use Rattle.kc_machine_looks.specs.kc_machine_steps.declared.task.Event.TheVariants.{Begin, Step, Halt}
+use Rattle.kc_machine_looks.specs.kc_machine_commits.Nexts as next
+use Rattle.kc_machine_looks.specs.kc_machine.Waits.{Hang, Leave}
+use Rattle.kc_machine_looks.specs.kc_machine.declared.hang.HangStep.{HangStep}
+use Rattle.kc_machine_looks.specs.kc_machine_commits.Commits.{told_of, gone_on, onward_by, loaded}
+use Rattle.kc_machine_looks.specs.kc_machine_commits.Halts.{unowned, commit_halted}
+use Rattle.kc_machine_looks.specs.kc_machine_steps.Lines.{after_line}
+use Rattle.kc_machine_looks.specs.kc_machine_steps.Looks.{look_access, look_next, looks_on, told_by, halts_at_once, look_halted}
+use Rattle.kc_machine_looks.specs.kc_machine.declared.hang.HangStep.TheVariants as hang
+use Rattle.kc_machine_looks.specs.kc_machine.declared.hang.LeaveStep.{LeaveStep}
+use Rattle.kc_machine_looks.specs.kc_machine.declared.hang.LeaveStep.TheVariants as leave
+use Rattle.kc_machine_looks.specs.kc_machine.Hangs.{hang_next, hangs_on, onward_of, set_or_look, clear_or_changed, look_or_end, look_goes_on, look_of, looked, leaves_on, unblocks_or_tells, next_read, read_of, hang_access_of}
+use Rattle.kc_machine_looks.specs.kc_machine.Works.{Work}
+use Rattle.kc_machine_looks.specs.kc_machine.declared.hang.HangNext.{HangNext}
+use Rattle.kc_machine_looks.specs.kc_machine.declared.hang.HangNext.TheVariants.{Goes, Tells}
+use Rattle.kc_machine_looks.specs.kc_machine.Works as work
+use Rattle.kc_machine_looks.specs.kc_machine.Machine.{State, Opening, found_at, event_of, seat_of, run}
+use Rattle.kc_machine_looks.specs.kc_machine.Schedules.{IsSchedule}
+use Rattle.kc_machine_looks.specs.kc_machine.Seats.{access_of, work_access, answer_of, answer_by, after, is_idle, begun, begun_idle, working, hanging, halted, halted_by, ended}
+use Rattle.kc_machine_looks.specs.kc_machine.declared.seat.Seat.{Seat}
+use Rattle.kc_machine_looks.specs.kc_machine_claims.Claims.{has_bit, history_at}
+use Rattle.kc_machine_looks.specs.kc_machine_claims.Histories.{ending}
+use Rattle.kc_machine_looks.specs.kc_machine_claims.Traces.{Moment, Shadow, now, trace, first_store, listens, begins, with_task}
+use Rattle.kc_machine_looks.specs.kc_machine_effects.Stands.{Waiting, NoWait, Hangs, HangLooks, Looks, stand, works, resting, hangs, location_of}
+use Rattle.kc_machine_looks.proofs.kc_machine_histories.Filters.{got}
+use Rattle.kc_machine_looks.proofs.kc_machine_histories.Growing.{stood_since}
+use Rattle.kc_machine_looks.proofs.kc_machine_histories.Passes.{pass_is, work_pass}
 use Rattle.kc_machine_looks.proofs.Knowing.{IsBehind, behind_on, behind_now, history_still, read_there}
 use Rattle.kc_machine_looks.proofs.Looking.{look_on}
 use Rattle.kc_machine_looks.proofs.Stood.{looks_promised}
 use Rattle.kc_machine_looks.specs.Promised.{NextPromises, HangPromises, WorkPromises}
-use Rattle.kc_machine_resolving.proofs.Growing.{along}
-use Rattle.kc_machine_seats.proofs.MadeSteps.{reads_made}
-use Rattle.kc_machine_seats.specs.Made.{ReadsAreMade}
-use Rattle.kc_machine_traces.proofs.Answers.{moved, seat_cases, answers_when_done}
-use Rattle.kc_machine_traces.proofs.Joins.{every, made_parts}
-use Rattle.kc_machine_traces.proofs.Moments.{listening_moment}
-use Rattle.kc_machine_traces.proofs.Others.{others_leave, others_leave_shadow}
+use Rattle.kc_machine_looks.proofs.kc_machine_resolving.Growing.{along}
+use Rattle.kc_machine_looks.proofs.kc_machine_seats.MadeSteps.{reads_made}
+use Rattle.kc_machine_looks.specs.kc_machine_seats.Made.{ReadsAreMade}
+use Rattle.kc_machine_looks.proofs.kc_machine_traces.Answers.{moved, seat_cases, answers_when_done}
+use Rattle.kc_machine_looks.proofs.kc_machine_traces.Joins.{every, made_parts}
+use Rattle.kc_machine_looks.proofs.kc_machine_traces.Moments.{listening_moment}
+use Rattle.kc_machine_looks.proofs.kc_machine_traces.Others.{others_leave, others_leave_shadow}
 use Rattle.kc_machine_waiting.proofs.Always.{kept_shadow, kept_task, next_is}
 use Rattle.kc_machine_waiting.proofs.Freed.{unblocked}
 use Rattle.kc_machine_waiting.proofs.Listening.{up_to, before_end, work_wait, hang_wait, wait_is, listens_itself, TellsSo, commit_tells}

@@ -6,24 +6,24 @@ use Rattle.std.specs.Option.{is_some}
 use Rattle.std.proofs.lemmas.Option.{slice_get_within}
 use Rattle.std.specs.Int.Bits.{and_zero_l}
 use borrow.Author.Tests.{ltb-true, ltb-false, eqb-true}
-use Rattle.kc_machine_commits.specs.declared.commit.OwnStep.{OwnStep}
-use Rattle.kc_machine_steps.specs.declared.line.Intent.{Intent}
+use Rattle.kc_machine_looks.specs.kc_machine_commits.declared.commit.OwnStep.{OwnStep}
+use Rattle.kc_machine_looks.specs.kc_machine_steps.declared.line.Intent.{Intent}
 use Rattle.kc_model.specs.declared.footprint.Line.{Line}
 use Rattle.kc_model.specs.declared.footprint.TheConstants.{MOST}
-use Rattle.kc_machine_steps.specs.declared.line.Pick.TheVariants.{Put}
-use Rattle.kc_machine_words.specs.declared.words.Handle.{Handle}
-use Rattle.kc_machine_words.specs.declared.words.Phase.TheVariants.{Succeeded}
-use Rattle.kc_machine_commits.specs.declared.commit.OwnStep.TheVariants as own
-use Rattle.kc_machine.specs.Machine.{World}
-use Rattle.kc_machine.specs.Words.{bit_of}
-use Rattle.kc_machine_claims.specs.Claims.{still_wakes, owed_by, has_bit, OwnsSucceeded}
-use Rattle.kc_machine_commits.specs.Commits.{finished, wake_or_drop, wake_or_signal, owed_next}
-use Rattle.kc_machine_effects.specs.Stands.{Own}
-use Rattle.kc_machine_histories.proofs.Filters.{got}
-use Rattle.kc_machine_histories.proofs.Filters.{found}
-use Rattle.kc_machine_passes.proofs.Gone.{next_skips}
-use Rattle.kc_machine_steps.specs.Lines.{next_line, after_line, has_put}
-use Rattle.kc_machine_steps.specs.Passes.{status}
+use Rattle.kc_machine_looks.specs.kc_machine_steps.declared.line.Pick.TheVariants.{Put}
+use Rattle.kc_machine_looks.specs.kc_machine_words.declared.words.Handle.{Handle}
+use Rattle.kc_machine_looks.specs.kc_machine_words.declared.words.Phase.TheVariants.{Succeeded}
+use Rattle.kc_machine_looks.specs.kc_machine_commits.declared.commit.OwnStep.TheVariants as own
+use Rattle.kc_machine_looks.specs.kc_machine.Machine.{World}
+use Rattle.kc_machine_looks.specs.kc_machine.Words.{bit_of}
+use Rattle.kc_machine_looks.specs.kc_machine_claims.Claims.{still_wakes, owed_by, has_bit, OwnsSucceeded}
+use Rattle.kc_machine_looks.specs.kc_machine_commits.Commits.{finished, wake_or_drop, wake_or_signal, owed_next}
+use Rattle.kc_machine_looks.specs.kc_machine_effects.Stands.{Own}
+use Rattle.kc_machine_looks.proofs.kc_machine_histories.Filters.{got}
+use Rattle.kc_machine_looks.proofs.kc_machine_histories.Filters.{found}
+use Rattle.kc_machine_looks.proofs.kc_machine_passes.Gone.{next_skips}
+use Rattle.kc_machine_looks.specs.kc_machine_steps.Lines.{next_line, after_line, has_put}
+use Rattle.kc_machine_looks.specs.kc_machine_steps.Passes.{status}
 use Rattle.kc_machine_waiting.proofs.Owns.{step_own, InPass, runs, waits}
 
 -- ---- lines behind an index

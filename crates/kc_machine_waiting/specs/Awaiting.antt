@@ -1,15 +1,15 @@
 -- Callers that await, and whom they may rely on.
 use Rattle.std.specs.Prelude.{◌≡◌, ◌<◌, ◌≤◌, ◌⊎◌, ℕ, List, Contains, Bool, true, false, Some, nat_lt, slice_get}
-use Rattle.kc_machine.specs.declared.hang.HangStep.{HangStep}
-use Rattle.kc_machine_steps.specs.declared.task.Event.{Event}
+use Rattle.kc_machine_looks.specs.kc_machine.declared.hang.HangStep.{HangStep}
+use Rattle.kc_machine_looks.specs.kc_machine_steps.declared.task.Event.{Event}
 use Rattle.kc_model.specs.declared.footprint.Seen.{Seen}
-use Rattle.kc_machine.specs.declared.hang.HangStep.TheVariants as hang
-use Rattle.kc_machine.specs.Waits.{Hang}
-use Rattle.kc_machine.specs.Works as work
-use Rattle.kc_machine.specs.Machine.{State, Opening, run}
-use Rattle.kc_machine_claims.specs.Claims.{IsAwake, has_bit, WakeIsToCome}
-use Rattle.kc_machine_claims.specs.Histories.{ending}
-use Rattle.kc_machine_claims.specs.Traces.{Moment, now, trace, first_store}
+use Rattle.kc_machine_looks.specs.kc_machine.declared.hang.HangStep.TheVariants as hang
+use Rattle.kc_machine_looks.specs.kc_machine.Waits.{Hang}
+use Rattle.kc_machine_looks.specs.kc_machine.Works as work
+use Rattle.kc_machine_looks.specs.kc_machine.Machine.{State, Opening, run}
+use Rattle.kc_machine_looks.specs.kc_machine_claims.Claims.{IsAwake, has_bit, WakeIsToCome}
+use Rattle.kc_machine_looks.specs.kc_machine_claims.Histories.{ending}
+use Rattle.kc_machine_looks.specs.kc_machine_claims.Traces.{Moment, now, trace, first_store}
 
 -- ---- whose bits are set
 

@@ -1,13 +1,13 @@
 -- Why a hang is told Changed, who was told Hung, and what a leave has done that is told Free.
 use Rattle.std.specs.Prelude.{◌≡◌, ◌≢◌, ◌<◌, ◌≤◌, ℕ, List, length, true, false, Contains, Some, slice_get}
-use Rattle.kc_machine_steps.specs.declared.task.Event.{Event}
+use Rattle.kc_machine_looks.specs.kc_machine_steps.declared.task.Event.{Event}
 use Rattle.kc_model.specs.declared.footprint.Seen.{Seen}
-use Rattle.kc_machine_steps.specs.declared.task.Task.TheVariants as task
-use Rattle.kc_machine_steps.specs.declared.task.Told.TheVariants as told
-use Rattle.kc_machine.specs.Machine.{Opening, run}
-use Rattle.kc_machine_claims.specs.Claims.{has_bit, history_at}
-use Rattle.kc_machine_claims.specs.Histories.{ending}
-use Rattle.kc_machine_claims.specs.Traces.{Moment, trace, first_store}
+use Rattle.kc_machine_looks.specs.kc_machine_steps.declared.task.Task.TheVariants as task
+use Rattle.kc_machine_looks.specs.kc_machine_steps.declared.task.Told.TheVariants as told
+use Rattle.kc_machine_looks.specs.kc_machine.Machine.{Opening, run}
+use Rattle.kc_machine_looks.specs.kc_machine_claims.Claims.{has_bit, history_at}
+use Rattle.kc_machine_looks.specs.kc_machine_claims.Histories.{ending}
+use Rattle.kc_machine_looks.specs.kc_machine_claims.Traces.{Moment, trace, first_store}
 
 -- behind the event at a moment, another version than the read's stood once at its location
 abbrev pub OtherStood : Opening → List Event → Moment → Seen → Type 0

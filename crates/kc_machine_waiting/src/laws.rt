@@ -1,10 +1,10 @@
 //! What holds after every schedule of well-made tasks. An empty body: the contract is the law.
 
 ghost use Rattle.std.specs.Prelude.{List};
-ghost use Rattle.kc_machine_steps.specs.declared.task.Event.{Event};
-ghost use Rattle.kc_machine.specs.Machine.{Opening};
-ghost use Rattle.kc_machine.specs.Schedules.{IsSchedule};
-ghost use Rattle.kc_machine_claims.specs.Claims.{BlockedAreCovered};
+ghost use Rattle.kc_machine_looks.specs.kc_machine_steps.declared.task.Event.{Event};
+ghost use Rattle.kc_machine_looks.specs.kc_machine.Machine.{Opening};
+ghost use Rattle.kc_machine_looks.specs.kc_machine.Schedules.{IsSchedule};
+ghost use Rattle.kc_machine_looks.specs.kc_machine_claims.Claims.{BlockedAreCovered};
 ghost use Rattle.kc_machine_waiting.specs.Awaiting.{BlockedHear, HangsHear, RegisteredStayCovered};
 ghost use Rattle.kc_machine_waiting.specs.Causes.{ChangedReadsMoved, FreeIsForgotten, HungIsBlocked};
 

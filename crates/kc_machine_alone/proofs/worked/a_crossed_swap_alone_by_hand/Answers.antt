@@ -1,10 +1,10 @@
 use Rattle.std.proofs.Common.{arith, refl}
-use Rattle.kc_machine_steps.specs.declared.task.Told.TheVariants as told
-use Rattle.kc_machine.specs.Machine.{put}
+use Rattle.kc_machine_answers.specs.kc_machine_steps.declared.task.Told.TheVariants as told
+use Rattle.kc_machine_answers.specs.kc_machine.Machine.{put}
 use Rattle.kc_machine_alone.specs.Attempts.{once}
-use Rattle.kc_machine_claims.specs.Claims.{steps}
-use Rattle.kc_machine_claims.specs.Worked.{seen}
-use Rattle.kc_machine_steps.specs.Lines.{next_among}
+use Rattle.kc_machine_answers.specs.kc_machine_claims.Claims.{steps}
+use Rattle.kc_machine_answers.specs.kc_machine_claims.Worked.{seen}
+use Rattle.kc_machine_answers.specs.kc_machine_steps.Lines.{next_among}
 use Rattle.kc_machine_alone.specs.Swaps.{behind_swap}
 use Rattle.kc_machine_alone.proofs.worked.a_crossed_swap_alone_by_hand.Goals as goal
 

@@ -1,8 +1,8 @@
 use Rattle.std.proofs.Common.{refl}
-use Rattle.kc_machine.specs.Machine.{put}
-use Rattle.kc_machine_claims.specs.Claims.{steps}
-use Rattle.kc_machine_claims.specs.Worked.{seen}
-use Rattle.kc_machine_steps.specs.Lines.{next_among}
+use Rattle.kc_machine_answers.specs.kc_machine.Machine.{put}
+use Rattle.kc_machine_answers.specs.kc_machine_claims.Claims.{steps}
+use Rattle.kc_machine_answers.specs.kc_machine_claims.Worked.{seen}
+use Rattle.kc_machine_answers.specs.kc_machine_steps.Lines.{next_among}
 use Rattle.kc_model.specs.declared.footprint.TheConstants.{LAST_VERSION}
 use Rattle.kc_machine_alone.specs.Swaps.{worn}
 use Rattle.kc_machine_alone.proofs.worked.a_worn_location_alone_by_hand.Goals as goal

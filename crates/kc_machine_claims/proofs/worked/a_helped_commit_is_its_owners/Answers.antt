@@ -1,8 +1,8 @@
 use Rattle.std.proofs.Common.{refl}
-use Rattle.kc_machine.specs.Machine.{put}
+use Rattle.kc_machine_effects.specs.kc_machine.Machine.{put}
 use Rattle.kc_machine_claims.proofs.ByHand.{helped_history, helped_has_cause}
 use Rattle.kc_machine_claims.specs.Claims.{steps}
-use Rattle.kc_machine_steps.specs.Lines.{next_among}
+use Rattle.kc_machine_effects.specs.kc_machine_steps.Lines.{next_among}
 use Rattle.kc_machine_claims.proofs.worked.a_helped_commit_is_its_owners.Goals as goal
 
 pub returns-clause-history : goal.returns-clause-history

@@ -1,8 +1,8 @@
 use Rattle.std.proofs.Common.{refl}
-use Rattle.kc_machine.specs.Machine.{put}
+use Rattle.kc_machine_effects.specs.kc_machine.Machine.{put}
 use Rattle.kc_machine_claims.proofs.ByHand.{wake_to_come, waited_covered}
 use Rattle.kc_machine_claims.specs.Claims.{steps}
-use Rattle.kc_machine_steps.specs.Lines.{next_among}
+use Rattle.kc_machine_effects.specs.kc_machine_steps.Lines.{next_among}
 use Rattle.kc_machine_claims.proofs.worked.a_wait_by_hand.Goals as goal
 
 pub returns-clause-listening : goal.returns-clause-listening

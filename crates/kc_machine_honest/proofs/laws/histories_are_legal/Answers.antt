@@ -1,4 +1,4 @@
-use Rattle.kc_machine_histories.proofs.Differ.{entries_differ}
+use Rattle.kc_machine_resolving.proofs.kc_machine_histories.Differ.{entries_differ}
 use Rattle.kc_machine_honest.proofs.Legal.{legal}
 use Rattle.kc_machine_resolving.proofs.Resolving.{resolved}
 use Rattle.kc_machine_honest.proofs.laws.histories_are_legal.Goals as goal

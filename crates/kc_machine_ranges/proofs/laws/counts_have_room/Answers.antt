@@ -1,6 +1,6 @@
-use Rattle.kc_machine.specs.Machine.{run}
-use Rattle.kc_machine_effects.proofs.PoolLaws.{holds_counted}
-use Rattle.kc_machine_pool.proofs.LifeLaws.{three_holds}
+use Rattle.kc_machine_traces.specs.kc_machine.Machine.{run}
+use Rattle.kc_machine_traces.proofs.kc_machine_effects.PoolLaws.{holds_counted}
+use Rattle.kc_machine_traces.proofs.kc_machine_pool.LifeLaws.{three_holds}
 use Rattle.kc_machine_ranges.proofs.Room.{adds_room, subtracts_room}
 use Rattle.kc_machine_ranges.proofs.laws.counts_have_room.Goals as goal
 
