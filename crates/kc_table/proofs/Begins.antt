@@ -1,34 +1,36 @@
 -- A seat that begins or halts a task, learns or loads its signal is as ready as before.
-use Rattle.std.proofs.Common.{◌≡◌, ◌≢◌, ◌==◌, Bool, true, false, ℕ, List, [], ◌∷◌, ◌++◌, All, refl, sym, ap, ◌∙◌, subst, append_assoc}
+use Rattle.std.proofs.Common.{◌≡◌, ◌≢◌, ◌==◌, Bool, true, false, ℕ, ◌+◌, List, [], ◌∷◌, ◌++◌, All, refl, sym, ap, ◌∙◌, subst, append_assoc}
 use Rattle.std.proofs.lemmas.List.Elements.{All-push}
 use borrow.Author.Tests.{eqb-true, eqb-false}
+use Rattle.std.specs.Option.{is_some}
 use Rattle.atomic_table.specs.Seated.{TableId}
 use Rattle.atomic_table.specs.Table.{Me}
 use Rattle.kc_machine.specs.Machine.{Opening, run}
 use Rattle.kc_machine.specs.Schedules.{BeginsWellMade, IsWellMadeTask}
-use Rattle.kc_machine.specs.Seats.{begun, halted, is_idle}
+use Rattle.kc_machine.specs.Seats.{begun, halted, is_idle, own_of}
 use Rattle.kc_machine.specs.declared.seat.Seat.{Seat}
-use Rattle.kc_machine_claims.specs.Histories.{Grows}
-use Rattle.kc_machine_claims.specs.Traces.{first_store, BeginsHonestly}
-use Rattle.kc_machine_seats.specs.Seated.{SeatsStay}
+use Rattle.kc_table_straight.specs.kc_machine_claims.Histories.{Grows}
+use Rattle.kc_table_straight.specs.kc_machine_claims.Traces.{first_store, BeginsHonestly}
+use Rattle.kc_table_straight.specs.kc_machine_seats.Seated.{SeatsStay}
 use Rattle.kc_machine_steps.specs.declared.task.Event.{Event}
 use Rattle.kc_machine_steps.specs.declared.task.Event.TheVariants.{Begin, Halt}
 use Rattle.kc_machine_steps.specs.declared.task.Task.{Task}
-use Rattle.kc_machine_traces.specs.Moments.{BeginsNothing}
-use Rattle.kc_machine_traces.specs.Parts.{NoneOf}
+use Rattle.kc_table_straight.specs.kc_machine_traces.Entries.{by}
+use Rattle.kc_table_straight.specs.kc_machine_traces.Moments.{BeginsNothing}
+use Rattle.kc_table_straight.specs.kc_machine_traces.Parts.{NoneOf}
 use Rattle.kc_table_layout.specs.Cells.{place, signal_bit}
 use Rattle.kc_table_layout.specs.Cells.Cell.{signal}
 use Rattle.kc_table_moves.proofs.Allowed.{pends_on}
 use Rattle.kc_table_moves.specs.Origins.{opening_of}
-use Rattle.kc_table_moves.specs.Rule.{part, view, number_of, past_of, Ready, Merged, Heard}
+use Rattle.kc_table_moves.specs.Rule.{part, view, loads_of, number_of, past_of, Ready, Merged, Heard}
 use Rattle.kc_table_moves.specs.Views.{TableView, SeatView, NoteView, KnowsReads, Starts, Learns, Joined, Signalled}
 use Rattle.kc_table_moves.specs.Views.{seen_as}
 use Rattle.kc_table_moves.specs.declared.view.View.{View}
-use Rattle.kc_table_views.proofs.Beginnings.{begun_again}
-use Rattle.kc_table_views.proofs.Knowing.{grows_on}
-use Rattle.kc_table_views.proofs.Pendings.{all_front, waits_push, waits_front, waits_back, honest_push, honest_before, nothing_push, applied-append, waits_seat}
-use Rattle.kc_table_views.specs.Known.{IsMeant, IsPrefix, known}
-use Rattle.kc_table_views.specs.Pending.{AllWait, applied, HonestAt, BeginsAsMarked, Pends}
+use Rattle.kc_table_straight.proofs.kc_table_views.Beginnings.{begun_again}
+use Rattle.kc_table_straight.proofs.kc_table_views.Knowing.{gains_none, grows_on, owns_through}
+use Rattle.kc_table_straight.proofs.kc_table_views.Pendings.{all_front, waits_push, waits_front, waits_back, honest_push, honest_before, nothing_push, applied-append, waits_seat}
+use Rattle.kc_table_straight.specs.kc_table_views.Known.{IsMeant, IsPrefix, OwnsNone, known}
+use Rattle.kc_table_straight.specs.kc_table_views.Pending.{AllWait, applied, HonestAt, BeginsAsMarked, Pends}
 
 -- ---- beginnings and halts
 
@@ -96,13 +98,14 @@ ready_begun me began s z v t r e st m k =
     let q = ap (λ (x : SeatView). x.of.origin) is in
     let st' = subst (λ (x : SeatView). Starts x t) (sym is) st in
     let p = pends_begun (opening_of r.origin) r.number r.past r.pending s t st'.0 st'.1 (subst (λ i. IsWellMadeTask i.locations t) (sym q) m) (subst (λ (x : SeatView). KnowsReads x t) (sym is) k) began r.pends in
-    record { origin = r.origin; number = r.number; past = r.past; is = r.is; within = r.within; meant = r.meant; pending = p.0; pends = p.1 }
+    record { origin = r.origin; number = r.number; past = r.past; loads = r.loads; is = r.is; within = r.within; meant = r.meant; pending = p.0; pends = p.1 }
 
 pub ready_halted : (me : Me Unit View) (began : Bool) (s : Seat) → Ready me began s → Ready me began (halted s)
 ready_halted me began s r = record {
   origin = r.origin;
   number = r.number;
   past = r.past;
+  loads = r.loads;
   is = r.is;
   within = r.within;
   meant = r.meant;
@@ -112,7 +115,7 @@ ready_halted me began s r = record {
 
 -- ---- a seat that comes to know more of what others did
 
-learned : (me after : Me Unit View) (began : Bool) (s : Seat) (r : Ready me began s) (others : List Event) → after ≡ (view me.0.origin (part r.number (r.past ++ others) ∷ []) [], me.1) → NoneOf r.number others
+learned : (me after : Me Unit View) (began : Bool) (s : Seat) (r : Ready me began s) (others : List Event) → after ≡ (view me.0.origin (part r.number (r.past ++ others) (r.loads + 1) ∷ []) [], me.1) → NoneOf r.number others
     → IsMeant (opening_of me.0.origin) (r.past ++ others) → Ready after began s
 learned me after began s r others is none meant =
     let origin : me.0.origin ≡ r.origin = ap (λ (x : Me Unit View). x.0.origin) r.is in
@@ -122,16 +125,28 @@ learned me after began s r others is none meant =
       origin = r.origin;
       number = r.number;
       past = r.past ++ others;
-      is = is ∙ (λ i. (view (origin i) (part r.number (r.past ++ others) ∷ []) [], carried i));
+      loads = r.loads + 1;
+      is = is ∙ (λ i. (view (origin i) (part r.number (r.past ++ others) (r.loads + 1) ∷ []) [], carried i));
       within = r.within;
       meant = meant';
       pending = r.pending;
       pends = pends_on (opening_of r.origin) r.number r.past others r.pending began s meant' none r.pends;
     }
 
+-- a seat that owns nothing now owned nothing at its last step
+owned_before : (me : Me Unit View) (began : Bool) (s : Seat) (r : Ready me began s) → is_some (own_of s) ≡ false → OwnsNone (opening_of r.origin) r.number r.past
+owned_before me began s r none = go (is_some (own_of early)) refl
+  where
+    early : Seat
+    early = (run (opening_of r.origin) r.past).seats r.number
+
+    go : (b : Bool) → is_some (own_of early) ≡ b → is_some (own_of early) ≡ false
+    go false e = e
+    go true e = let owns = ap (λ (x : Seat). is_some (own_of x)) r.pends.stands ∙ owns_through early r.pending e in absurd (cc)
+
 learned_view : (me after : Me Unit View) (began : Bool) (s : Seat) (z y : TableId) (v : SeatView) (r : Ready me began s) (others : List Event) → seen_as z me began s ≡ v → y ≡ z
-    → after ≡ (view me.0.origin (part r.number (r.past ++ others) ∷ []) [], me.1) → NoneOf r.number others → IsMeant (opening_of me.0.origin) (r.past ++ others) → Learns v (seen_as y after began s)
-learned_view me after began s z y v r others e same is none meant =
+    → after ≡ (view me.0.origin (part r.number (r.past ++ others) (r.loads + 1) ∷ []) [], me.1) → NoneOf r.number others → IsMeant (opening_of me.0.origin) (r.past ++ others) → Learns v (seen_as y after began s)
+learned_view me after began s z y v r others e same is none_of meant =
     let past : past_of after.0.parts ≡ r.past ++ others = ap (λ (a : Me Unit View). past_of a.0.parts) is in
     let was : past_of me.0.parts ≡ r.past = ap (λ (a : Me Unit View). past_of a.0.parts) r.is in
     let number : number_of me.0.parts ≡ r.number = ap (λ (a : Me Unit View). number_of a.0.parts) r.is in
@@ -141,33 +156,38 @@ learned_view me after began s z y v r others e same is none meant =
       number = ap (λ (a : Me Unit View). number_of a.0.parts) is ∙ sym number;
       began = refl;
       seat = refl;
-      on = (others, past ∙ ap (λ l. l ++ others) (sym was), subst (λ n. NoneOf n others) (sym number) none);
+      on = (others, past ∙ ap (λ l. l ++ others) (sym was), subst (λ n. NoneOf n others) (sym number) none_of);
       meant = subst (IsMeant (opening_of me.0.origin)) (sym past) meant;
+      own = λ none.
+          let origin : me.0.origin ≡ r.origin = ap (λ (x : Me Unit View). x.0.origin) r.is in
+          let later : after.0.origin ≡ r.origin = ap (λ (a : Me Unit View). a.0.origin) is ∙ origin in
+          let same = gains_none (opening_of r.origin) r.past others r.number (owned_before me began s r none) none_of in
+          (λ i. by (number i) (known (opening_of (later i)) (past i))) ∙ same ∙ (λ i. by (sym number i) (known (opening_of (sym origin i)) (sym was i)));
     })
 
 -- by a note
 module _ (me mid after : Me Unit View) (began : Bool) (s : Seat) (r : Ready me began s) (ep : mid.0.parts ≡ me.0.parts) (eo : mid.0.origin ≡ me.0.origin) (ec : mid.1 ≡ me.1) (m : Merged mid after) where
-  parts : mid.0.parts ≡ part r.number r.past ∷ []
+  parts : mid.0.parts ≡ part r.number r.past r.loads ∷ []
   parts = ep ∙ ap (λ (x : Me Unit View). x.0.parts) r.is
 
   abbrev others : List Event
-  others = (m r.number r.past parts).0
+  others = (m r.number r.past r.loads parts).0
 
-  is_after : after ≡ (view me.0.origin (part r.number (r.past ++ others) ∷ []) [], me.1)
-  is_after = (m r.number r.past parts).1 ∙ (λ i. (view (eo i) (part r.number (r.past ++ others) ∷ []) [], ec i))
+  is_after : after ≡ (view me.0.origin (part r.number (r.past ++ others) (r.loads + 1) ∷ []) [], me.1)
+  is_after = (m r.number r.past r.loads parts).1 ∙ (λ i. (view (eo i) (part r.number (r.past ++ others) (r.loads + 1) ∷ []) [], ec i))
 
   meant_after : IsMeant (opening_of me.0.origin) (r.past ++ others)
-  meant_after = subst (λ q. IsMeant (opening_of q) (r.past ++ others)) eo (m r.number r.past parts).4
+  meant_after = subst (λ q. IsMeant (opening_of q) (r.past ++ others)) eo (m r.number r.past r.loads parts).4
 
   pub ready_merged : Ready after began s
-  ready_merged = learned me after began s r others is_after (m r.number r.past parts).2 meant_after
+  ready_merged = learned me after began s r others is_after (m r.number r.past r.loads parts).2 meant_after
 
   pub joined_view : (z y : TableId) (v : SeatView) (note : NoteView) → seen_as z me began s ≡ v → y ≡ z → mid.0.heard ≡ note.past → Joined v note (seen_as y after began s)
   joined_view z y v note e same eh =
       let past : past_of after.0.parts ≡ r.past ++ others = ap (λ (a : Me Unit View). past_of a.0.parts) is_after in
-      let learns = learned_view me after began s z y v r others e same is_after (m r.number r.past parts).2 meant_after in
+      let learns = learned_view me after began s z y v r others e same is_after (m r.number r.past r.loads parts).2 meant_after in
       let same_opening : opening_of v.of.origin ≡ opening_of after.0.origin = ap (λ (w : TableView). opening_of w.origin) (sym learns.of) in
-      let told : IsPrefix note.past (past_of after.0.parts) = subst (λ l. IsPrefix l (past_of after.0.parts)) eh (subst (IsPrefix mid.0.heard) (sym past) (m r.number r.past parts).3) in
+      let told : IsPrefix note.past (past_of after.0.parts) = subst (λ l. IsPrefix l (past_of after.0.parts)) eh (subst (IsPrefix mid.0.heard) (sym past) (m r.number r.past r.loads parts).3) in
       record {
         learns = learns;
         told = told;
@@ -177,6 +197,9 @@ module _ (me mid after : Me Unit View) (began : Bool) (s : Seat) (r : Ready me b
     where
       grown : (a es : List Event) (o : Opening) (rest : List Event) → es ≡ a ++ rest → IsMeant o es → Grows (known o a) (known o es)
       grown a es o rest q w = subst (λ l. Grows (known o a) (known o l)) (sym q) (grows_on o a rest (subst (IsMeant o) q w))
+
+  pub joined_loads : loads_of after.0.parts ≡ loads_of me.0.parts + 1
+  joined_loads = ap (λ (a : Me Unit View). loads_of a.0.parts) is_after ∙ ap (λ (x : Me Unit View). loads_of x.0.parts + 1) (sym r.is)
 
 -- ---- signals
 
@@ -192,18 +215,21 @@ bit_is true n e = ((λ ne. refl), (λ z. let q : 1 ≡ 0 = sym e ∙ z in absurd
 bit_is false n e = ((λ ne. absurd (ne e)), (λ z. refl))
 
 module _ (me after : Me Unit View) (began : Bool) (s : Seat) (i n : ℕ) (r : Ready me began s) (here : i ≡ place 0 (signal r.number)) (m : Heard i me n after) where
-  own_parts : me.0.parts ≡ part r.number r.past ∷ []
+  own_parts : me.0.parts ≡ part r.number r.past r.loads ∷ []
   own_parts = ap (λ (x : Me Unit View). x.0.parts) r.is
 
   abbrev heard_others : List Event
-  heard_others = (m r.number r.past own_parts here).0
+  heard_others = (m r.number r.past r.loads own_parts here).0
 
   pub ready_heard : Ready after began s
-  ready_heard = let x = m r.number r.past own_parts here in learned me after began s r x.0 x.1 x.2 x.3
+  ready_heard = let x = m r.number r.past r.loads own_parts here in learned me after began s r x.0 x.1 x.2 x.3
+
+  pub heard_loads : loads_of after.0.parts ≡ loads_of me.0.parts + 1
+  heard_loads = ap (λ (a : Me Unit View). loads_of a.0.parts) (m r.number r.past r.loads own_parts here).1 ∙ ap (λ (x : Me Unit View). loads_of x.0.parts + 1) (sym r.is)
 
   pub heard_view : (z y : TableId) (v : SeatView) (answer : Bool) → seen_as z me began s ≡ v → y ≡ z → (n ≢ 0 → answer ≡ true) → (n ≡ 0 → answer ≡ false) → Signalled v answer (seen_as y after began s)
   heard_view z y v answer e same if_so if_not =
-      let x = m r.number r.past own_parts here in
+      let x = m r.number r.past r.loads own_parts here in
       let past : past_of after.0.parts ≡ r.past ++ x.0 = ap (λ (a : Me Unit View). past_of a.0.parts) x.1 in
       let number : number_of me.0.parts ≡ r.number = ap (λ (a : Me Unit View). number_of a.0.parts) r.is in
       let bit = (run (opening_of me.0.origin) (r.past ++ x.0)).world.signal r.number in

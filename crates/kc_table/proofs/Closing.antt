@@ -1,7 +1,7 @@
 -- What the words say when all seats are back.
-use Rattle.std.proofs.Common.{◌≡◌, ◌≢◌, ◌==◌, Bool, true, false, ℕ, zero, suc, ◌+◌, ◌<◌, ◌≤◌, List, [], ◌∷◌, length, Some, refl, sym, ap, ◌∙◌, subst, arith}
-use Rattle.std.specs.Prelude.{All, slice_index, slice_get}
-use borrow.Author.Tests.{eqb-true, eqb-false}
+use Rattle.std.proofs.Common.{◌≡◌, ℕ, zero, suc, ◌+◌, ◌<◌, List, [], ◌∷◌, length, Some, refl, sym, ap, ◌∙◌, subst, arith}
+use Rattle.std.proofs.lemmas.List.Sorted.{Contains-permutation}
+use Rattle.std.specs.Prelude.{All, Contains, IsPermutation, slice_index, slice_index_or, slice_get}
 use mathlib.Core.Option.{some}
 use lib.ListN.{get_elem?}
 use Rattle.std.specs.Option.{is_some}
@@ -9,14 +9,14 @@ use Rattle.atomic_table.specs.Table as table
 use Rattle.kc_machine.specs.Machine.{Opening}
 use Rattle.kc_machine.specs.Seats.{own_of}
 use Rattle.kc_machine.specs.declared.seat.Seat.{Seat}
-use Rattle.kc_machine_claims.specs.Histories.{ending}
-use Rattle.kc_machine_claims.specs.Traces.{first_store}
+use Rattle.kc_table_straight.specs.kc_machine_claims.Histories.{ending}
+use Rattle.kc_table_straight.specs.kc_machine_claims.Traces.{first_store}
 use Rattle.kc_machine_steps.specs.declared.task.Event.{Event}
-use Rattle.kc_machine_traces.proofs.Others.{others_leave}
+use Rattle.kc_table_straight.proofs.kc_machine_traces.Others.{others_leave}
 use Rattle.kc_model.specs.Word.{IsPackable, packed, unpacked}
 use Rattle.kc_model.specs.declared.word.Word.TheVariants.{Plain}
 use Rattle.kc_table.proofs.Gathered.{is_past}
-use Rattle.kc_table.proofs.Loads.{unpacked_plain}
+use Rattle.kc_table_moves.proofs.Unmoved.{unpacked_plain}
 use Rattle.kc_table_layout.specs.Cells.{place}
 use Rattle.kc_table_layout.specs.Cells.Cell.{word}
 use Rattle.kc_table_moves.specs.Origins.{Origin, opening_of}
@@ -24,26 +24,27 @@ use Rattle.kc_table_moves.specs.Rule.{EachFits, Kept}
 use Rattle.kc_table_moves.specs.Views.{TableView, SeatView, ClosedView, AreAll, IsClosed, IsPart, Matches, numbers, count_from, seen_at, seen_in, seen_of}
 use Rattle.kc_table_moves.specs.declared.view.Part.{Part}
 use Rattle.kc_table_moves.specs.declared.view.View.{View}
-use Rattle.kc_table_views.proofs.Knowing.{plain_words}
-use Rattle.kc_table_views.specs.Known.{known, IsMeant, IsWhole, OwnsNone}
+use Rattle.kc_table_straight.proofs.kc_table_views.Knowing.{plain_words}
+use Rattle.kc_table_straight.specs.kc_table_views.Known.{known, IsMeant, IsWhole, OwnsNone}
 
--- no seat owns anything
-none_owned : (o : Opening) (es : List Event) (ps : List Part) (ss : List SeatView) (j n k : ℕ) → EachFits o es ps → Matches o ps ss → numbers ss ≡ count_from j n → j ≤ k → k < j + n → OwnsNone o k es
-none_owned o es ps ss j zero k f m e a b = absurd (omega arith)
-none_owned o es [] [] j (suc n) k f m e a b = absurd (cc)
-none_owned o es [] (s ∷ ss) j (suc n) k f m e a b = absurd m
-none_owned o es (p ∷ ps) [] j (suc n) k f m e a b = absurd m
-none_owned o es (p ∷ ps) (s ∷ ss) j (suc n) k f m e a b =
-    let head : s.number ≡ j = cc in
-    let tail : numbers ss ≡ count_from (suc j) n = cc in
-    go head (λ ne. none_owned o es ps ss (suc j) n k f.1 m.3 tail (omega arith) (omega arith)) (k == j) refl
-  where
-    go : s.number ≡ j → (k ≢ j → OwnsNone o k es) → (t : Bool) → (k == j) ≡ t → OwnsNone o k es
-    go head others true t =
-        let same : p.number ≡ k = m.0 ∙ head ∙ sym (eqb-true k j t) in
-        subst (λ i. OwnsNone o i es) same
-        (subst (OwnsNone o p.number) (sym f.0.on.1) (ap (λ (x : Seat). is_some (own_of x)) (others_leave o p.past f.0.on.0 p.number f.0.on.2) ∙ m.2))
-    go head others false t = others (eqb-false k j t)
+-- the numbers from j on are among those counted from there
+counted : (j n i : ℕ) → i < n → (i < length (count_from j n)) × (slice_index_or (count_from j n) i (j + i) ≡ j + i)
+counted j zero i b = absurd (omega arith)
+counted j (suc n) zero b = (omega arith, omega arith)
+counted j (suc n) (suc i) b =
+    let e : suc j + i ≡ j + suc i = omega arith in
+    let h = counted (suc j) n i (omega arith) in
+    (omega arith, subst (λ m. slice_index_or (count_from (suc j) n) i m ≡ m) e h.1)
+
+-- no seat of these owns anything
+none_owned : (o : Opening) (es : List Event) (ps : List Part) (ss : List SeatView) (k i : ℕ) → EachFits o es ps → Matches o ps ss → i < length (numbers ss) → slice_index_or (numbers ss) i k ≡ k → OwnsNone o k es
+none_owned o es [] [] k i f m b at = absurd (omega arith)
+none_owned o es [] (s ∷ ss) k i f m b at = absurd m
+none_owned o es (p ∷ ps) [] k i f m b at = absurd m
+none_owned o es (p ∷ ps) (s ∷ ss) k (suc i) f m b at = none_owned o es ps ss k i f.1 m.3 (omega arith) at
+none_owned o es (p ∷ ps) (s ∷ ss) k zero f m b at =
+    subst (λ j. OwnsNone o j es) (m.0 ∙ at)
+    (subst (OwnsNone o p.number) (sym f.0.on.1) (ap (λ (x : Seat). is_some (own_of x)) (others_leave o p.past f.0.on.0 p.number f.0.on.2) ∙ m.2))
 
 pub closed : (z : TableView) (seats : List SeatView) (q : Origin) (st : table.State Unit View) (id : ℕ) (v : View) (ws : List ℕ) (c : ClosedView) → q ≡ z.origin → (kept : Kept q st) → get_elem? st.views id ≡ some v
     → Matches (opening_of q) v.parts seats → AreAll z seats → st.words ≡ ws → length c.seen ≡ q.locations → ((l : ℕ) → l < q.locations → slice_get c.seen l ≡ Some (seen_in ws l)) → IsClosed z seats c
@@ -56,8 +57,13 @@ closed z seats q st id v ws c same kept at matches all is size each =
       each = subst (λ x. (l : ℕ) → l < x.locations → slice_get c.seen l ≡ Some (seen_at l (ending (first_store (opening_of x)) (known (opening_of x) kept.schedule) l))) same (λ l b. each l b ∙ ap Some (says l b));
     }
   where
+    among : (k : ℕ) → k < q.callers → Contains (numbers seats) k
+    among k b =
+        let there = counted 0 q.callers k b in
+        Contains-permutation (count_from 0 q.callers) (numbers seats) k (subst (λ (x : Origin). IsPermutation (count_from 0 x.callers) (numbers seats)) (sym same) all.all) (k, there.0, subst (λ m. slice_index_or (count_from 0 q.callers) k m ≡ m) (let e : 0 + k ≡ k = omega arith in e) there.1)
+
     all_none : (k : ℕ) → k < q.callers → OwnsNone (opening_of q) k kept.schedule
-    all_none k b = none_owned (opening_of q) kept.schedule v.parts seats 0 q.callers k (kept.views id v at).parts matches (all.all ∙ ap (λ (x : Origin). count_from 0 x.callers) (sym same)) (omega arith) (omega arith)
+    all_none k b = let c = among k b in none_owned (opening_of q) kept.schedule v.parts seats k c.0 (kept.views id v at).parts matches c.1 c.2
 
     says : (l : ℕ) → l < q.locations → seen_in ws l ≡ seen_at l (ending (first_store (opening_of q)) (known (opening_of q) kept.schedule) l)
     says l b =

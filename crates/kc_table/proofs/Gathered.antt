@@ -14,8 +14,8 @@ use Rattle.kc_table_moves.specs.Views.{TableView, SeatView, Matches, IsPart, IsP
 use Rattle.kc_table_moves.specs.Views.{seen_as}
 use Rattle.kc_table_moves.specs.declared.view.Part.{Part}
 use Rattle.kc_table_moves.specs.declared.view.View.{View}
-use Rattle.kc_table_views.proofs.Knowing.{idle_owns_none, knows_a_part, whole}
-use Rattle.kc_table_views.specs.Known.{known, IsMeant, GoesOn, KnowsAPart, OwnsNone}
+use Rattle.kc_table_straight.proofs.kc_table_views.Knowing.{idle_owns_none, knows_a_part, whole}
+use Rattle.kc_table_straight.specs.kc_table_views.Known.{known, IsMeant, GoesOn, KnowsAPart, OwnsNone}
 
 matches-more : (o : Opening) (ps : List Part) (ss : List SeatView) (p : Part) (s : SeatView) → Matches o ps ss → p.number ≡ s.number → p.past ≡ s.past → OwnsNone o p.number p.past → Matches o (ps ++ p ∷ []) (ss ++ s ∷ [])
 matches-more o [] [] p s m e f n = (e, f, n, tt)
@@ -27,11 +27,11 @@ matches-more o (q ∷ ps) (x ∷ ss) p s m e f n = (m.0, m.1, m.2, matches-more 
 pub ready_part : (q : Origin) (me : Me Unit View) (began : Bool) (s : Seat) (z : TableId) (ps : List Part) (ss : List SeatView) (v : SeatView) → Ready me began s → seen_as z me began s ≡ v → me.0.origin ≡ q → is_idle v.seat.work ≡ true
     → Matches (opening_of q) ps ss → Matches (opening_of q) (ps ++ me.0.parts) (ss ++ v ∷ [])
 ready_part q me began s z ps ss v r e from idle m =
-    let is : me.0.parts ≡ part r.number r.past ∷ [] = ap (λ (x : Me Unit View). x.0.parts) r.is in
+    let is : me.0.parts ≡ part r.number r.past r.loads ∷ [] = ap (λ (x : Me Unit View). x.0.parts) r.is in
     let here : r.origin ≡ q = sym (ap (λ (x : Me Unit View). x.0.origin) r.is) ∙ from in
     let none = idle_owns_none (opening_of r.origin) r.number r.past r.pending began s r.pends (ap (λ (x : SeatView). is_idle x.seat.work) e ∙ idle) in
     subst (λ l. Matches (opening_of q) (ps ++ l) (ss ++ v ∷ [])) (sym is)
-    (matches-more (opening_of q) ps ss (part r.number r.past) v m (sym (ap number_of is) ∙ ap (λ (x : SeatView). x.number) e) (sym (ap past_of is) ∙ ap (λ (x : SeatView). x.past) e) (subst (λ x. OwnsNone (opening_of x) r.number r.past) here none))
+    (matches-more (opening_of q) ps ss (part r.number r.past r.loads) v m (sym (ap number_of is) ∙ ap (λ (x : SeatView). x.number) e) (sym (ap past_of is) ∙ ap (λ (x : SeatView). x.past) e) (subst (λ x. OwnsNone (opening_of x) r.number r.past) here none))
 
 -- each seat's list is a part of the whole
 pub parts_all : (q : Origin) (es : List Event) (ps : List Part) (ss : List SeatView) → IsMeant (opening_of q) es → EachFits (opening_of q) es ps → Matches (opening_of q) ps ss → All (λ s. s.of.origin ≡ q) ss → All (IsPart (opening_of q) es) ss

@@ -1,4 +1,3 @@
-pub mod Loads
 pub mod Begins
 pub mod Dealt
 pub mod Gathered
@@ -7,3 +6,8 @@ pub mod Read
 pub mod Closing
 mod Wholes
 mod Swapping
+pub use Rattle.kc_table_straight.proofs.kc_machine_histories as kc_machine_histories
+pub use Rattle.kc_table_straight.proofs.kc_machine_ranges as kc_machine_ranges
+pub use Rattle.kc_table_straight.proofs.kc_machine_resolving as kc_machine_resolving
+pub use Rattle.kc_table_straight.proofs.kc_machine_traces as kc_machine_traces
+pub use Rattle.kc_table_straight.proofs.kc_table_views as kc_table_views

@@ -1,5 +1,5 @@
 -- A swap in one call.
-use Rattle.std.proofs.Common.{◌≡◌, ◌<◌, ◌^◌, ◌==◌, ◌&&◌, ℕ, Bool, true, false, refl, sym, ap, ◌∙◌, subst, if◌then◌else◌}
+use Rattle.std.proofs.Common.{◌≡◌, ◌<◌, ◌^◌, ◌==◌, ◌&&◌, ℕ, Bool, true, false, refl, sym, ap, ◌∙◌, subst, arith, if◌then◌else◌}
 use Rattle.std.proofs.lemmas.Bool.{eq-eqb}
 use borrow.Author.Tests.{eqb-true}
 use Rattle.atomic_table.specs.Seated.{TableId}
@@ -14,8 +14,8 @@ use Rattle.kc_machine_words.specs.declared.access.Bits.TheVariants as bits
 use Rattle.kc_machine_words.specs.declared.access.Found.TheVariants as found
 use Rattle.kc_machine_words.specs.declared.access.Touch.{Touch}
 use Rattle.kc_machine_words.specs.declared.access.Touch.TheVariants.{CompareExchange, Load}
-use Rattle.kc_machine_ranges.specs.Bits.{ValueFits, ValuesFit}
-use Rattle.kc_machine_ranges.specs.Ranges.{TouchIn}
+use Rattle.kc_table_straight.specs.kc_machine_ranges.Bits.{ValueFits, ValuesFit}
+use Rattle.kc_table_straight.specs.kc_machine_ranges.Ranges.{TouchIn}
 use Rattle.kc_model.specs.Word.{IsPackable, packed}
 use Rattle.kc_model.specs.declared.footprint.Seen.{Seen}
 use Rattle.kc_model.specs.declared.word.Word.{Word}
@@ -27,10 +27,11 @@ use Rattle.kc_table_layout.specs.declared.change.Change.{Change}
 use Rattle.kc_table_layout.specs.Cells.Cell.{awaiters, word}
 use Rattle.kc_table_layout.specs.declared.change.Change.TheVariants as change
 use Rattle.kc_table_moves.proofs.Allowed.{answered, ready_after}
-use Rattle.kc_table_moves.proofs.Steps.{stepped_view}
+use Rattle.kc_table_moves.proofs.Steps.{fewer_loads, ready_glanced, stepped_late, stepped_view}
+use Rattle.kc_table_moves.specs.declared.view.TheConstants.{MOST_LOADS}
 use Rattle.kc_table_moves.specs.Atoms.{Aims}
 use Rattle.kc_table_moves.specs.Origins.{Origin, opening_of}
-use Rattle.kc_table_moves.specs.Rule.{Moved, Ready, number_of, past_of}
+use Rattle.kc_table_moves.specs.Rule.{Moved, MovedWithin, glanced, Ready, number_of, past_of}
 use Rattle.kc_table_moves.specs.Views.{Ran, SeatView, StepsTo, further, here, seen_as}
 use Rattle.kc_table_moves.specs.declared.view.View.{View}
 
@@ -115,16 +116,16 @@ module _ (s : Seat) (r : Seen) (after : ℕ) (idle : is_idle s.work ≡ true) (m
 
 -- ---- where it has put
 
-module _ (s : Seat) (r : Seen) (after : ℕ) (idle : is_idle s.work ≡ true) (low : may_swap s.calls ≡ true) (mid later : Me Unit View) (n : ℕ) (m : Moved (second s r after idle) false mid n later) where
+module _ (s : Seat) (r : Seen) (after : ℕ) (idle : is_idle s.work ≡ true) (low : may_swap s.calls ≡ true) (mid later : Me Unit View) (n : ℕ) (m : MovedWithin 1 (second s r after idle) false mid n later) where
   -- behind its wake
   abbrev pub two : Seat
   two = answer_of (second s r after idle) (found.Callers n)
 
   pub wake_stands : (u : Seat) → u ≡ two → u ≡ (run (opening_of mid.0.origin) (past_of later.0.parts)).seats (number_of mid.0.parts)
-  wake_stands u e = answered (second s r after idle) u false mid later n (access.Awaiters r.loc bits.TakeAll) (found.Callers n) m (wake_accesses s r after idle low) (λ v fits f. ap found.Callers (sym f)) e
+  wake_stands u e = answered (second s r after idle) u false (glanced m.0 mid) later n (access.Awaiters r.loc bits.TakeAll) (found.Callers n) m.2 (wake_accesses s r after idle low) (λ v fits f. ap found.Callers (sym f)) e
 
   pub wake_ready : (u : Seat) → Ready mid false (second s r after idle) → u ≡ two → Ready later false u
-  wake_ready u ready e = ready_after (second s r after idle) u false mid later n ready m (wake_stands u e)
+  wake_ready u ready e = ready_after (second s r after idle) u false (glanced m.0 mid) later n (ready_glanced m.0 mid false (second s r after idle) ready) m.2 (wake_stands u e)
 
   pub told_behind : (z x y : TableId) (me : Me Unit View) (k : ℕ) (began : Bool) (v : SeatView) (u : Seat) → x ≡ z → y ≡ x → (f : Moved (first s r after idle) true me k mid) → ((w : Word) → IsPackable w → packed w ≡ k → seen_word r ≡ w)
       → seen_as z me began s ≡ v → u ≡ two → Ran v (task.Swap r after) (seen_as y later false u)
@@ -132,6 +133,6 @@ module _ (s : Seat) (r : Seen) (after : ℕ) (idle : is_idle s.work ≡ true) (l
       subst (λ a. Ran a (task.Swap r after) (seen_as y later false u)) shown
       (record {
         steps = further (seen_as x mid false (second s r after idle)) (seen_as y later false u) (first_steps s r after idle me mid k (seen_word r) f back z x same (second s r after idle) refl) (wake_busy s r after idle low)
-            (stepped_view (seen_as x mid false (second s r after idle)) false (second s r after idle) u mid later x y n refl equal m (wake_stands u e));
+            (stepped_late (seen_as x mid false (second s r after idle)) false (second s r after idle) u mid later x y n refl equal (fewer_loads 1 MOST_LOADS (second s r after idle) false mid later n (omega arith) m) (wake_stands u e));
         shown = refl;
       })

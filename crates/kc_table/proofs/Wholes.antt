@@ -27,16 +27,17 @@ use Rattle.kc_table_layout.specs.declared.change.Change.TheVariants as change
 use Rattle.kc_table.proofs.Begins.{ready_begun}
 use Rattle.kc_table_layout.specs.Cells.{place}
 use Rattle.kc_table_layout.specs.Cells.Cell.{word}
-use Rattle.kc_table_moves.proofs.Allowed.{answered}
-use Rattle.kc_table_moves.proofs.Steps.{stepped_view}
+use Rattle.kc_table_moves.proofs.Allowed.{answered, ready_after}
+use Rattle.kc_table_moves.proofs.Steps.{ready_glanced, stepped_late}
 use Rattle.kc_table_straight.proofs.Links.{went_on}
 use Rattle.kc_table_moves.specs.Origins.{Origin, opening_of}
-use Rattle.kc_table_moves.specs.Rule.{number_of, past_of, Ready, Moved}
+use Rattle.kc_table_moves.specs.Rule.{number_of, past_of, glanced, Ready, MovedWithin}
 use Rattle.kc_table_moves.specs.Atoms.{Aims, Here, On, found_of, point_of, seat_in}
 use Rattle.kc_table_straight.specs.Straight.{StandsAt, Stopped, StoppedAt}
-use Rattle.kc_table_moves.specs.Views.{SeatView, KnowsReads, Starts, seen_as, StepsTo, here, further, Ran}
+use Rattle.kc_table_moves.specs.Views.{SeatView, KnowsReads, Starts, begun_at, seen_as, Stepped, StepsTo, here, further, Ran}
 use Rattle.kc_table_moves.specs.declared.atoms.Run.{Run}
 use Rattle.kc_table_moves.specs.declared.atoms.Stop.{Stop}
+use Rattle.kc_table_moves.specs.declared.view.TheConstants.{MOST_LOADS}
 use Rattle.kc_table_moves.specs.declared.view.View.{View}
 
 -- ---- the beginning
@@ -84,17 +85,27 @@ pub load_leaves : (s : Seat) (takes : ℕ → Bool) → change_of (access_of s) 
 load_leaves s takes e n t = ap (λ c. changed c n) e
 
 -- the seat where the schedule has it
-pub look_stands : (s u : Seat) (me later : Me Unit View) (l : Loc) (n : ℕ) (w : Word) → is_idle s.work ≡ true → Moved (begun s (task.Look l)) true me n later → ((x : Word) → IsPackable x → packed x ≡ n → w ≡ x) → u ≡ answer_of (begun s (task.Look l)) (found.Word w)
+pub look_stands : (s u : Seat) (me later : Me Unit View) (l : Loc) (n : ℕ) (w : Word) → is_idle s.work ≡ true → MovedWithin MOST_LOADS (begun s (task.Look l)) true me n later → ((x : Word) → IsPackable x → packed x ≡ n → w ≡ x) → u ≡ answer_of (begun s (task.Look l)) (found.Word w)
     → u ≡ (run (opening_of me.0.origin) (past_of later.0.parts)).seats (number_of me.0.parts)
 look_stands s u me later l n w idle m back e =
-    answered (begun s (task.Look l)) u true me later n (access.Location l touch.Load) (found.Word w) m (rw idle refl) (λ v fits f. ap found.Word (back (v.word l.0) fits f)) e
+    answered (begun s (task.Look l)) u true (glanced m.0 me) later n (access.Location l touch.Load) (found.Word w) m.2 (rw idle refl) (λ v fits f. ap found.Word (back (v.word l.0) fits f)) e
 
-pub look_ran : (z y : TableId) (me later : Me Unit View) (began : Bool) (s u : Seat) (v : SeatView) (l : Loc) (n : ℕ) → is_idle s.work ≡ true → seen_as z me began s ≡ v → y ≡ z → Moved (begun s (task.Look l)) true me n later
+-- the one step of a look
+pub look_steps : (z y : TableId) (me later : Me Unit View) (began : Bool) (s u : Seat) (v : SeatView) (l : Loc) (n : ℕ) → seen_as z me began s ≡ v → y ≡ z → MovedWithin MOST_LOADS (begun s (task.Look l)) true me n later
+    → u ≡ (run (opening_of me.0.origin) (past_of later.0.parts)).seats (number_of me.0.parts) → Stepped (begun_at v (task.Look l)) (seen_as y later false u)
+look_steps z y me later began s u v l n shown same m stands = subst (λ x. Stepped (begun_at x (task.Look l)) (seen_as y later false u)) shown
+    (stepped_late (starts_as z me s (task.Look l)) true (begun s (task.Look l)) u me later z y n refl same m stands)
+
+pub look_ran : (z y : TableId) (me later : Me Unit View) (began : Bool) (s u : Seat) (v : SeatView) (l : Loc) (n : ℕ) → is_idle s.work ≡ true → seen_as z me began s ≡ v → y ≡ z → MovedWithin MOST_LOADS (begun s (task.Look l)) true me n later
     → u ≡ (run (opening_of me.0.origin) (past_of later.0.parts)).seats (number_of me.0.parts) → Ran v (task.Look l) (seen_as y later false u)
-look_ran z y me later began s u v l n idle shown same m stands = subst (λ x. Ran x (task.Look l) (seen_as y later false u)) shown (record {
-  steps = further (starts_as z me s (task.Look l)) (seen_as y later false u) here (look_busy s l idle) (stepped_view (starts_as z me s (task.Look l)) true (begun s (task.Look l)) u me later z y n refl same m stands);
+look_ran z y me later began s u v l n idle shown same m stands = record {
+  steps = further (begun_at v (task.Look l)) (seen_as y later false u) here (look_busy v.seat l (ap (λ (x : SeatView). is_idle x.seat.work) (sym shown) ∙ idle)) (look_steps z y me later began s u v l n shown same m stands);
   shown = refl;
-})
+}
+
+pub look_ready : (me later : Me Unit View) (s u : Seat) (l : Loc) (n : ℕ) → Ready me true (begun s (task.Look l)) → (m : MovedWithin MOST_LOADS (begun s (task.Look l)) true me n later)
+    → u ≡ (run (opening_of me.0.origin) (past_of later.0.parts)).seats (number_of me.0.parts) → Ready later false u
+look_ready me later s u l n r m stands = ready_after (begun s (task.Look l)) u true (glanced m.0 me) later n (ready_glanced m.0 me true (begun s (task.Look l)) r) m.2 stands
 
 pub looks_on : (s : Seat) (l : Loc) (g d k : ℕ) → is_idle s.work ≡ true → is_idle (answer_of (begun s (task.Look l)) (found.Word (Ref g d k))).work ≡ false
 looks_on s l g d k e = rw e refl

@@ -13,7 +13,7 @@ use crate::seat::KcSeat;
 use crate::table::KcTable;
 use kc_model::{Loc, Seen, Word};
 use kc_table_layout::location_at;
-use kc_table_moves::{Empty, Gathers, Shows, Token, Words};
+use kc_table_moves::{Token, Words};
 use std::alloc::Global;
 use std::marker::Model;
 
@@ -57,11 +57,12 @@ impl KcTable {
         ensures { IsPast self (map S.seat seats.items) result }
     {
         let KcTable {
-            table,
+            words,
             locations: _,
         } = self;
-        let mut keeper = gather(&table.shared, seats);
-        table.shared.load::<Shows>(&mut keeper, 0);
+        let mut words = words;
+        let mut keeper = gather(&mut words, seats);
+        words.show(&mut keeper);
         Past { token: keeper }
     }
 
@@ -84,11 +85,12 @@ impl KcTable {
             return Err(CloseRefused { table: self, seats });
         };
         let KcTable {
-            table,
+            words,
             locations: _,
         } = self;
-        let keeper = gather(&table.shared, seats);
-        let closed = table.close_with(keeper);
+        let mut words = words;
+        let keeper = gather(&mut words, seats);
+        let closed = words.close_with(keeper);
         read_words(&closed, seen.as_mut_slice());
         closed.free();
         Ok(Closed { seen })
@@ -153,14 +155,15 @@ fn seen_as(loc: Loc, word: Word) -> Seen
 }
 
 // All seats in one.
-fn gather<S: HoldsSeat>(words: &Words, seats: Vec<S>) -> Token
-    requires words { 0 < words.now.table_id.words }
-    requires table { All (λ s. (s.of.table ≡ words.now.table_id) × (s.of.origin ≡ words.now.key)) (map S.seat seats.items) }
+fn gather<S: HoldsSeat>(words: &mut Words, seats: Vec<S>) -> Token
+    requires words { 0 < words.old.table_id.words }
+    requires table { All (λ s. (s.of.table ≡ words.old.table_id) × (s.of.origin ≡ words.old.key)) (map S.seat seats.items) }
     requires idle { All (λ s. is_idle s.seat.work ≡ true) (map S.seat seats.items) }
-    ensures table { (result.table_id ≡ words.now.table_id) × (result.me.0.origin ≡ words.now.key) }
-    ensures seats { Matches (opening_of words.now.key) result.me.0.parts (map S.seat seats.items) }
+    ensures words { words.new ≡ words.old }
+    ensures table { (result.table_id ≡ words.old.table_id) × (result.me.0.origin ≡ words.old.key) }
+    ensures seats { Matches (opening_of words.old.key) result.me.0.parts (map S.seat seats.items) }
 {
-    let mut keeper = words.load_new_seat::<Empty>(0).1;
+    let mut keeper = words.keeper();
     for holder in seats {
         let seat = holder.into_seat();
         let KcSeat {
@@ -169,7 +172,7 @@ fn gather<S: HoldsSeat>(words: &Words, seats: Vec<S>) -> Token
             token,
             began: _,
         } = seat;
-        words.join_seat::<Gathers>(&mut keeper, token);
+        words.gather(&mut keeper, token);
     }
     keeper
 }

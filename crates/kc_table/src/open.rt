@@ -7,19 +7,18 @@ ghost use Rattle.kc_table_moves.specs.Views.{opened_seats};
 
 use crate::seat::KcSeat;
 use crate::table::KcTable;
-use atomic_table::Table;
 use crossbeam_utils::CachePadded;
 use kc_machine::Seat;
-use kc_table_moves::{Deals, Origin, Token};
+use kc_table_moves::{Origin, Token, Words};
 use std::alloc::{AllocError, Global};
 
 pub(crate) fn make_table(alloc: Global, origin: &Origin) -> Result<(KcTable, Token), AllocError>
     requires { Opens origin.now }
     ensures { IfOk result (λ t. (t.0.origin ≡ origin.now) × (t.1.table_id ≡ t.0.table) × (t.1.me ≡ (everyone origin.now, []))) }
 {
-    let (table, first) = Table::of_words(alloc, origin.words.as_slice(), origin)?;
+    let (words, first) = Words::open(alloc, origin)?;
     let locations = origin.locations as usize;
-    Ok((KcTable { table, locations }, first))
+    Ok((KcTable { words, locations }, first))
 }
 
 pub(crate) fn deal_seats(
@@ -34,7 +33,7 @@ pub(crate) fn deal_seats(
     let mut first = first;
     let mut seats = Vec::new(alloc);
     for number in 0..callers {
-        let token = table.table.shared.split_seat::<Deals>(&mut first);
+        let token = table.words.deal(&mut first);
         seats.push(KcSeat {
             machine: Seat::new(number, 3 * callers + 1, 3 * number),
             token,

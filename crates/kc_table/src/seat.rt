@@ -15,8 +15,8 @@ use kc_table_moves::Token;
 use std::marker::Model;
 
 /// A seat of the machine, held by one thread. Contracts see of which table it is, its number, the schedule as it stood after the
-/// seat's last step, whether it has begun a task since then, and the seat as it is now. The list of entries that it knows is
-/// the history of that schedule.
+/// seat's last step, whether it has begun a task since then, the seat as it is now, and how many loads it has made that were
+/// no step. The list of entries that it knows is the history of that schedule.
 #[derive(Drop)]
 #[repr(C)]
 pub struct KcSeat {
@@ -31,11 +31,11 @@ pub struct KcSeat {
 
 impl Model for KcSeat {
     ghost use Rattle.kc_table_moves.specs.Views.{SeatView};
-    ghost use Rattle.kc_table_moves.specs.Rule.{Ready, number_of, past_of};
+    ghost use Rattle.kc_table_moves.specs.Rule.{Ready, loads_of, number_of, past_of};
 
     ghost Value = { SeatView };
 
-    ghost view = { λ s. record { of = record { table = s.token.table_id; origin = s.token.me.0.origin }; number = number_of s.token.me.0.parts; past = past_of s.token.me.0.parts; began = s.began; seat = s.machine } };
+    ghost view = { λ s. record { of = record { table = s.token.table_id; origin = s.token.me.0.origin }; number = number_of s.token.me.0.parts; past = past_of s.token.me.0.parts; began = s.began; seat = s.machine; loads = loads_of s.token.me.0.parts } };
 
     ghost invariant = { λ s. Ready s.token.me s.began s.machine };
 }

@@ -1,6 +1,6 @@
 //! A swap in one call: one exchange, and a wake. The seat is written once.
 
-ghost use Rattle.std.specs.Prelude.{◌≡◌, ◌⊎◌, ◌<◌, ℕ, false, true};
+ghost use Rattle.std.specs.Prelude.{◌≡◌, ◌⊎◌, ◌+◌, ◌≤◌, ◌<◌, ℕ, false, true};
 ghost use Rattle.kc_model.specs.Word.{packed};
 ghost use Rattle.kc_model.specs.declared.footprint.TheConstants.{LAST_VERSION};
 ghost use Rattle.kc_model.specs.declared.word.Word.TheVariants.{Plain};
@@ -13,7 +13,7 @@ ghost use Rattle.kc_table_layout.specs.Cells.{place};
 ghost use Rattle.kc_table_layout.specs.Cells.Cell.{word};
 ghost use Rattle.kc_table_layout.specs.declared.change.Change.TheVariants as change;
 ghost use Rattle.kc_table_moves.specs.Atoms.{Aims, Here, leaves};
-ghost use Rattle.kc_table_moves.specs.Rule.{Moved, Ready};
+ghost use Rattle.kc_table_moves.specs.Rule.{Moved, MovedWithin, Ready};
 ghost use Rattle.kc_table_moves.specs.Views.{KnowsReads, Ran};
 ghost use Rattle.kc_table.specs.Swaps.{OwesSignals, puts};
 
@@ -31,7 +31,7 @@ impl KcTable {
     /// Puts a value at a location by one exchange, where the word that was seen stands there, and wakes who awaits it. The
     /// seat is told that it succeeded; or Failed, where another value stands there; or Crossed, where a reference does.
     /// From `MOST_SWAPS` calls on it only looks, and is told Crossed where it would have put. It stops short only where it
-    /// has to signal somebody; from there it goes on by `step` until the seat is told.
+    /// has to signal somebody; from there it goes on by `step` until the seat is told. One of its loads at most is no step.
     pub fn swap(&self, seat: &mut KcSeat, seen: Seen, after: u32)
         requires table { seat.old.of ≡ self.now }
         requires idle { is_idle seat.old.seat.work ≡ true }
@@ -39,8 +39,9 @@ impl KcTable {
         requires known { KnowsReads seat.old (task.Swap seen after) }
         ensures ran { Ran seat.old (task.Swap seen after) seat.new }
         ensures onward { (is_idle seat.new.seat.work ≡ true) ⊎ OwesSignals seat.new.seat }
+        ensures loads { seat.new.loads ≤ seat.old.loads + 1 }
     {
-        let words = &self.table.shared;
+        let words = &self.words;
         let base = base_at(self.locations);
         let at = location_at(seen.loc);
         let number = try_word::<Brand>(
@@ -166,7 +167,7 @@ fn wake<B: Asks>(
     requires aim { Aims words.now.key B.now at (change.Swap 0) }
     requires takes { (n : ℕ) → B.takes n ≡ leaves B.now n }
     ensures table { token.new.table_id ≡ token.old.table_id }
-    ensures moved { Moved B.now B.began token.old.me result token.new.me }
+    ensures moved { MovedWithin 1 B.now B.began token.old.me result token.new.me }
 {
     clear::<B>(words, token, base, at)
 }

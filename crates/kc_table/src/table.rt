@@ -1,17 +1,16 @@
 //! The table.
 
-ghost use Rattle.std.specs.Prelude.{◌≡◌, ◌≤◌, ◌<◌, ◌↔◌, ◌⊎◌, true, false, length, replicate, All, IfOk, Err};
+ghost use Rattle.std.specs.Prelude.{◌≡◌, ◌+◌, ◌≤◌, ◌<◌, ◌↔◌, ◌⊎◌, true, false, length, replicate, All, IfOk, Err};
 ghost use Rattle.kc_model.specs.declared.plain_store.TheConstants.{MOST_LOCATIONS};
 ghost use Rattle.kc_machine.specs.Seats.{is_idle};
 ghost use Rattle.kc_table_moves.specs.Views.{Joined, OpensAt, Signalled, Stepped, opened_seats};
 
 use crate::open::{deal_seats, make_table};
 use crate::seat::{KcNote, KcSeat};
-use atomic_table::Table;
 use kc_machine_words::{Access, LAST_GENERATION};
 use kc_model::{LAST_VERSION, MOST_LOCATIONS, OpenError};
 use kc_table_layout::{base_at, open_words, shown, signal_at};
-use kc_table_moves::{Hears, Merges, Notes, Origin, Rule, View, touch_seat};
+use kc_table_moves::{Origin, Words, touch_seat};
 use std::alloc::Global;
 use std::marker::{Brand, Model};
 use std::sync::Wait;
@@ -22,7 +21,7 @@ pub const MOST_CALLERS: u32 = 64;
 /// The words that threads share. Contracts see which table it is, and its opening.
 #[derive(Drop)]
 pub struct KcTable {
-    pub(crate) table: Table<(), View, Origin, Rule, Global>,
+    pub(crate) words: Words,
     pub(crate) locations: usize,
 }
 
@@ -35,9 +34,9 @@ impl Model for KcTable {
 
     ghost Value = { TableView };
 
-    ghost view = { λ t. record { table = t.table.shared.table_id; origin = t.table.shared.key } };
+    ghost view = { λ t. record { table = t.words.table_id; origin = t.words.key } };
 
-    ghost invariant = { λ t. (t.locations ≡ t.table.shared.key.locations) × (t.table.shared.key.locations ≤ MOST_LOCATIONS) × (t.table.shared.table_id.words ≡ size_of t.table.shared.key.locations (pool_size t.table.shared.key.callers)) × (t.table.shared.table_id.slots ≡ 0) };
+    ghost invariant = { λ t. (t.locations ≡ t.words.key.locations) × (t.words.key.locations ≤ MOST_LOCATIONS) × (t.words.table_id.words ≡ size_of t.words.key.locations (pool_size t.words.key.callers)) × (t.words.table_id.slots ≡ 0) };
 }
 
 impl KcTable {
@@ -112,15 +111,16 @@ impl KcTable {
         self.locations as u32
     }
 
-    /// One step of the seat, on one word.
+    /// One step of the seat, by one atomic operation on one word.
     pub fn step(&self, seat: &mut KcSeat)
         requires table { seat.old.of ≡ self.now }
         requires busy { is_idle seat.old.seat.work ≡ false }
-        ensures { Stepped seat.old seat.new }
+        ensures stepped { Stepped seat.old seat.new }
+        ensures loads { seat.new.loads ≡ seat.old.loads }
     {
         let access = seat.machine.access();
         let found = touch_seat::<Brand>(
-            &self.table.shared,
+            &self.words,
             &mut seat.token,
             &seat.machine,
             seat.began,
@@ -131,7 +131,7 @@ impl KcTable {
         seat.began = false;
         if let Access::Signal(caller, true) = access {
             if caller < MOST_CALLERS {
-                self.table.shared.wake_one(signal_at(caller));
+                self.words.wake_one(signal_at(caller));
             }
         }
     }
@@ -143,33 +143,36 @@ impl KcTable {
         ensures note { (result.of ≡ seat.old.of) × (result.past ≡ seat.old.past) }
     {
         KcNote {
-            token: self.table.shared.split_seat::<Notes>(&mut seat.token),
+            token: self.words.note(&mut seat.token),
         }
     }
 
-    /// The seat learns what a note knows.
+    /// The seat learns what a note knows, by one load.
     pub fn join(&self, seat: &mut KcSeat, note: KcNote)
         requires { (seat.old.of ≡ self.now) × (note.of ≡ self.now) }
-        ensures { Joined seat.old note seat.new }
+        ensures joined { Joined seat.old note seat.new }
+        ensures loads { seat.new.loads ≡ seat.old.loads + 1 }
     {
         let KcNote { token } = note;
-        self.table.shared.join_seat::<Notes>(&mut seat.token, token);
-        self.table.shared.load::<Merges>(&mut seat.token, 0);
+        self.words.hear_note(&mut seat.token, token);
+        self.words.merge(&mut seat.token);
     }
 
     /// Whether the seat is signalled, by one load.
     pub fn signalled(&self, seat: &mut KcSeat) -> bool
         requires { seat.old.of ≡ self.now }
-        ensures { Signalled seat.old result seat.new }
+        ensures signalled { Signalled seat.old result seat.new }
+        ensures loads { seat.new.loads ≡ seat.old.loads + 1 }
     {
         let word = signal_at(seat.machine.caller());
-        self.table.shared.load::<Hears>(&mut seat.token, word) != 0
+        self.words.hear(&mut seat.token, word) != 0
     }
 
-    /// Waits until the seat is signalled.
+    /// Waits until the seat is signalled. It loads the signal once, and once more each time that it is woken.
     pub fn park<R: Wait>(&self, rt: &R, seat: &mut KcSeat)
         requires { seat.old.of ≡ self.now }
-        ensures { Signalled seat.old true seat.new }
+        ensures signalled { Signalled seat.old true seat.new }
+        ensures loads { seat.old.loads < seat.new.loads }
     {
         let caller = seat.machine.caller();
         for _ in rt.forever() {
@@ -177,7 +180,7 @@ impl KcTable {
                 break;
             }
             if caller < MOST_CALLERS {
-                self.table.shared.park(rt, signal_at(caller), 0);
+                self.words.park(rt, signal_at(caller), 0);
             }
         }
     }

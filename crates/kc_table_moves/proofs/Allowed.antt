@@ -11,16 +11,16 @@ use Rattle.kc_machine.specs.Machine.{World, Opening, run, touched, possible, fou
 use Rattle.kc_machine.specs.Schedules.{BeginsWellMade}
 use Rattle.kc_machine.specs.Seats.{access_of, answer_of, is_idle}
 use Rattle.kc_machine.specs.declared.seat.Seat.{Seat}
-use Rattle.kc_machine_claims.specs.Traces.{trace, first_store}
-use Rattle.kc_machine_ranges.proofs.Bits.{access_fits}
-use Rattle.kc_machine_ranges.proofs.Runs.{steps_possible}
-use Rattle.kc_machine_ranges.specs.Bits.{AccessFits, ValuesFit}
-use Rattle.kc_machine_ranges.specs.Ranges.{AccessIn}
+use Rattle.kc_table_layout.specs.kc_machine_claims.Traces.{trace, first_store}
+use Rattle.kc_table_layout.proofs.kc_machine_ranges.Bits.{access_fits}
+use Rattle.kc_table_layout.proofs.kc_machine_ranges.Runs.{steps_possible}
+use Rattle.kc_table_layout.specs.kc_machine_ranges.Bits.{AccessFits, ValuesFit}
+use Rattle.kc_table_layout.specs.kc_machine_ranges.Ranges.{AccessIn}
 use Rattle.kc_machine_steps.specs.declared.task.Event.{Event}
 use Rattle.kc_machine_steps.specs.declared.task.Event.TheVariants.{Step}
-use Rattle.kc_machine_traces.proofs.Joins.{made_joined, honest_joined}
-use Rattle.kc_machine_traces.proofs.Others.{run_shape, others_leave, step_world, step_seat}
-use Rattle.kc_machine_traces.specs.Parts.{NoneOf}
+use Rattle.kc_table_layout.proofs.kc_machine_traces.Joins.{made_joined, honest_joined}
+use Rattle.kc_table_layout.proofs.kc_machine_traces.Others.{run_shape, others_leave, step_world, step_seat}
+use Rattle.kc_table_layout.specs.kc_machine_traces.Parts.{NoneOf}
 use Rattle.kc_machine_words.specs.declared.access.Access.{Access}
 use Rattle.kc_machine_words.specs.declared.access.Found.{Found}
 use Rattle.kc_table_layout.proofs.Places.{inside}
@@ -32,7 +32,7 @@ use Rattle.kc_table_layout.specs.declared.change.Aim.{Aim}
 use Rattle.kc_table_layout.specs.declared.change.Change.{Change}
 use Rattle.kc_table_moves.proofs.Views.{total_set, total_two, times-hit, view_on}
 use Rattle.kc_table_moves.specs.Origins.{Origin, opening_of}
-use Rattle.kc_table_moves.specs.Rule.{number_of, past_of, part, view, Fits, FitsView, times, Kept, Ready, Steps, Moved}
+use Rattle.kc_table_moves.specs.Rule.{loads_of, number_of, past_of, part, view, Fits, FitsView, times, Kept, Ready, Steps, Moved}
 use Rattle.kc_table_moves.specs.declared.view.View.{View}
 use Rattle.kc_table_views.proofs.Knowing.{begins_later}
 use Rattle.kc_table_views.proofs.Pendings.{none_append, waits_none, waits_world, waits_seat, honest_waits, honest_later}
@@ -89,7 +89,7 @@ ready_access me began s r busy =
     ((there o r.number r.past r.pending began s r.meant r.pends r.within busy).0, fits_bits o r.number r.past r.pending began s r.meant r.pends r.within busy)
 
 -- seat k of view id, which knows `past` and stands as s
-module _ (agrees : Agrees) (q : Origin) (st : table.State Unit View) (id k : ℕ) (past : List Event) (began : Bool) (s : Seat) (kept : Kept q st) (at : get_elem? st.views id ≡ some (view q (part k past ∷ []) []))
+module _ (agrees : Agrees) (q : Origin) (st : table.State Unit View) (id k : ℕ) (past : List Event) (loads : ℕ) (began : Bool) (s : Seat) (kept : Kept q st) (at : get_elem? st.views id ≡ some (view q (part k past loads ∷ []) []))
     (pending : List Event) (pends : Pends (opening_of q) k past began pending s) (busy : is_idle s.work ≡ false) (f : ℕ → ℕ) (does : (x : ℕ) → f x ≡ changed (change_of (access_of s)) x) (ranged : ValuesFit (access_of s)) where
   abbrev o' : Opening
   o' = opening_of q
@@ -103,7 +103,7 @@ module _ (agrees : Agrees) (q : Origin) (st : table.State Unit View) (id k : ℕ
   abbrev late : List Event
   late = soon ++ Step k ∷ []
 
-  mine : Fits o' before (part k past)
+  mine : Fits o' before (part k past loads)
   mine = (kept.views id _ at).parts.0
 
   now_pends : Pends o' k before began pending s
@@ -169,7 +169,7 @@ module _ (agrees : Agrees) (q : Origin) (st : table.State Unit View) (id k : ℕ
   }
 
   abbrev view_late : View
-  view_late = view q (part k late ∷ []) []
+  view_late = view q (part k late loads ∷ []) []
 
   fits_late : FitsView q late view_late
   fits_late = record {
@@ -183,9 +183,9 @@ module _ (agrees : Agrees) (q : Origin) (st : table.State Unit View) (id k : ℕ
   -- no other view has this seat
   alone : (j : ℕ) (u : View) → j ≢ id → get_elem? st.views j ≡ some u → times k u.parts ≡ 0
   alone j u ne there =
-      let two = total_two (λ x. times k x.parts) st.views id j (view q (part k past ∷ []) []) u ne at there in
+      let two = total_two (λ x. times k x.parts) st.views id j (view q (part k past loads ∷ []) []) u ne at there in
       let one = kept.once k in
-      let hit = times-hit k (part k past) [] refl in
+      let hit = times-hit k (part k past loads) [] refl in
       omega arith
 
   late_is : before ++ (pending ++ Step k ∷ []) ≡ late
@@ -206,7 +206,7 @@ module _ (agrees : Agrees) (q : Origin) (st : table.State Unit View) (id k : ℕ
     views = views_late;
     once = λ j.
         let one = kept.once j in
-        let same = total_set (λ u. times j u.parts) st.views id (view q (part k past ∷ []) []) view_late at in
+        let same = total_set (λ u. times j u.parts) st.views id (view q (part k past loads ∷ []) []) view_late at in
         omega arith;
   }
 
@@ -215,15 +215,15 @@ abbrev pub Gives : Origin → table.State Unit View → ℕ → Me Unit View →
 Gives q st id me s began i f =
     (w : View) × (a : Act Unit) × Valid st.homes me.1 a × Kept q (stepped st i (f (slice_index st.words i)) id me.1 w a) × Moved s began me (slice_index st.words i) (w, carried_after me.1 a)
 
-gives : (agrees : Agrees) (q : Origin) (st : table.State Unit View) (id k : ℕ) (past : List Event) (began : Bool) (s : Seat) → Kept q st → get_elem? st.views id ≡ some (view q (part k past ∷ []) [])
+gives : (agrees : Agrees) (q : Origin) (st : table.State Unit View) (id k : ℕ) (past : List Event) (loads : ℕ) (began : Bool) (s : Seat) → Kept q st → get_elem? st.views id ≡ some (view q (part k past loads ∷ []) [])
     → (pending : List Event) → Pends (opening_of q) k past began pending s → is_idle s.work ≡ false → (f : ℕ → ℕ) → ((x : ℕ) → f x ≡ changed (change_of (access_of s)) x) → ValuesFit (access_of s)
-    → Gives q st id (view q (part k past ∷ []) [], []) s began (place (base_of q.locations) (cell_of (access_of s))) f
-gives agrees q st id k past began s kept at pending pends busy f does ranged = (
-  view_late agrees q st id k past began s kept at pending pends busy f does ranged,
+    → Gives q st id (view q (part k past loads ∷ []) [], []) s began (place (base_of q.locations) (cell_of (access_of s))) f
+gives agrees q st id k past loads began s kept at pending pends busy f does ranged = (
+  view_late agrees q st id k past loads began s kept at pending pends busy f does ranged,
   keeps,
   tt,
-  kept_late agrees q st id k past began s kept at pending pends busy f does ranged,
-  (late agrees q st id k past began s kept at pending pends busy f does ranged, refl, steps agrees q st id k past began s kept at pending pends busy f does ranged),
+  kept_late agrees q st id k past loads began s kept at pending pends busy f does ranged,
+  (late agrees q st id k past loads began s kept at pending pends busy f does ranged, refl, steps agrees q st id k past loads began s kept at pending pends busy f does ranged),
 )
 
 -- each kind of atomic step: f is what the table does to the word
@@ -232,8 +232,8 @@ pub allows : (agrees : Agrees) (q : Origin) (slots id : ℕ) (me : Me Unit View)
 allows agrees q slots id me began s a f r from busy is ranged does = rw is
     (subst (λ m. Allows (Kept q) slots id m (place (base_of q.locations) (cell_of (access_of s))) f (Moved s began m)) (sym r.is)
     (λ st kept count at small.
-    subst (λ x. Kept x st → Gives x st id (view r.origin (part r.number r.past ∷ []) [], []) s began (place (base_of x.locations) (cell_of (access_of s))) f) (ap (λ (m : Me Unit View). m.0.origin) (sym r.is) ∙ from)
-    (λ kept'. gives agrees r.origin st id r.number r.past began s kept' at r.pending r.pends busy f (λ x. does x ∙ ap (λ b. changed (change_of b) x) is) (subst ValuesFit is ranged))
+    subst (λ x. Kept x st → Gives x st id (view r.origin (part r.number r.past r.loads ∷ []) [], []) s began (place (base_of x.locations) (cell_of (access_of s))) f) (ap (λ (m : Me Unit View). m.0.origin) (sym r.is) ∙ from)
+    (λ kept'. gives agrees r.origin st id r.number r.past r.loads began s kept' at r.pending r.pends busy f (λ x. does x ∙ ap (λ b. changed (change_of b) x) is) (subst ValuesFit is ranged))
     kept))
 
 -- the arm of a kind of atomic step
@@ -261,6 +261,7 @@ ready_after s t began me after n r m is =
       origin = me.0.origin;
       number = number_of me.0.parts;
       past = m.0;
+      loads = loads_of me.0.parts;
       is = m.1;
       within = subst (λ (x : Me Unit View). number_of x.0.parts < x.0.origin.callers) (sym r.is) r.within;
       meant = m.2.meant;

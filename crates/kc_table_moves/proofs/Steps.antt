@@ -1,9 +1,7 @@
 -- A step of a seat that is not written.
-use Rattle.std.proofs.Common.{◌≡◌, ◌≢◌, ◌==◌, if◌then◌else◌, ℕ, ◌<◌, ◌++◌, Bool, true, false, refl, sym, ap, ◌∙◌, arith, subst}
+use Rattle.std.proofs.Common.{◌≡◌, ◌≢◌, ◌==◌, if◌then◌else◌, ℕ, ◌+◌, ◌<◌, ◌≤◌, [], ◌∷◌, ◌++◌, Bool, true, false, refl, sym, ap, ◌∙◌, arith, subst}
 use Rattle.std.proofs.lemmas.Bool.Decides.{nat_tests}
-use Rattle.std.proofs.lemmas.List.{set-get_or}
 use Rattle.std.specs.Prelude.{slice_index}
-use Rattle.atomic_table.proofs.Lists.{set_again}
 use Rattle.atomic_table.specs.Seated.{TableId}
 use Rattle.atomic_table.specs.Table as table
 use Rattle.atomic_table.specs.Table.{Me, Act, Allows, Valid, keeps, stepped, carried_after}
@@ -16,11 +14,13 @@ use Rattle.kc_table_layout.specs.Changes.{change_of, changed}
 use Rattle.kc_table_layout.specs.declared.change.Change.{Change}
 use Rattle.kc_table_layout.specs.declared.change.Change.TheVariants as change
 use Rattle.kc_table_moves.proofs.Allowed.{arm, within_table, ready_after}
+use Rattle.kc_table_moves.proofs.Unmoved.{glances}
 use Rattle.kc_table_moves.specs.Origins.{Origin, opening_of}
-use Rattle.kc_table_moves.specs.Rule.{number_of, past_of, Kept, Ready, Steps, Moved}
-use Rattle.kc_table_moves.specs.Atoms.{On, Aims, Peeked, Went, leaves}
+use Rattle.kc_table_moves.specs.Rule.{loads_of, number_of, past_of, part, view, glanced, Glanced, Kept, Ready, Steps, Moved, MovedWithin}
+use Rattle.kc_table_moves.specs.Atoms.{Here, On, Aims, Peeked, Went, leaves}
 use Rattle.kc_table_moves.specs.Views.{SeatView, Stepped, seen_as, further}
 use Rattle.kc_table_moves.specs.declared.atoms.Run.{Run}
+use Rattle.kc_table_moves.specs.declared.view.TheConstants.{MOST_LOADS}
 use Rattle.kc_table_moves.specs.declared.view.View.{View}
 
 -- ---- an atomic step whose word and numbers are at hand
@@ -39,27 +39,84 @@ aim_within q me began s word n ch r from busy aims size =
 pub aims_own : (q : Origin) (s : Seat) (word : ℕ) (ch : Change) → Aims q s word ch → Aims q s word (change_of (access_of s))
 aims_own q s word ch aims = record { place = aims.place; makes = refl; ranged = aims.ranged }
 
--- a load that is the step, or none
-peeks_at : (q : Origin) (st : table.State Unit View) (id word n : ℕ) (me : Me Unit View) (began : Bool) (s : Seat) (takes : Bool) → Kept q (stepped st word n id me.1 me.0 keeps)
+-- a load that is the step, or one that is none
+peeks_at : (q : Origin) (st : table.State Unit View) (id word n : ℕ) (me : Me Unit View) (began : Bool) (s : Seat) (takes : Bool) → Kept q (stepped st word n id me.1 (glanced 1 me).0 keeps)
     → (takes ≡ true → (w : View) × (a : Act Unit) × Valid st.homes me.1 a × Kept q (stepped st word n id me.1 w a) × Moved s began me n (w, carried_after me.1 a))
     → (w : View) × (a : Act Unit) × Valid st.homes me.1 a × Kept q (stepped st word n id me.1 w a) × Peeked takes s began me n (w, carried_after me.1 a)
 peeks_at q st id word n me began s true stays steps = steps refl
-peeks_at q st id word n me began s false stays steps = (me.0, keeps, tt, stays, refl)
+peeks_at q st id word n me began s false stays steps = ((glanced 1 me).0, keeps, tt, stays, refl)
 
 pub by_peek : (agrees : Agrees) (q : Origin) (slots id : ℕ) (me : Me Unit View) (began : Bool) (s : Seat) (word : ℕ) (takes : ℕ → Bool) → Ready me began s → me.0.origin ≡ q → is_idle s.work ≡ false → Aims q s word (change_of (access_of s))
     → ((n : ℕ) → takes n ≡ true → changed (change_of (access_of s)) n ≡ n) → Allows (Kept q) slots id me word (λ n. n) (λ n after. Peeked (takes n) s began me n after)
 by_peek agrees q slots id me began s word takes r from busy aims leaves st kept count at small =
     let n = slice_index st.words word in
-    let same : stepped st word n id me.1 me.0 keeps ≡ st = λ k. record { words = set-get_or st.words word 0 k; homes = st.homes; views = set_again st.views id me.0 at k } in
-    peeks_at q st id word n me began s (takes n) (subst (Kept q) (sym same) kept)
+    peeks_at q st id word n me began s (takes n) (glances q st id word 1 r.number r.past r.loads me kept at (ap (λ (m : Me Unit View). m.0.parts) r.is))
     (λ e. subst (λ m. (w : View) × (a : Act Unit) × Valid st.homes me.1 a × Kept q (stepped st word m id me.1 w a) × Moved s began me n (w, carried_after me.1 a)) (leaves n e)
     (by_aim agrees q slots id me began s word (change_of (access_of s)) r from busy aims st kept count at small))
 
 pub peeked_step : (takes : Bool) (s : Seat) (began : Bool) (me after : Me Unit View) (n : ℕ) → takes ≡ true → Peeked takes s began me n after → Moved s began me n after
 peeked_step takes s began me after n e p = subst (λ b. Peeked b s began me n after) e p
 
-pub peeked_none : (takes : Bool) (s : Seat) (began : Bool) (me after : Me Unit View) (n : ℕ) → takes ≡ false → Peeked takes s began me n after → after ≡ me
+pub peeked_none : (takes : Bool) (s : Seat) (began : Bool) (me after : Me Unit View) (n : ℕ) → takes ≡ false → Peeked takes s began me n after → after ≡ glanced 1 me
 peeked_none takes s began me after n e p = subst (λ b. Peeked b s began me n after) e p
+
+-- ---- loads that are no step
+
+pub ready_glanced : (n : ℕ) (me : Me Unit View) (began : Bool) (s : Seat) → Ready me began s → Ready (glanced n me) began s
+ready_glanced n me began s r = record {
+  origin = r.origin;
+  number = r.number;
+  past = r.past;
+  loads = r.loads + n;
+  is = ap (glanced n) r.is;
+  within = r.within;
+  meant = r.meant;
+  pending = r.pending;
+  pends = r.pends;
+}
+
+pub here_glanced : (n : ℕ) (q : Origin) (z : TableId) (base : ℕ) (token : TableId) (me : Me Unit View) → Here q z base token me → Here q z base token (glanced n me)
+here_glanced n q z base token me h = record { table = h.table; origin = h.origin; from = h.from; few = h.few; size = h.size }
+
+-- none of them leaves a seat as it is
+pub glanced_none : (me : Me Unit View) (began : Bool) (s : Seat) → Ready me began s → me ≡ glanced 0 me
+glanced_none me began s r =
+    let e : r.loads ≡ r.loads + 0 = omega arith in
+    subst (λ m. m ≡ glanced 0 m) (sym r.is) (λ i. (view r.origin (part r.number r.past (e i) ∷ []) [], []))
+
+pub glanced_again : (m n : ℕ) (me : Me Unit View) → glanced n (glanced m me) ≡ glanced (m + n) me
+glanced_again m n me =
+    let e : (loads_of me.0.parts + m) + n ≡ loads_of me.0.parts + (m + n) = omega arith in
+    λ i. (view me.0.origin (part (number_of me.0.parts) (past_of me.0.parts) (e i) ∷ []) [], me.1)
+
+-- a seat behind such loads
+pub ready_behind : (most : ℕ) (me after : Me Unit View) (began : Bool) (s : Seat) → Glanced most me after → Ready me began s → Ready after began s
+ready_behind most me after began s x r = subst (λ m. Ready m began s) (sym x.2) (ready_glanced x.0 me began s r)
+
+pub here_behind : (most : ℕ) (q : Origin) (z : TableId) (base : ℕ) (token later : TableId) (me after : Me Unit View) → Glanced most me after → later ≡ token → Here q z base token me → Here q z base later after
+here_behind most q z base token later me after x same h = subst (λ t. Here q z base t after) (sym same) (subst (Here q z base token) (sym x.2) (here_glanced x.0 q z base token me h))
+
+pub one_glance : (takes : Bool) (s : Seat) (began : Bool) (me after : Me Unit View) (n : ℕ) → takes ≡ false → Peeked takes s began me n after → Glanced 1 me after
+one_glance takes s began me after n e p = (1, (omega arith), peeked_none takes s began me after n e p)
+
+pub no_glance : (most : ℕ) (me : Me Unit View) (began : Bool) (s : Seat) → Ready me began s → Glanced most me me
+no_glance most me began s r = (0, (omega arith), glanced_none me began s r)
+
+pub more_glances : (a b most : ℕ) (me mid after : Me Unit View) → a + b ≤ most → Glanced a me mid → Glanced b mid after → Glanced most me after
+more_glances a b most me mid after few x y = (x.0 + y.0, (let p = x.1 in let q = y.1 in omega arith), y.2 ∙ ap (glanced y.0) x.2 ∙ glanced_again x.0 y.0 me)
+
+-- a step at once, and one behind such loads
+pub at_once : (most : ℕ) (s : Seat) (began : Bool) (me after : Me Unit View) (n : ℕ) → Moved s began me n after → MovedWithin most s began me n after
+at_once most s began me after n m =
+    let e : loads_of me.0.parts ≡ loads_of me.0.parts + 0 = omega arith in
+    (0, (omega arith), (m.0, m.1 ∙ (λ i. (view me.0.origin (part (number_of me.0.parts) m.0 (e i) ∷ []) [], [])), m.2))
+
+pub moved_behind : (a b most : ℕ) (s : Seat) (began : Bool) (me mid after : Me Unit View) (n : ℕ) → a + b ≤ most → Glanced a me mid → MovedWithin b s began mid n after → MovedWithin most s began me n after
+moved_behind a b most s began me mid after n few x m =
+    (x.0 + m.0, (let p = x.1 in let q = m.1 in omega arith), subst (λ v. Moved s began v n after) (ap (glanced m.0) x.2 ∙ glanced_again x.0 m.0 me) m.2)
+
+pub fewer_loads : (a most : ℕ) (s : Seat) (began : Bool) (me after : Me Unit View) (n : ℕ) → a ≤ most → MovedWithin a s began me n after → MovedWithin most s began me n after
+fewer_loads a most s began me after n few m = (m.0, (let p = m.1 in omega arith), m.2)
 
 -- an exchange for 0 leaves 0, and nothing else
 pub clear_leaves : (s : Seat) (n : ℕ) → change_of (access_of s) ≡ change.Swap 0 → (n ≡ 0 → leaves s n ≡ true) × (n ≢ 0 → leaves s n ≡ false)
@@ -78,39 +135,43 @@ exchange_leaves s n old new e =
 -- ---- the seat behind it
 
 -- what clauses see of a step
-pub stepped_view : (v : SeatView) (began : Bool) (s t : Seat) (me after : Me Unit View) (z y : TableId) (n : ℕ) → seen_as z me began s ≡ v → y ≡ z → Moved s began me n after
+pub stepped_late : (v : SeatView) (began : Bool) (s t : Seat) (me after : Me Unit View) (z y : TableId) (n : ℕ) → seen_as z me began s ≡ v → y ≡ z → (m : MovedWithin MOST_LOADS s began me n after)
     → t ≡ (run (opening_of me.0.origin) (past_of after.0.parts)).seats (number_of me.0.parts) → Stepped v (seen_as y after false t)
-stepped_view v began s t me after z y n e same m is = subst (λ u. Stepped u (seen_as y after false t)) e
+stepped_late v began s t me after z y n e same m is = subst (λ u. Stepped u (seen_as y after false t)) e
     record {
-      of = λ i. record { table = same i; origin = ap (λ (x : Me Unit View). x.0.origin) m.1 i };
-      number = ap (λ (x : Me Unit View). number_of x.0.parts) m.1;
+      of = λ i. record { table = same i; origin = ap (λ (x : Me Unit View). x.0.origin) m.2.1 i };
+      number = ap (λ (x : Me Unit View). number_of x.0.parts) m.2.1;
       began = refl;
       found = n;
-      steps = subst (λ p. Steps (opening_of me.0.origin) (number_of me.0.parts) (past_of me.0.parts) began s n p) (sym (ap (λ (x : Me Unit View). past_of x.0.parts) m.1)) m.2;
+      steps = subst (λ p. Steps (opening_of me.0.origin) (number_of me.0.parts) (past_of me.0.parts) began s n p) (sym (ap (λ (x : Me Unit View). past_of x.0.parts) m.2.1)) m.2.2;
       seat = is;
+      loads = let w : loads_of after.0.parts ≡ loads_of me.0.parts + m.0 = ap (λ (x : Me Unit View). loads_of x.0.parts) m.2.1 in let few = m.1 in omega arith;
     }
 
-pub went : (start : SeatView) (r : Run) (z y : TableId) (me later : Me Unit View) (began : Bool) (s : Seat) (n : ℕ) → On start r z me began s → is_idle s.work ≡ false → y ≡ z → Moved s began me n later → Went start r y later s n
-went start r z y me later began s n on busy same m = record {
+pub stepped_view : (v : SeatView) (began : Bool) (s t : Seat) (me after : Me Unit View) (z y : TableId) (n : ℕ) → seen_as z me began s ≡ v → y ≡ z → Moved s began me n after
+    → t ≡ (run (opening_of me.0.origin) (past_of after.0.parts)).seats (number_of me.0.parts) → Stepped v (seen_as y after false t)
+stepped_view v began s t me after z y n e same m is = stepped_late v began s t me after z y n e same (at_once MOST_LOADS s began me after n m) is
+
+pub went_late : (start : SeatView) (r : Run) (z y : TableId) (me later : Me Unit View) (began : Bool) (s : Seat) (n : ℕ) → On start r z me began s → is_idle s.work ≡ false → y ≡ z → MovedWithin MOST_LOADS s began me n later → Went start r y later s n
+went_late start r z y me later began s n on busy same m = record {
   world = world';
-  fits = m.2.fits;
-  found = m.2.found;
+  fits = m.2.2.fits;
+  found = m.2.2.found;
   on = record {
-    here = record { table = same ∙ on.here.table; origin = ap (λ (x : Me Unit View). x.0.origin) m.1 ∙ on.here.origin; from = on.here.from; few = on.here.few; size = on.here.size };
-    ready = ready_after s t began me later n on.ready m stands;
-    steps = further (seen_as z me began s) (seen_as y later false t) on.steps busy (stepped_view (seen_as z me began s) began s t me later z y n refl same m stands);
+    here = record { table = same ∙ on.here.table; origin = ap (λ (x : Me Unit View). x.0.origin) m.2.1 ∙ on.here.origin; from = on.here.from; few = on.here.few; size = on.here.size };
+    ready = ready_after s t began (glanced m.0 me) later n (ready_glanced m.0 me began s on.ready) m.2 stands;
+    steps = further (seen_as z me began s) (seen_as y later false t) on.steps busy (stepped_late (seen_as z me began s) began s t me later z y n refl same m stands);
   };
 }
   where
     world' : World
-    world' = (run (opening_of me.0.origin) ((past_of me.0.parts ++ m.2.others) ++ m.2.pending)).world
+    world' = (run (opening_of me.0.origin) ((past_of me.0.parts ++ m.2.2.others) ++ m.2.2.pending)).world
 
     t : Seat
     t = answer_of s (found_at world' (access_of s))
 
     stands : t ≡ (run (opening_of me.0.origin) (past_of later.0.parts)).seats (number_of me.0.parts)
-    stands = sym m.2.stands ∙ ap (λ (x : Me Unit View). (run (opening_of me.0.origin) (past_of x.0.parts)).seats (number_of me.0.parts)) (sym m.1)
+    stands = sym m.2.2.stands ∙ ap (λ (x : Me Unit View). (run (opening_of me.0.origin) (past_of x.0.parts)).seats (number_of me.0.parts)) (sym m.2.1)
 
--- a load that is no step leaves a seat as it is
-pub stays_on : (start : SeatView) (r : Run) (z y : TableId) (me later : Me Unit View) (began : Bool) (s : Seat) → On start r z me began s → y ≡ z → later ≡ me → On start r y later began s
-stays_on start r z y me later began s on same_table same = subst (λ t. On start r t later began s) (sym same_table) (subst (λ m. On start r z m began s) (sym same) on)
+pub went : (start : SeatView) (r : Run) (z y : TableId) (me later : Me Unit View) (began : Bool) (s : Seat) (n : ℕ) → On start r z me began s → is_idle s.work ≡ false → y ≡ z → Moved s began me n later → Went start r y later s n
+went start r z y me later began s n on busy same m = went_late start r z y me later began s n on busy same (at_once MOST_LOADS s began me later n m)

@@ -5,7 +5,7 @@ use lib.ListN.{get_elem?}
 use borrow.Author.Tests.{eq-eqb}
 use Rattle.kc_machine.specs.Machine.{Opening}
 use Rattle.kc_machine_steps.specs.declared.task.Event.{Event}
-use Rattle.kc_machine_traces.specs.Parts.{NoneOf}
+use Rattle.kc_table_layout.specs.kc_machine_traces.Parts.{NoneOf}
 use Rattle.kc_table_moves.specs.Origins.{Origin, opening_of}
 use Rattle.kc_table_moves.specs.Rule.{Fits, EachFits, FitsView, times, total}
 use Rattle.kc_table_moves.specs.declared.view.Part.{Part}

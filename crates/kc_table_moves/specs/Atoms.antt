@@ -10,17 +10,17 @@ use Rattle.kc_machine.specs.Points.{point, seat_at}
 use Rattle.kc_machine.specs.Seats.{access_of, answer_of}
 use Rattle.kc_machine.specs.declared.point.Point.{Point}
 use Rattle.kc_machine.specs.declared.seat.Seat.{Seat}
-use Rattle.kc_machine_commits.specs.declared.commit.OwnStep.TheVariants as own
-use Rattle.kc_machine_commits.specs.declared.commit.Stage.{Stage}
-use Rattle.kc_machine_commits.specs.declared.commit.Stage.TheVariants.{Scan, Take, Own}
-use Rattle.kc_machine_ranges.specs.Bits.{ValuesFit}
+use Rattle.kc_table_layout.specs.kc_machine_commits.declared.commit.OwnStep.TheVariants as own
+use Rattle.kc_table_layout.specs.kc_machine_commits.declared.commit.Stage.{Stage}
+use Rattle.kc_table_layout.specs.kc_machine_commits.declared.commit.Stage.TheVariants.{Scan, Take, Own}
+use Rattle.kc_table_layout.specs.kc_machine_ranges.Bits.{ValuesFit}
 use Rattle.kc_model.specs.declared.word.Word.{Word}
 use Rattle.kc_model.specs.declared.word.Word.TheVariants.{Plain, Ref}
 use Rattle.kc_table_layout.specs.Cells.{CellFits, base_of, bits, cell_of, place, size_of}
 use Rattle.kc_table_layout.specs.Changes.{change_of, changed}
 use Rattle.kc_table_layout.specs.declared.change.Change.{Change}
 use Rattle.kc_table_moves.specs.Origins.{Origin}
-use Rattle.kc_table_moves.specs.Rule.{Moved, Ready}
+use Rattle.kc_table_moves.specs.Rule.{Moved, Ready, glanced}
 use Rattle.kc_table_moves.specs.Views.{SeatView, StepsTo, seen_as}
 use Rattle.kc_table_moves.specs.declared.atoms.Held.{Held}
 use Rattle.kc_table_moves.specs.declared.atoms.Run.{Run}
@@ -64,10 +64,10 @@ pub record Went (start : SeatView) (r : Run) (token : TableId) (later : Me Unit 
 abbrev pub leaves : Seat → ℕ → Bool
 leaves s n = changed (change_of (access_of s)) n == n
 
--- a load by a seat that stands as s, of a word on which its next step is: that step, or none
+-- a load by a seat that stands as s, of a word on which its next step is: that step, or one that is none
 abbrev pub Peeked : Bool → Seat → Bool → Me Unit View → ℕ → Me Unit View → Type 0
 Peeked true s began me n after = Moved s began me n after
-Peeked false s began me n after = after ≡ me
+Peeked false s began me n after = after ≡ glanced 1 me
 
 abbrev pub is_plain : Word → Bool
 is_plain (Plain v x) = true

@@ -9,7 +9,7 @@ use Rattle.kc_machine.specs.Seats.{access_of, answer_of}
 use Rattle.kc_machine.specs.declared.seat.Seat.{Seat}
 use Rattle.kc_machine_steps.specs.declared.task.Event.{Event}
 use Rattle.kc_machine_steps.specs.declared.task.Event.TheVariants.{Step}
-use Rattle.kc_machine_traces.specs.Parts.{NoneOf}
+use Rattle.kc_table_layout.specs.kc_machine_traces.Parts.{NoneOf}
 use Rattle.kc_table_layout.specs.Cells.{AllFit, CellFits, Stores, bits, cell_of, place, signal_bit}
 use Rattle.kc_table_layout.specs.Cells.Cell.{signal}
 use Rattle.kc_table_moves.specs.Origins.{Origin, opening_of}
@@ -20,8 +20,8 @@ use Rattle.kc_table_views.specs.Pending.{Pends}
 
 -- ---- views
 
-abbrev pub part : ℕ → List Event → Part
-part k past = record { number = k; past = past }
+abbrev pub part : ℕ → List Event → ℕ → Part
+part k past n = record { number = k; past = past; loads = n }
 
 abbrev pub view : Origin → List Part → List Event → View
 view q ps heard = record { origin = q; parts = ps; heard = heard }
@@ -29,7 +29,7 @@ view q ps heard = record { origin = q; parts = ps; heard = heard }
 -- n seats from k on, which have made no step
 abbrev pub fresh_parts : ℕ → ℕ → List Part
 fresh_parts k zero = []
-fresh_parts k (suc n) = part k [] ∷ fresh_parts (suc k) n
+fresh_parts k (suc n) = part k [] 0 ∷ fresh_parts (suc k) n
 
 abbrev pub everyone : Origin → View
 everyone q = view q (fresh_parts 0 q.callers) []
@@ -75,12 +75,25 @@ abbrev pub past_of : List Part → List Event
 past_of [] = []
 past_of (p ∷ ps) = p.past
 
+abbrev pub loads_of : List Part → ℕ
+loads_of [] = 0
+loads_of (p ∷ ps) = p.loads
+
+-- the same seat behind n more loads that are no step
+abbrev pub glanced : ℕ → Me Unit View → Me Unit View
+glanced n me = (view me.0.origin (part (number_of me.0.parts) (past_of me.0.parts) (loads_of me.0.parts + n) ∷ []) [], me.1)
+
+-- some loads that are no step, at most so many, and nothing else
+abbrev pub Glanced : ℕ → Me Unit View → Me Unit View → Type 0
+Glanced most me after = (n : ℕ) × (n ≤ most) × (after ≡ glanced n me)
+
 -- the view of a seat that stands as s, save that it may have begun and halted tasks since its last step; `began` says whether it has begun one
 pub record Ready (me : Me Unit View) (began : Bool) (s : Seat) : Type 0 where
   pub origin : Origin
   pub number : ℕ
   pub past : List Event
-  pub is : me ≡ (view origin (part number past ∷ []) [], [])
+  pub loads : ℕ
+  pub is : me ≡ (view origin (part number past loads ∷ []) [], [])
   pub within : number < origin.callers
   pub meant : IsMeant (opening_of origin) past
   pub pending : List Event
@@ -101,8 +114,12 @@ pub record Steps (o : Opening) (k : ℕ) (past : List Event) (began : Bool) (s :
 
 abbrev pub Moved : Seat → Bool → Me Unit View → ℕ → Me Unit View → Type 0
 Moved s began me n after =
-    (late : List Event) × (after ≡ (view me.0.origin (part (number_of me.0.parts) late ∷ []) [], []))
+    (late : List Event) × (after ≡ (view me.0.origin (part (number_of me.0.parts) late (loads_of me.0.parts) ∷ []) [], []))
     × Steps (opening_of me.0.origin) (number_of me.0.parts) (past_of me.0.parts) began s n late
+
+-- the same behind loads that are no step, at most so many
+abbrev pub MovedWithin : ℕ → Seat → Bool → Me Unit View → ℕ → Me Unit View → Type 0
+MovedWithin most s began me n after = (waited : ℕ) × (waited ≤ most) × Moved s began (glanced waited me) n after
 
 -- ---- views cut and put together
 
@@ -146,11 +163,11 @@ hearing v w = view v.origin v.parts w.heard
 abbrev pub gathered : View → View → View
 gathered v w = view v.origin (v.parts ++ w.parts) v.heard
 
--- a seat takes in what it heard, and knows the schedule as it stands
+-- a seat takes in what it heard by a load, and knows the schedule as it stands
 abbrev pub Merged : Me Unit View → Me Unit View → Type 0
 Merged me after =
-    (k : ℕ) (past : List Event) → me.0.parts ≡ part k past ∷ []
-    → (others : List Event) × (after ≡ (view me.0.origin (part k (past ++ others) ∷ []) [], me.1)) × NoneOf k others × IsPrefix me.0.heard (past ++ others)
+    (k : ℕ) (past : List Event) (loads : ℕ) → me.0.parts ≡ part k past loads ∷ []
+    → (others : List Event) × (after ≡ (view me.0.origin (part k (past ++ others) (loads + 1) ∷ []) [], me.1)) × NoneOf k others × IsPrefix me.0.heard (past ++ others)
     × IsMeant (opening_of me.0.origin) (past ++ others)
 
 -- the schedule is here, and goes on from what each seat knows, without it
@@ -161,7 +178,7 @@ Ended me after =
 -- a seat loads its signal: it knows the schedule as it stands, and the signal there
 abbrev pub Heard : ℕ → Me Unit View → ℕ → Me Unit View → Type 0
 Heard i me n after =
-    (k : ℕ) (past : List Event) → me.0.parts ≡ part k past ∷ [] → i ≡ place 0 (signal k)
-    → (others : List Event) × (after ≡ (view me.0.origin (part k (past ++ others) ∷ []) [], me.1)) × NoneOf k others
+    (k : ℕ) (past : List Event) (loads : ℕ) → me.0.parts ≡ part k past loads ∷ [] → i ≡ place 0 (signal k)
+    → (others : List Event) × (after ≡ (view me.0.origin (part k (past ++ others) (loads + 1) ∷ []) [], me.1)) × NoneOf k others
     × IsMeant (opening_of me.0.origin) (past ++ others)
     × (n ≡ signal_bit ((run (opening_of me.0.origin) (past ++ others)).world.signal k))

@@ -1,39 +1,43 @@
 -- What clauses see of a table, its seats and notes, and of what is left of it.
-use Rattle.std.specs.Prelude.{◌≡◌, Bool, true, false, ℕ, zero, suc, ◌*◌, ◌<◌, List, [], ◌∷◌, length, get_or, Some, All, slice_get}
+use Rattle.std.specs.Prelude.{◌≡◌, Bool, true, false, ℕ, zero, suc, ◌+◌, ◌*◌, ◌<◌, ◌≤◌, List, [], ◌∷◌, length, get_or, Some, All, slice_get, IsPermutation}
+use Rattle.std.specs.Option.{is_some}
 use Rattle.atomic_table.specs.Seated.{TableId}
 use Rattle.kc_machine.specs.Machine.{Opening, run, pool_size}
-use Rattle.kc_machine.specs.Seats.{begun, fresh, is_idle}
+use Rattle.kc_machine.specs.Seats.{begun, fresh, is_idle, own_of}
 use Rattle.kc_machine.specs.declared.seat.Seat.{Seat}
-use Rattle.kc_machine_claims.specs.Histories.{History, Grows, ending}
-use Rattle.kc_machine_claims.specs.Traces.{first_store, BeginsHonestly}
+use Rattle.kc_table_layout.specs.kc_machine_claims.Histories.{History, Grows, ending}
+use Rattle.kc_table_layout.specs.kc_machine_claims.Traces.{first_store, BeginsHonestly}
 use Rattle.kc_machine_steps.specs.declared.task.Event.{Event}
 use Rattle.kc_machine_steps.specs.declared.task.Event.TheVariants.{Begin}
 use Rattle.kc_machine_steps.specs.declared.task.Task.{Task}
+use Rattle.kc_table_layout.specs.kc_machine_traces.Entries.{by}
 use Rattle.kc_model.specs.declared.footprint.Seen.{Seen}
 use Rattle.kc_model.specs.declared.plain_store.Cell.{Cell}
 use Rattle.kc_model.specs.declared.word.Word.{Word}
 use Rattle.kc_table_moves.specs.Origins.{Origin, opening_of, version_in, value_in, word_in}
 use Rattle.kc_table_views.specs.Known.{known, IsMeant, IsPrefix, IsWhole, GoesOn, KnowsAPart, OwnsNone}
 use Rattle.atomic_table.specs.Table.{Me}
-use Rattle.kc_table_moves.specs.Rule.{Steps, number_of, past_of}
+use Rattle.kc_table_moves.specs.Rule.{Steps, loads_of, number_of, past_of}
 use Rattle.kc_table_moves.specs.declared.view.Part.{Part}
+use Rattle.kc_table_moves.specs.declared.view.TheConstants.{MOST_LOADS}
 use Rattle.kc_table_moves.specs.declared.view.View.{View}
 
 pub record TableView : Type 0 where
   pub table : TableId
   pub origin : Origin
 
--- the table that it is of; the schedule as it stood after its last step; whether it has begun a task since then; the seat of the machine as it is now
+-- the table that it is of; the schedule as it stood after its last step; whether it has begun a task since then; the seat of the machine as it is now; how many loads it has made that were no step
 pub record SeatView : Type 0 where
   pub of : TableView
   pub number : ℕ
   pub past : List Event
   pub began : Bool
   pub seat : Seat
+  pub loads : ℕ
 
 -- of a seat with this token, that stands so
 abbrev pub seen_as : TableId → Me Unit View → Bool → Seat → SeatView
-seen_as z me began s = record { of = record { table = z; origin = me.0.origin }; number = number_of me.0.parts; past = past_of me.0.parts; began = began; seat = s }
+seen_as z me began s = record { of = record { table = z; origin = me.0.origin }; number = number_of me.0.parts; past = past_of me.0.parts; began = began; seat = s; loads = loads_of me.0.parts }
 
 abbrev pub opening_at_seat : SeatView → Opening
 opening_at_seat v = opening_of v.of.origin
@@ -54,7 +58,7 @@ Starts v t = (is_idle v.seat.work ≡ true) × (is_idle (begun v.seat t).work �
 
 -- ---- steps
 
--- one step of the machine's seat, on one word, behind the tasks that it has begun and halted since its last step and what others did meanwhile
+-- one step of the machine's seat, on one word, behind the tasks that it has begun and halted since its last step and what others did meanwhile, and behind some loads that were no step
 pub record Stepped (v w : SeatView) : Type 0 where
   pub of : w.of ≡ v.of
   pub number : w.number ≡ v.number
@@ -62,11 +66,17 @@ pub record Stepped (v w : SeatView) : Type 0 where
   pub found : ℕ
   pub steps : Steps (opening_at_seat v) v.number v.past v.began v.seat found w.past
   pub seat : w.seat ≡ (run (opening_at_seat v) w.past).seats v.number
+  pub loads : w.loads ≤ v.loads + MOST_LOADS
 
 -- any number of steps, one after another, each of a seat that runs a task
 pub data StepsTo (v : SeatView) : SeatView → Type 0 where
   here : StepsTo v v
   further : (u w : SeatView) → StepsTo v u → is_idle u.seat.work ≡ false → Stepped u w → StepsTo v w
+
+-- how many these are
+abbrev pub count : (v w : SeatView) → StepsTo v w → ℕ
+count v _ here = 0
+count v _ (further u _ d busy s) = suc (count v u d)
 
 abbrev pub begun_at : SeatView → Task → SeatView
 begun_at v t = record v { seat = begun v.seat t; began = true }
@@ -76,7 +86,7 @@ pub record Ran (v : SeatView) (t : Task) (w : SeatView) : Type 0 where
   pub steps : StepsTo (begun_at v t) w
   pub shown : w.began ≡ false
 
--- the seat knows more of what others did, and else is as it was
+-- the seat knows more of what others did, and else is as it was; while it owns no descriptor, none of that is an entry of its own
 pub record Learns (v w : SeatView) : Type 0 where
   pub of : w.of ≡ v.of
   pub number : w.number ≡ v.number
@@ -84,6 +94,7 @@ pub record Learns (v w : SeatView) : Type 0 where
   pub seat : w.seat ≡ v.seat
   pub on : GoesOn v.number v.past w.past
   pub meant : IsMeant (opening_at_seat v) w.past
+  pub own : is_some (own_of v.seat) ≡ false → by v.number (knows w) ≡ by v.number (knows v)
 
 -- ---- notes
 
@@ -118,7 +129,7 @@ pub record OpensAt (values versions : List ℕ) (callers generation : ℕ) (t : 
 -- n seats from k on, as they are opened
 abbrev pub opened_seats : TableView → ℕ → ℕ → List SeatView
 opened_seats z k zero = []
-opened_seats z k (suc n) = record { of = z; number = k; past = []; began = false; seat = fresh k (pool_size z.origin.callers) (3 * k) } ∷ opened_seats z (suc k) n
+opened_seats z k (suc n) = record { of = z; number = k; past = []; began = false; seat = fresh k (pool_size z.origin.callers) (3 * k); loads = 0 } ∷ opened_seats z (suc k) n
 
 -- ---- endings
 
@@ -132,11 +143,11 @@ abbrev pub count_from : ℕ → ℕ → List ℕ
 count_from k zero = []
 count_from k (suc n) = k ∷ count_from (suc k) n
 
--- these are all seats of the table, and no task runs
+-- these are all seats of the table, in any order, and no task runs
 pub record AreAll (z : TableView) (seats : List SeatView) : Type 0 where
   pub of : All (λ s. s.of ≡ z) seats
   pub idle : All (λ s. is_idle s.seat.work ≡ true) seats
-  pub all : numbers seats ≡ count_from 0 z.origin.callers
+  pub all : IsPermutation (count_from 0 z.origin.callers) (numbers seats)
 
 -- the opening, and the one schedule
 pub record PastView : Type 0 where

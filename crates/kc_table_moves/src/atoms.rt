@@ -1,16 +1,17 @@
 //! Atomic steps of a seat that is not written: each is the machine's next one of the seat at a point.
 
-ghost use Rattle.std.specs.Prelude.{◌≡◌, ◌≢◌, ℕ, false, true};
+ghost use Rattle.std.specs.Prelude.{◌≡◌, ◌≢◌, ◌-◌, ℕ, false, true};
 ghost use Rattle.kc_model.specs.Word.{IsPackable, packed, unpacked};
 ghost use Rattle.kc_machine.specs.Seats.{access_of, is_idle};
 ghost use Rattle.kc_table_layout.specs.Changes.{change_of, changed};
 ghost use Rattle.kc_table_layout.specs.declared.change.Change.TheVariants as change;
-ghost use Rattle.kc_table_moves.specs.Rule.{Moved, Ready};
+ghost use Rattle.kc_table_moves.specs.Rule.{Glanced, Moved, MovedWithin, Ready};
+ghost use Rattle.kc_table_moves.specs.declared.view.TheConstants.{MOST_LOADS};
 ghost use Rattle.kc_table_moves.specs.Atoms.{Aims, Here, On, Peeked, Went, found_of, is_plain, leaves, point_of, seat_in, stage_of};
 
-use crate::rule::{Moves, Now};
-use crate::touch::{Token, Words};
-use crate::view::View;
+use crate::rule::Now;
+use crate::view::{MOST_LOADS, View};
+use crate::words::{Token, Words};
 use atomic_table::Play;
 use kc_machine::{OwnStep, Point, Seat, Stage};
 use kc_machine_steps::PassStep;
@@ -125,7 +126,7 @@ impl Chain for Brand {
     ghost use Rattle.kc_machine.specs.Seats.{fresh};
     ghost use Rattle.kc_table_moves.specs.Rule.{nowhere};
 
-    ghost start = { record { of = record { table = record { words = 0; slots = 0; views_name = 0; atom = 0; block = 0; offset = 0; slot_names = [] }; origin = nowhere }; number = 0; past = []; began = false; seat = fresh 0 0 0 } };
+    ghost start = { record { of = record { table = record { words = 0; slots = 0; views_name = 0; atom = 0; block = 0; offset = 0; slot_names = [] }; origin = nowhere }; number = 0; past = []; began = false; seat = fresh 0 0 0; loads = 0 } };
 }
 
 // A load by the seat that B names.
@@ -139,7 +140,7 @@ pub fn load<B: Now>(words: &Words, token: &mut Token, base: usize, word: usize) 
 {
     touches_agree();
     let _base = base;
-    words.load::<Moves<B>>(token, word)
+    words.load::<B>(token, word)
 }
 
 // Only the proof reads the point.
@@ -175,7 +176,7 @@ fn swap_in<B: Now>(words: &Words, token: &mut Token, base: usize, word: usize, n
 {
     touches_agree();
     let _base = base;
-    words.swap::<Moves<B>>(token, word, new)
+    words.swap::<B>(token, word, new)
 }
 
 // Only the proof reads the point.
@@ -225,7 +226,7 @@ impl Asks for Brand {
 }
 
 // A load that is the seat's step, or none.
-struct Peeks<B: Asks>(PhantomData<B>);
+pub(crate) struct Peeks<B: Asks>(PhantomData<B>);
 
 impl<B: Asks> Play<(), View> for Peeks<B> {
     ghost use Rattle.kc_table_moves.specs.Atoms.{Peeked};
@@ -246,7 +247,7 @@ pub fn peek<B: Asks>(words: &Words, token: &mut Token, base: usize, word: usize)
 {
     touches_agree();
     let _base = base;
-    words.load::<Peeks<B>>(token, word)
+    words.glance::<B>(token, word)
 }
 
 // Only the proof reads the point.
@@ -270,7 +271,7 @@ pub fn clear<B: Asks>(words: &Words, token: &mut Token, base: usize, word: usize
     requires aim { Aims words.now.key B.now word (change.Swap 0) }
     requires takes { (n : ℕ) → B.takes n ≡ leaves B.now n }
     ensures table { token.new.table_id ≡ token.old.table_id }
-    ensures moved { Moved B.now B.began token.old.me result token.new.me }
+    ensures moved { MovedWithin 1 B.now B.began token.old.me result token.new.me }
 {
     let number = peek::<B>(words, token, base, word);
     if number == 0 {
@@ -287,7 +288,7 @@ fn clear_at<B: Asks>(run: &Run, token: &mut Token, _at: Point, word: usize) -> u
     requires aim { Aims run.now.words.now.key B.now word (change.Swap 0) }
     requires takes { (n : ℕ) → B.takes n ≡ leaves B.now n }
     ensures table { token.new.table_id ≡ token.old.table_id }
-    ensures moved { Moved B.now B.began token.old.me result token.new.me }
+    ensures moved { MovedWithin 1 B.now B.began token.old.me result token.new.me }
 {
     clear::<B>(run.words, token, run.base, word)
 }
@@ -300,16 +301,6 @@ pub fn clears<C: Chain>(run: &Run, token: &mut Token, at: Point, word: usize) ->
     ensures { Went C.start run.now token.new.table_id token.new.me (seat_in run.now at) result }
 {
     clear_at::<Brand>(run, token, at, word)
-}
-
-// A load at a point that is no step.
-#[inline(always)]
-fn glances<C: Chain>(run: &Run, token: &mut Token, at: Point, word: usize) -> u64
-    requires on { On C.start run.now token.old.table_id token.old.me false (seat_in run.now at) }
-    requires aim { Aims run.now.words.now.key (seat_in run.now at) word (change_of (access_of (seat_in run.now at))) }
-    ensures { On C.start run.now token.new.table_id token.new.me false (seat_in run.now at) }
-{
-    peek_at::<Brand>(run, token, at, word)
 }
 
 /// The seat that B names makes an exchange where `old` stands.
@@ -330,7 +321,7 @@ pub fn exchange<B: Now>(
 {
     touches_agree();
     let _base = base;
-    words.compare_exchange::<Moves<B>>(token, word, old, new)
+    words.compare_exchange::<B>(token, word, old, new)
 }
 
 // Only the proof reads the point.
@@ -389,12 +380,8 @@ pub fn replaces<C: Chain>(
     if number != old {
         return number;
     }
-    exchanges::<C>(run, token, at, word, old, new)
+    exchange_at::<Brand>(run, token, at, word, old, new)
 }
-
-/// Loads of a word at which a reference stands, before a seat meets it. A commit that is not interrupted takes its reference
-/// back within some 100 ns, which is less than so many loads take, and less than to help it does.
-pub const MOST_LOADS: u32 = 200;
 
 /// Whether these bits are of a plain word of a location.
 #[inline(always)]
@@ -408,31 +395,38 @@ pub fn is_plain(number: u64) -> bool
     }
 }
 
-// Loads until no reference but the own one stands there, or so many times. None of them is a step. Only the proof reads the
-// run and the point: with the run at hand here, its parts would be written to memory before each commit.
+// Loads until no reference but the own one stands there, or one time less than that many. None of them is a step.
 #[cold]
 #[inline(never)]
-fn wait<B: Asks>(
-    words: &Words,
-    token: &mut Token,
-    base: usize,
-    word: usize,
-    own: u64,
-    _run: &Run,
-    _at: Point,
-)
+fn wait<B: Asks>(words: &Words, token: &mut Token, base: usize, word: usize, own: u64)
     requires here { Here words.now.key words.now.table_id base token.old.table_id token.old.me }
     requires seat { (is_idle B.now.work ≡ false) × Ready token.old.me B.began B.now }
     requires aim { Aims words.now.key B.now word (change_of (access_of B.now)) }
     requires none { (n : ℕ) → B.takes n ≡ false }
     ensures table { token.new.table_id ≡ token.old.table_id }
-    ensures stays { token.new.me ≡ token.old.me }
+    ensures glanced { Glanced (MOST_LOADS - 1) token.old.me token.new.me }
 {
-    for _ in 0..MOST_LOADS {
+    for turn in 0..MOST_LOADS - 1 {
         let number = peek::<B>(words, token, base, word);
         if number == own || is_plain(number) {
             return;
         }
+    }
+}
+
+// One load that is no step, and a wait where another's reference stands. Only the proof reads the point.
+#[inline(always)]
+fn glance<B: Asks>(run: &Run, token: &mut Token, _at: Point, word: usize, own: u64)
+    requires here { Here run.now.words.now.key run.now.words.now.table_id run.now.base token.old.table_id token.old.me }
+    requires seat { (is_idle B.now.work ≡ false) × Ready token.old.me B.began B.now }
+    requires aim { Aims run.now.words.now.key B.now word (change_of (access_of B.now)) }
+    requires none { (n : ℕ) → B.takes n ≡ false }
+    ensures table { token.new.table_id ≡ token.old.table_id }
+    ensures glanced { Glanced MOST_LOADS token.old.me token.new.me }
+{
+    let number = peek::<B>(run.words, token, run.base, word);
+    if number != own && !is_plain(number) {
+        wait::<B>(run.words, token, run.base, word, own);
     }
 }
 
@@ -451,11 +445,8 @@ pub fn exchanges_late<C: Chain>(
     requires aim { Aims run.now.words.now.key (seat_in run.now at) word (change.CompareExchange old new) }
     ensures { Went C.start run.now token.new.table_id token.new.me (seat_in run.now at) result }
 {
-    let number = glances::<C>(run, token, at, word);
-    if number != new && !is_plain(number) {
-        wait::<Brand>(run.words, token, run.base, word, new, run, at);
-    }
-    exchanges::<C>(run, token, at, word, old, new)
+    glance::<Brand>(run, token, at, word, new);
+    exchange_at::<Brand>(run, token, at, word, old, new)
 }
 
 // Only the proof reads the point.
@@ -468,7 +459,7 @@ fn subtract_at<B: Now>(run: &Run, token: &mut Token, _at: Point, word: usize) ->
     ensures moved { Moved B.now B.began token.old.me result token.new.me }
 {
     touches_agree();
-    run.words.fetch_sub::<Moves<B>>(token, word, 1)
+    run.words.fetch_sub::<B>(token, word, 1)
 }
 
 // The seat at a point makes one hold less.

@@ -6,11 +6,13 @@ mod atoms;
 mod rule;
 mod touch;
 mod view;
+mod words;
 
 pub use atoms::{
-    Asks, Chain, Held, MOST_LOADS, Run, Stop, StopAt, clear, clears, exchange, exchanges,
-    exchanges_late, is_plain, load, loads, peek, replaces, subtracts, swaps,
+    Asks, Chain, Held, Run, Stop, StopAt, clear, clears, exchange, exchanges, exchanges_late,
+    is_plain, load, loads, peek, replaces, subtracts, swaps,
 };
-pub use rule::{Deals, Empty, Gathers, Hears, Merges, Moves, Notes, Now, Rule, Shows};
-pub use touch::{Token, Words, touch_seat};
-pub use view::{Origin, Part, View};
+pub use rule::{Now, Rule};
+pub use touch::touch_seat;
+pub use view::{MOST_LOADS, Origin, Part, View};
+pub use words::{Token, Words};

@@ -7,16 +7,11 @@ ghost use Rattle.kc_machine.specs.Machine.{pool_size};
 ghost use Rattle.kc_machine.specs.Seats.{access_of, is_idle};
 ghost use Rattle.kc_table_moves.specs.Rule.{Moved, Ready};
 
-use crate::rule::{Moves, Now, Rule};
-use crate::view::{Origin, View};
-use atomic_table::Shared;
+use crate::rule::Now;
+use crate::words::{Token, Words};
 use kc_machine::Seat;
 use kc_machine_words::Access;
 use kc_table_layout::{Change, aim_at, ranged, touches_agree};
-
-pub type Words = Shared<(), View, Origin, Rule>;
-
-pub type Token = atomic_table::Seat<(), View>;
 
 // The next access of this seat. The seat isn't read: it says which one the proof speaks of.
 #[inline(always)]
@@ -50,14 +45,14 @@ fn touch<B: Now>(words: &Words, token: &mut Token, access: Access, base: usize) 
     ranged(access);
     let aim = aim_at(&access, base);
     match aim.change {
-        Change::Load => words.load::<Moves<B>>(token, aim.word),
-        Change::Swap(new) => words.swap::<Moves<B>>(token, aim.word, new),
+        Change::Load => words.load::<B>(token, aim.word),
+        Change::Swap(new) => words.swap::<B>(token, aim.word, new),
         Change::CompareExchange { old, new } => {
-            words.compare_exchange::<Moves<B>>(token, aim.word, old, new)
+            words.compare_exchange::<B>(token, aim.word, old, new)
         }
-        Change::AddOne => words.fetch_add::<Moves<B>>(token, aim.word, 1),
-        Change::SubtractOne => words.fetch_sub::<Moves<B>>(token, aim.word, 1),
-        Change::Set(bits) => words.fetch_or::<Moves<B>>(token, aim.word, bits),
-        Change::Keep(bits) => words.fetch_and::<Moves<B>>(token, aim.word, bits),
+        Change::AddOne => words.fetch_add::<B>(token, aim.word, 1),
+        Change::SubtractOne => words.fetch_sub::<B>(token, aim.word, 1),
+        Change::Set(bits) => words.fetch_or::<B>(token, aim.word, bits),
+        Change::Keep(bits) => words.fetch_and::<B>(token, aim.word, bits),
     }
 }

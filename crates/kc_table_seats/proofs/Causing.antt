@@ -1,31 +1,31 @@
 -- What a seat was told, by what holds of the schedule that it knows.
 use Rattle.std.proofs.Common.{arith, ◌≡◌, ◌⊎◌, ◌∙◌, ◌++◌, ℕ, true, false, List, ◌∷◌, Contains, Some, refl, sym, ap, subst, append_assoc}
 use Rattle.std.specs.Prelude.{All as EachOf}
-use Rattle.kc_machine.specs.Machine.{Opening, run}
-use Rattle.kc_machine.specs.Schedules.{IsSchedule}
-use Rattle.kc_machine.specs.declared.seat.Seat.{Seat}
-use Rattle.kc_machine_answers.proofs.Told.{crosses_caused}
-use Rattle.kc_machine_answers.specs.Crosses.{CrossedSince}
-use Rattle.kc_machine_claims.specs.Claims.{IsAwake, IsCovered, VersionStoodSince, has_bit}
-use Rattle.kc_machine_claims.specs.Traces.{trace}
-use Rattle.kc_machine_effects.proofs.PoolLaws.{worn_true}
-use Rattle.kc_machine_looks.proofs.Stood.{hung_stood}
-use Rattle.kc_machine_steps.specs.Lines.{is_installed, lines_of}
+use Rattle.kc_machine_alone.specs.kc_machine.Machine.{Opening, run}
+use Rattle.kc_machine_alone.specs.kc_machine.Schedules.{IsSchedule}
+use Rattle.kc_machine_alone.specs.kc_machine.declared.seat.Seat.{Seat}
+use Rattle.kc_machine_alone.proofs.kc_machine_answers.Told.{crosses_caused}
+use Rattle.kc_machine_alone.specs.kc_machine_answers.Crosses.{CrossedSince}
+use Rattle.kc_machine_alone.specs.kc_machine_claims.Claims.{IsAwake, IsCovered, VersionStoodSince, has_bit}
+use Rattle.kc_machine_alone.specs.kc_machine_claims.Traces.{trace}
+use Rattle.kc_machine_alone.proofs.kc_machine_effects.PoolLaws.{worn_true}
+use Rattle.kc_machine_waiting.proofs.kc_machine_looks.Stood.{hung_stood}
+use Rattle.kc_machine_alone.specs.kc_machine_steps.Lines.{is_installed, lines_of}
 use Rattle.kc_model.specs.declared.footprint.Line.{Line}
-use Rattle.kc_machine_steps.specs.declared.task.Event.{Event}
-use Rattle.kc_machine_steps.specs.declared.task.Event.TheVariants.{Begin}
-use Rattle.kc_machine_steps.specs.declared.task.Task.{Task}
-use Rattle.kc_machine_steps.specs.declared.task.Task.TheVariants as task
-use Rattle.kc_machine_steps.specs.declared.task.Told.TheVariants as told
-use Rattle.kc_machine_traces.proofs.Answers.{task_stands}
-use Rattle.kc_machine_traces.proofs.Others.{others_leave, run_shape}
-use Rattle.kc_machine_traces.specs.Parts.{NoneOf}
+use Rattle.kc_machine_alone.specs.kc_machine_steps.declared.task.Event.{Event}
+use Rattle.kc_machine_alone.specs.kc_machine_steps.declared.task.Event.TheVariants.{Begin}
+use Rattle.kc_machine_alone.specs.kc_machine_steps.declared.task.Task.{Task}
+use Rattle.kc_machine_alone.specs.kc_machine_steps.declared.task.Task.TheVariants as task
+use Rattle.kc_machine_alone.specs.kc_machine_steps.declared.task.Told.TheVariants as told
+use Rattle.kc_machine_alone.proofs.kc_machine_traces.Answers.{task_stands}
+use Rattle.kc_machine_alone.proofs.kc_machine_traces.Others.{others_leave, run_shape}
+use Rattle.kc_machine_alone.specs.kc_machine_traces.Parts.{NoneOf}
 use Rattle.kc_machine_waiting.proofs.Blocked.{blocked_covered}
 use Rattle.kc_machine_waiting.proofs.Hung.{hung_blocked}
 use Rattle.kc_machine_waiting.proofs.Told.{changed_moved, freed}
 use Rattle.kc_machine_waiting.specs.Causes.{ReadMoved}
-use Rattle.kc_machine_words.specs.declared.words.Mode.{Mode}
-use Rattle.kc_machine_words.specs.declared.words.Mode.TheVariants.{All, Light}
+use Rattle.kc_machine_alone.specs.kc_machine_words.declared.words.Mode.{Mode}
+use Rattle.kc_machine_alone.specs.kc_machine_words.declared.words.Mode.TheVariants.{All, Light}
 use Rattle.kc_model.specs.declared.footprint.Footprint.{Footprint}
 use Rattle.kc_model.specs.declared.footprint.Seen.{Seen}
 use Rattle.kc_table_moves.specs.Origins.{opening_of}
@@ -33,9 +33,9 @@ use Rattle.kc_table_moves.specs.Views.{Learns, SeatView, Stepped, opening_at_sea
 use Rattle.kc_table_seats.proofs.Wearing.{worn_on}
 use Rattle.kc_table_seats.specs.Tasks.{Does}
 use Rattle.kc_table_seats.specs.Told.{Hears, IsWornOut, listening, shadow}
-use Rattle.kc_table_views.proofs.Pendings.{none_begins, nothing_push}
-use Rattle.kc_table_views.specs.Known.{IsMeant}
-use Rattle.kc_table_views.specs.Tasks.{ran}
+use Rattle.kc_table_moves.proofs.kc_table_views.Pendings.{none_begins, nothing_push}
+use Rattle.kc_table_moves.specs.kc_table_views.Known.{IsMeant}
+use Rattle.kc_table_moves.specs.kc_table_views.Tasks.{ran}
 
 -- what others do leaves a task that has made a step
 pub does_learned : (v u w : SeatView) (t : Task) → Does v t u → Learns u w → Does v t w

@@ -1,23 +1,23 @@
 -- A task of a seat, step by step.
 use Rattle.std.proofs.Common.{◌≡◌, true, false, ℕ, List, [], ◌∷◌, ◌++◌, refl, sym, ap, ◌∙◌, subst, append_assoc}
-use Rattle.kc_machine.specs.Machine.{Opening, run}
-use Rattle.kc_machine.specs.Schedules.{IsWellMadeTask}
-use Rattle.kc_machine.specs.Seats.{begun, is_idle}
-use Rattle.kc_machine.specs.declared.seat.Seat.{Seat}
-use Rattle.kc_machine_steps.specs.declared.task.Event.{Event}
-use Rattle.kc_machine_steps.specs.declared.task.Event.TheVariants.{Begin, Step}
-use Rattle.kc_machine_steps.specs.declared.task.Task.{Task}
-use Rattle.kc_machine_traces.proofs.Others.{others_leave}
-use Rattle.kc_machine_traces.specs.Moments.{BeginsNothing}
+use Rattle.kc_machine_alone.specs.kc_machine.Machine.{Opening, run}
+use Rattle.kc_machine_alone.specs.kc_machine.Schedules.{IsWellMadeTask}
+use Rattle.kc_machine_alone.specs.kc_machine.Seats.{begun, is_idle}
+use Rattle.kc_machine_alone.specs.kc_machine.declared.seat.Seat.{Seat}
+use Rattle.kc_machine_alone.specs.kc_machine_steps.declared.task.Event.{Event}
+use Rattle.kc_machine_alone.specs.kc_machine_steps.declared.task.Event.TheVariants.{Begin, Step}
+use Rattle.kc_machine_alone.specs.kc_machine_steps.declared.task.Task.{Task}
+use Rattle.kc_machine_alone.proofs.kc_machine_traces.Others.{others_leave}
+use Rattle.kc_machine_alone.specs.kc_machine_traces.Moments.{BeginsNothing}
 use Rattle.kc_table_seats.specs.Tasks.{Does}
 use Rattle.kc_table_moves.specs.Origins.{opening_of}
 use Rattle.kc_table_moves.specs.Views.{SeatView, Starts, Stepped, opening_at_seat}
-use Rattle.kc_table_views.proofs.Knowing.{owned_none}
-use Rattle.kc_table_views.proofs.Pendings.{nothing_push, none_begins, waits_front, waits_seat}
-use Rattle.kc_table_views.proofs.Shown.{says}
-use Rattle.kc_table_views.specs.Known.{IsMeant}
-use Rattle.kc_table_views.specs.Pending.{AllWait, applied, BeginsOne, BeginsAsMarked, Pends}
-use Rattle.kc_table_views.specs.Tasks.{ran}
+use Rattle.kc_table_moves.proofs.kc_table_views.Knowing.{owned_none}
+use Rattle.kc_table_moves.proofs.kc_table_views.Pendings.{nothing_push, none_begins, waits_front, waits_seat}
+use Rattle.kc_table_moves.proofs.kc_table_views.Shown.{says}
+use Rattle.kc_table_moves.specs.kc_table_views.Known.{IsMeant}
+use Rattle.kc_table_moves.specs.kc_table_views.Pending.{AllWait, applied, BeginsOne, BeginsAsMarked, Pends}
+use Rattle.kc_table_moves.specs.kc_table_views.Tasks.{ran}
 
 -- the first step of a task shows it
 module _ (v w : SeatView) (t : Task) (st : Starts v t) (made : IsWellMadeTask v.of.origin.locations t) (s : Stepped (record v { seat = begun v.seat t; began = true }) w) where

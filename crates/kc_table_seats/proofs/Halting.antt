@@ -5,61 +5,61 @@ use Rattle.std.specs.Int.Count.{count_trailing_zeros}
 use Rattle.std.proofs.Math.Nat.{pow-le-pow_right}
 use Rattle.std.proofs.lemmas.Option.{slice_get_within}
 use borrow.Author.Tests.{eqb-false}
-use Rattle.kc_machine.specs.Machine.{Opening, World, found_at}
-use Rattle.kc_machine.specs.Seats.{access_of, after, answer_by, answer_of, ended, halted, halted_by, is_idle, work_access}
-use Rattle.kc_machine.specs.Works.{Work}
-use Rattle.kc_machine.specs.Works as work
-use Rattle.kc_machine.specs.declared.seat.Seat.{Seat}
+use Rattle.kc_machine_alone.specs.kc_machine.Machine.{Opening, World, found_at}
+use Rattle.kc_machine_alone.specs.kc_machine.Seats.{access_of, after, answer_by, answer_of, ended, halted, halted_by, is_idle, work_access}
+use Rattle.kc_machine_alone.specs.kc_machine.Works.{Work}
+use Rattle.kc_machine_alone.specs.kc_machine.Works as work
+use Rattle.kc_machine_alone.specs.kc_machine.declared.seat.Seat.{Seat}
 use Rattle.kc_machine_alone.proofs.Lowest.{lowest_low, lowest_rises}
 use Rattle.kc_machine_alone.proofs.PassFalls.{next_from, one_after}
-use Rattle.kc_machine_commits.specs.Commits.{after_own_pass, aid_or_back, commit_access, copy_by, copy_by_own, finished, gone_on, loaded, onward_by, onward_or_back, owed_next, own_access, own_next, stage_access, stage_next, wake_access, wake_next, wake_or_drop, wake_or_signal}
-use Rattle.kc_machine_commits.specs.Halts.{halted_at, halted_own, unowned}
-use Rattle.kc_machine_commits.specs.Nexts.{Next}
-use Rattle.kc_machine_commits.specs.Nexts as next
-use Rattle.kc_machine_commits.specs.declared.commit.Commit.{Commit}
-use Rattle.kc_machine_commits.specs.declared.commit.OwnStep.{OwnStep}
-use Rattle.kc_machine_commits.specs.declared.commit.OwnStep.TheVariants as own
-use Rattle.kc_machine_commits.specs.declared.commit.Stage.{Stage}
-use Rattle.kc_machine_commits.specs.declared.commit.Stage.TheVariants.{Scan, Take, Own}
-use Rattle.kc_machine_ranges.specs.Seats.{OwnIn, StageIn, SwapIn, WorkIn}
-use Rattle.kc_machine_seats.specs.Fits.{AidFits, OwnFits, StageFits, StepFits, WorkFits}
-use Rattle.kc_machine_seats.specs.Formed.{IsWellFormed, OwnIsFormed, PutsAt, StageIsFormed, SwapIsFormed, WorkIsFormed}
-use Rattle.kc_machine_seats.specs.Made.{IntentIsMade}
-use Rattle.kc_machine_steps.specs.Aids.{after_pass, aid_access, aid_copy, aid_next, drop_or_release}
-use Rattle.kc_machine_steps.specs.Lines.{after_line, next_line}
-use Rattle.kc_machine_steps.specs.Looks.{halts_at_once, look_access, look_halted_at, look_next, told_by}
-use Rattle.kc_machine_steps.specs.Passes.{decided_as, from_release, pass_access, pass_next, release_or_finish}
-use Rattle.kc_machine_steps.specs.declared.aid.AidNext.{AidNext}
-use Rattle.kc_machine_steps.specs.declared.aid.AidNext.TheVariants as aiding
-use Rattle.kc_machine_steps.specs.declared.aid.AidStep.{AidStep}
-use Rattle.kc_machine_steps.specs.declared.aid.AidStep.TheVariants as aid
-use Rattle.kc_machine_steps.specs.declared.aid.Aided.{Aided}
+use Rattle.kc_machine_alone.specs.kc_machine_commits.Commits.{after_own_pass, aid_or_back, commit_access, copy_by, copy_by_own, finished, gone_on, loaded, onward_by, onward_or_back, owed_next, own_access, own_next, stage_access, stage_next, wake_access, wake_next, wake_or_drop, wake_or_signal}
+use Rattle.kc_machine_alone.specs.kc_machine_commits.Halts.{halted_at, halted_own, unowned}
+use Rattle.kc_machine_alone.specs.kc_machine_commits.Nexts.{Next}
+use Rattle.kc_machine_alone.specs.kc_machine_commits.Nexts as next
+use Rattle.kc_machine_alone.specs.kc_machine_commits.declared.commit.Commit.{Commit}
+use Rattle.kc_machine_alone.specs.kc_machine_commits.declared.commit.OwnStep.{OwnStep}
+use Rattle.kc_machine_alone.specs.kc_machine_commits.declared.commit.OwnStep.TheVariants as own
+use Rattle.kc_machine_alone.specs.kc_machine_commits.declared.commit.Stage.{Stage}
+use Rattle.kc_machine_alone.specs.kc_machine_commits.declared.commit.Stage.TheVariants.{Scan, Take, Own}
+use Rattle.kc_machine_alone.specs.kc_machine_ranges.Seats.{OwnIn, StageIn, SwapIn, WorkIn}
+use Rattle.kc_machine_alone.specs.kc_machine_seats.Fits.{AidFits, OwnFits, StageFits, StepFits, WorkFits}
+use Rattle.kc_machine_alone.specs.kc_machine_seats.Formed.{IsWellFormed, OwnIsFormed, PutsAt, StageIsFormed, SwapIsFormed, WorkIsFormed}
+use Rattle.kc_machine_alone.specs.kc_machine_seats.Made.{IntentIsMade}
+use Rattle.kc_machine_alone.specs.kc_machine_steps.Aids.{after_pass, aid_access, aid_copy, aid_next, drop_or_release}
+use Rattle.kc_machine_alone.specs.kc_machine_steps.Lines.{after_line, next_line}
+use Rattle.kc_machine_alone.specs.kc_machine_steps.Looks.{halts_at_once, look_access, look_halted_at, look_next, told_by}
+use Rattle.kc_machine_alone.specs.kc_machine_steps.Passes.{decided_as, from_release, pass_access, pass_next, release_or_finish}
+use Rattle.kc_machine_alone.specs.kc_machine_steps.declared.aid.AidNext.{AidNext}
+use Rattle.kc_machine_alone.specs.kc_machine_steps.declared.aid.AidNext.TheVariants as aiding
+use Rattle.kc_machine_alone.specs.kc_machine_steps.declared.aid.AidStep.{AidStep}
+use Rattle.kc_machine_alone.specs.kc_machine_steps.declared.aid.AidStep.TheVariants as aid
+use Rattle.kc_machine_alone.specs.kc_machine_steps.declared.aid.Aided.{Aided}
 use Rattle.kc_model.specs.declared.footprint.Line.{Line}
 use Rattle.kc_model.specs.declared.footprint.TheConstants.{MOST}
-use Rattle.kc_machine_steps.specs.declared.line.Pick.TheVariants.{Installed, Put}
-use Rattle.kc_machine_steps.specs.Swaps as swaps
-use Rattle.kc_machine_steps.specs.Swaps.{ends_at_once, onward_of, swap_access, swaps_on}
-use Rattle.kc_machine_steps.specs.declared.swap.Swap.{Swap}
-use Rattle.kc_machine_steps.specs.declared.swap.SwapNext.TheVariants as swapping
-use Rattle.kc_machine_steps.specs.declared.swap.SwapStep.{SwapStep}
-use Rattle.kc_machine_steps.specs.declared.swap.SwapStep.TheVariants as swap
-use Rattle.kc_machine_steps.specs.declared.task.Told.TheVariants as told
-use Rattle.kc_machine_steps.specs.declared.look.Look.{Look}
-use Rattle.kc_machine_steps.specs.declared.look.LookNext.{LookNext}
-use Rattle.kc_machine_steps.specs.declared.look.LookStep.{LookStep}
-use Rattle.kc_machine_steps.specs.declared.look.LookStep.TheVariants as look
-use Rattle.kc_machine_steps.specs.declared.pass.AfterCheck.{AfterCheck}
-use Rattle.kc_machine_steps.specs.declared.pass.AfterCheck.TheVariants as checked
-use Rattle.kc_machine_steps.specs.declared.pass.PassNext.{PassNext}
-use Rattle.kc_machine_steps.specs.declared.pass.PassNext.TheVariants as pass
-use Rattle.kc_machine_steps.specs.declared.pass.PassStep.{PassStep}
-use Rattle.kc_machine_steps.specs.declared.pass.PassStep.TheVariants.{Check, CheckDrop, CheckFirst, CheckHold, CheckStatus, Decide, Install, Release}
-use Rattle.kc_machine_words.specs.declared.access.Found.{Found}
-use Rattle.kc_machine_words.specs.declared.words.Handle.{Handle}
-use Rattle.kc_machine_words.specs.declared.words.Mode.{Mode}
-use Rattle.kc_machine_words.specs.declared.words.Phase.{Phase}
-use Rattle.kc_machine_words.specs.declared.words.Phase.TheVariants.{Active, Crossed, Failed, Halted, Succeeded}
-use Rattle.kc_machine_words.specs.declared.words.Reference.{Reference}
+use Rattle.kc_machine_alone.specs.kc_machine_steps.declared.line.Pick.TheVariants.{Installed, Put}
+use Rattle.kc_machine_alone.specs.kc_machine_steps.Swaps as swaps
+use Rattle.kc_machine_alone.specs.kc_machine_steps.Swaps.{ends_at_once, onward_of, swap_access, swaps_on}
+use Rattle.kc_machine_alone.specs.kc_machine_steps.declared.swap.Swap.{Swap}
+use Rattle.kc_machine_alone.specs.kc_machine_steps.declared.swap.SwapNext.TheVariants as swapping
+use Rattle.kc_machine_alone.specs.kc_machine_steps.declared.swap.SwapStep.{SwapStep}
+use Rattle.kc_machine_alone.specs.kc_machine_steps.declared.swap.SwapStep.TheVariants as swap
+use Rattle.kc_machine_alone.specs.kc_machine_steps.declared.task.Told.TheVariants as told
+use Rattle.kc_machine_alone.specs.kc_machine_steps.declared.look.Look.{Look}
+use Rattle.kc_machine_alone.specs.kc_machine_steps.declared.look.LookNext.{LookNext}
+use Rattle.kc_machine_alone.specs.kc_machine_steps.declared.look.LookStep.{LookStep}
+use Rattle.kc_machine_alone.specs.kc_machine_steps.declared.look.LookStep.TheVariants as look
+use Rattle.kc_machine_alone.specs.kc_machine_steps.declared.pass.AfterCheck.{AfterCheck}
+use Rattle.kc_machine_alone.specs.kc_machine_steps.declared.pass.AfterCheck.TheVariants as checked
+use Rattle.kc_machine_alone.specs.kc_machine_steps.declared.pass.PassNext.{PassNext}
+use Rattle.kc_machine_alone.specs.kc_machine_steps.declared.pass.PassNext.TheVariants as pass
+use Rattle.kc_machine_alone.specs.kc_machine_steps.declared.pass.PassStep.{PassStep}
+use Rattle.kc_machine_alone.specs.kc_machine_steps.declared.pass.PassStep.TheVariants.{Check, CheckDrop, CheckFirst, CheckHold, CheckStatus, Decide, Install, Release}
+use Rattle.kc_machine_alone.specs.kc_machine_words.declared.access.Found.{Found}
+use Rattle.kc_machine_alone.specs.kc_machine_words.declared.words.Handle.{Handle}
+use Rattle.kc_machine_alone.specs.kc_machine_words.declared.words.Mode.{Mode}
+use Rattle.kc_machine_alone.specs.kc_machine_words.declared.words.Phase.{Phase}
+use Rattle.kc_machine_alone.specs.kc_machine_words.declared.words.Phase.TheVariants.{Active, Crossed, Failed, Halted, Succeeded}
+use Rattle.kc_machine_alone.specs.kc_machine_words.declared.words.Reference.{Reference}
 use Rattle.kc_table_seats.specs.Halts.{aid_ends, aid_left, is_halted, may_halt, own_ends, own_left, pass_ends, pass_left, stage_ends, stage_left, steps_left, swap_left, work_ends, work_left}
 
 -- ---- a halt sends what runs straight to its end

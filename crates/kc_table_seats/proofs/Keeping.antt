@@ -1,35 +1,39 @@
 -- What a seat knew it knows, and what it was told.
-use Rattle.std.proofs.Common.{◌≡◌, ◌≤◌, ◌<◌, All, ℕ, List, [], ◌∷◌, ◌++◌, Some, true, sym, ap, ◌∙◌, subst, append_assoc, arith}
-use Rattle.kc_machine_steps.specs.declared.task.Event.{Event}
-use Rattle.kc_machine_steps.specs.declared.task.Event.TheVariants.{Begin, Step}
-use Rattle.kc_machine_steps.specs.declared.task.Task.{Task}
+use Rattle.std.proofs.Common.{◌≡◌, ◌≤◌, ◌<◌, All, ℕ, List, [], ◌∷◌, ◌++◌, Some, true, false, refl, sym, ap, ◌∙◌, subst, append_assoc, arith}
+use Rattle.kc_machine_alone.specs.kc_machine_steps.declared.task.Event.{Event}
+use Rattle.kc_machine_alone.specs.kc_machine_steps.declared.task.Event.TheVariants.{Begin, Step}
+use Rattle.kc_machine_alone.specs.kc_machine_steps.declared.task.Task.{Task}
 use Rattle.std.proofs.lemmas.List.Elements.{All-cons, All-head, All-nil, All-tail}
-use Rattle.kc_machine_words.specs.declared.words.Mode.{Mode}
-use Rattle.kc_machine_words.specs.declared.words.Mode.TheVariants as mode
+use Rattle.kc_machine_alone.specs.kc_machine_words.declared.words.Mode.{Mode}
+use Rattle.kc_machine_alone.specs.kc_machine_words.declared.words.Mode.TheVariants as mode
 use Rattle.kc_model.specs.declared.footprint.Footprint.{Footprint}
 use Rattle.kc_model.specs.declared.footprint.Loc.{Loc}
 use Rattle.kc_model.specs.declared.footprint.Seen.{Seen}
-use Rattle.kc_machine_steps.specs.declared.task.Task.TheVariants as task
-use Rattle.kc_machine_steps.specs.declared.task.Told.TheVariants as told
-use Rattle.kc_machine.specs.Machine.{Opening, run}
-use Rattle.kc_machine.specs.Seats.{is_idle}
-use Rattle.kc_machine.specs.declared.seat.Seat.{Seat}
-use Rattle.kc_machine_claims.specs.Claims.{HasPut}
-use Rattle.kc_machine_claims.specs.Histories.{Grows, History, IsAmong, IsKnown, Placed, ending, here, later, none}
-use Rattle.kc_machine_claims.specs.Traces.{first_store}
-use Rattle.kc_machine_honest.proofs.Put.{puts_past}
-use Rattle.kc_machine_traces.proofs.Joins.{made_parts, honest_parts}
-use Rattle.kc_machine_traces.proofs.Others.{history_kept}
-use Rattle.kc_machine_traces.specs.Entries.{by}
-use Rattle.kc_machine_traces.specs.Outcomes.{GainsAsTold}
+use Rattle.kc_machine_alone.specs.kc_machine_steps.declared.task.Task.TheVariants as task
+use Rattle.kc_machine_alone.specs.kc_machine_steps.declared.task.Told.TheVariants as told
+use Rattle.kc_machine_alone.specs.kc_machine.Machine.{Opening, run}
+use Rattle.std.specs.Option.{is_some}
+use Rattle.kc_machine_alone.specs.kc_machine.Seats.{is_idle, own_of_work}
+use Rattle.kc_machine_alone.specs.kc_machine.Works.{Work}
+use Rattle.kc_machine_alone.specs.kc_machine.Works as work
+use Rattle.kc_machine_alone.specs.kc_machine.declared.seat.Seat.{Seat}
+use Rattle.kc_machine_alone.specs.kc_machine_claims.Claims.{HasPut}
+use Rattle.kc_machine_alone.specs.kc_machine_claims.Histories.{Grows, History, IsAmong, IsKnown, Placed, ending, here, later, none}
+use Rattle.kc_machine_alone.specs.kc_machine_claims.Traces.{first_store}
+use Rattle.kc_table_moves.proofs.kc_machine_honest.Put.{puts_past}
+use Rattle.kc_machine_alone.proofs.kc_machine_traces.Joins.{made_parts, honest_parts}
+use Rattle.kc_machine_alone.proofs.kc_machine_traces.Others.{history_kept}
+use Rattle.kc_machine_alone.specs.kc_machine_traces.Entries.{by}
+use Rattle.kc_machine_alone.specs.kc_machine_traces.Outcomes.{GainsAsTold}
 use Rattle.kc_table_seats.specs.Tasks.{Does, Keeps, Saw}
 use Rattle.kc_table_moves.specs.Origins.{opening_of}
 use Rattle.kc_table_moves.specs.Views.{SeatView, Learns, Stepped, knows, opening_at_seat}
-use Rattle.kc_table_views.proofs.Knowing.{grows_on, known_on, versions_on, gains_none}
-use Rattle.kc_table_views.proofs.Pendings.{waits_no_step}
-use Rattle.kc_table_views.proofs.Taught.{failure_taught, look_taught, own_as_told, success_taught, swap_failure_taught, swap_success_taught}
-use Rattle.kc_table_views.specs.Known.{IsMeant, known}
-use Rattle.kc_table_views.specs.Tasks.{FailureTaught, SuccessTaught, put_of, ran}
+use Rattle.kc_table_seats.specs.Halts.{may_halt}
+use Rattle.kc_table_moves.proofs.kc_table_views.Knowing.{grows_on, known_on, versions_on, gains_none}
+use Rattle.kc_table_moves.proofs.kc_table_views.Pendings.{waits_no_step}
+use Rattle.kc_table_moves.proofs.kc_table_views.Taught.{failure_taught, look_taught, own_as_told, success_taught, swap_failure_taught, swap_success_taught}
+use Rattle.kc_table_moves.specs.kc_table_views.Known.{IsMeant, known}
+use Rattle.kc_table_moves.specs.kc_table_views.Tasks.{FailureTaught, SuccessTaught, put_of, ran}
 
 -- a seat whose schedule goes on
 goes_on : (v w : SeatView) (more : List Event) → w.of ≡ v.of → w.number ≡ v.number → w.past ≡ v.past ++ more → IsMeant (opening_at_seat v) w.past → Keeps v w
@@ -55,6 +59,18 @@ steps_keep v w s =
 
 pub loads_keep : (v w : SeatView) → Learns v w → Keeps v w
 loads_keep v w l = goes_on v w l.on.0 l.of l.number l.on.1 l.meant
+
+calm_owns_none : (x : Work) → may_halt x ≡ false → is_some (own_of_work x) ≡ false
+calm_owns_none work.Idle e = refl
+calm_owns_none (work.Look l) e = absurd (cc)
+calm_owns_none (work.Commit c) e = absurd (cc)
+calm_owns_none (work.Hang h) e = refl
+calm_owns_none (work.Leave l) e = refl
+calm_owns_none (work.Swap l) e = absurd (cc)
+
+-- a seat that hangs, leaves or runs no task learns no own entry
+pub own_stays : (v w : SeatView) → Learns v w → may_halt v.seat.work ≡ false → by w.number (knows w) ≡ by v.number (knows v)
+own_stays v w l calm = ap (λ n. by n (knows w)) l.number ∙ l.own (calm_owns_none v.seat.work calm)
 
 -- ---- tasks
 

@@ -1,8 +1,9 @@
 -- A task that was begun and run in one call.
-use Rattle.std.proofs.Common.{◌≡◌, false, refl, ◌∙◌}
-use Rattle.kc_machine.specs.Schedules.{IsWellMadeTask}
-use Rattle.kc_machine_steps.specs.declared.task.Task.{Task}
-use Rattle.kc_table_moves.specs.Views.{SeatView, Starts, Stepped, StepsTo, here, further, Ran, begun_at}
+use Rattle.std.proofs.Common.{◌≡◌, ◌≤◌, ◌+◌, ◌*◌, false, refl, ◌∙◌, arith}
+use Rattle.kc_machine_alone.specs.kc_machine.Schedules.{IsWellMadeTask}
+use Rattle.kc_machine_alone.specs.kc_machine_steps.declared.task.Task.{Task}
+use Rattle.kc_table_moves.specs.Views.{SeatView, Starts, Stepped, StepsTo, count, here, further, Ran, begun_at}
+use Rattle.kc_table_moves.specs.declared.view.TheConstants.{MOST_LOADS}
 use Rattle.kc_table_seats.proofs.Following.{does_first, does_further}
 use Rattle.kc_table_seats.specs.Tasks.{Does}
 
@@ -23,3 +24,8 @@ steps_same v w (further x y d busy s) = let h = steps_same v x d in (s.of ∙ h.
 
 pub ran_same : (v w : SeatView) (t : Task) → Ran v t w → (w.of ≡ v.of) × (w.number ≡ v.number)
 ran_same v w t r = steps_same (begun_at v t) w r.steps
+
+-- each of so many steps comes behind few loads that are none
+pub few_loads : (v w : SeatView) (d : StepsTo v w) → w.loads ≤ v.loads + MOST_LOADS * count v w d
+few_loads v _ here = omega arith
+few_loads v _ (further u w d busy s) = let h = few_loads v u d in let one = s.loads in omega arith

@@ -1,28 +1,28 @@
 -- Where a seat stands as it steps, and what that says of halted tasks.
 use Rattle.std.proofs.Common.{◌≡◌, ◌≢◌, inl, inr, ⊎_elim, ◌∙◌, ◌++◌, ℕ, Bool, true, false, List, [], ◌∷◌, None, Some, refl, sym, ap, subst, if◌then◌else◌}
-use Rattle.kc_machine.specs.Machine.{Opening, event_of, found_at, run}
-use Rattle.kc_machine.specs.Seats.{access_of, answer_of, begun, begun_idle, hanging, is_idle, working}
-use Rattle.kc_machine.specs.Works.{Work}
-use Rattle.kc_machine.specs.declared.seat.Seat.{Seat}
-use Rattle.kc_machine_answers.proofs.Halts.{Stopped, event_stops, seat_on}
-use Rattle.kc_machine_ranges.proofs.Runs.{seats_in}
-use Rattle.kc_machine_seats.proofs.FitSeats.{fit_always}
-use Rattle.kc_machine_seats.proofs.FormedSteps.{formed_always}
-use Rattle.kc_machine_seats.proofs.MadeSteps.{intents_made}
-use Rattle.kc_machine_steps.specs.declared.task.Event.{Event}
-use Rattle.kc_machine_steps.specs.declared.task.Event.TheVariants.{Halt, Step}
-use Rattle.kc_machine_steps.specs.declared.task.Task.{Task}
-use Rattle.kc_machine_steps.specs.declared.task.Task.TheVariants as task
-use Rattle.kc_machine_steps.specs.declared.task.Told.TheVariants as told
-use Rattle.kc_machine_traces.proofs.Answers.{answers_when_done}
-use Rattle.kc_machine_traces.proofs.Joins.{honest_parts, made_parts}
-use Rattle.kc_machine_traces.proofs.Others.{others_leave}
+use Rattle.kc_machine_alone.specs.kc_machine.Machine.{Opening, event_of, found_at, run}
+use Rattle.kc_machine_alone.specs.kc_machine.Seats.{access_of, answer_of, begun, begun_idle, hanging, is_idle, working}
+use Rattle.kc_machine_alone.specs.kc_machine.Works.{Work}
+use Rattle.kc_machine_alone.specs.kc_machine.declared.seat.Seat.{Seat}
+use Rattle.kc_machine_alone.proofs.kc_machine_answers.Halts.{Stopped, event_stops, seat_on}
+use Rattle.kc_machine_alone.proofs.kc_machine_ranges.Runs.{seats_in}
+use Rattle.kc_machine_alone.proofs.kc_machine_seats.FitSeats.{fit_always}
+use Rattle.kc_machine_alone.proofs.kc_machine_seats.FormedSteps.{formed_always}
+use Rattle.kc_machine_alone.proofs.kc_machine_seats.MadeSteps.{intents_made}
+use Rattle.kc_machine_alone.specs.kc_machine_steps.declared.task.Event.{Event}
+use Rattle.kc_machine_alone.specs.kc_machine_steps.declared.task.Event.TheVariants.{Halt, Step}
+use Rattle.kc_machine_alone.specs.kc_machine_steps.declared.task.Task.{Task}
+use Rattle.kc_machine_alone.specs.kc_machine_steps.declared.task.Task.TheVariants as task
+use Rattle.kc_machine_alone.specs.kc_machine_steps.declared.task.Told.TheVariants as told
+use Rattle.kc_machine_alone.proofs.kc_machine_traces.Answers.{answers_when_done}
+use Rattle.kc_machine_alone.proofs.kc_machine_traces.Joins.{honest_parts, made_parts}
+use Rattle.kc_machine_alone.proofs.kc_machine_traces.Others.{others_leave}
 use Rattle.kc_table_moves.specs.Views.{SeatView, Starts, Stepped, opening_at_seat, Ran, StepsTo, begun_at, further, here}
 use Rattle.kc_table_seats.proofs.Halting.{Ends, Stands, seat_ends}
 use Rattle.kc_table_seats.specs.Halts.{is_halted, steps_left, was_halted}
-use Rattle.kc_table_views.proofs.Pendings.{waits_seat}
-use Rattle.kc_table_views.specs.Known.{IsMeant}
-use Rattle.kc_table_views.specs.Pending.{applied}
+use Rattle.kc_table_moves.proofs.kc_table_views.Pendings.{waits_seat}
+use Rattle.kc_table_moves.specs.kc_table_views.Known.{IsMeant}
+use Rattle.kc_table_moves.specs.kc_table_views.Pending.{applied}
 
 -- ---- before its step, behind what pends
 

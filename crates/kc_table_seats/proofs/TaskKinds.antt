@@ -1,28 +1,28 @@
 -- What a seat does while its task runs is of the task's kind.
 use Rattle.std.proofs.Common.{arith, ◌≡◌, ◌<◌, ◌⊎◌, inl, inr, ⊎_elim, ◌∙◌, ◌++◌, ◌==◌, ℕ, Bool, true, false, List, [], ◌∷◌, refl, sym, ap, subst, if◌then◌else◌}
 use borrow.Author.Tests.{eqb-false, eqb-true}
-use Rattle.kc_machine.proofs.Functions.{put_here}
-use Rattle.kc_machine.specs.Hangs.{hang_after, hang_onward, leave_after, leave_onward}
-use Rattle.kc_machine.specs.Machine.{State, event_of, found_at, run, run_from, seat_of}
-use Rattle.kc_machine.specs.Seats.{access_of, after, answer_by, answer_of, begun, begun_idle, ended, halted, halted_by, hanging, is_idle, working}
-use Rattle.kc_machine.specs.Works.{Work}
-use Rattle.kc_machine.specs.Works as work
-use Rattle.kc_machine.specs.declared.seat.Seat.{Seat}
-use Rattle.kc_machine_commits.specs.Commits.{commit_after, commit_onward}
-use Rattle.kc_machine_commits.specs.Halts.{commit_halted, unowned}
-use Rattle.kc_machine_steps.specs.Looks.{halts_at_once, look_after, look_halted, look_tells}
-use Rattle.kc_machine_steps.specs.Swaps.{ends_at_once, swap_after, swap_onward}
-use Rattle.kc_machine_steps.specs.declared.task.Event.{Event}
-use Rattle.kc_machine_steps.specs.declared.task.Event.TheVariants.{Begin, Halt, Step}
-use Rattle.kc_machine_steps.specs.declared.task.Onward.{Onward}
-use Rattle.kc_machine_steps.specs.declared.task.Onward.TheVariants as onward
-use Rattle.kc_machine_steps.specs.declared.task.Task.{Task}
-use Rattle.kc_machine_steps.specs.declared.task.Task.TheVariants as task
-use Rattle.kc_machine_traces.proofs.Answers.{seat_cases}
-use Rattle.kc_machine_traces.proofs.Joins.{run-append}
-use Rattle.kc_machine_traces.proofs.Others.{event_else, event_in, run_shape}
-use Rattle.kc_machine_traces.specs.Moments.{BeginsNothing}
-use Rattle.kc_machine_words.specs.declared.access.Found.{Found}
+use Rattle.kc_machine_alone.proofs.kc_machine.Functions.{put_here}
+use Rattle.kc_machine_alone.specs.kc_machine.Hangs.{hang_after, hang_onward, leave_after, leave_onward}
+use Rattle.kc_machine_alone.specs.kc_machine.Machine.{State, event_of, found_at, run, run_from, seat_of}
+use Rattle.kc_machine_alone.specs.kc_machine.Seats.{access_of, after, answer_by, answer_of, begun, begun_idle, ended, halted, halted_by, hanging, is_idle, working}
+use Rattle.kc_machine_alone.specs.kc_machine.Works.{Work}
+use Rattle.kc_machine_alone.specs.kc_machine.Works as work
+use Rattle.kc_machine_alone.specs.kc_machine.declared.seat.Seat.{Seat}
+use Rattle.kc_machine_alone.specs.kc_machine_commits.Commits.{commit_after, commit_onward}
+use Rattle.kc_machine_alone.specs.kc_machine_commits.Halts.{commit_halted, unowned}
+use Rattle.kc_machine_alone.specs.kc_machine_steps.Looks.{halts_at_once, look_after, look_halted, look_tells}
+use Rattle.kc_machine_alone.specs.kc_machine_steps.Swaps.{ends_at_once, swap_after, swap_onward}
+use Rattle.kc_machine_alone.specs.kc_machine_steps.declared.task.Event.{Event}
+use Rattle.kc_machine_alone.specs.kc_machine_steps.declared.task.Event.TheVariants.{Begin, Halt, Step}
+use Rattle.kc_machine_alone.specs.kc_machine_steps.declared.task.Onward.{Onward}
+use Rattle.kc_machine_alone.specs.kc_machine_steps.declared.task.Onward.TheVariants as onward
+use Rattle.kc_machine_alone.specs.kc_machine_steps.declared.task.Task.{Task}
+use Rattle.kc_machine_alone.specs.kc_machine_steps.declared.task.Task.TheVariants as task
+use Rattle.kc_machine_alone.proofs.kc_machine_traces.Answers.{seat_cases}
+use Rattle.kc_machine_alone.proofs.kc_machine_traces.Joins.{run-append}
+use Rattle.kc_machine_alone.proofs.kc_machine_traces.Others.{event_else, event_in, run_shape}
+use Rattle.kc_machine_alone.specs.kc_machine_traces.Moments.{BeginsNothing}
+use Rattle.kc_machine_alone.specs.kc_machine_words.declared.access.Found.{Found}
 use Rattle.kc_table_moves.specs.Views.{SeatView, opening_at_seat}
 use Rattle.kc_table_seats.specs.Halts.{may_halt, task_may_halt}
 use Rattle.kc_table_seats.specs.Tasks.{Does}

@@ -2,39 +2,39 @@
 use Rattle.std.proofs.Common.{arith, ◌≡◌, ◌<◌, ◌≤◌, inl, inr, ◌∙◌, ◌+◌, ◌-◌, ◌++◌, ◌==◌, ◌&&◌, ℕ, Bool, true, false, List, [], ◌∷◌, Option, None, Some, refl, sym, ap, subst, if◌then◌else◌, append_assoc, append-nil}
 use Rattle.std.specs.Prelude.{nat_lt}
 use borrow.Author.Tests.{eqb-false, eqb-true, ltb-true}
-use Rattle.kc_machine.proofs.Functions.{both, put_cases, put_here}
-use Rattle.kc_machine.specs.Machine.{Opening, State, World, event_of, found_at, happened, pool_size, possible, put, put_some, run, run_from, seat_of, touched}
-use Rattle.kc_machine.specs.Seats.{access_of, after, answer_by, answer_of, begun, begun_idle, ended, halted, halted_by, is_idle, work_access}
-use Rattle.kc_machine.specs.Words.{control, gripped}
-use Rattle.kc_machine.specs.Works.{Work}
-use Rattle.kc_machine.specs.Works as work
-use Rattle.kc_machine.specs.declared.seat.Seat.{Seat}
-use Rattle.kc_machine.specs.declared.words.TheConstants.{MOST_HOLDS}
-use Rattle.kc_machine_commits.specs.Commits.{after_scan, commit_access, gone_on, loaded, onward_by, stage_access, stage_next}
-use Rattle.kc_machine_commits.specs.Halts.{halted_at, unowned}
-use Rattle.kc_machine_commits.specs.Nexts.{Next}
-use Rattle.kc_machine_commits.specs.Nexts as next
-use Rattle.kc_machine_commits.specs.declared.commit.Commit.{Commit}
-use Rattle.kc_machine_commits.specs.declared.commit.Stage.{Stage}
-use Rattle.kc_machine_commits.specs.declared.commit.Stage.TheVariants.{Own, Scan, Take}
-use Rattle.kc_machine_effects.specs.Claims.{IsWorn}
-use Rattle.kc_machine_seats.proofs.SeatedSteps.{searches_in_range}
-use Rattle.kc_machine_seats.specs.Seated.{StageSearches, WorkSearches}
-use Rattle.kc_machine_steps.specs.declared.task.Event.{Event}
-use Rattle.kc_machine_steps.specs.declared.task.Event.TheVariants.{Begin, Halt, Step}
-use Rattle.kc_machine_steps.specs.declared.task.Task.TheVariants as task
-use Rattle.kc_machine_steps.specs.declared.task.Told.TheVariants as told
-use Rattle.kc_machine_traces.proofs.Answers.{seat_cases}
-use Rattle.kc_machine_traces.proofs.Joins.{run-append}
-use Rattle.kc_machine_traces.proofs.Others.{event_else, event_in, run_shape}
-use Rattle.kc_machine_traces.specs.Moments.{BeginsNothing}
-use Rattle.kc_machine_words.specs.declared.access.Access.{Access}
-use Rattle.kc_machine_words.specs.declared.access.Access.TheVariants as access
-use Rattle.kc_machine_words.specs.declared.access.Grip.{Grip}
-use Rattle.kc_machine_words.specs.declared.access.Grip.TheVariants as grip
-use Rattle.kc_machine_words.specs.declared.words.Control.{Control}
-use Rattle.kc_machine_words.specs.declared.words.Mode.{Mode}
-use Rattle.kc_machine_words.specs.declared.words.TheConstants.{LAST_GENERATION}
+use Rattle.kc_machine_alone.proofs.kc_machine.Functions.{both, put_cases, put_here}
+use Rattle.kc_machine_alone.specs.kc_machine.Machine.{Opening, State, World, event_of, found_at, happened, pool_size, possible, put, put_some, run, run_from, seat_of, touched}
+use Rattle.kc_machine_alone.specs.kc_machine.Seats.{access_of, after, answer_by, answer_of, begun, begun_idle, ended, halted, halted_by, is_idle, work_access}
+use Rattle.kc_machine_alone.specs.kc_machine.Words.{control, gripped}
+use Rattle.kc_machine_alone.specs.kc_machine.Works.{Work}
+use Rattle.kc_machine_alone.specs.kc_machine.Works as work
+use Rattle.kc_machine_alone.specs.kc_machine.declared.seat.Seat.{Seat}
+use Rattle.kc_machine_alone.specs.kc_machine.declared.words.TheConstants.{MOST_HOLDS}
+use Rattle.kc_machine_alone.specs.kc_machine_commits.Commits.{after_scan, commit_access, gone_on, loaded, onward_by, stage_access, stage_next}
+use Rattle.kc_machine_alone.specs.kc_machine_commits.Halts.{halted_at, unowned}
+use Rattle.kc_machine_alone.specs.kc_machine_commits.Nexts.{Next}
+use Rattle.kc_machine_alone.specs.kc_machine_commits.Nexts as next
+use Rattle.kc_machine_alone.specs.kc_machine_commits.declared.commit.Commit.{Commit}
+use Rattle.kc_machine_alone.specs.kc_machine_commits.declared.commit.Stage.{Stage}
+use Rattle.kc_machine_alone.specs.kc_machine_commits.declared.commit.Stage.TheVariants.{Own, Scan, Take}
+use Rattle.kc_machine_alone.specs.kc_machine_effects.Claims.{IsWorn}
+use Rattle.kc_machine_alone.proofs.kc_machine_seats.SeatedSteps.{searches_in_range}
+use Rattle.kc_machine_alone.specs.kc_machine_seats.Seated.{StageSearches, WorkSearches}
+use Rattle.kc_machine_alone.specs.kc_machine_steps.declared.task.Event.{Event}
+use Rattle.kc_machine_alone.specs.kc_machine_steps.declared.task.Event.TheVariants.{Begin, Halt, Step}
+use Rattle.kc_machine_alone.specs.kc_machine_steps.declared.task.Task.TheVariants as task
+use Rattle.kc_machine_alone.specs.kc_machine_steps.declared.task.Told.TheVariants as told
+use Rattle.kc_machine_alone.proofs.kc_machine_traces.Answers.{seat_cases}
+use Rattle.kc_machine_alone.proofs.kc_machine_traces.Joins.{run-append}
+use Rattle.kc_machine_alone.proofs.kc_machine_traces.Others.{event_else, event_in, run_shape}
+use Rattle.kc_machine_alone.specs.kc_machine_traces.Moments.{BeginsNothing}
+use Rattle.kc_machine_alone.specs.kc_machine_words.declared.access.Access.{Access}
+use Rattle.kc_machine_alone.specs.kc_machine_words.declared.access.Access.TheVariants as access
+use Rattle.kc_machine_alone.specs.kc_machine_words.declared.access.Grip.{Grip}
+use Rattle.kc_machine_alone.specs.kc_machine_words.declared.access.Grip.TheVariants as grip
+use Rattle.kc_machine_alone.specs.kc_machine_words.declared.words.Control.{Control}
+use Rattle.kc_machine_alone.specs.kc_machine_words.declared.words.Mode.{Mode}
+use Rattle.kc_machine_alone.specs.kc_machine_words.declared.words.TheConstants.{LAST_GENERATION}
 use Rattle.kc_model.specs.declared.footprint.Footprint.{Footprint}
 use Rattle.kc_table_moves.specs.Views.{SeatView, opening_at_seat}
 use Rattle.kc_table_seats.specs.Tasks.{Does}

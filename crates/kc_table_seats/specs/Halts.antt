@@ -1,25 +1,25 @@
 -- Tasks that were halted, and how they come to their end.
 use Rattle.std.specs.Prelude.{ℕ, ◌+◌, ◌*◌, ◌-◌, ◌&&◌, Bool, true, false, not}
 use Rattle.std.specs.Int.Count.{count_trailing_zeros}
-use Rattle.kc_machine.specs.Works.{Work}
-use Rattle.kc_machine.specs.Works as work
-use Rattle.kc_machine.specs.declared.seat.Seat.{Seat}
-use Rattle.kc_machine_answers.specs.Causes.{is_marked}
-use Rattle.kc_machine_commits.specs.declared.commit.OwnStep.{OwnStep}
-use Rattle.kc_machine_commits.specs.declared.commit.OwnStep.TheVariants as own
-use Rattle.kc_machine_commits.specs.declared.commit.Stage.{Stage}
-use Rattle.kc_machine_commits.specs.declared.commit.Stage.TheVariants.{Own}
-use Rattle.kc_machine_steps.specs.declared.aid.AidStep.{AidStep}
-use Rattle.kc_machine_steps.specs.declared.aid.AidStep.TheVariants as aid
-use Rattle.kc_machine_steps.specs.declared.pass.AfterCheck.{AfterCheck}
-use Rattle.kc_machine_steps.specs.declared.pass.AfterCheck.TheVariants as checked
-use Rattle.kc_machine_steps.specs.declared.pass.PassStep.{PassStep}
-use Rattle.kc_machine_steps.specs.declared.pass.PassStep.TheVariants.{CheckDrop, Decide, Release}
-use Rattle.kc_machine_steps.specs.Swaps.{ends_at_once}
-use Rattle.kc_machine_steps.specs.declared.swap.SwapStep.{SwapStep}
-use Rattle.kc_machine_steps.specs.declared.swap.SwapStep.TheVariants as swap
-use Rattle.kc_machine_steps.specs.declared.task.Task.{Task}
-use Rattle.kc_machine_steps.specs.declared.task.Task.TheVariants as task
+use Rattle.kc_machine_alone.specs.kc_machine.Works.{Work}
+use Rattle.kc_machine_alone.specs.kc_machine.Works as work
+use Rattle.kc_machine_alone.specs.kc_machine.declared.seat.Seat.{Seat}
+use Rattle.kc_machine_alone.specs.kc_machine_answers.Causes.{is_marked}
+use Rattle.kc_machine_alone.specs.kc_machine_commits.declared.commit.OwnStep.{OwnStep}
+use Rattle.kc_machine_alone.specs.kc_machine_commits.declared.commit.OwnStep.TheVariants as own
+use Rattle.kc_machine_alone.specs.kc_machine_commits.declared.commit.Stage.{Stage}
+use Rattle.kc_machine_alone.specs.kc_machine_commits.declared.commit.Stage.TheVariants.{Own}
+use Rattle.kc_machine_alone.specs.kc_machine_steps.declared.aid.AidStep.{AidStep}
+use Rattle.kc_machine_alone.specs.kc_machine_steps.declared.aid.AidStep.TheVariants as aid
+use Rattle.kc_machine_alone.specs.kc_machine_steps.declared.pass.AfterCheck.{AfterCheck}
+use Rattle.kc_machine_alone.specs.kc_machine_steps.declared.pass.AfterCheck.TheVariants as checked
+use Rattle.kc_machine_alone.specs.kc_machine_steps.declared.pass.PassStep.{PassStep}
+use Rattle.kc_machine_alone.specs.kc_machine_steps.declared.pass.PassStep.TheVariants.{CheckDrop, Decide, Release}
+use Rattle.kc_machine_alone.specs.kc_machine_steps.Swaps.{ends_at_once}
+use Rattle.kc_machine_alone.specs.kc_machine_steps.declared.swap.SwapStep.{SwapStep}
+use Rattle.kc_machine_alone.specs.kc_machine_steps.declared.swap.SwapStep.TheVariants as swap
+use Rattle.kc_machine_alone.specs.kc_machine_steps.declared.task.Task.{Task}
+use Rattle.kc_machine_alone.specs.kc_machine_steps.declared.task.Task.TheVariants as task
 use Rattle.kc_model.specs.declared.footprint.TheConstants.{MOST}
 
 -- ---- the mark

@@ -1,18 +1,18 @@
 -- A task of a seat, from its beginning on, and what the seat knows by its steps.
 use Rattle.std.specs.Prelude.{◌≡◌, ◌<◌, ◌≤◌, ◌++◌, ℕ, List}
-use Rattle.kc_machine.specs.Machine.{run}
-use Rattle.kc_machine_claims.specs.Histories.{Grows, IsKnown, ending}
-use Rattle.kc_machine_claims.specs.Traces.{first_store}
-use Rattle.kc_machine_steps.specs.declared.task.Event.{Event}
-use Rattle.kc_machine_steps.specs.declared.task.Task.{Task}
-use Rattle.kc_machine_traces.specs.Moments.{BeginsNothing}
-use Rattle.kc_machine_traces.specs.Parts.{NoneOf}
+use Rattle.kc_machine_alone.specs.kc_machine.Machine.{run}
+use Rattle.kc_machine_alone.specs.kc_machine_claims.Histories.{Grows, IsKnown, ending}
+use Rattle.kc_machine_alone.specs.kc_machine_claims.Traces.{first_store}
+use Rattle.kc_machine_alone.specs.kc_machine_steps.declared.task.Event.{Event}
+use Rattle.kc_machine_alone.specs.kc_machine_steps.declared.task.Task.{Task}
+use Rattle.kc_machine_alone.specs.kc_machine_traces.Moments.{BeginsNothing}
+use Rattle.kc_machine_alone.specs.kc_machine_traces.Parts.{NoneOf}
 use Rattle.kc_model.specs.declared.footprint.Loc.{Loc}
 use Rattle.kc_model.specs.declared.footprint.Seen.{Seen}
 use Rattle.kc_table_moves.specs.Views.{SeatView, knows, opening_at_seat}
-use Rattle.kc_table_views.specs.Known.{OwnsNone}
-use Rattle.kc_table_views.specs.Pending.{AllWait}
-use Rattle.kc_table_views.specs.Tasks.{Runs, ran}
+use Rattle.kc_table_moves.specs.kc_table_views.Known.{OwnsNone}
+use Rattle.kc_table_moves.specs.kc_table_views.Pending.{AllWait}
+use Rattle.kc_table_moves.specs.kc_table_views.Tasks.{Runs, ran}
 
 -- since v, when it owned nothing, the seat has begun this task and no other, and has made a step of it. Between stand events of others and own halts
 pub record Does (v : SeatView) (t : Task) (w : SeatView) : Type 0 where

@@ -1,12 +1,12 @@
 -- What a seat was told, and what that says of the schedule that it knows.
 use Rattle.std.specs.Prelude.{◌≡◌, ◌⊎◌, ◌<◌, ℕ, List, All, Option, None, Some}
-use Rattle.kc_machine.specs.Machine.{Opening, pool_size, run}
-use Rattle.kc_machine_claims.specs.Claims.{IsAwake, IsCovered}
-use Rattle.kc_machine_claims.specs.Traces.{Moment, Shadow, trace}
-use Rattle.kc_machine_effects.specs.Claims.{IsWorn}
-use Rattle.kc_machine_steps.specs.declared.task.Event.{Event}
-use Rattle.kc_machine_steps.specs.declared.task.Told.{Told}
-use Rattle.kc_machine_steps.specs.declared.task.Told.TheVariants as told
+use Rattle.kc_machine_alone.specs.kc_machine.Machine.{Opening, pool_size, run}
+use Rattle.kc_machine_alone.specs.kc_machine_claims.Claims.{IsAwake, IsCovered}
+use Rattle.kc_machine_alone.specs.kc_machine_claims.Traces.{Moment, Shadow, trace}
+use Rattle.kc_machine_alone.specs.kc_machine_effects.Claims.{IsWorn}
+use Rattle.kc_machine_alone.specs.kc_machine_steps.declared.task.Event.{Event}
+use Rattle.kc_machine_alone.specs.kc_machine_steps.declared.task.Told.{Told}
+use Rattle.kc_machine_alone.specs.kc_machine_steps.declared.task.Told.TheVariants as told
 use Rattle.kc_model.specs.declared.footprint.Seen.{Seen}
 use Rattle.kc_table_moves.specs.Views.{SeatView, opening_at_seat}
 

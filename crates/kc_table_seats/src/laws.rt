@@ -5,27 +5,28 @@ ghost use Rattle.kc_model.specs.declared.footprint.Footprint.{Footprint};
 ghost use Rattle.kc_model.specs.declared.footprint.Loc.{Loc};
 ghost use Rattle.kc_model.specs.declared.footprint.Seen.{Seen};
 ghost use Rattle.kc_model.specs.declared.footprint.TheConstants.{MOST};
-ghost use Rattle.kc_machine_words.specs.declared.words.Mode.{Mode};
-ghost use Rattle.kc_machine_words.specs.declared.words.Mode.TheVariants.{Light};
-ghost use Rattle.kc_machine_words.specs.declared.words.Mode.TheVariants as mode;
-ghost use Rattle.kc_machine_steps.specs.Lines.{lines_of};
-ghost use Rattle.kc_machine_steps.specs.declared.task.Task.{Task};
-ghost use Rattle.kc_machine_steps.specs.declared.task.Task.TheVariants as task;
-ghost use Rattle.kc_machine_steps.specs.declared.task.Told.TheVariants as told;
-ghost use Rattle.kc_machine.specs.declared.seat.Seat.{Seat};
-ghost use Rattle.kc_machine.specs.Schedules.{IsWellMadeTask};
-ghost use Rattle.kc_machine.specs.Seats.{begun, halted, is_idle};
-ghost use Rattle.kc_machine.specs.Machine.{run};
-ghost use Rattle.kc_machine_answers.specs.Crosses.{CrossedSince};
-ghost use Rattle.kc_machine_claims.specs.Claims.{HasPut, VersionStoodSince, has_bit};
+ghost use Rattle.kc_machine_alone.specs.kc_machine_words.declared.words.Mode.{Mode};
+ghost use Rattle.kc_machine_alone.specs.kc_machine_words.declared.words.Mode.TheVariants.{Light};
+ghost use Rattle.kc_machine_alone.specs.kc_machine_words.declared.words.Mode.TheVariants as mode;
+ghost use Rattle.kc_machine_alone.specs.kc_machine_steps.Lines.{lines_of};
+ghost use Rattle.kc_machine_alone.specs.kc_machine_steps.declared.task.Task.{Task};
+ghost use Rattle.kc_machine_alone.specs.kc_machine_steps.declared.task.Task.TheVariants as task;
+ghost use Rattle.kc_machine_alone.specs.kc_machine_steps.declared.task.Told.TheVariants as told;
+ghost use Rattle.kc_machine_alone.specs.kc_machine.declared.seat.Seat.{Seat};
+ghost use Rattle.kc_machine_alone.specs.kc_machine.Schedules.{IsWellMadeTask};
+ghost use Rattle.kc_machine_alone.specs.kc_machine.Seats.{begun, halted, is_idle};
+ghost use Rattle.kc_machine_alone.specs.kc_machine.Machine.{run};
+ghost use Rattle.kc_machine_alone.specs.kc_machine_answers.Crosses.{CrossedSince};
+ghost use Rattle.kc_machine_alone.specs.kc_machine_claims.Claims.{HasPut, VersionStoodSince, has_bit};
 ghost use Rattle.kc_machine_waiting.specs.Causes.{ReadMoved};
-ghost use Rattle.kc_machine_claims.specs.Histories.{ending};
-ghost use Rattle.kc_machine_claims.specs.Traces.{first_store};
-ghost use Rattle.kc_machine_traces.specs.Entries.{by};
-ghost use Rattle.kc_machine_traces.specs.Outcomes.{GainsAsTold};
-ghost use Rattle.kc_table_views.specs.Tasks.{FailureTaught, SuccessTaught, put_of};
+ghost use Rattle.kc_machine_alone.specs.kc_machine_claims.Histories.{ending};
+ghost use Rattle.kc_machine_alone.specs.kc_machine_claims.Traces.{first_store};
+ghost use Rattle.kc_machine_alone.specs.kc_machine_traces.Entries.{by};
+ghost use Rattle.kc_machine_alone.specs.kc_machine_traces.Outcomes.{GainsAsTold};
+ghost use Rattle.kc_table_moves.specs.kc_table_views.Tasks.{FailureTaught, SuccessTaught, put_of};
 ghost use Rattle.kc_table_seats.specs.Tasks.{Does, Keeps, Saw};
-ghost use Rattle.kc_table_moves.specs.Views.{Learns, Ran, SeatView, Starts, Stepped, StepsTo, knows, opening_at_seat};
+ghost use Rattle.kc_table_moves.specs.Views.{Learns, Ran, SeatView, Starts, Stepped, StepsTo, count, knows, opening_at_seat};
+ghost use Rattle.kc_table_moves.specs.declared.view.TheConstants.{MOST_LOADS};
 ghost use Rattle.kc_table_seats.specs.Halts.{is_halted, may_halt, steps_left, task_may_halt, was_halted};
 ghost use Rattle.kc_table_seats.specs.Told.{Hears, IsUndecided, IsWornOut, listening, shadow};
 
@@ -43,6 +44,16 @@ pub fn tasks_are_followed()
 pub fn knowledge_is_kept()
     ensures steps { (v w : SeatView) → Stepped v w → Keeps v w }
     ensures loads { (v w : SeatView) → Learns v w → Keeps v w }
+{}
+
+/// By a join or a load of its signal a seat that hangs, leaves or runs no task comes to know no further entry of its own.
+pub fn learning_gains_no_own_entry()
+    ensures { (v w : SeatView) → Learns v w → may_halt v.seat.work ≡ false → by w.number (knows w) ≡ by v.number (knows v) }
+{}
+
+/// Before each step a seat makes `MOST_LOADS` loads at most that are no step.
+pub fn loads_are_few()
+    ensures { (v w : SeatView) (d : StepsTo v w) → w.loads ≤ v.loads + MOST_LOADS * count v w d }
 {}
 
 /// A look that was told what it saw knows it.

@@ -2,22 +2,22 @@
 use Rattle.std.proofs.Common.{Bool, List, [], ap, arith, false, refl, subst, suc, sym, true, ℕ, ◌++◌, ◌<◌, ◌==◌, ◌∙◌, ◌∷◌, ◌≡◌, ◌≢◌}
 use Rattle.std.specs.Prelude.{nat_lt}
 use borrow.Author.Tests.{eqb-false, eqb-true, ltb-true}
-use Rattle.kc_machine.specs.Machine.{Opening, State, event_of, run, run_from, seat_of}
-use Rattle.kc_machine.specs.Seats.{begun}
-use Rattle.kc_machine_claims.specs.Claims.{alone, steps}
-use Rattle.kc_machine_steps.specs.declared.task.Event.{Event}
-use Rattle.kc_machine_steps.specs.declared.task.Event.TheVariants.{Step}
-use Rattle.kc_machine_steps.specs.declared.task.Task.{Task}
-use Rattle.kc_machine_traces.proofs.Joins.{run-append}
-use Rattle.kc_machine_traces.proofs.Others.{event_out, others_leave, run_shape, words_kept}
-use Rattle.kc_machine_traces.specs.Parts.{NoneOf}
-use Rattle.kc_table_moves.specs.Origins.{opening_of}
-use Rattle.kc_table_moves.specs.Views.{SeatView, Stepped, TableView, opening_at_seat, Ran, StepsTo, begun_at, further, here}
+use Rattle.kc_table_seats.specs.kc_machine.Machine.{Opening, State, event_of, run, run_from, seat_of}
+use Rattle.kc_table_seats.specs.kc_machine.Seats.{begun}
+use Rattle.kc_table_seats.specs.kc_machine_claims.Claims.{alone, steps}
+use Rattle.kc_table_seats.specs.kc_machine_steps.declared.task.Event.{Event}
+use Rattle.kc_table_seats.specs.kc_machine_steps.declared.task.Event.TheVariants.{Step}
+use Rattle.kc_table_seats.specs.kc_machine_steps.declared.task.Task.{Task}
+use Rattle.kc_table_seats.proofs.kc_machine_traces.Joins.{run-append}
+use Rattle.kc_table_seats.proofs.kc_machine_traces.Others.{event_out, others_leave, run_shape, words_kept}
+use Rattle.kc_table_seats.specs.kc_machine_traces.Parts.{NoneOf}
+use Rattle.kc_table_seats.specs.kc_table_moves.Origins.{opening_of}
+use Rattle.kc_table_seats.specs.kc_table_moves.Views.{SeatView, Stepped, TableView, opening_at_seat, Ran, StepsTo, begun_at, further, here}
 use Rattle.kc_table_seats.proofs.Stopping.{before, meant_before, stood}
 use Rattle.kc_table_sole.proofs.Steps.{next_alone, none_yet}
 use Rattle.kc_table_sole.specs.Sole.{IsSole, count, words_at}
-use Rattle.kc_table_views.proofs.Pendings.{waits_no_step, waits_none}
-use Rattle.kc_table_views.specs.Known.{IsMeant}
+use Rattle.kc_table_seats.proofs.kc_table_views.Pendings.{waits_no_step, waits_none}
+use Rattle.kc_table_seats.specs.kc_table_views.Known.{IsMeant}
 
 -- ---- states
 

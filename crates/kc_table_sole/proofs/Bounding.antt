@@ -3,38 +3,38 @@ use Rattle.std.proofs.Common.{Bool, List, ap, arith, false, if◌then◌else◌,
 use Rattle.std.specs.Option.{is_some}
 use Rattle.std.specs.Prelude.{nat_lt}
 use borrow.Author.Tests.{ltb-false, ltb-true}
-use Rattle.kc_machine.proofs.Functions.{put_here}
-use Rattle.kc_machine.specs.Machine.{Opening, State, World, found_at, pool_size, possible, run, touched}
-use Rattle.kc_machine.specs.Schedules.{IsSchedule}
-use Rattle.kc_machine.specs.Seats.{access_of, after, answer_by, answer_of, is_idle, work_access}
-use Rattle.kc_machine.specs.Works as work
-use Rattle.kc_machine.specs.Works.{Work}
-use Rattle.kc_machine.specs.declared.seat.Seat.{Seat}
-use Rattle.kc_machine_alone.proofs.Stretches.{all_end, longer}
-use Rattle.kc_machine_alone.specs.Stretches.{EndsStretch, begins_aid, stage_begins, step_begins, stretch}
-use Rattle.kc_machine_claims.specs.Claims.{HasFree, steps}
-use Rattle.kc_machine_commits.specs.Commits.{after_scan, aids, aids_at, gone_on, onward_by, owned, scan_next}
-use Rattle.kc_machine_commits.specs.Nexts as next
-use Rattle.kc_machine_commits.specs.Nexts.{Next}
-use Rattle.kc_machine_commits.specs.declared.commit.Commit.{Commit}
-use Rattle.kc_machine_commits.specs.declared.commit.OwnStep.TheVariants as own
-use Rattle.kc_machine_commits.specs.declared.commit.OwnStep.{OwnStep}
-use Rattle.kc_machine_commits.specs.declared.commit.Stage.TheVariants.{Own, Scan, Take}
-use Rattle.kc_machine_commits.specs.declared.commit.Stage.{Stage}
-use Rattle.kc_machine_effects.proofs.PoolLaws.{holds_counted}
-use Rattle.kc_machine_effects.specs.Claims.{IsWorn}
-use Rattle.kc_machine_effects.specs.Holds.{holds_on, total}
-use Rattle.kc_machine_effects.specs.Stands as stands
-use Rattle.kc_machine_effects.specs.Stands.{resting, stand, works}
-use Rattle.kc_machine_ranges.proofs.Runs.{steps_happen}
-use Rattle.kc_machine_seats.proofs.SeatedSteps.{searches_in_range, seats_stay}
-use Rattle.kc_machine_seats.specs.Seated.{StageSearches, WorkSearches}
-use Rattle.kc_machine_steps.specs.declared.task.Event.{Event}
-use Rattle.kc_machine_steps.specs.declared.task.Told.TheVariants as told
-use Rattle.kc_machine_traces.proofs.Answers.{answers_when_done}
-use Rattle.kc_machine_traces.proofs.Others.{run_shape, step_idle}
-use Rattle.kc_machine_words.specs.declared.access.Found.TheVariants as found
-use Rattle.kc_machine_words.specs.declared.words.TheConstants.{LAST_GENERATION}
+use Rattle.kc_table_seats.proofs.kc_machine.Functions.{put_here}
+use Rattle.kc_table_seats.specs.kc_machine.Machine.{Opening, State, World, found_at, pool_size, possible, run, touched}
+use Rattle.kc_table_seats.specs.kc_machine.Schedules.{IsSchedule}
+use Rattle.kc_table_seats.specs.kc_machine.Seats.{access_of, after, answer_by, answer_of, is_idle, work_access}
+use Rattle.kc_table_seats.specs.kc_machine.Works as work
+use Rattle.kc_table_seats.specs.kc_machine.Works.{Work}
+use Rattle.kc_table_seats.specs.kc_machine.declared.seat.Seat.{Seat}
+use Rattle.kc_table_seats.proofs.kc_machine_alone.Stretches.{all_end, longer}
+use Rattle.kc_table_seats.specs.kc_machine_alone.Stretches.{EndsStretch, begins_aid, stage_begins, step_begins, stretch}
+use Rattle.kc_table_seats.specs.kc_machine_claims.Claims.{HasFree, steps}
+use Rattle.kc_table_seats.specs.kc_machine_commits.Commits.{after_scan, aids, aids_at, gone_on, onward_by, owned, scan_next}
+use Rattle.kc_table_seats.specs.kc_machine_commits.Nexts as next
+use Rattle.kc_table_seats.specs.kc_machine_commits.Nexts.{Next}
+use Rattle.kc_table_seats.specs.kc_machine_commits.declared.commit.Commit.{Commit}
+use Rattle.kc_table_seats.specs.kc_machine_commits.declared.commit.OwnStep.TheVariants as own
+use Rattle.kc_table_seats.specs.kc_machine_commits.declared.commit.OwnStep.{OwnStep}
+use Rattle.kc_table_seats.specs.kc_machine_commits.declared.commit.Stage.TheVariants.{Own, Scan, Take}
+use Rattle.kc_table_seats.specs.kc_machine_commits.declared.commit.Stage.{Stage}
+use Rattle.kc_table_seats.proofs.kc_machine_effects.PoolLaws.{holds_counted}
+use Rattle.kc_table_seats.specs.kc_machine_effects.Claims.{IsWorn}
+use Rattle.kc_table_seats.specs.kc_machine_effects.Holds.{holds_on, total}
+use Rattle.kc_table_seats.specs.kc_machine_effects.Stands as stands
+use Rattle.kc_table_seats.specs.kc_machine_effects.Stands.{resting, stand, works}
+use Rattle.kc_table_seats.proofs.kc_machine_ranges.Runs.{steps_happen}
+use Rattle.kc_table_seats.proofs.kc_machine_seats.SeatedSteps.{searches_in_range, seats_stay}
+use Rattle.kc_table_seats.specs.kc_machine_seats.Seated.{StageSearches, WorkSearches}
+use Rattle.kc_table_seats.specs.kc_machine_steps.declared.task.Event.{Event}
+use Rattle.kc_table_seats.specs.kc_machine_steps.declared.task.Told.TheVariants as told
+use Rattle.kc_table_seats.proofs.kc_machine_traces.Answers.{answers_when_done}
+use Rattle.kc_table_seats.proofs.kc_machine_traces.Others.{run_shape, step_idle}
+use Rattle.kc_table_seats.specs.kc_machine_words.declared.access.Found.TheVariants as found
+use Rattle.kc_table_seats.specs.kc_machine_words.declared.words.TheConstants.{LAST_GENERATION}
 use Rattle.kc_model.specs.declared.footprint.TheConstants.{MOST}
 use Rattle.kc_table_sole.proofs.Running.{Stands, ends, moved, owns, searches, worn}
 use Rattle.kc_table_sole.proofs.Steps.{next_alone, none_yet}

@@ -1,33 +1,33 @@
 -- A commit of the only seat: how many steps it makes, and what it is told.
 use Rattle.std.proofs.Common.{Some, ap, arith, false, inl, inr, refl, subst, suc, sym, true, ℕ, ◌<◌, ◌∙◌, ◌≡◌, ◌≤◌, ◌++◌}
-use Rattle.kc_machine.specs.Machine.{Opening, State, World, run}
-use Rattle.kc_machine.specs.Schedules.{IsWellMadeTask}
-use Rattle.kc_machine.specs.Seats.{begun, begun_idle, is_idle}
-use Rattle.kc_machine.specs.Works as work
-use Rattle.kc_machine.specs.Works.{Work}
-use Rattle.kc_machine.specs.declared.seat.Seat.{Seat}
-use Rattle.kc_machine_alone.specs.Stretches.{stretch}
-use Rattle.kc_machine_claims.specs.Claims.{HasPut, steps}
-use Rattle.kc_machine_commits.specs.Commits.{intent_of}
-use Rattle.kc_machine_commits.specs.declared.commit.Commit.{Commit}
-use Rattle.kc_machine_commits.specs.declared.commit.Stage.TheVariants.{Scan}
-use Rattle.kc_machine_effects.specs.Claims.{IsWorn}
-use Rattle.kc_machine_histories.proofs.Filters.{found}
-use Rattle.kc_machine_steps.specs.Aids.{no_copy}
-use Rattle.kc_machine_steps.specs.Lines.{lines_of}
-use Rattle.kc_machine_steps.specs.declared.task.Task.TheVariants as task
-use Rattle.kc_machine_steps.specs.declared.task.Task.{Task}
-use Rattle.kc_machine_steps.specs.declared.task.Told.TheVariants as told
-use Rattle.kc_machine_steps.specs.declared.task.Told.{Told}
-use Rattle.kc_machine_traces.specs.Entries.{by}
-use Rattle.kc_machine_traces.specs.Outcomes.{GainsAsTold}
-use Rattle.kc_machine_words.specs.declared.words.Mode.TheVariants.{All, Light}
+use Rattle.kc_table_seats.specs.kc_machine.Machine.{Opening, State, World, run}
+use Rattle.kc_table_seats.specs.kc_machine.Schedules.{IsWellMadeTask}
+use Rattle.kc_table_seats.specs.kc_machine.Seats.{begun, begun_idle, is_idle}
+use Rattle.kc_table_seats.specs.kc_machine.Works as work
+use Rattle.kc_table_seats.specs.kc_machine.Works.{Work}
+use Rattle.kc_table_seats.specs.kc_machine.declared.seat.Seat.{Seat}
+use Rattle.kc_table_seats.specs.kc_machine_alone.Stretches.{stretch}
+use Rattle.kc_table_seats.specs.kc_machine_claims.Claims.{HasPut, steps}
+use Rattle.kc_table_seats.specs.kc_machine_commits.Commits.{intent_of}
+use Rattle.kc_table_seats.specs.kc_machine_commits.declared.commit.Commit.{Commit}
+use Rattle.kc_table_seats.specs.kc_machine_commits.declared.commit.Stage.TheVariants.{Scan}
+use Rattle.kc_table_seats.specs.kc_machine_effects.Claims.{IsWorn}
+use Rattle.kc_table_seats.proofs.kc_machine_histories.Filters.{found}
+use Rattle.kc_table_seats.specs.kc_machine_steps.Aids.{no_copy}
+use Rattle.kc_table_seats.specs.kc_machine_steps.Lines.{lines_of}
+use Rattle.kc_table_seats.specs.kc_machine_steps.declared.task.Task.TheVariants as task
+use Rattle.kc_table_seats.specs.kc_machine_steps.declared.task.Task.{Task}
+use Rattle.kc_table_seats.specs.kc_machine_steps.declared.task.Told.TheVariants as told
+use Rattle.kc_table_seats.specs.kc_machine_steps.declared.task.Told.{Told}
+use Rattle.kc_table_seats.specs.kc_machine_traces.Entries.{by}
+use Rattle.kc_table_seats.specs.kc_machine_traces.Outcomes.{GainsAsTold}
+use Rattle.kc_table_seats.specs.kc_machine_words.declared.words.Mode.TheVariants.{All, Light}
 use Rattle.kc_model.specs.Store.{Finds}
 use Rattle.kc_model.specs.declared.footprint.Footprint.{Footprint}
 use Rattle.kc_model.specs.declared.footprint.TheConstants.{MOST}
 use Rattle.kc_model.specs.declared.plain_store.Cell.{Cell}
-use Rattle.kc_table_moves.specs.Origins.{opening_of}
-use Rattle.kc_table_moves.specs.Views.{SeatView, TableView, Starts, knows, opening_at_seat, Ran, StepsTo, begun_at, further, here}
+use Rattle.kc_table_seats.specs.kc_table_moves.Origins.{opening_of}
+use Rattle.kc_table_seats.specs.kc_table_moves.Views.{SeatView, TableView, Starts, knows, opening_at_seat, Ran, StepsTo, begun_at, further, here}
 use Rattle.kc_table_seats.proofs.Causing.{crossed_so, worn_found}
 use Rattle.kc_table_seats.proofs.Keeping.{failure_known, own_known, put_past}
 use Rattle.kc_table_seats.proofs.Running.{does_ran}

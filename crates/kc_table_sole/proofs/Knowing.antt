@@ -3,18 +3,18 @@ use Rattle.std.proofs.Common.{Bool, List, [], ap, arith, false, if◌then◌else
 use Rattle.std.specs.Prelude.{All}
 use Rattle.std.proofs.lemmas.List.Elements.{All-head, All-tail}
 use borrow.Author.Tests.{eq-eqb}
-use Rattle.kc_machine.specs.Machine.{Opening}
-use Rattle.kc_machine_claims.specs.Histories.{History, Placed, ending}
-use Rattle.kc_machine_claims.specs.Traces.{first_store}
-use Rattle.kc_machine_steps.specs.declared.task.Event.{Event}
-use Rattle.kc_machine_steps.specs.declared.task.Task.{Task}
-use Rattle.kc_machine_traces.proofs.Entries.{entries_of_callers}
-use Rattle.kc_machine_traces.specs.Entries.{by}
-use Rattle.kc_table_moves.specs.Origins.{opening_of}
-use Rattle.kc_table_moves.specs.Views.{SeatView, TableView, knows, opening_at_seat}
+use Rattle.kc_table_seats.specs.kc_machine.Machine.{Opening}
+use Rattle.kc_table_seats.specs.kc_machine_claims.Histories.{History, Placed, ending}
+use Rattle.kc_table_seats.specs.kc_machine_claims.Traces.{first_store}
+use Rattle.kc_table_seats.specs.kc_machine_steps.declared.task.Event.{Event}
+use Rattle.kc_table_seats.specs.kc_machine_steps.declared.task.Task.{Task}
+use Rattle.kc_table_seats.proofs.kc_machine_traces.Entries.{entries_of_callers}
+use Rattle.kc_table_seats.specs.kc_machine_traces.Entries.{by}
+use Rattle.kc_table_seats.specs.kc_table_moves.Origins.{opening_of}
+use Rattle.kc_table_seats.specs.kc_table_moves.Views.{SeatView, TableView, knows, opening_at_seat}
 use Rattle.kc_table_seats.specs.Tasks.{Does}
 use Rattle.kc_table_sole.specs.Sole.{IsSole, Rests, words_at}
-use Rattle.kc_table_views.specs.Known.{known}
+use Rattle.kc_table_seats.specs.kc_table_views.Known.{known}
 
 all_by : (k n : ℕ) (h : History) → n ≡ 1 → k ≡ 0 → All (λ (x : Placed). x.entry.caller < n) h → by k h ≡ h
 all_by k n [] one first a = refl

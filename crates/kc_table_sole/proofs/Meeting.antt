@@ -3,34 +3,34 @@ use Rattle.std.proofs.Common.{Bool, List, Some, ap, arith, false, inl, inr, refl
 use Rattle.std.specs.Prelude.{nat_lt, slice_get}
 use Rattle.std.proofs.lemmas.List.Elements.{All-contains}
 use borrow.Author.Tests.{eq-eqb, ltb-false, ltb-true}
-use Rattle.kc_machine.specs.Machine.{Opening, State, run}
-use Rattle.kc_machine.specs.Schedules.{IsSchedule}
-use Rattle.kc_machine.specs.Works as work
-use Rattle.kc_machine.specs.declared.seat.Seat.{Seat}
-use Rattle.kc_machine_answers.proofs.Puts.{lower}
-use Rattle.kc_machine_commits.specs.declared.commit.Commit.{Commit}
-use Rattle.kc_machine_commits.specs.declared.commit.OwnStep.TheVariants as own
-use Rattle.kc_machine_commits.specs.declared.commit.Stage.TheVariants.{Own}
-use Rattle.kc_machine_effects.specs.Holds.{Proper, own_hold}
-use Rattle.kc_machine_effects.specs.Stands as stands
-use Rattle.kc_machine_effects.specs.Stands.{At, NoAid, NoPass, Over, Runs, Stand, owns, resting, stand, works}
-use Rattle.kc_machine_claims.specs.Claims.{OwesRelease, OwnerHolds, SomeoneReleases}
-use Rattle.kc_machine_histories.proofs.Filters.{found}
-use Rattle.kc_machine_passes.proofs.Always.{references_fit, references_held}
-use Rattle.kc_machine_pool.proofs.Filled.{is_there}
-use Rattle.kc_machine_pool.proofs.LifeLaws.{words_filled}
-use Rattle.kc_machine_pool.specs.Filled.{Filled}
-use Rattle.kc_machine_seats.proofs.MadeSteps.{intents_made}
-use Rattle.kc_machine_seats.specs.Made.{IntentIsMade, IsWellMadeIntent, IsWellMadeLine}
-use Rattle.kc_machine_steps.specs.Lines.{word_of}
-use Rattle.kc_machine_steps.specs.Passes.{refers_to, status}
+use Rattle.kc_table_seats.specs.kc_machine.Machine.{Opening, State, run}
+use Rattle.kc_table_seats.specs.kc_machine.Schedules.{IsSchedule}
+use Rattle.kc_table_seats.specs.kc_machine.Works as work
+use Rattle.kc_table_seats.specs.kc_machine.declared.seat.Seat.{Seat}
+use Rattle.kc_table_seats.proofs.kc_machine_answers.Puts.{lower}
+use Rattle.kc_table_seats.specs.kc_machine_commits.declared.commit.Commit.{Commit}
+use Rattle.kc_table_seats.specs.kc_machine_commits.declared.commit.OwnStep.TheVariants as own
+use Rattle.kc_table_seats.specs.kc_machine_commits.declared.commit.Stage.TheVariants.{Own}
+use Rattle.kc_table_seats.specs.kc_machine_effects.Holds.{Proper, own_hold}
+use Rattle.kc_table_seats.specs.kc_machine_effects.Stands as stands
+use Rattle.kc_table_seats.specs.kc_machine_effects.Stands.{At, NoAid, NoPass, Over, Runs, Stand, owns, resting, stand, works}
+use Rattle.kc_table_seats.specs.kc_machine_claims.Claims.{OwesRelease, OwnerHolds, SomeoneReleases}
+use Rattle.kc_table_seats.proofs.kc_machine_histories.Filters.{found}
+use Rattle.kc_table_seats.proofs.kc_machine_passes.Always.{references_fit, references_held}
+use Rattle.kc_table_seats.proofs.kc_machine_pool.Filled.{is_there}
+use Rattle.kc_table_seats.proofs.kc_machine_pool.LifeLaws.{words_filled}
+use Rattle.kc_table_seats.specs.kc_machine_pool.Filled.{Filled}
+use Rattle.kc_table_seats.proofs.kc_machine_seats.MadeSteps.{intents_made}
+use Rattle.kc_table_seats.specs.kc_machine_seats.Made.{IntentIsMade, IsWellMadeIntent, IsWellMadeLine}
+use Rattle.kc_table_seats.specs.kc_machine_steps.Lines.{word_of}
+use Rattle.kc_table_seats.specs.kc_machine_steps.Passes.{refers_to, status}
 use Rattle.kc_model.specs.declared.footprint.Line.{Line}
-use Rattle.kc_machine_steps.specs.declared.pass.PassStep.TheVariants.{Install}
-use Rattle.kc_machine_steps.specs.declared.task.Event.{Event}
-use Rattle.kc_machine_traces.proofs.Others.{run_shape}
-use Rattle.kc_machine_words.specs.declared.words.Handle.{Handle}
-use Rattle.kc_machine_words.specs.declared.words.Phase.TheVariants.{Active}
-use Rattle.kc_machine_words.specs.declared.words.Reference.{Reference}
+use Rattle.kc_table_seats.specs.kc_machine_steps.declared.pass.PassStep.TheVariants.{Install}
+use Rattle.kc_table_seats.specs.kc_machine_steps.declared.task.Event.{Event}
+use Rattle.kc_table_seats.proofs.kc_machine_traces.Others.{run_shape}
+use Rattle.kc_table_seats.specs.kc_machine_words.declared.words.Handle.{Handle}
+use Rattle.kc_table_seats.specs.kc_machine_words.declared.words.Phase.TheVariants.{Active}
+use Rattle.kc_table_seats.specs.kc_machine_words.declared.words.Reference.{Reference}
 
 neither : (a b : ℕ) → (a < b → ⊥) → (b < a → ⊥) → a ≡ b
 neither a b u d = go (nat_lt a b) (nat_lt b a) refl refl

@@ -1,46 +1,46 @@
 -- A commit of the only seat, step by step: it searches and changes no word, and then it owns and begins no aid.
 use Rattle.std.proofs.Common.{Bool, List, None, Option, Some, ap, false, if◌then◌else◌, refl, subst, sym, true, ℕ, ◌&&◌, ◌+◌, ◌-◌, ◌<◌, ◌==◌, ◌≡◌}
 use Rattle.std.specs.Prelude.{bit_and, bit_or, nat_lt, slice_get}
-use Rattle.kc_machine.specs.Machine.{Opening, State, World, found_at, put_some, run, touched}
-use Rattle.kc_machine.specs.Schedules.{IsSchedule}
-use Rattle.kc_machine.specs.Seats.{access_of, after, answer_by, answer_of, work_access}
-use Rattle.kc_machine.specs.Words.{control}
-use Rattle.kc_machine.specs.Works as work
-use Rattle.kc_machine.specs.Works.{Work}
-use Rattle.kc_machine.specs.declared.seat.Seat.{Seat}
-use Rattle.kc_machine_alone.proofs.ModeSteps.{InstallEnds, goes, installs_to, meets}
-use Rattle.kc_machine_commits.specs.Commits.{after_own_pass, after_scan, aids, aids_at, commit_access, fill_next, fill_or_start, finished, gone_on, loaded, onward_by, own_access, owed_next, owned, scan_next, stage_access, stage_next, take_next, tells_or_goes, told_of, wake_next, wake_or_drop, wake_or_signal}
-use Rattle.kc_machine_commits.specs.Nexts as next
-use Rattle.kc_machine_commits.specs.Nexts.{Next}
-use Rattle.kc_machine_commits.specs.declared.commit.Commit.{Commit}
-use Rattle.kc_machine_commits.specs.declared.commit.OwnStep.TheVariants as own
-use Rattle.kc_machine_commits.specs.declared.commit.OwnStep.{OwnStep}
-use Rattle.kc_machine_commits.specs.declared.commit.Stage.TheVariants.{Own, Scan, Take}
-use Rattle.kc_machine_commits.specs.declared.commit.Stage.{Stage}
-use Rattle.kc_machine_seats.proofs.FitSeats.{fit_always}
-use Rattle.kc_machine_seats.specs.Fits.{StageFits, WorkFits}
-use Rattle.kc_machine_steps.specs.Lines.{after_line, next_line}
-use Rattle.kc_machine_steps.specs.Passes.{check_drop_next, decide_next, decided_as, from_release, install_access, pass_access, pass_next, release_or_finish}
-use Rattle.kc_machine_steps.specs.declared.line.Intent.{Intent}
+use Rattle.kc_table_seats.specs.kc_machine.Machine.{Opening, State, World, found_at, put_some, run, touched}
+use Rattle.kc_table_seats.specs.kc_machine.Schedules.{IsSchedule}
+use Rattle.kc_table_seats.specs.kc_machine.Seats.{access_of, after, answer_by, answer_of, work_access}
+use Rattle.kc_table_seats.specs.kc_machine.Words.{control}
+use Rattle.kc_table_seats.specs.kc_machine.Works as work
+use Rattle.kc_table_seats.specs.kc_machine.Works.{Work}
+use Rattle.kc_table_seats.specs.kc_machine.declared.seat.Seat.{Seat}
+use Rattle.kc_table_seats.proofs.kc_machine_alone.ModeSteps.{InstallEnds, goes, installs_to, meets}
+use Rattle.kc_table_seats.specs.kc_machine_commits.Commits.{after_own_pass, after_scan, aids, aids_at, commit_access, fill_next, fill_or_start, finished, gone_on, loaded, onward_by, own_access, owed_next, owned, scan_next, stage_access, stage_next, take_next, tells_or_goes, told_of, wake_next, wake_or_drop, wake_or_signal}
+use Rattle.kc_table_seats.specs.kc_machine_commits.Nexts as next
+use Rattle.kc_table_seats.specs.kc_machine_commits.Nexts.{Next}
+use Rattle.kc_table_seats.specs.kc_machine_commits.declared.commit.Commit.{Commit}
+use Rattle.kc_table_seats.specs.kc_machine_commits.declared.commit.OwnStep.TheVariants as own
+use Rattle.kc_table_seats.specs.kc_machine_commits.declared.commit.OwnStep.{OwnStep}
+use Rattle.kc_table_seats.specs.kc_machine_commits.declared.commit.Stage.TheVariants.{Own, Scan, Take}
+use Rattle.kc_table_seats.specs.kc_machine_commits.declared.commit.Stage.{Stage}
+use Rattle.kc_table_seats.proofs.kc_machine_seats.FitSeats.{fit_always}
+use Rattle.kc_table_seats.specs.kc_machine_seats.Fits.{StageFits, WorkFits}
+use Rattle.kc_table_seats.specs.kc_machine_steps.Lines.{after_line, next_line}
+use Rattle.kc_table_seats.specs.kc_machine_steps.Passes.{check_drop_next, decide_next, decided_as, from_release, install_access, pass_access, pass_next, release_or_finish}
+use Rattle.kc_table_seats.specs.kc_machine_steps.declared.line.Intent.{Intent}
 use Rattle.kc_model.specs.declared.footprint.Line.{Line}
-use Rattle.kc_machine_steps.specs.declared.line.Pick.TheVariants.{Installed, Put}
-use Rattle.kc_machine_steps.specs.declared.pass.AfterCheck.TheVariants as checked
-use Rattle.kc_machine_steps.specs.declared.pass.AfterCheck.{AfterCheck}
-use Rattle.kc_machine_steps.specs.declared.pass.PassNext.TheVariants as pass
-use Rattle.kc_machine_steps.specs.declared.pass.PassNext.{PassNext}
-use Rattle.kc_machine_steps.specs.declared.pass.PassStep.TheVariants.{Check, CheckDrop, CheckFirst, CheckHold, CheckStatus, Decide, Install, Release}
-use Rattle.kc_machine_steps.specs.declared.pass.PassStep.{PassStep}
-use Rattle.kc_machine_steps.specs.declared.task.Event.{Event}
-use Rattle.kc_machine_steps.specs.declared.task.Told.TheVariants as told
-use Rattle.kc_machine_steps.specs.declared.task.Told.{Told}
-use Rattle.kc_machine_words.specs.declared.access.Access.TheVariants as access
-use Rattle.kc_machine_words.specs.declared.access.Grip.TheVariants as grip
-use Rattle.kc_machine_words.specs.declared.access.Found.TheVariants as found
-use Rattle.kc_machine_words.specs.declared.access.Found.{Found}
-use Rattle.kc_machine_words.specs.declared.words.Handle.{Handle}
-use Rattle.kc_machine_words.specs.declared.words.Phase.TheVariants.{Active, Crossed, Failed, Halted, Succeeded}
-use Rattle.kc_machine_words.specs.declared.words.Phase.{Phase}
-use Rattle.kc_machine_words.specs.declared.words.TheConstants.{LAST_GENERATION}
+use Rattle.kc_table_seats.specs.kc_machine_steps.declared.line.Pick.TheVariants.{Installed, Put}
+use Rattle.kc_table_seats.specs.kc_machine_steps.declared.pass.AfterCheck.TheVariants as checked
+use Rattle.kc_table_seats.specs.kc_machine_steps.declared.pass.AfterCheck.{AfterCheck}
+use Rattle.kc_table_seats.specs.kc_machine_steps.declared.pass.PassNext.TheVariants as pass
+use Rattle.kc_table_seats.specs.kc_machine_steps.declared.pass.PassNext.{PassNext}
+use Rattle.kc_table_seats.specs.kc_machine_steps.declared.pass.PassStep.TheVariants.{Check, CheckDrop, CheckFirst, CheckHold, CheckStatus, Decide, Install, Release}
+use Rattle.kc_table_seats.specs.kc_machine_steps.declared.pass.PassStep.{PassStep}
+use Rattle.kc_table_seats.specs.kc_machine_steps.declared.task.Event.{Event}
+use Rattle.kc_table_seats.specs.kc_machine_steps.declared.task.Told.TheVariants as told
+use Rattle.kc_table_seats.specs.kc_machine_steps.declared.task.Told.{Told}
+use Rattle.kc_table_seats.specs.kc_machine_words.declared.access.Access.TheVariants as access
+use Rattle.kc_table_seats.specs.kc_machine_words.declared.access.Grip.TheVariants as grip
+use Rattle.kc_table_seats.specs.kc_machine_words.declared.access.Found.TheVariants as found
+use Rattle.kc_table_seats.specs.kc_machine_words.declared.access.Found.{Found}
+use Rattle.kc_table_seats.specs.kc_machine_words.declared.words.Handle.{Handle}
+use Rattle.kc_table_seats.specs.kc_machine_words.declared.words.Phase.TheVariants.{Active, Crossed, Failed, Halted, Succeeded}
+use Rattle.kc_table_seats.specs.kc_machine_words.declared.words.Phase.{Phase}
+use Rattle.kc_table_seats.specs.kc_machine_words.declared.words.TheConstants.{LAST_GENERATION}
 use Rattle.kc_table_sole.proofs.Meeting.{meets_own}
 
 -- what a commit is told that took a descriptor

@@ -1,8 +1,8 @@
 -- Lists of steps.
 use Rattle.std.proofs.Common.{List, [], ap, append-nil, append_assoc, refl, suc, sym, zero, ℕ, ◌++◌, ◌∙◌, ◌∷◌, ◌≡◌}
-use Rattle.kc_machine_claims.specs.Claims.{steps}
-use Rattle.kc_machine_steps.specs.declared.task.Event.{Event}
-use Rattle.kc_machine_steps.specs.declared.task.Event.TheVariants.{Step}
+use Rattle.kc_table_seats.specs.kc_machine_claims.Claims.{steps}
+use Rattle.kc_table_seats.specs.kc_machine_steps.declared.task.Event.{Event}
+use Rattle.kc_table_seats.specs.kc_machine_steps.declared.task.Event.TheVariants.{Step}
 
 steps_end : (k n : ℕ) → steps k (suc n) ≡ steps k n ++ Step k ∷ []
 unfolding steps

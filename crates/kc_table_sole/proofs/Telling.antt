@@ -1,28 +1,28 @@
 -- A look of the only seat.
 use Rattle.std.proofs.Common.{Some, [], ap, arith, false, refl, subst, suc, sym, true, ℕ, ◌++◌, ◌<◌, ◌∙◌, ◌∷◌, ◌≡◌}
-use Rattle.kc_machine.proofs.Functions.{put_here}
-use Rattle.kc_machine.specs.Machine.{Opening, State, World, found_at, run, touched}
-use Rattle.kc_machine.specs.Seats.{access_of, answer_of, begun, is_idle, working}
-use Rattle.kc_machine.specs.Works as work
-use Rattle.kc_machine.specs.declared.seat.Seat.{Seat}
-use Rattle.kc_machine_ranges.proofs.Runs.{steps_happen}
-use Rattle.kc_machine_ranges.specs.Possible.{one_step}
-use Rattle.kc_machine_steps.specs.declared.look.Look.{Look}
-use Rattle.kc_machine_steps.specs.declared.look.LookStep.TheVariants as look
-use Rattle.kc_machine_steps.specs.declared.task.Event.TheVariants.{Begin, Step}
-use Rattle.kc_machine_steps.specs.declared.task.Task.TheVariants as task
-use Rattle.kc_machine_steps.specs.declared.task.Task.{Task}
-use Rattle.kc_machine_steps.specs.declared.task.Told.TheVariants as told
-use Rattle.kc_machine_traces.proofs.Joins.{honest_parts, made_parts}
-use Rattle.kc_machine_traces.specs.Entries.{by}
-use Rattle.kc_machine_traces.specs.Outcomes.{GainsAsTold}
-use Rattle.kc_machine_words.specs.declared.access.Found.TheVariants as found
+use Rattle.kc_table_seats.proofs.kc_machine.Functions.{put_here}
+use Rattle.kc_table_seats.specs.kc_machine.Machine.{Opening, State, World, found_at, run, touched}
+use Rattle.kc_table_seats.specs.kc_machine.Seats.{access_of, answer_of, begun, is_idle, working}
+use Rattle.kc_table_seats.specs.kc_machine.Works as work
+use Rattle.kc_table_seats.specs.kc_machine.declared.seat.Seat.{Seat}
+use Rattle.kc_table_seats.proofs.kc_machine_ranges.Runs.{steps_happen}
+use Rattle.kc_table_seats.specs.kc_machine_ranges.Possible.{one_step}
+use Rattle.kc_table_seats.specs.kc_machine_steps.declared.look.Look.{Look}
+use Rattle.kc_table_seats.specs.kc_machine_steps.declared.look.LookStep.TheVariants as look
+use Rattle.kc_table_seats.specs.kc_machine_steps.declared.task.Event.TheVariants.{Begin, Step}
+use Rattle.kc_table_seats.specs.kc_machine_steps.declared.task.Task.TheVariants as task
+use Rattle.kc_table_seats.specs.kc_machine_steps.declared.task.Task.{Task}
+use Rattle.kc_table_seats.specs.kc_machine_steps.declared.task.Told.TheVariants as told
+use Rattle.kc_table_seats.proofs.kc_machine_traces.Joins.{honest_parts, made_parts}
+use Rattle.kc_table_seats.specs.kc_machine_traces.Entries.{by}
+use Rattle.kc_table_seats.specs.kc_machine_traces.Outcomes.{GainsAsTold}
+use Rattle.kc_table_seats.specs.kc_machine_words.declared.access.Found.TheVariants as found
 use Rattle.kc_model.specs.declared.footprint.Loc.{Loc}
 use Rattle.kc_model.specs.declared.plain_store.Cell.{Cell}
 use Rattle.kc_model.specs.declared.word.Word.{Word}
 use Rattle.kc_model.specs.declared.word.Word.TheVariants.{Plain}
-use Rattle.kc_table_moves.specs.Origins.{opening_of}
-use Rattle.kc_table_moves.specs.Views.{SeatView, Starts, Stepped, TableView, knows, opening_at_seat, seen_at, Ran, StepsTo, begun_at, further, here}
+use Rattle.kc_table_seats.specs.kc_table_moves.Origins.{opening_of}
+use Rattle.kc_table_seats.specs.kc_table_moves.Views.{SeatView, Starts, Stepped, TableView, knows, opening_at_seat, seen_at, Ran, StepsTo, begun_at, further, here}
 use Rattle.kc_table_seats.proofs.Keeping.{own_known}
 use Rattle.kc_table_seats.proofs.Running.{does_ran}
 use Rattle.kc_table_seats.specs.Tasks.{Does}
@@ -30,8 +30,8 @@ use Rattle.kc_table_sole.proofs.Alone.{Along, along}
 use Rattle.kc_table_sole.proofs.Knowing.{knows_same, rests_so}
 use Rattle.kc_table_sole.proofs.Steps.{next_alone, none_yet}
 use Rattle.kc_table_sole.specs.Sole.{IsSole, TellsWhatStands, count, standing, words_at}
-use Rattle.kc_table_views.proofs.Knowing.{plain_words}
-use Rattle.kc_table_views.specs.Known.{IsMeant, OwnsNone}
+use Rattle.kc_table_seats.proofs.kc_table_views.Knowing.{plain_words}
+use Rattle.kc_table_seats.specs.kc_table_views.Known.{IsMeant, OwnsNone}
 
 -- it is told what stands, and touches no word
 record Saw (v : SeatView) (l : Loc) (w : SeatView) : Type 0 where

@@ -1,13 +1,14 @@
 -- The only seat of a table: what stands, as it knows it, and what its tasks leave.
-use Rattle.std.specs.Prelude.{◌≡◌, ◌⊎◌, ℕ, suc, true, Some}
-use Rattle.kc_machine.specs.Machine.{World, run}
-use Rattle.kc_machine.specs.Seats.{is_idle}
-use Rattle.kc_machine_claims.specs.Histories.{ending}
-use Rattle.kc_machine_claims.specs.Traces.{first_store}
-use Rattle.kc_machine_steps.specs.declared.task.Told.TheVariants as told
+use Rattle.std.specs.Prelude.{◌≡◌, ◌⊎◌, ℕ, true, Some}
+use Rattle.kc_table_seats.specs.kc_machine.Machine.{World, run}
+use Rattle.kc_table_seats.specs.kc_machine.Seats.{is_idle}
+use Rattle.kc_table_seats.specs.kc_machine_claims.Histories.{ending}
+use Rattle.kc_table_seats.specs.kc_machine_claims.Traces.{first_store}
+use Rattle.kc_table_seats.specs.kc_machine_steps.declared.task.Told.TheVariants as told
 use Rattle.kc_model.specs.Store.{Store}
 use Rattle.kc_model.specs.declared.footprint.Loc.{Loc}
-use Rattle.kc_table_moves.specs.Views.{SeatView, knows, opening_at_seat, seen_at, StepsTo, further, here}
+use Rattle.kc_table_seats.specs.kc_table_moves.Views.{SeatView, knows, opening_at_seat, seen_at}
+pub use Rattle.kc_table_seats.specs.kc_table_moves.Views.{count}
 use Rattle.kc_table_seats.specs.Told.{IsWornOut}
 
 -- the table was opened for one caller
@@ -31,11 +32,6 @@ pub record Rests (v w : SeatView) : Type 0 where
   pub stands : standing w ≡ standing v
   pub knows : knows w ≡ knows v
   pub generations : (d : ℕ) → ((words_at w).control d).generation ≡ ((words_at v).control d).generation
-
--- how many steps these are
-abbrev pub count : (v w : SeatView) → StepsTo v w → ℕ
-count v _ here = 0
-count v _ (further u _ d busy s) = suc (count v u d)
 
 -- a look that was told what stands, by one step
 pub record TellsWhatStands (v : SeatView) (l : Loc) (w : SeatView) (n : ℕ) : Type 0 where

@@ -1,18 +1,18 @@
 //! Tasks of the only seat of a table. An empty body: the contract is the law.
 
 ghost use Rattle.std.specs.Prelude.{◌≡◌, ◌<◌, ◌≤◌, true, false};
-ghost use Rattle.kc_machine.specs.Schedules.{IsWellMadeTask};
-ghost use Rattle.kc_machine.specs.Seats.{is_idle};
-ghost use Rattle.kc_machine_alone.specs.Stretches.{stretch};
-ghost use Rattle.kc_machine_steps.specs.declared.task.Task.{Task};
-ghost use Rattle.kc_machine_steps.specs.declared.task.Task.TheVariants as task;
-ghost use Rattle.kc_machine_traces.specs.Entries.{by};
-ghost use Rattle.kc_machine_words.specs.declared.words.Mode.TheVariants.{All};
+ghost use Rattle.kc_table_seats.specs.kc_machine.Schedules.{IsWellMadeTask};
+ghost use Rattle.kc_table_seats.specs.kc_machine.Seats.{is_idle};
+ghost use Rattle.kc_table_seats.specs.kc_machine_alone.Stretches.{stretch};
+ghost use Rattle.kc_table_seats.specs.kc_machine_steps.declared.task.Task.{Task};
+ghost use Rattle.kc_table_seats.specs.kc_machine_steps.declared.task.Task.TheVariants as task;
+ghost use Rattle.kc_table_seats.specs.kc_machine_traces.Entries.{by};
+ghost use Rattle.kc_table_seats.specs.kc_machine_words.declared.words.Mode.TheVariants.{All};
 ghost use Rattle.kc_model.specs.Store.{Finds};
 ghost use Rattle.kc_model.specs.declared.footprint.Footprint.{Footprint};
 ghost use Rattle.kc_model.specs.declared.footprint.Loc.{Loc};
 ghost use Rattle.kc_model.specs.declared.footprint.TheConstants.{MOST};
-ghost use Rattle.kc_table_moves.specs.Views.{Ran, SeatView, begun_at, knows};
+ghost use Rattle.kc_table_seats.specs.kc_table_moves.Views.{Ran, SeatView, begun_at, knows};
 ghost use Rattle.kc_table_seats.specs.Tasks.{Does};
 ghost use Rattle.kc_table_sole.specs.Sole.{IsMadeOrWorn, IsSole, TellsWhatStands, count, standing};
 

@@ -8,7 +8,7 @@ use Rattle.kc_machine.specs.Points.{seat_at}
 use Rattle.kc_machine.specs.Seats.{access_of, answer_of}
 use Rattle.kc_machine.specs.declared.point.Point.{Point}
 use Rattle.kc_machine.specs.declared.seat.Seat.{Seat}
-use Rattle.kc_machine_commits.specs.declared.commit.OwnStep.TheVariants as own
+use Rattle.kc_table_moves.specs.kc_machine_commits.declared.commit.OwnStep.TheVariants as own
 use Rattle.kc_model.specs.declared.footprint.Line.{Line}
 use Rattle.kc_machine_steps.specs.declared.pass.PassStep.{PassStep}
 use Rattle.kc_machine_steps.specs.declared.pass.PassStep.TheVariants as pass

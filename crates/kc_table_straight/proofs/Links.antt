@@ -25,17 +25,17 @@ use Rattle.kc_machine_steps.specs.declared.line.Pick.TheVariants.{Installed, Che
 use Rattle.kc_machine_steps.specs.declared.pass.PassStep.TheVariants.{Install, Check, Decide, Release}
 use Rattle.kc_machine_words.specs.Packing.{ControlFits, control_bits, StatusFits, OwnerFits, FirstFits, SecondFits}
 use Rattle.kc_machine_steps.specs.declared.pass.PassNext.TheVariants as pass
-use Rattle.kc_machine_commits.specs.declared.commit.OwnStep.{OwnStep}
+use Rattle.kc_table_moves.specs.kc_machine_commits.declared.commit.OwnStep.{OwnStep}
 use Rattle.kc_machine_steps.specs.Lines.{after_line, first_of, has_put, is_installed, next_among, next_line, one_more, picked, picks, resolved_value, resolved_version, second_of, succeeds, value_after, word_of}
 use Rattle.kc_machine_steps.specs.Looks.{reference_of}
 use Rattle.kc_machine_steps.specs.Passes.{check_access, check_found, check_or_decide, decided_as, fits, from_check, from_install, from_release, install_access, install_found, install_next, install_or_check, refers_to, release_at, release_or_finish, status}
-use Rattle.kc_machine_commits.specs.declared.commit.OwnStep.TheVariants as own
+use Rattle.kc_table_moves.specs.kc_machine_commits.declared.commit.OwnStep.TheVariants as own
 use Rattle.kc_machine.specs.Machine.{found_at}
 use Rattle.kc_machine.specs.Points.{first_point, seat_at}
 use Rattle.kc_machine.specs.Seats.{access_of, answer_of}
 use Rattle.kc_machine.specs.declared.seat.Seat.{Seat}
-use Rattle.kc_machine_commits.specs.Commits.{after_own_pass, fill_first, fill_second, finished, intent_of, owed_next, wake_or_drop, wake_or_signal}
-use Rattle.kc_machine_ranges.specs.Bits.{AccessFits, ValuesFit}
+use Rattle.kc_table_moves.specs.kc_machine_commits.Commits.{after_own_pass, fill_first, fill_second, finished, intent_of, owed_next, wake_or_drop, wake_or_signal}
+use Rattle.kc_table_moves.specs.kc_machine_ranges.Bits.{AccessFits, ValuesFit}
 use Rattle.kc_table_layout.specs.Cells.{CellFits, bits, cell_of}
 use Rattle.kc_table_moves.proofs.Allowed.{ready_access}
 use Rattle.kc_table_moves.specs.Rule.{Ready}

@@ -13,16 +13,16 @@ use Rattle.kc_machine_words.specs.declared.words.Mode.{Mode}
 use Rattle.kc_machine_words.specs.declared.words.Phase.TheVariants.{Succeeded}
 use Rattle.kc_machine.specs.Machine.{World, found_at}
 use Rattle.kc_machine.specs.Points.{point, seat_at, seat_told}
-use Rattle.kc_machine_commits.specs.Commits.{told_of}
+use Rattle.kc_table_moves.specs.kc_machine_commits.Commits.{told_of}
 use Rattle.kc_machine.specs.Seats.{access_of, answer_of, is_idle}
 use Rattle.kc_machine.specs.Works.{Work}
 use Rattle.kc_machine.specs.Works as work
 use Rattle.kc_machine.specs.declared.point.Point.{Point}
 use Rattle.kc_machine.specs.declared.seat.Seat.{Seat}
-use Rattle.kc_machine_commits.specs.declared.commit.OwnStep.{OwnStep}
-use Rattle.kc_machine_commits.specs.declared.commit.OwnStep.TheVariants as own
-use Rattle.kc_machine_commits.specs.declared.commit.Stage.{Stage}
-use Rattle.kc_machine_commits.specs.declared.commit.Stage.TheVariants.{Scan, Take, Own}
+use Rattle.kc_table_moves.specs.kc_machine_commits.declared.commit.OwnStep.{OwnStep}
+use Rattle.kc_table_moves.specs.kc_machine_commits.declared.commit.OwnStep.TheVariants as own
+use Rattle.kc_table_moves.specs.kc_machine_commits.declared.commit.Stage.{Stage}
+use Rattle.kc_table_moves.specs.kc_machine_commits.declared.commit.Stage.TheVariants.{Scan, Take, Own}
 use Rattle.kc_model.specs.Word.{IsPackable, packed}
 use Rattle.kc_model.specs.declared.word.Word.{Word}
 use Rattle.kc_model.specs.declared.word.Word.TheVariants.{Plain, Ref}

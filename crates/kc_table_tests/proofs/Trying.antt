@@ -1,6 +1,7 @@
 -- What tests step on.
-use Rattle.std.proofs.Common.{◌≡◌, ◌<◌, ◌≤◌, ℕ, List, [], ◌∷◌, length, get_or, Some, true, false, refl, sym, ap, ◌∙◌, subst, arith}
-use Rattle.std.specs.Prelude.{All, Contains}
+use Rattle.std.proofs.Common.{◌≡◌, ◌<◌, ◌≤◌, ℕ, List, [], ◌∷◌, length, get_or, Some, true, false, refl, sym, subst, arith}
+use Rattle.std.specs.Prelude.{All, Bool, Contains, IsPermutation, not}
+use Rattle.std.proofs.lemmas.List.Sorted.{IsPermutation-refl, IsPermutation-reverse}
 use Rattle.std.proofs.lemmas.List.Elements.{All-contains, All-push}
 use Rattle.kc_machine_steps.specs.declared.task.Task.{Task}
 use Rattle.kc_machine_words.specs.declared.words.Mode.{Mode}
@@ -66,15 +67,27 @@ module _ (v : SeatView) (reads : List Seen) (f : Footprint) (among : (r : Seen) 
   pub commit_made : (m : Mode) → IsWellMade f → length f.reads.items ≤ MOST → IsWellMadeTask v.of.origin.locations (task.Commit f m)
   commit_made m w l = (w, λ r c. (each r c).0, l)
 
-pub are_all : (z : TableView) (a b : SeatView) → a.of ≡ z → b.of ≡ z → z.origin.callers ≡ 2 → a.number ≡ 0 → b.number ≡ 1 → is_idle a.seat.work ≡ true → is_idle b.seat.work ≡ true → AreAll z (a ∷ b ∷ [])
-are_all z a b p q c m n i j = record {
-  of = two (λ s. s.of ≡ z) p q;
-  idle = two (λ s. is_idle s.seat.work ≡ true) i j;
-  all = (λ t. m t ∷ n t ∷ []) ∙ ap (count_from 0) (sym c);
-}
-  where
-    two : (P : SeatView → Type 0) → P a → P b → All P (a ∷ b ∷ [])
-    two P x y = All-push P (a ∷ []) b (All-push P [] a (λ k d lt. absurd (omega arith)) x) y
+pub not_busy : (b : Bool) → not b ≡ false → b ≡ true
+not_busy true e = refl
+not_busy false e = absurd (cc)
+
+module _ (z : TableView) (a b : SeatView) (p : a.of ≡ z) (q : b.of ≡ z) (c : z.origin.callers ≡ 2) (m : a.number ≡ 0) (n : b.number ≡ 1) (i : is_idle a.seat.work ≡ true) (j : is_idle b.seat.work ≡ true) where
+  two : (P : SeatView → Type 0) (x y : SeatView) → P x → P y → All P (x ∷ y ∷ [])
+  two P x y h k = All-push P (x ∷ []) y (All-push P [] x (λ i d lt. absurd (omega arith)) h) k
+
+  pub are_all : AreAll z (a ∷ b ∷ [])
+  are_all = record {
+    of = two (λ s. s.of ≡ z) a b p q;
+    idle = two (λ s. is_idle s.seat.work ≡ true) a b i j;
+    all = subst (λ k. IsPermutation (count_from 0 k) (a.number ∷ b.number ∷ [])) (sym c) (subst (IsPermutation (0 ∷ 1 ∷ [])) (λ t. sym m t ∷ sym n t ∷ []) (IsPermutation-refl (0 ∷ 1 ∷ [])));
+  }
+
+  pub are_all_backwards : AreAll z (b ∷ a ∷ [])
+  are_all_backwards = record {
+    of = two (λ s. s.of ≡ z) b a q p;
+    idle = two (λ s. is_idle s.seat.work ≡ true) b a j i;
+    all = subst (λ k. IsPermutation (count_from 0 k) (b.number ∷ a.number ∷ [])) (sym c) (subst (IsPermutation (0 ∷ 1 ∷ [])) (λ t. sym n t ∷ sym m t ∷ []) (IsPermutation-reverse (0 ∷ 1 ∷ [])));
+  }
 
 -- ---- waiting
 

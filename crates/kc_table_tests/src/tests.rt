@@ -208,6 +208,23 @@ pub(crate) fn together(
     Ok(Vec::from_array(rt.alloc(), [first, second])?)
 }
 
+// The same, the second one first.
+fn backwards(
+    rt: &HostRuntime,
+    table: &KcTable,
+    first: KcSeat,
+    second: KcSeat,
+) -> Result<Vec<KcSeat>, Fail>
+    requires table { (first.of ≡ table.now) × (second.of ≡ table.now) × (table.now.origin.callers ≡ 2) }
+    requires numbers { (first.number ≡ 0) × (second.number ≡ 1) }
+    ensures { IfOk result (λ seats. AreAll table.now seats.items) }
+{
+    if first.busy() || second.busy() {
+        return Err(Fail::from("a task runs"));
+    }
+    Ok(Vec::from_array(rt.alloc(), [second, first])?)
+}
+
 #[test]
 fn too_many_locations_and_callers_are_refused(rt: HostRuntime) -> Result<(), Fail> {
     let many = vec![in rt.alloc(); 0u32; 65_537]?;
@@ -497,5 +514,29 @@ fn a_commit_in_one_call_stops_at_anothers_reference(rt: HostRuntime) -> Result<(
     assert_eq!(rt; b.told(), Some(Told::Failed { entry: 0 }));
     steps(&table, &mut a, &mine, 100);
     assert_eq!(rt; a.told(), Some(Told::Succeeded { number: 1 }));
+    Ok(())
+}
+
+#[test]
+fn seats_come_back_in_any_order(rt: HostRuntime) -> Result<(), Fail> {
+    let Some((table, mut a, b)) = open_two(&rt, &[5, 6]) else {
+        return Err(Fail::from("not opened"));
+    };
+    let Some(mine) = look_both(&table, &mut a) else {
+        return Err(Fail::from("nothing seen"));
+    };
+    assert!(rt; run(&table, &mut a, Mode::All, &mine, &[Some(7), None]));
+    let seats = backwards(&rt, &table, a, b)?;
+    let Ok(closed) = table.close(rt.alloc(), seats) else {
+        return Err(Fail::from("not closed"));
+    };
+    for (loc, version, value) in [(0, 1, 7), (1, 0, 6)] {
+        let seen = Seen {
+            loc: Loc(loc),
+            version,
+            value,
+        };
+        assert_eq!(rt; closed.seen(Loc(loc)), Some(seen));
+    }
     Ok(())
 }

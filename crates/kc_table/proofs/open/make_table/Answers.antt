@@ -1,10 +1,5 @@
-use Rattle.std.proofs.Common.{[], sym, subst, ap, ◌∙◌}
-use Rattle.atomic_table.specs.Table as table
-use Rattle.kc_table.proofs.Loads.{opens}
-use Rattle.kc_table_moves.specs.Rule.{Kept, everyone}
+use Rattle.kc_table_moves.proofs.Unmoved.{opens}
 use Rattle.kc_table.proofs.open.make_table.Goals as goal
 
-pub of_words-requires : goal.of_words-requires
-of_words-requires c =
-    let r = c.requires in
-    subst (λ ws. Kept c.args.origin.now (table.opening ws [] (everyone c.args.origin.now))) (sym (c.as_slice.ensures.value ∙ ap (λ q. q.words) c.origin.view_is)) (opens c.args.origin.now r.locations r.callers r.generation r.words)
+pub open-requires : goal.open-requires
+open-requires c = let r = c.requires in opens c.args.origin.now r.locations r.callers r.generation r.words

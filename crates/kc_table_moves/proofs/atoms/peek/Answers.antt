@@ -3,8 +3,8 @@ use Rattle.kc_table_layout.specs.Changes.{change_of}
 use Rattle.kc_table_moves.proofs.Steps.{by_peek, aim_within}
 use Rattle.kc_table_moves.proofs.atoms.peek.Goals as goal
 
-pub load-requires : goal.load-requires
-load-requires g c =
+pub glance-requires : goal.glance-requires
+glance-requires g c =
     let h = c.requires.here in
     let s = c.requires.seat in
     let q = c.args.words.now.key in

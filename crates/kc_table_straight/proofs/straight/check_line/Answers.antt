@@ -2,7 +2,7 @@ use Rattle.std.proofs.Common.{◌∙◌, ◌+◌, ap, refl, sym}
 use Rattle.kc_machine_steps.specs.Lines.{after_line, one_more}
 use Rattle.kc_machine_steps.specs.Passes.{from_check}
 use Rattle.kc_machine_steps.specs.declared.pass.PassStep.TheVariants.{Check}
-use Rattle.kc_machine_commits.specs.declared.commit.OwnStep.TheVariants as step
+use Rattle.kc_table_moves.specs.kc_machine_commits.declared.commit.OwnStep.TheVariants as step
 use Rattle.kc_table_straight.proofs.Links.{after_is, below, on_step, checks_here, checks_past}
 use Rattle.kc_table_straight.proofs.straight.check_line.Goals as goal
 

@@ -2,7 +2,7 @@ use Rattle.std.proofs.Common.{◌≤◌, ap, arith, length, refl}
 use Rattle.kc_machine_steps.specs.Passes.{from_check}
 use Rattle.kc_machine_steps.specs.declared.pass.PassStep.TheVariants.{Decide}
 use Rattle.kc_machine_words.specs.declared.words.Phase.TheVariants.{Succeeded}
-use Rattle.kc_machine_commits.specs.declared.commit.OwnStep.TheVariants as step
+use Rattle.kc_table_moves.specs.kc_machine_commits.declared.commit.OwnStep.TheVariants as step
 use Rattle.kc_table_straight.proofs.Links.{on_step, checks_end}
 use Rattle.kc_table_straight.proofs.straight.checks.Goals as goal
 

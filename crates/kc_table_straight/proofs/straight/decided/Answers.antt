@@ -1,5 +1,5 @@
 use Rattle.std.proofs.Common.{false, subst, sym}
-use Rattle.kc_machine_commits.specs.Commits.{after_own_pass, intent_of}
+use Rattle.kc_table_moves.specs.kc_machine_commits.Commits.{after_own_pass, intent_of}
 use Rattle.kc_machine_steps.specs.Lines.{one_more}
 use Rattle.kc_machine_steps.specs.Passes.{from_release}
 use Rattle.kc_table_straight.proofs.Links.{decide_on}

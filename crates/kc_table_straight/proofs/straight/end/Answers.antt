@@ -1,6 +1,6 @@
 use Rattle.std.proofs.Common.{◌≡◌, inr, refl, subst, sym}
-use Rattle.kc_machine_commits.specs.Commits.{owed_next}
-use Rattle.kc_machine_commits.specs.declared.commit.OwnStep.TheVariants as step
+use Rattle.kc_table_moves.specs.kc_machine_commits.Commits.{owed_next}
+use Rattle.kc_table_moves.specs.kc_machine_commits.declared.commit.OwnStep.TheVariants as step
 use Rattle.kc_table_straight.proofs.Links.{on_step, owed_some}
 use Rattle.kc_table_straight.specs.Straight.{IsOnward, Stopped}
 use Rattle.kc_table_moves.specs.declared.atoms.StopAt.TheVariants as stop

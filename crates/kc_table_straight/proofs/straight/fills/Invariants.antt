@@ -1,5 +1,5 @@
 use Rattle.std.proofs.Common.{false}
-use Rattle.kc_machine_commits.specs.Commits.{fill_next}
+use Rattle.kc_table_moves.specs.kc_machine_commits.Commits.{fill_next}
 use Rattle.kc_table_moves.specs.Atoms.{On, seat_in}
 use Rattle.kc_table_straight.specs.Straight.{at_own}
 use Rattle.kc_table_straight.proofs.straight.fills.Given as goal

@@ -2,7 +2,7 @@ use Rattle.std.proofs.Common.{◌∙◌, subst}
 use Rattle.kc_machine_steps.specs.Lines.{one_more, after_line}
 use Rattle.kc_machine_steps.specs.Passes.{from_install}
 use Rattle.kc_machine_steps.specs.declared.pass.PassStep.TheVariants.{Install}
-use Rattle.kc_machine_commits.specs.declared.commit.OwnStep.TheVariants as step
+use Rattle.kc_table_moves.specs.kc_machine_commits.declared.commit.OwnStep.TheVariants as step
 use Rattle.kc_table_straight.proofs.Links.{foreign_refers, install_fits, install_made, install_makes, unlike_shows}
 use Rattle.kc_table_straight.proofs.Links.{went_on}
 use Rattle.kc_table_moves.specs.Atoms.{Went, seat_in}

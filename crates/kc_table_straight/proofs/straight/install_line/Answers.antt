@@ -2,7 +2,7 @@ use Rattle.std.proofs.Common.{◌∙◌, ◌+◌, ap, refl, sym}
 use Rattle.kc_machine_steps.specs.Lines.{after_line, one_more}
 use Rattle.kc_machine_steps.specs.Passes.{from_install}
 use Rattle.kc_machine_steps.specs.declared.pass.PassStep.TheVariants.{Install}
-use Rattle.kc_machine_commits.specs.declared.commit.OwnStep.TheVariants as step
+use Rattle.kc_table_moves.specs.kc_machine_commits.declared.commit.OwnStep.TheVariants as step
 use Rattle.kc_table_straight.proofs.Links.{after_is, below, on_step, installs_here, installs_past}
 use Rattle.kc_table_straight.proofs.straight.install_line.Goals as goal
 

@@ -1,6 +1,6 @@
 use Rattle.std.proofs.Common.{◌≤◌, ap, arith, length, refl}
 use Rattle.kc_machine_steps.specs.Passes.{from_check, from_install}
-use Rattle.kc_machine_commits.specs.declared.commit.OwnStep.TheVariants as step
+use Rattle.kc_table_moves.specs.kc_machine_commits.declared.commit.OwnStep.TheVariants as step
 use Rattle.kc_table_straight.proofs.Links.{on_step, installs_end}
 use Rattle.kc_table_straight.proofs.straight.installs.Goals as goal
 

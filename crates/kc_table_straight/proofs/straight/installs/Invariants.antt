@@ -1,6 +1,6 @@
 use Rattle.std.proofs.Common.{false}
 use Rattle.kc_machine_steps.specs.Passes.{from_install}
-use Rattle.kc_machine_commits.specs.declared.commit.OwnStep.TheVariants as step
+use Rattle.kc_table_moves.specs.kc_machine_commits.declared.commit.OwnStep.TheVariants as step
 use Rattle.kc_table_moves.specs.Atoms.{On, seat_in}
 use Rattle.kc_table_straight.specs.Straight.{at_own}
 use Rattle.kc_table_straight.proofs.straight.installs.Given as goal

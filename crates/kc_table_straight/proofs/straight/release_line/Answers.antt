@@ -2,8 +2,8 @@ use Rattle.std.proofs.Common.{◌∙◌, ◌+◌, ap, refl, sym}
 use Rattle.kc_machine_steps.specs.Lines.{after_line, one_more}
 use Rattle.kc_machine_steps.specs.Passes.{from_release}
 use Rattle.kc_machine_steps.specs.declared.pass.PassStep.TheVariants.{Release}
-use Rattle.kc_machine_commits.specs.declared.commit.OwnStep.TheVariants as step
-use Rattle.kc_machine_commits.specs.Commits.{after_own_pass, intent_of}
+use Rattle.kc_table_moves.specs.kc_machine_commits.declared.commit.OwnStep.TheVariants as step
+use Rattle.kc_table_moves.specs.kc_machine_commits.Commits.{after_own_pass, intent_of}
 use Rattle.kc_table_straight.proofs.Links.{after_is, below, on_step, releases_here, releases_past}
 use Rattle.kc_table_straight.proofs.straight.release_line.Goals as goal
 

@@ -1,6 +1,6 @@
 use Rattle.std.proofs.Common.{◌≤◌, arith, length, refl}
 use Rattle.kc_machine_steps.specs.Passes.{from_release}
-use Rattle.kc_machine_commits.specs.Commits.{after_own_pass, finished, intent_of}
+use Rattle.kc_table_moves.specs.kc_machine_commits.Commits.{after_own_pass, finished, intent_of}
 use Rattle.kc_table_straight.proofs.Links.{on_step, releases_end}
 use Rattle.kc_table_straight.proofs.straight.releases.Goals as goal
 

@@ -1,7 +1,7 @@
 use Rattle.std.proofs.Common.{◌≡◌, ◌∙◌, refl, subst, sym}
 use Rattle.kc_machine.specs.Points.{first_point, point}
 use Rattle.kc_machine.specs.Seats.{answer_of}
-use Rattle.kc_machine_commits.specs.declared.commit.Stage.TheVariants.{Scan}
+use Rattle.kc_table_moves.specs.kc_machine_commits.declared.commit.Stage.TheVariants.{Scan}
 use Rattle.kc_machine_words.specs.declared.access.Found.TheVariants as found
 use Rattle.kc_table_straight.proofs.Links.{free_is, scan_makes, scan_rests, stops_behind}
 use Rattle.kc_table_straight.proofs.Links.{went_on}

@@ -1,7 +1,7 @@
 use Rattle.std.proofs.Common.{◌∙◌, false, refl, subst, sym}
-use Rattle.kc_machine_commits.specs.Commits.{after_own_pass, finished, intent_of}
+use Rattle.kc_table_moves.specs.kc_machine_commits.Commits.{after_own_pass, finished, intent_of}
 use Rattle.kc_machine_steps.specs.Passes.{from_release}
-use Rattle.kc_machine_commits.specs.declared.commit.OwnStep.TheVariants as step
+use Rattle.kc_table_moves.specs.kc_machine_commits.declared.commit.OwnStep.TheVariants as step
 use Rattle.kc_table_straight.proofs.Links.{drops_at_once, on_step, succeeded_is}
 use Rattle.kc_table_moves.specs.Atoms.{On, seat_in}
 use Rattle.kc_table_straight.specs.Straight.{at_own}

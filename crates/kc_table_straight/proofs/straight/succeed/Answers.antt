@@ -1,5 +1,5 @@
 use Rattle.std.proofs.Common.{refl}
-use Rattle.kc_machine_commits.specs.Commits.{finished, intent_of, wake_or_signal}
+use Rattle.kc_table_moves.specs.kc_machine_commits.Commits.{finished, intent_of, wake_or_signal}
 use Rattle.kc_machine_steps.specs.Lines.{next_line}
 use Rattle.kc_machine_steps.specs.declared.line.Pick.TheVariants.{Put}
 use Rattle.kc_machine_words.specs.declared.words.Phase.TheVariants.{Succeeded}

@@ -1,6 +1,6 @@
 use Rattle.std.proofs.Common.{◌≡◌, ◌∙◌, ◌*◌, ◌+◌, ◌^◌, refl, subst, sym}
 use Rattle.kc_machine.specs.Points.{point}
-use Rattle.kc_machine_commits.specs.declared.commit.Stage.TheVariants.{Take}
+use Rattle.kc_table_moves.specs.kc_machine_commits.declared.commit.Stage.TheVariants.{Take}
 use Rattle.kc_machine_steps.specs.Lines.{one_more}
 use Rattle.kc_table_straight.proofs.Links.{stops_behind, take_rests}
 use Rattle.kc_table_straight.specs.Straight.{Paused, at_take}

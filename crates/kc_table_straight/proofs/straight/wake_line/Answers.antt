@@ -1,8 +1,8 @@
 use Rattle.std.proofs.Common.{◌∙◌, ◌+◌, ap, refl, sym}
 use Rattle.kc_machine_steps.specs.Lines.{after_line, next_line, one_more}
 use Rattle.kc_machine_steps.specs.declared.line.Pick.TheVariants.{Put}
-use Rattle.kc_machine_commits.specs.declared.commit.OwnStep.TheVariants as step
-use Rattle.kc_machine_commits.specs.Commits.{wake_or_signal}
+use Rattle.kc_table_moves.specs.kc_machine_commits.declared.commit.OwnStep.TheVariants as step
+use Rattle.kc_table_moves.specs.kc_machine_commits.Commits.{wake_or_signal}
 use Rattle.kc_table_straight.proofs.Links.{after_is, below, has_one, on_step, wakes_here, wakes_past}
 use Rattle.kc_table_straight.proofs.straight.wake_line.Goals as goal
 

@@ -1,7 +1,7 @@
 use Rattle.std.proofs.Common.{◌≤◌, arith, length, refl}
 use Rattle.kc_machine_steps.specs.Lines.{next_line}
 use Rattle.kc_machine_steps.specs.declared.line.Pick.TheVariants.{Put}
-use Rattle.kc_machine_commits.specs.Commits.{owed_next, wake_or_signal}
+use Rattle.kc_table_moves.specs.kc_machine_commits.Commits.{owed_next, wake_or_signal}
 use Rattle.kc_table_straight.proofs.Links.{on_step, wakes_end}
 use Rattle.kc_table_straight.proofs.straight.wakes.Goals as goal
 

@@ -1,7 +1,7 @@
 use Rattle.std.proofs.Common.{false}
 use Rattle.kc_machine_steps.specs.Lines.{next_line}
 use Rattle.kc_machine_steps.specs.declared.line.Pick.TheVariants.{Put}
-use Rattle.kc_machine_commits.specs.Commits.{wake_or_signal}
+use Rattle.kc_table_moves.specs.kc_machine_commits.Commits.{wake_or_signal}
 use Rattle.kc_table_moves.specs.Atoms.{On, seat_in}
 use Rattle.kc_table_straight.specs.Straight.{at_own}
 use Rattle.kc_table_straight.proofs.straight.wakes.Given as goal

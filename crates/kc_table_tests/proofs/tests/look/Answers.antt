@@ -5,7 +5,7 @@ use Rattle.kc_table_tests.proofs.tests.look.Goals as goal
 
 pub loop-init : goal.loop-init
 loop-init c =
-    let s = c.step.ensures in
+    let s = c.step.ensures.stepped in
     let t = task.Look c.args.loc in
     record {
       table = s.of ∙ ap (λ v. v.of) c.begin.ensures ∙ c.requires.table;
@@ -16,7 +16,7 @@ loop-init c =
 
 pub loop-preserved : goal.loop-preserved
 loop-preserved c =
-    let s = c.step-in-loop.ensures in
+    let s = c.step-in-loop.ensures.stepped in
     let i = c.loop.invariant in
     record {
       table = s.of ∙ i.table;

@@ -19,7 +19,7 @@ commit_by-requires-clause-on c = λ r is.
     let t = task.Commit c.args.footprint.now m in
     let e = ap (λ v. v.of) c.seat.view_is ∙ c.requires.table ∙ sym c.self.view_is in
     let idle : is_idle s.work ≡ true = ap (λ (v : SeatView). is_idle v.seat.work) c.seat.view_is ∙ c.requires.idle in
-    let w = c.self.inside.table.shared in
+    let w = c.self.inside.words in
     let here : Here w.key w.table_id c.base_at.result z me = record { table = ap (λ v. v.table) e; origin = ap (λ v. v.origin) e; from = c.base_at.ensures ∙ ap base_of i.0; few = i.1; size = i.2 } in
     let same : seat_at s m xs (first_point s) ≡ seat_at r.seat.now r.mode r.lines.now (first_point s) =
     ap (λ v. seat_at v m xs (first_point s)) (sym is.seat) ∙ (ap (λ v. seat_at r.seat.now v xs (first_point s)) (sym is.mode) ∙ ap (λ v. seat_at r.seat.now r.mode v (first_point s)) (sym is.lines)) in

@@ -1,4 +1,4 @@
-use Rattle.std.proofs.Common.{◌∙◌, ap, sym}
+use Rattle.std.proofs.Common.{◌∙◌, ap, arith, sym}
 use Rattle.kc_machine.specs.Seats.{answer_of, is_idle}
 use Rattle.kc_machine_steps.specs.Swaps.{may_swap}
 use Rattle.kc_machine_steps.specs.declared.task.Task.TheVariants as task
@@ -6,6 +6,7 @@ use Rattle.kc_machine_words.specs.declared.access.Found.TheVariants as found
 use Rattle.kc_table.proofs.Begins.{ready_begun}
 use Rattle.kc_table.proofs.Swapping.{puts_seen, second, swap_busy, told_at_once, told_behind}
 use Rattle.kc_table_moves.specs.Views.{SeatView, Starts}
+use Rattle.kc_table_moves.specs.Rule.{loads_of}
 use Rattle.kc_table.proofs.table.KcTable.swap.Goals as goal
 
 pub try_word-number-requires-clause-ready : goal.try_word-number-requires-clause-ready
@@ -40,3 +41,27 @@ returns-else-owed-eq0-clause-ran c =
     told_behind s c.args.seen c.args.after idle (ap may_swap (sym c.calls.ensures) ∙ put.1) c.try_word-number.new.token.me c.wake-owed.new.token.me c.wake-owed.result c.wake-owed.ensures.moved
     c.seat.inside.token.table_id c.try_word-number.new.token.table_id c.wake-owed.new.token.table_id c.seat.inside.token.me c.try_word-number.result c.seat.inside.began c.args.seat.now c.owe.new.seat
     c.try_word-number.ensures.table c.wake-owed.ensures.table c.try_word-number.ensures.moved (λ w p e. sym put.0 ∙ c.unpack-now.ensures.back w p e) c.seat.view_is c.owe.ensures
+
+pub returns-then-not-puts-clause-loads : goal.returns-then-not-puts-clause-loads
+returns-then-not-puts-clause-loads c =
+    let first = ap (λ m. loads_of m.0.parts) c.try_word-number.ensures.moved.1 in
+    let seen = ap (λ v. v.loads) c.seat.view_is in
+    omega arith
+
+pub returns-then-owed-eq0-clause-loads : goal.returns-then-owed-eq0-clause-loads
+returns-then-owed-eq0-clause-loads c =
+    let first = ap (λ m. loads_of m.0.parts) c.try_word-number.ensures.moved.1 in
+    let wake = c.wake-owed.ensures.moved in
+    let few = wake.1 in
+    let second = ap (λ m. loads_of m.0.parts) wake.2.1 in
+    let seen = ap (λ v. v.loads) c.seat.view_is in
+    omega arith
+
+pub returns-else-owed-eq0-clause-loads : goal.returns-else-owed-eq0-clause-loads
+returns-else-owed-eq0-clause-loads c =
+    let first = ap (λ m. loads_of m.0.parts) c.try_word-number.ensures.moved.1 in
+    let wake = c.wake-owed.ensures.moved in
+    let few = wake.1 in
+    let second = ap (λ m. loads_of m.0.parts) wake.2.1 in
+    let seen = ap (λ v. v.loads) c.seat.view_is in
+    omega arith
