@@ -21,7 +21,7 @@ use Rattle.kc_model.specs.Store.{opened}
 use Rattle.kc_model.specs.declared.footprint.Entry.{Entry}
 use Rattle.atomic_table.specs.Seated.{TableId}
 use Rattle.kc_locked.proofs.Sound.{sound_first}
-use Rattle.kc_locked.proofs.Views.{total_set, total_snoc, times-append, left_of-append, AllFit-append}
+use Rattle.kc_locked.proofs.Views.{total_set, total_snoc, times-append, left_of-append, AllFit-append, held_on, held_beside}
 use Rattle.kc_locked.specs.Locked.{Matches}
 use Rattle.kc_locked.specs.Passes.{PassView, pass_of, passes_of}
 
@@ -57,6 +57,7 @@ opens o h most is = record {
   one_slot = refl;
   two_words = refl;
   free = λ _. ap (λ (x : HeldView). some (some x)) is;
+  taken = λ above. absurd (omega arith);
   sound = sound_first o.values (sum o.shares) most;
   opening = refl;
   callers = λ i d lt. absurd (omega arith);
@@ -80,6 +81,7 @@ arrives o slots i s kept count small = (
     one_slot = kept.one_slot;
     two_words = kept.two_words;
     free = kept.free;
+    taken = λ above. held_beside s.views spent kept.holder (kept.taken above);
     sound = kept.sound;
     opening = kept.opening;
     callers = kept.callers;
@@ -101,6 +103,7 @@ deals o id v s kept at =
       one_slot = kept.one_slot;
       two_words = kept.two_words;
       free = kept.free;
+      taken = λ above. held_beside (set s.views id w) x kept.holder (held_on s.views id kept.holder v w at (λ h. h) (kept.taken above));
       sound = kept.sound;
       opening = kept.opening;
       callers = kept.callers;
@@ -139,8 +142,8 @@ deals o id v s kept at =
     lefts [] = refl
     lefts (p ∷ ps) = omega arith
 
-pub gathers : (o : Origin) (id : ℕ) (v : View) (other : ℕ) (w : View) → Joins (Kept o) id v other w (gathered v w) spent
-gathers o id v other w s kept at apart there =
+pub gathers : (o : Origin) (id : ℕ) (v : View) (other : ℕ) (w : View) → w.holds ≡ false → Joins (Kept o) id v other w (gathered v w) spent
+gathers o id v other w none s kept at apart there =
     let both = gathered v w in
     let theirs = ⊎_elim (λ (x : (other ≡ id) × (both ≡ w)). absurd (apart x.0)) (λ (x : (other ≢ id) × (get_elem? s.views other ≡ some w)). x.1) (at_set s.views id other both w there) in
     let f = kept.views id v at in
@@ -151,6 +154,7 @@ gathers o id v other w s kept at apart there =
       one_slot = kept.one_slot;
       two_words = kept.two_words;
       free = kept.free;
+      taken = λ above. held_on (set s.views id both) other kept.holder w spent there (λ h. off (sym none ∙ h)) (held_on s.views id kept.holder v both at (λ h. h) (kept.taken above));
       sound = kept.sound;
       opening = kept.opening;
       callers = kept.callers;
@@ -177,7 +181,7 @@ gathers o id v other w s kept at apart there =
 
 pub ends : (o : Origin) (slots id : ℕ) (me : Me HeldView View) → Allows (Kept o) slots id me 0 (λ x. x) (λ found after. Ended o me after)
 ends o slots id me s kept count at small =
-    let w : View = record { parts = me.0.parts; holds = false; found = kept.now } in
+    let w : View = record { parts = me.0.parts; holds = me.0.holds; found = kept.now } in
     let f = kept.views id me.0 at in
     let ws : set s.words 0 (slice_index s.words 0) ≡ s.words = set-get_or s.words 0 0 in (
       w,
@@ -190,11 +194,12 @@ ends o slots id me s kept count at small =
             one_slot = kept.one_slot;
             two_words = kept.two_words;
             free = kept.free;
+            taken = λ above. held_on s.views id kept.holder me.0 w at (λ h. h) (kept.taken above);
             sound = kept.sound;
             opening = kept.opening;
             callers = kept.callers;
             views = λ j u e. ⊎_elim
-                (λ (x : (j ≡ id) × (w ≡ u)). subst (FitsView o kept.now (slice_index s.words 0) kept.holder j) x.1 (record { parts = f.parts; lock = λ h. off h }))
+                (λ (x : (j ≡ id) × (w ≡ u)). subst (FitsView o kept.now (slice_index s.words 0) kept.holder j) x.1 (record { parts = f.parts; lock = λ h. let l = f.lock h in (x.0 ∙ l.0, refl, l.2) }))
                 (λ (x : (j ≢ id) × (get_elem? s.views j ≡ some u)). kept.views j u x.1)
                 (at_set s.views id j w u e);
             once = λ k. let one = kept.once k in let t = total_set (λ u. times k u.parts) s.views id me.0 w at in omega arith;

@@ -10,7 +10,7 @@ use Rattle.atomic_table.specs.Table as table
 use Rattle.atomic_table.specs.Table.{Me, Allows, keeps, takes, gives, stepped}
 use Rattle.atomic_table.proofs.Lists.{at_set, set_here, set_again}
 use Rattle.kc_history.specs.Callers.{of_caller, IsBelowCallers}
-use Rattle.kc_locked.proofs.Views.{total_set, total_one, total_two, own_more, times-hit, all_other, all_below}
+use Rattle.kc_locked.proofs.Views.{total_set, total_one, total_two, own_more, times-hit, all_other, all_below, held_here}
 use Rattle.kc_locked.specs.Held.{HeldView}
 use Rattle.kc_locked.specs.Locked.{AllFit, part, free_view, lock_view, times, left_of, total, FitsView, Kept, Took, Gave, Grown, Holds, committed}
 use Rattle.kc_locked.specs.Origin.{Origin}
@@ -39,6 +39,7 @@ module _ (o : Origin) (s : table.State HeldView View) (id : ℕ) (me : Mine) (ke
           one_slot = length-set s.homes 0 _ ∙ kept.one_slot;
           two_words = length-set s.words 0 _ ∙ kept.two_words;
           free = λ z. absurd (omega arith);
+          taken = λ _. held_here s.views id me.0 w at refl;
           sound = kept.sound;
           opening = kept.opening;
           callers = kept.callers;
@@ -60,6 +61,7 @@ module _ (o : Origin) (s : table.State HeldView View) (id : ℕ) (me : Mine) (ke
         one_slot = kept.one_slot;
         two_words = length-set s.words i _ ∙ kept.two_words;
         free = λ z. ⊎_elim (λ same. kept.free (sym same ∙ z)) (λ (x : (0 < slice_index s.words 0) × (0 < slice_index (set s.words i n) 0)). absurd (let y = x.1 in omega arith)) word;
+        taken = λ above. kept.taken (⊎_elim (λ same. subst (λ m. 0 < m) same above) (λ (x : (0 < slice_index s.words 0) × (0 < slice_index (set s.words i n) 0)). x.0) word);
         sound = kept.sound;
         opening = kept.opening;
         callers = kept.callers;
@@ -130,6 +132,7 @@ module _ (o : Origin) (s : table.State HeldView View) (id : ℕ) (k left : ℕ) 
         one_slot = length-set s.homes 0 _ ∙ kept.one_slot;
         two_words = length-set s.words 0 _ ∙ kept.two_words;
         free = λ _. set_here s.homes 0 (some now) (let c = kept.one_slot in omega arith);
+        taken = λ above. absurd (omega arith);
         sound = grown.sound;
         opening = grown.opening ∙ ap (λ (h : HeldView). h.opening) lock_facts.1 ∙ kept.opening;
         callers = subst (IsBelowCallers (length o.shares)) (sym history_after) (All-append (λ (e : Entry). e.caller < length o.shares) kept.now.history es kept.callers (all_below (length o.shares) k es fits_here.0 grown.mine));

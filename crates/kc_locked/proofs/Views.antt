@@ -4,7 +4,7 @@ use mathlib.Core.Option.{some, some-injective, some-ne-none}
 use lib.ListN.{get_elem?}
 use borrow.Author.Tests.{eq-eqb, ne_eqb}
 use Rattle.kc_history.specs.Callers.{of_caller, IsBelowCallers}
-use Rattle.kc_locked.specs.Locked.{AllOf, times, left_of, total, AllFit}
+use Rattle.kc_locked.specs.Locked.{AllOf, times, left_of, total, AllFit, IsHeldBy}
 use Rattle.kc_locked.specs.declared.rule.Part.{Part}
 use Rattle.kc_locked.specs.declared.rule.View.{View}
 use Rattle.kc_model.specs.declared.footprint.Entry.{Entry}
@@ -81,3 +81,27 @@ times-append k (p ∷ ps) qs = let h = times-append k ps qs in omega arith
 pub left_of-append : (ps qs : List Part) → left_of (ps ++ qs) ≡ left_of ps + left_of qs
 left_of-append [] qs = omega arith
 left_of-append (p ∷ ps) qs = let h = left_of-append ps qs in omega arith
+
+-- ---- who has the lock
+
+-- a view changed, and has the lock if it had it
+pub held_on : (views : List View) (id holder : ℕ) (v w : View) → get_elem? views id ≡ some v → (v.holds ≡ true → w.holds ≡ true) → IsHeldBy holder views → IsHeldBy holder (set views id w)
+held_on [] id holder v w at still h = absurd (some-ne-none v (sym at))
+held_on (x ∷ xs) zero zero v w at still h =
+    let same : h.0 ≡ v = some-injective h.0 v (sym h.1 ∙ at) in
+    (w, refl, still (sym (ap (λ (u : View). u.holds) same) ∙ h.2))
+held_on (x ∷ xs) zero (suc k) v w at still h = h
+held_on (x ∷ xs) (suc i) zero v w at still h = h
+held_on (x ∷ xs) (suc i) (suc k) v w at still h = held_on xs i k v w at still h
+
+-- a view took it
+pub held_here : (views : List View) (id : ℕ) (v w : View) → get_elem? views id ≡ some v → w.holds ≡ true → IsHeldBy id (set views id w)
+held_here [] id v w at h = absurd (some-ne-none v (sym at))
+held_here (x ∷ xs) zero v w at h = (w, refl, h)
+held_here (x ∷ xs) (suc i) v w at h = held_here xs i v w at h
+
+-- a view more
+pub held_beside : (views : List View) (w : View) (holder : ℕ) → IsHeldBy holder views → IsHeldBy holder (views ++ w ∷ [])
+held_beside [] w k h = absurd (some-ne-none h.0 (sym h.1))
+held_beside (x ∷ xs) w zero h = h
+held_beside (x ∷ xs) w (suc k) h = held_beside xs w k h

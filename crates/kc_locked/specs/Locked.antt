@@ -61,13 +61,18 @@ pub record FitsView (o : Origin) (now : HeldView) (word holder i : ℕ) (v : Vie
   pub parts : AllFit (length o.shares) now.history v.parts
   pub lock : v.holds ≡ true → (i ≡ holder) × (v.found ≡ now) × (0 < word)
 
--- What the slot held when the lock was last let go is what all views speak of.
+-- the seat at this place has the lock
+abbrev pub IsHeldBy : ℕ → List View → Type 0
+IsHeldBy holder views = (v : View) × (get_elem? views holder ≡ some v) × (v.holds ≡ true)
+
+-- What the slot held when the lock was last let go is what all views speak of. While the lock's word is above 0 somebody has it.
 pub record Kept (o : Origin) (s : table.State HeldView View) : Type 0 where
   pub now : HeldView
   pub holder : ℕ
   pub one_slot : length s.homes ≡ 1
   pub two_words : length s.words ≡ 2
   pub free : slice_index s.words 0 ≡ 0 → get_elem? s.homes 0 ≡ some (some now)
+  pub taken : 0 < slice_index s.words 0 → IsHeldBy holder s.views
   pub sound : IsSound now
   pub opening : now.opening ≡ o.values
   pub callers : IsBelowCallers (length o.shares) now.history
@@ -133,7 +138,7 @@ spent = free_view []
 -- what the slot held when the lock was last let go was seen: the passes' own lists are parts of that history
 pub record Ended (o : Origin) (me after : Me HeldView View) : Type 0 where
   pub now : HeldView
-  pub is : after ≡ (record { parts = me.0.parts; holds = false; found = now }, me.1)
+  pub is : after ≡ (record { parts = me.0.parts; holds = me.0.holds; found = now }, me.1)
   pub opening : now.opening ≡ o.values
   pub sound : IsSound now
   pub below : IsBelowCallers (length o.shares) now.history

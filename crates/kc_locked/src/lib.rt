@@ -6,8 +6,6 @@ mod history;
 mod lock;
 mod rule;
 mod store;
-#[cfg(test)]
-mod tests;
 
 pub use held::{Held, MOST_COMMITS, Waits, answer_of};
 pub use store::{LockPass, LockPast, LockedStore, MOST_CALLERS};

@@ -25,10 +25,14 @@ const AWAITED: u64 = 2;
 // How often the processor pauses before it looks again whether the lock is free.
 const PAUSES: [u32; 4] = [64, 128, 256, 512];
 
+/// That one has the lock. It can't be let go: `give` alone takes it back.
+#[must_use]
+pub(crate) struct Key(());
+
 /// Takes what lies in the slot. Who finds the lock taken pauses, so that who has it goes on with the store at hand, and sleeps at
 /// last.
 #[inline(always)]
-pub(crate) fn take<K: Knows, R: Wait>(rt: &R, memory: &Memory, token: &mut Token)
+pub(crate) fn take<K: Knows, R: Wait>(rt: &R, memory: &Memory, token: &mut Token) -> Key
     requires table { (token.old.table_id ≡ memory.now.table_id) × (memory.now.table_id.words ≡ 2) }
     requires key { memory.now.key ≡ K.origin }
     ensures table { token.new.table_id ≡ token.old.table_id }
@@ -37,6 +41,7 @@ pub(crate) fn take<K: Knows, R: Wait>(rt: &R, memory: &Memory, token: &mut Token
     if !try_take::<K>(memory, token, TAKEN) && !try_again::<K>(memory, token, TAKEN) {
         take_asleep::<K, R>(rt, memory, token);
     }
+    Key(())
 }
 
 // Takes the lock with this word where it is free.
@@ -95,6 +100,7 @@ fn take_asleep<K: Knows, R: Wait>(rt: &R, memory: &Memory, token: &mut Token)
 pub(crate) fn give<C: Commits>(
     memory: &Memory,
     token: &mut Token,
+    key: Key,
     caller: u32,
     number: u64,
     _footprint: &Footprint,
@@ -106,13 +112,14 @@ pub(crate) fn give<C: Commits>(
     ensures table { token.new.table_id ≡ token.old.table_id }
     ensures gave { token.new.me ≡ (free_view (committed token.old.me.0.parts C.made), []) }
 {
+    let Key(()) = key;
     if memory.swap::<Gives<C>>(token, LOCK, FREE) == AWAITED {
         memory.wake_one(LOCK);
     }
 }
 
 /// While one has the lock: notes that one waits for a change, and says what the word is until then.
-pub(crate) fn note_wait(memory: &Memory, token: &mut Token) -> u32
+pub(crate) fn note_wait(memory: &Memory, token: &mut Token, _key: &Key) -> u32
     requires table { (token.old.table_id ≡ memory.now.table_id) × (memory.now.table_id.words ≡ 2) }
     ensures { (token.new.table_id ≡ token.old.table_id) × (token.new.me ≡ token.old.me) }
 {
@@ -122,7 +129,7 @@ pub(crate) fn note_wait(memory: &Memory, token: &mut Token) -> u32
 }
 
 /// While one has the lock: notes a change. Says whether some may sleep, who are to be woken once the lock is free.
-pub(crate) fn note_change(memory: &Memory, token: &mut Token) -> bool
+pub(crate) fn note_change(memory: &Memory, token: &mut Token, _key: &Key) -> bool
     requires table { (token.old.table_id ≡ memory.now.table_id) × (memory.now.table_id.words ≡ 2) }
     ensures { (token.new.table_id ≡ token.old.table_id) × (token.new.me ≡ token.old.me) }
 {

@@ -17,7 +17,7 @@ join_seat-requires c =
       ap (λ v. v.table) c.pass.view_is ∙ table,
       ap (λ m. m.1) c.pass.invariant.0,
       omega arith,
-      gathers _ _ _ _ _,
+      gathers _ _ _ _ _ (ap (λ m. m.0.holds) c.pass.invariant.0),
     )
 
 pub loop-pass-preserved : goal.loop-pass-preserved

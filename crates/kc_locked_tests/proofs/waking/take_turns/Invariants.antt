@@ -1,5 +1,5 @@
 use Rattle.std.proofs.Common.{◌≡◌}
-use Rattle.kc_locked.proofs.tests.count.Given as goal
+use Rattle.kc_locked_tests.proofs.waking.take_turns.Given as goal
 
 abbrev pub invariant-loop-pass : goal.invariant-loop-pass
 invariant-loop-pass g l = l.pass.table ≡ l.store.table

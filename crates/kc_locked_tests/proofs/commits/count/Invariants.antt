@@ -1,5 +1,5 @@
 use Rattle.std.proofs.Common.{◌≡◌}
-use Rattle.kc_locked.proofs.tests.take_turns.Given as goal
+use Rattle.kc_locked_tests.proofs.commits.count.Given as goal
 
 abbrev pub invariant-loop-pass : goal.invariant-loop-pass
 invariant-loop-pass g l = l.pass.table ≡ l.store.table

@@ -1,16 +1,16 @@
-ghost use Rattle.std.specs.Prelude.{◌≡◌, ◌+◌, ◌<◌, ◌≤◌, length};
-ghost use Rattle.kc_loc.specs.Meaning.{loc_last, loc_end};
+//! Commits, one after another and by two threads.
 
-use crate::held::{Held, answer_of};
-use crate::{LockPass, LockedStore, Waits};
+ghost use Rattle.std.specs.Prelude.{◌≡◌, ◌<◌, length};
+
+use crate::one::one;
 use kc_loc::{LocOp, Rel};
+use kc_locked::{Held, LockPass, LockedStore, Waits, answer_of};
 use kc_model::{Answer, Footprint, Loc, OpenError, Reply};
 use kc_xt::{Ended, Room, Trial};
 use std::alloc::Global;
 use std::sync::Wait;
 use std::test::Fail;
 use std::thread;
-use std::thread::Threads;
 
 // Adds one to the first location, as often as the pass may commit.
 fn count<R: Wait>(rt: &R, store: &LockedStore, mut pass: LockPass) -> LockPass
@@ -22,22 +22,6 @@ fn count<R: Wait>(rt: &R, store: &LockedStore, mut pass: LockPass) -> LockPass
         store.commit_waiting(rt, &mut pass, &LocOp::FetchAdd(Loc(0), 1));
     }
     pass
-}
-
-// One commit, with its reply; None where it is too large.
-fn one<R: Wait>(rt: &R, store: &LockedStore, pass: &mut LockPass, operation: LocOp) -> Option<Reply>
-    requires pass { (pass.old.table ≡ store.now.table) × (0 < pass.old.left) }
-    requires fit { (loc_last operation < 65536) × (loc_end operation ≤ length store.now.opening) }
-    ensures table { pass.new.table ≡ pass.old.table }
-    ensures left { pass.new.left + 1 ≡ pass.old.left }
-{
-    match store.commit_waiting(rt, pass, &operation) {
-        Ended::Done {
-            reply,
-            footprint: _,
-        } => Some(reply),
-        Ended::TooLarge { footprint: _ } => None,
-    }
 }
 
 #[test]
@@ -65,66 +49,6 @@ fn two_threads_count(rt: HostRuntime) -> Result<(), Fail> {
     passes.push(second)?;
     passes.push(last)?;
     store.finish(passes);
-    Ok(())
-}
-
-// Waits for its turn and hands it on, as often as the pass may do both.
-fn take_turns<R: Wait>(rt: &R, store: &LockedStore, mut pass: LockPass, mine: u32, next: u32) -> u32
-    requires pass { pass.table ≡ store.now.table }
-    requires location { 0 < length store.now.opening }
-{
-    let mut turns: u32 = 0;
-    while pass.left() >= 2 {
-        one(rt, store, &mut pass, LocOp::Check(Loc(0), Rel::Eq, mine));
-        one(rt, store, &mut pass, LocOp::Set(Loc(0), next));
-        turns = turns.wrapping_add(1);
-    }
-    turns
-}
-
-// Two that take turns at once: the first hands on to the second, and this one to `next`.
-fn take_turns_by_two<R: Threads + Wait + Sync>(
-    rt: &R,
-    store: &LockedStore,
-    first: LockPass,
-    second: LockPass,
-    mine: u32,
-    next: u32,
-) -> (u32, u32)
-    requires first { first.table ≡ store.now.table }
-    requires second { second.table ≡ store.now.table }
-    requires location { 0 < length store.now.opening }
-{
-    let between = mine.wrapping_add(1);
-    thread::join(
-        rt,
-        move || take_turns(rt, store, first, mine, between),
-        move || take_turns(rt, store, second, between, next),
-    )
-}
-
-// Each of the four waits for the one before it 200 times, so a wait that isn't woken keeps the test for ever.
-#[test]
-fn four_threads_take_turns(rt: HostRuntime) -> Result<(), Fail> {
-    let Ok((store, mut passes)) = LockedStore::open(rt.alloc(), &[0, 5], &[400, 400, 400, 400])
-    else {
-        panic!(rt; "the store was not opened");
-    };
-    let (Some(fourth), Some(third), Some(second), Some(first)) = (
-        passes.pop(),
-        passes.pop(),
-        passes.pop(),
-        passes.pop(),
-    ) else {
-        panic!(rt; "there are four passes");
-    };
-    let (rt, shared) = (&rt, &store);
-    let turns = thread::join(
-        rt,
-        move || take_turns_by_two(rt, shared, first, second, 0, 2),
-        move || take_turns_by_two(rt, shared, third, fourth, 2, 0),
-    );
-    assert_eq!(rt; turns, ((200, 200), (200, 200)));
     Ok(())
 }
 
