@@ -70,7 +70,7 @@ pub credit_comes : (c : Credit) (pairs : List (ℕ × ℕ)) (found : Option ℕ)
     then_on v.outcome v.content (credited_value c pairs)) ≡ credit_found c pairs found
 credit_comes c pairs None e = rw e refl
 credit_comes c pairs (Some b) e =
-    rw e (ap (λ u. put_value c.accounts c.account ((b + DIVIDEND) % 2 ^ 32) pairs u) e)
+    rw e (ap (λ u. put_value c.accounts.cap c.account ((b + DIVIDEND) % 2 ^ 32) pairs u) e)
 
 -- on cells that stand for accounts, a credit adds to its account's balance, or replies Empty
 pub credit_means : (c : Credit) (pairs : List (ℕ × ℕ)) →

@@ -6,7 +6,7 @@ use Rattle.kc_bank.specs.declared.bank.Credit.{Credit}
 use Rattle.kc_bank.specs.declared.bank.PayNext.{PayNext}
 use Rattle.kc_bank.specs.declared.bank.TheConstants.{DIVIDEND}
 use Rattle.kc_hash.proofs.HashLaw.{hash_stays}
-use Rattle.kc_hash.proofs.Kept.{same_cells}
+use Rattle.kc_hash.proofs.Chained.{same_cells}
 use Rattle.kc_hash.specs.Meaning.{cells_end as accounts_end, hash_begin, hash_meaning, hash_program}
 use Rattle.kc_hash.specs.declared.HashOp.{HashOp}
 use Rattle.kc_model.specs.declared.Reply.{Reply}

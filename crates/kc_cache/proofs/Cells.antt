@@ -11,7 +11,7 @@ use Rattle.kc_dllist.proofs.Values.{dllist_same, opened_empty}
 use Rattle.kc_dllist.proofs.Walks.{walk_listed}
 use Rattle.kc_dllist.specs.Content.{Listed, numbers, opening_content}
 use Rattle.kc_dllist.specs.Meaning.{dllist_cells, dllist_opening}
-use Rattle.kc_hash.proofs.Kept.{same_cells}
+use Rattle.kc_hash.proofs.Chained.{same_cells}
 use Rattle.kc_hash.proofs.Opened.{hash_opens}
 use Rattle.kc_hash.specs.Content.{hash_opening}
 use Rattle.kc_hash.specs.Meaning.{hash_cells}

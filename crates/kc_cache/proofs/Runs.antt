@@ -230,8 +230,8 @@ module _ (c : Cache) (m : ℕ → ℕ) (xs : List Listed) (f : ℕ) (fs : List �
   table_step m T =
       let P : Value (List (ℕ × ℕ)) → Type 0 = λ w. Step c (hash_program (table_of c) (table.Put key f)) m w.outcome entered w.content s v in
       let full : (length (index_of xs) == c.cap) ≡ false = ne_eqb (length (index_of xs)) c.cap (λ e. (let n = index_length xs differ in omega (arith, n, e, room))) in
-      let unit : put_value (table_of c) key f (index_of xs) None ≡ after reply.Unit (index_of new) = rw full refl in
-      subst P unit (subst (λ o. P (put_value (table_of c) key f (index_of xs) o)) (index_none xs key none) (on_table c m entered (index_of xs) s v T (table.Put key f)))
+      let unit : put_value (table_of c).cap key f (index_of xs) None ≡ after reply.Unit (index_of new) = rw full refl in
+      subst P unit (subst (λ o. P (put_value (table_of c).cap key f (index_of xs) o)) (index_none xs key none) (on_table c m entered (index_of xs) s v T (table.Put key f)))
 
   pub enter_step : (value : ℕ) → Step c (enter_program c key value) m (replied reply.Unit) entered (index_of new) s (put v f value)
   enter_step value =

@@ -11,7 +11,7 @@ use Rattle.kc_dllist.proofs.Values.{dllist_same, dllist_inside}
 use Rattle.kc_dllist.specs.Content.{Listed, Content, numbers, dllist_value, NamesListed, StandsFor as ListStandsFor}
 use Rattle.kc_dllist.specs.Meaning.{dllist_program, IsNode}
 use Rattle.kc_dllist.specs.declared.operation.DllistAct.{DllistAct}
-use Rattle.kc_hash.proofs.Kept.{same_cells}
+use Rattle.kc_hash.proofs.Chained.{same_cells}
 use Rattle.kc_hash.proofs.Values.{hash_inside}
 use Rattle.kc_hash.specs.Content.{hash_value, StandsFor as TableStandsFor}
 use Rattle.kc_hash.specs.Meaning.{hash_program}

@@ -1,15 +1,6 @@
-pub mod Buckets
-pub mod Chains
-pub mod FiniteMaps
-pub mod Formed
+pub use Rattle.kc_chain.proofs.FiniteMaps as FiniteMaps
+pub mod Chained
 pub mod HashLaw
-pub mod Inserted
-pub mod Kept
-pub mod Maps
 pub mod Opened
-pub mod Pieces
-pub mod Removed
 pub mod Same
-pub mod Sweeps
 pub mod Values
-pub mod WalkSteps

@@ -1,10 +1,11 @@
 //! What a table is made of.
 
 ghost use Rattle.std.specs.Prelude.{◌≡◌, ◌≤◌, ◌<◌, ◌+◌, ◌*◌};
-ghost use Rattle.kc_hash.specs.Meaning.{hash_cells, key_cell, link_of};
+ghost use Rattle.kc_hash.specs.Meaning.{bucket_of, chains_of, hash_cells};
 ghost use Rattle.kc_hash.specs.Content.{hash_opening};
 
 use crate::hash::Hash;
+use kc_chain::{Chains, node_opening};
 use kc_model::{Loc, MOST_LOCATIONS};
 use kc_xt::{MOST_BUCKETS, MOST_ITEMS};
 
@@ -72,27 +73,30 @@ impl Hash {
             return 1;
         }
         let nodes = 2 + self.buckets;
-        if index < nodes || (index - nodes) % 3 != 2 {
+        if index < nodes {
             return 0;
         }
-        let node = (index - nodes) / 3 + 1;
-        if node < self.cap { node + 1 } else { 0 }
+        node_opening(self.cap, index - nodes)
     }
 
-    // A link above the capacity counts as 0.
-    pub(crate) fn link(self, number: u32) -> u32
-        ensures is { result ≡ link_of self number }
-        ensures within { result ≤ self.cap }
+    // Its chains.
+    pub(crate) fn chains(self) -> Chains
+        ensures { result ≡ chains_of self }
     {
-        if number <= self.cap { number } else { 0 }
+        Chains {
+            base: self.base,
+            heads: self.base.0 + 2,
+            nodes: self.base.0 + 2 + self.buckets,
+            buckets: self.buckets,
+            cap: self.cap,
+        }
     }
 
-    // The cell of a node's key; its value and its link lie behind it.
-    pub(crate) fn key_cell(self, node: u32) -> u32
-        requires some { 1 ≤ node }
-        requires within { node ≤ self.cap }
-        ensures is { result ≡ key_cell self node }
+    // The bucket of a key.
+    pub(crate) fn bucket(self, key: u32) -> u32
+        ensures is { result ≡ bucket_of self key }
+        ensures within { result < self.buckets }
     {
-        self.base.0 + 2 + self.buckets + 3 * (node - 1)
+        key % self.buckets
     }
 }

@@ -9,12 +9,11 @@ mod operation;
 mod shown;
 #[cfg(test)]
 mod tests;
-mod walk;
 
 pub use hash::Hash;
+pub use kc_chain::Pairs;
 pub use laws::{
     content_is_one, keeps_well_formed, means_its_value, opens_empty, runs_inside_others,
     touches_its_own_cells,
 };
 pub use operation::{HashAct, HashOp};
-pub use shown::Pairs;
