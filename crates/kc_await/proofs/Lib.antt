@@ -1,5 +1,3 @@
-pub mod Tasks
-pub mod Steps
 pub mod SomeRead
 pub mod Keeping
 pub mod Looks

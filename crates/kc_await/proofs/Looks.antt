@@ -2,19 +2,20 @@
 use Rattle.std.proofs.Common.{◌≡◌, ◌<◌, false, [], ◌∷◌, ◌++◌, sym, ◌∙◌, ap, subst, append_assoc, append-nil}
 use Rattle.std.specs.Prelude.{Contains}
 use Rattle.std.proofs.lemmas.List.Elements.{All-nil, All-push}
-use Rattle.kc_await.proofs.Keeping.{hangs_none, waiting_keeps}
+use Rattle.kc_await.proofs.Keeping.{waiting_keeps}
 use Rattle.kc_await.specs.Looks.{Adds, AddsBehindLooks, AddsLooks, IsLook}
 use Rattle.kc_await.specs.Waiting.{CommitsAtLast, Waiting, none, again, is_later}
-use Rattle.kc_machine_claims.specs.Histories.{Placed}
+use Rattle.kc_store.specs.kc_machine_claims.Histories.{Placed}
 use Rattle.kc_model.specs.declared.footprint.Footprint.{Footprint}
 use Rattle.kc_store.proofs.Among.{grows_in}
 use Rattle.kc_store.proofs.Gaining.{all_from}
+use Rattle.kc_store.proofs.Waits.{hangs_none}
 use Rattle.kc_store.specs.Answers.{Gains, Settles, own_entries, placed_entry}
 use Rattle.kc_store.specs.Verdicts.{verdict_of}
 use Rattle.kc_store.specs.declared.verdict.Answered.{Answered}
 use Rattle.kc_store.specs.declared.verdict.Answered.TheVariants as answered
-use Rattle.kc_table_moves.specs.Views.{SeatView, knows}
-use Rattle.kc_table_seats.specs.Tasks.{Keeps}
+use Rattle.kc_store.specs.kc_table_moves.Views.{SeatView, knows}
+use Rattle.kc_store.specs.kc_table_seats.Tasks.{Keeps}
 use Rattle.kc_xt.specs.Meaning.{Meaning}
 
 -- each commit that is Later adds a look, and the hang behind it nothing

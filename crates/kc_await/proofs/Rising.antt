@@ -7,51 +7,51 @@ use Rattle.std.proofs.lemmas.Bool.Decides.{nat_tests}
 use Rattle.std.proofs.lemmas.List.Elements.{All-contains}
 use borrow.Author.Tests.{eqb-true, eqb-false}
 use Rattle.kc_await.specs.Looks.{numbers}
-use Rattle.kc_machine.specs.Machine.{Opening, World, run, seat_of}
-use Rattle.kc_machine.specs.Schedules.{IsSchedule}
-use Rattle.kc_machine.specs.Seats.{is_idle}
-use Rattle.kc_machine.specs.Works.{Work}
-use Rattle.kc_machine.specs.Works as work
-use Rattle.kc_machine.specs.declared.hang.HangStep.{HangStep}
-use Rattle.kc_machine.specs.declared.hang.HangStep.TheVariants as hang
-use Rattle.kc_machine.specs.declared.seat.Seat.{Seat}
-use Rattle.kc_machine_claims.specs.Histories.{History, Placed, inserted}
-use Rattle.kc_machine_claims.specs.Traces.{is_success, trace}
-use Rattle.kc_machine_commits.specs.declared.commit.Commit.{Commit}
-use Rattle.kc_machine_commits.specs.declared.commit.OwnStep.{OwnStep}
-use Rattle.kc_machine_commits.specs.declared.commit.OwnStep.TheVariants as own
-use Rattle.kc_machine_commits.specs.declared.commit.Stage.{Stage}
-use Rattle.kc_machine_commits.specs.declared.commit.Stage.TheVariants as stage
-use Rattle.kc_machine_effects.specs.Holds.{own_hold}
-use Rattle.kc_machine_effects.specs.Holds.Hold.{NoHold, Proper}
-use Rattle.kc_machine_effects.specs.Stands.{Stand, Waits, aids, hangs, owns, resting, stand, works}
-use Rattle.kc_machine_histories.proofs.Begun.{entry_behind}
-use Rattle.kc_machine_histories.proofs.Decisions.{moves_by_decision}
-use Rattle.kc_machine_histories.proofs.Differ.{AreApart, SameCall, entries_apart}
-use Rattle.kc_machine_histories.proofs.Insertions.{filter_last}
-use Rattle.kc_machine_histories.proofs.Places.{begun_below, below, rises}
-use Rattle.kc_machine_histories.proofs.Successes.{kept}
-use Rattle.kc_machine_histories.specs.Decisions.{Decision, MovesByDecision}
-use Rattle.kc_machine_histories.specs.Places.{began}
-use Rattle.kc_machine_pool.specs.Owners.{fills}
-use Rattle.kc_machine_steps.specs.declared.aid.AidStep.{AidStep}
-use Rattle.kc_machine_steps.specs.declared.aid.AidStep.TheVariants as aid
-use Rattle.kc_machine_steps.specs.declared.aid.Aided.{Aided}
-use Rattle.kc_machine_steps.specs.declared.line.Intent.{Intent}
-use Rattle.kc_machine_steps.specs.declared.task.Event.{Event}
-use Rattle.kc_machine_steps.specs.declared.task.Task.{Task}
-use Rattle.kc_machine_traces.proofs.Answers.{answers_when_done}
-use Rattle.kc_machine_traces.proofs.Entries.{by_inserted, swap_caller}
-use Rattle.kc_machine_traces.proofs.Joins.{every, made_parts}
-use Rattle.kc_machine_traces.proofs.Numbers.{numbers_fit}
-use Rattle.kc_machine_traces.proofs.Onward.{IfDone, SeatLeft, succeeded}
-use Rattle.kc_machine_traces.specs.Entries.{by}
-use Rattle.kc_machine_traces.specs.Swaps.{SwapOf}
-use Rattle.kc_machine_steps.specs.Lines.{one_more}
-use Rattle.kc_machine_steps.specs.declared.swap.TheConstants.{MOST_SWAPS}
-use Rattle.kc_machine_words.specs.declared.words.Handle.{Handle}
-use Rattle.kc_machine_words.specs.declared.words.Reference.{Reference}
-use Rattle.kc_machine_words.specs.declared.words.Status.{Status}
+use Rattle.kc_store.specs.kc_machine.Machine.{Opening, World, run, seat_of}
+use Rattle.kc_store.specs.kc_machine.Schedules.{IsSchedule}
+use Rattle.kc_store.specs.kc_machine.Seats.{is_idle}
+use Rattle.kc_store.specs.kc_machine.Works.{Work}
+use Rattle.kc_store.specs.kc_machine.Works as work
+use Rattle.kc_store.specs.kc_machine.declared.hang.HangStep.{HangStep}
+use Rattle.kc_store.specs.kc_machine.declared.hang.HangStep.TheVariants as hang
+use Rattle.kc_store.specs.kc_machine.declared.seat.Seat.{Seat}
+use Rattle.kc_store.specs.kc_machine_claims.Histories.{History, Placed, inserted}
+use Rattle.kc_store.specs.kc_machine_claims.Traces.{is_success, trace}
+use Rattle.kc_store.specs.kc_machine_commits.declared.commit.Commit.{Commit}
+use Rattle.kc_store.specs.kc_machine_commits.declared.commit.OwnStep.{OwnStep}
+use Rattle.kc_store.specs.kc_machine_commits.declared.commit.OwnStep.TheVariants as own
+use Rattle.kc_store.specs.kc_machine_commits.declared.commit.Stage.{Stage}
+use Rattle.kc_store.specs.kc_machine_commits.declared.commit.Stage.TheVariants as stage
+use Rattle.kc_store.specs.kc_machine_effects.Holds.{own_hold}
+use Rattle.kc_store.specs.kc_machine_effects.Holds.Hold.{NoHold, Proper}
+use Rattle.kc_store.specs.kc_machine_effects.Stands.{Stand, Waits, aids, hangs, owns, resting, stand, works}
+use Rattle.kc_store.proofs.kc_machine_histories.Begun.{entry_behind}
+use Rattle.kc_store.proofs.kc_machine_histories.Decisions.{moves_by_decision}
+use Rattle.kc_store.proofs.kc_machine_histories.Differ.{AreApart, SameCall, entries_apart}
+use Rattle.kc_store.proofs.kc_machine_histories.Insertions.{filter_last}
+use Rattle.kc_store.proofs.kc_machine_histories.Places.{begun_below, below, rises}
+use Rattle.kc_store.proofs.kc_machine_histories.Successes.{kept}
+use Rattle.kc_store.specs.kc_machine_histories.Decisions.{Decision, MovesByDecision}
+use Rattle.kc_store.specs.kc_machine_histories.Places.{began}
+use Rattle.kc_store.specs.kc_machine_pool.Owners.{fills}
+use Rattle.kc_store.specs.kc_machine_steps.declared.aid.AidStep.{AidStep}
+use Rattle.kc_store.specs.kc_machine_steps.declared.aid.AidStep.TheVariants as aid
+use Rattle.kc_store.specs.kc_machine_steps.declared.aid.Aided.{Aided}
+use Rattle.kc_store.specs.kc_machine_steps.declared.line.Intent.{Intent}
+use Rattle.kc_store.specs.kc_machine_steps.declared.task.Event.{Event}
+use Rattle.kc_store.specs.kc_machine_steps.declared.task.Task.{Task}
+use Rattle.kc_store.proofs.kc_machine_traces.Answers.{answers_when_done}
+use Rattle.kc_store.proofs.kc_machine_traces.Entries.{by_inserted, swap_caller}
+use Rattle.kc_store.proofs.kc_machine_traces.Joins.{every, made_parts}
+use Rattle.kc_store.proofs.kc_machine_traces.Numbers.{numbers_fit}
+use Rattle.kc_store.proofs.kc_machine_traces.Onward.{IfDone, SeatLeft, succeeded}
+use Rattle.kc_store.specs.kc_machine_traces.Entries.{by}
+use Rattle.kc_store.specs.kc_machine_traces.Swaps.{SwapOf}
+use Rattle.kc_store.specs.kc_machine_steps.Lines.{one_more}
+use Rattle.kc_store.specs.kc_machine_steps.declared.swap.TheConstants.{MOST_SWAPS}
+use Rattle.kc_store.specs.kc_machine_words.declared.words.Handle.{Handle}
+use Rattle.kc_store.specs.kc_machine_words.declared.words.Reference.{Reference}
+use Rattle.kc_store.specs.kc_machine_words.declared.words.Status.{Status}
 use Rattle.kc_model.proofs.Stores.{Contains-first, Contains-later}
 use Rattle.kc_model.specs.Rising.{IsRising, IsRisingAbove}
 use Rattle.kc_store.proofs.Among.{filtered_in, first_or_later, in_filtered, nothing_in}

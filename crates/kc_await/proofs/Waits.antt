@@ -1,58 +1,46 @@
--- A commit that waits, between two tries.
-use Rattle.std.proofs.Common.{◌≡◌, ◌≢◌, ◌<◌, ◌≤◌, ◌⊎◌, inl, inr, true, false, ℕ, Option, None, Some, refl, sym, ap, subst, arith, get_or}
-use Rattle.std.specs.Prelude.{All, IfSome}
-use Rattle.std.proofs.lemmas.List.Elements.{Contains-get_or}
-use Rattle.arrayvec.specs.ArrayVec.{ArrayVec}
-use Rattle.kc_await.specs.Hanging.{Shows, is_under_way}
-use Rattle.kc_await.specs.HangingView.{HangingView}
-use Rattle.kc_await.specs.Waiting.{CommitsAtLast, Hangs, changed, signalled, Waiting, none, again, is_later}
-use Rattle.kc_await.specs.declared.hang_state.HangState.{HangState}
-use Rattle.kc_await.specs.declared.hang_state.HangState.TheVariants.{Going, Hung, Leaving, Free}
-use Rattle.kc_machine.specs.Seats.{is_idle}
-use Rattle.kc_machine_steps.specs.declared.task.Task.TheVariants as task
+-- A commit that waits, from try to try.
+use Rattle.std.proofs.Common.{◌≡◌, ◌++◌, ◌||◌, true, false, ℕ, List, [], ◌∷◌, refl, sym, ap, ◌∙◌, subst, append_assoc, append-nil, ◌≤◌, arith}
+use Rattle.std.specs.Prelude.{map}
+use Rattle.std.proofs.lemmas.List.Elements.{All-nil, All-push}
+use Rattle.kc_await.proofs.Numbered.{rises_at_last}
+use Rattle.kc_await.specs.Adds.{AddsLooksAlone, AddsLooksAndOne, IsLookOf, IsToldAtLast, WaitsSo}
+use Rattle.kc_await.specs.Looks.{numbers}
+use Rattle.kc_await.specs.Waiting.{CommitsAtLast, Waiting, none, again, is_later}
+use Rattle.kc_store.specs.kc_hang.Hangs.{Hangs}
+use Rattle.kc_store.specs.kc_machine_claims.Histories.{History, entries}
 use Rattle.kc_model.specs.Footprint.{IsBelow}
+use Rattle.kc_model.specs.Rising.{IsRising}
+use Rattle.kc_model.specs.declared.footprint.Entry.{Entry}
 use Rattle.kc_model.specs.declared.footprint.Footprint.{Footprint}
-use Rattle.kc_model.specs.declared.footprint.Seen.{Seen}
-use Rattle.kc_model.specs.declared.reply.Reply.{Reply}
-use Rattle.kc_store.specs.Answers.{Settles}
+use Rattle.kc_store.proofs.Remembering.{remembers_on, within_same}
+use Rattle.kc_store.specs.Answers.{Settles, own_entries}
 use Rattle.kc_store.specs.Commits.{AllTries}
-use Rattle.kc_store.specs.Verdicts.{has_entry, verdict_of}
+use Rattle.kc_store.specs.Knows.{AddsOne, IsTold, NotesWear, OnlyLearns, Remembers, entry_of}
+use Rattle.kc_store.specs.Values.{IsOutcome}
+use Rattle.kc_store.specs.Verdicts.{has_entry, is_worn_pool, verdict_of}
+use Rattle.kc_store.specs.Views.{CallerView, caller_view}
+use Rattle.kc_store.specs.declared.values.Outcome.{Outcome}
+use Rattle.kc_store.specs.declared.values.Outcome.TheVariants as outcome
+use Rattle.kc_store.specs.declared.values.Wear.TheVariants as wear
 use Rattle.kc_store.specs.declared.verdict.Answered.{Answered}
 use Rattle.kc_store.specs.declared.verdict.Answered.TheVariants as answered
-use Rattle.kc_store.specs.declared.verdict.Verdict.{Verdict}
-use Rattle.kc_store.specs.declared.verdict.Verdict.TheVariants as verdict
-use Rattle.kc_table_moves.specs.Views.{SeatView, Signalled}
-use Rattle.kc_table_seats.specs.Tasks.{Does}
 use Rattle.kc_xt.specs.Meaning.{Meaning}
 
--- ---- one hang
+-- ---- before the last try
 
-abbrev pub IsFree : SeatView → Type 0
-IsFree v = (is_idle v.seat.work ≡ true) × (v.seat.blocked ≡ false)
+pub record StillWaits (m : Meaning) (c d : CallerView) : Type 0 where
+  pub waiting : Waiting m c.seat d.seat
+  pub remembers : Remembers c d
+  pub adds : AddsLooksAlone m c d
+  pub worn : d.worn ≡ c.worn
 
-module _ (reads : ArrayVec Seen) (v w : SeatView) where
-  -- told at once that a read had changed
-  pub hangs_at_once : (state : HangState) → state ≢ Hung → is_under_way state ≡ false → Does v (task.Hang reads) w → Shows reads Going state w → Hangs reads v w × IsFree w
-  hangs_at_once Free other e d x = (changed x.1.0 w (record { does = d; idle = x.0; told = x.1.1 }), (x.0, x.2))
-  hangs_at_once Hung other e d x = absurd (other refl)
-  hangs_at_once Going other e d x = absurd (cc)
-  hangs_at_once Leaving other e d x = absurd (cc)
-
-  -- told that it hangs, and signalled since
-  pub hangs_signalled : (a b : SeatView) (state : HangState) → Does v (task.Hang reads) a → Shows reads Going Hung a → Signalled a true b → is_under_way state ≡ false → Does b (task.Leave reads) w → Shows reads Leaving state w → Hangs reads v w × IsFree w
-  hangs_signalled a b Free d x s e l y = (signalled a b w (record { does = d; idle = x.0; told = x.1 }) s (record { does = l; idle = y.0; told = y.1 }), (y.0, y.2))
-  hangs_signalled a b Hung d x s e l y = elim y [ ]
-  hangs_signalled a b Going d x s e l y = elim y [ ]
-  hangs_signalled a b Leaving d x s e l y = absurd (cc)
-
--- ---- all tries
-
-pub record StillWaits (m : Meaning) (v u : SeatView) : Type 0 where
-  pub waiting : Waiting m v u
-  pub free : IsFree u
-
-pub not_yet : (m : Meaning) (v : SeatView) → IsFree v → StillWaits m v v
-not_yet m v free = record { waiting = none; free = free }
+pub not_yet : (m : Meaning) (c : CallerView) → StillWaits m c c
+not_yet m c = record {
+  waiting = none;
+  remembers = record { of = refl; number = refl; known = within_same c.known; worn = λ q. q };
+  adds = record { looks = []; each = All-nil (IsLookOf c.number m); own = sym (append-nil c.own) };
+  worn = refl;
+}
 
 pub later_is : (a : Answered) → is_later a ≡ true → a ≡ answered.Later
 later_is answered.Later e = refl
@@ -61,22 +49,78 @@ later_is answered.TooLarge e = absurd (cc)
 later_is (answered.WornLocation loc) e = absurd (cc)
 later_is answered.WornPool e = absurd (cc)
 
-pub waits_on : (m : Meaning) (v u x w : SeatView) (f : Footprint) (a : Answered) → StillWaits m v u → AllTries m f u x → Settles m (verdict_of a) u f x → is_later a ≡ true → Hangs f.reads x w × IsFree w → StillWaits m v w
-waits_on m v u x w f a still t s e h = record {
-  waiting = again u x w f still.waiting t (subst (λ a. Settles m (verdict_of a) u f x) (later_is a e) s) h.0;
-  free = h.1;
+-- a try was answered Later, and behind it the caller hung
+module _ (m : Meaning) (c d e g : CallerView) (f : Footprint) (a : Answered) (still : StillWaits m c d) (later : is_later a ≡ true) where
+  at_later : (P : Answered → Type 0) → P a → P answered.Later
+  at_later P p = subst P (later_is a later) p
+
+  one_look : IsTold m (verdict_of a) d f e → OnlyLearns e g → AddsLooksAlone m c g
+  one_look told learns =
+      let t = at_later (λ a. IsTold m (verdict_of a) d f e) told in
+      let x : Entry = entry_of d.number t.1.1.0 f in
+      let look : IsLookOf c.number m x = record { own = still.remembers.number; puts_nothing = t.1.0; waits = t.0 } in
+      record {
+        looks = still.adds.looks ++ x ∷ [];
+        each = All-push (IsLookOf c.number m) still.adds.looks x still.adds.each look;
+        own = learns.own ∙ t.1.1.1 ∙ ap (λ l. l ++ x ∷ []) still.adds.own ∙ append_assoc c.own still.adds.looks (x ∷ []);
+      }
+
+  pub waits_on : IsTold m (verdict_of a) d f e → Remembers d e → AllTries m f d.seat e.seat → Settles m (verdict_of a) d.seat f e.seat → NotesWear d (verdict_of a) e → OnlyLearns e g → Hangs f.reads e.seat g.seat → StillWaits m c g
+  waits_on told remembers tries settles notes learns hangs = record {
+    waiting = again d.seat e.seat g.seat f still.waiting tries (at_later (λ a. Settles m (verdict_of a) d.seat f e.seat) settles) hangs;
+    remembers = remembers_on c d g still.remembers (remembers_on d e g remembers learns.remembers);
+    adds = one_look told learns;
+    worn = learns.worn ∙ at_later (λ a. NotesWear d (verdict_of a) e) notes ∙ still.worn;
+  }
+
+-- ---- the last try
+
+pub commits_at_last : (m : Meaning) (c d e : CallerView) (f : Footprint) (a : Answered) → StillWaits m c d → AllTries m f d.seat e.seat → Settles m (verdict_of a) d.seat f e.seat → is_later a ≡ false → CommitsAtLast m a f c.seat e.seat
+commits_at_last m c d e f a still t s n = record { last = d.seat; waiting = still.waiting; tries = t; settles = s; answers = n }
+
+numbers_of : (h : History) → map (λ (e : Entry). e.number) (entries h) ≡ numbers h
+numbers_of [] = refl
+numbers_of (x ∷ h) = ap (λ (l : List ℕ). x.entry.number ∷ l) (numbers_of h)
+
+pub rising : (m : Meaning) (c e : CallerView) (f : Footprint) (a : Answered) → CommitsAtLast m a f c.seat e.seat → e ≡ caller_view e.worn e.seat → IsRising (map (λ (x : Entry). x.number) e.own)
+rising m c e f a l view =
+    subst (λ own. IsRising (map (λ (x : Entry). x.number) own)) (sym (ap (λ (x : CallerView). x.own) view))
+    (subst IsRising (sym (numbers_of (own_entries e.seat))) (rises_at_last c.seat e.seat m a f l))
+
+and_one : (m : Meaning) (c d e : CallerView) (f : Footprint) → StillWaits m c d → AddsOne d f e → IsRising (map (λ (x : Entry). x.number) e.own) → AddsLooksAndOne m c f e
+and_one m c d e f still one rises = record {
+  looks = still.adds.looks;
+  each = still.adds.each;
+  number = one.0;
+  own = one.1 ∙ (λ i. still.adds.own i ++ entry_of (still.remembers.number i) one.0 f ∷ []);
+  rising = rises;
 }
 
-pub commits_at_last : (m : Meaning) (v u w : SeatView) (f : Footprint) (a : Answered) → StillWaits m v u → AllTries m f u w → Settles m (verdict_of a) u f w → is_later a ≡ false → CommitsAtLast m a f v w
-commits_at_last m v u w f a still t s e = record { last = u; waiting = still.waiting; tries = t; settles = s; answers = e }
+pub told_at_last : (m : Meaning) (c d e : CallerView) (f : Footprint) (a : Answered) → StillWaits m c d → IsTold m (verdict_of a) d f e → is_later a ≡ false → IsRising (map (λ (x : Entry). x.number) e.own) → IsToldAtLast m a c f e
+told_at_last m c d e f (answered.Done r) still t n rises = (t.0, and_one m c d e f still t.1 rises)
+told_at_last m c d e f answered.TooLarge still t n rises = (t.0, (t.1.0, and_one m c d e f still t.1.1 rises))
+told_at_last m c d e f (answered.WornLocation loc) still t n rises = (t.0, (t.1.0, and_one m c d e f still t.1.1 rises))
+told_at_last m c d e f answered.WornPool still t n rises = record { looks = still.adds.looks; each = still.adds.each; own = t ∙ still.adds.own }
+told_at_last m c d e f answered.Later still t n rises = absurd (cc)
 
-pub all_below : (n l : ℕ) (f : Footprint) → n ≤ l → IsBelow n f → All (λ r. r.loc.0 < l) f.reads.items
-all_below n l f le below = λ k d lt. let b = below (get_or f.reads.items k d) (Contains-get_or f.reads.items k d lt) in omega (arith, b, le)
+-- what the last try noted, the whole commit did
+pub notes_at_last : (m : Meaning) (c d e : CallerView) (a : Answered) → StillWaits m c d → NotesWear d (verdict_of a) e → NotesWear c (verdict_of a) e
+notes_at_last m c d e a still notes = notes ∙ ap (λ b. is_worn_pool (verdict_of a) || b) still.worn
 
-pub begun_below : (n : ℕ) (f : Footprint) (r : Option HangingView) → All (λ r. r.loc.0 < n) f.reads.items → IfSome r (λ h. h ≡ record { reads = f.reads; state = Going; begun = false }) → IfSome r (λ h. All (λ r. r.loc.0 < n) h.reads.items)
-begun_below n f None below is = tt
-begun_below n f (Some h) below is = subst (λ (k : HangingView). All (λ r. r.loc.0 < n) k.reads.items) (sym is) below
+-- ---- by value
 
-pub done_or_later : (v : Verdict) → ((r : Reply) × (v ≡ verdict.Done r)) ⊎ (v ≡ verdict.Later) → has_entry v ≡ true
-done_or_later v (inl (r, is)) = ap has_entry is
-done_or_later v (inr is) = ap has_entry is
+pub waits_so : (m : Meaning) (end : ℕ) (o : Outcome) (a : Answered) (c : CallerView) (f : Footprint) (d : CallerView) → IsOutcome o a f → IsToldAtLast m a c f d → (has_entry (verdict_of a) ≡ true → IsBelow end f) → WaitsSo m end o c d
+waits_so m end o a c f d is told below = go o is
+  where
+    whole : (r : Answered) (g : Footprint) → has_entry (verdict_of r) ≡ true → (a ≡ r) × (g ≡ f) → IsToldAtLast m r c g d × IsBelow end g
+    whole r g h (e, s) = subst (λ g. IsToldAtLast m r c g d × IsBelow end g) (sym s) (subst (λ r. IsToldAtLast m r c f d) e told, below (ap (λ r. has_entry (verdict_of r)) e ∙ h))
+
+    go : (o : Outcome) → IsOutcome o a f → WaitsSo m end o c d
+    go (outcome.Done r g) is = whole (answered.Done r) g refl is
+    go (outcome.Later g) is = (whole answered.Later g refl is).0
+    go (outcome.TooLarge g) is = whole answered.TooLarge g refl is
+    go (outcome.Worn (wear.Location loc g)) is = whole (answered.WornLocation loc) g refl is
+    go (outcome.Worn wear.Pool) is = subst (λ r. IsToldAtLast m r c f d) is told
+
+pub below_all : (n l : ℕ) (f : Footprint) → n ≤ l → IsBelow n f → IsBelow l f
+below_all n l f le below r c = let b = below r c in omega (arith, b, le)

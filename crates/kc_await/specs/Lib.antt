@@ -1,4 +1,3 @@
 pub mod Waiting
 pub mod Looks
-pub mod Hanging
-pub mod HangingView
+pub mod Adds

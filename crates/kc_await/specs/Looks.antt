@@ -1,13 +1,13 @@
 -- What a commit that waits adds to its caller's own entries.
 use Rattle.std.specs.Prelude.{◌≡◌, ℕ, ◌++◌, [], ◌∷◌, List, All, map}
-use Rattle.kc_machine_claims.specs.Histories.{Placed}
-use Rattle.kc_machine_words.specs.declared.words.Mode.{Mode}
+use Rattle.kc_store.specs.kc_machine_claims.Histories.{Placed}
+use Rattle.kc_store.specs.kc_machine_words.declared.words.Mode.{Mode}
 use Rattle.kc_model.specs.declared.footprint.Footprint.{Footprint}
 use Rattle.kc_store.specs.Answers.{own_entries, placed_entry}
 use Rattle.kc_store.specs.declared.verdict.Answered.{Answered}
 use Rattle.kc_store.specs.declared.verdict.Answered.TheVariants as answered
-use Rattle.kc_table_moves.specs.Views.{SeatView, knows}
-use Rattle.kc_table_views.specs.Tasks.{SuccessTaught}
+use Rattle.kc_store.specs.kc_table_moves.Views.{SeatView, knows}
+use Rattle.kc_store.specs.kc_table_views.Tasks.{SuccessTaught}
 use Rattle.kc_xt.specs.Commit.{Waits}
 use Rattle.kc_xt.specs.Meaning.{Meaning}
 

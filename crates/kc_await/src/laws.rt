@@ -8,7 +8,7 @@ ghost use Rattle.kc_model.specs.declared.footprint.Footprint.{Footprint};
 ghost use Rattle.kc_store.specs.Answers.{own_entries};
 ghost use Rattle.kc_store.specs.Within.{LiesIn};
 ghost use Rattle.kc_store.specs.declared.verdict.Answered.{Answered};
-ghost use Rattle.kc_table_moves.specs.Views.{SeatView};
+ghost use Rattle.kc_store.specs.kc_table_moves.Views.{SeatView};
 ghost use Rattle.kc_xt.specs.Meaning.{Meaning};
 
 /// A commit that waits adds looks, each of which puts nothing and waits wherever its reads stand; and then its entry, behind all

@@ -2,14 +2,14 @@
 use Rattle.std.proofs.Common.{List, Some, [], ap, arith, refl, subst, sym, true, ℕ, ◌++◌, ◌+◌, ◌∙◌, ◌∷◌, ◌≡◌, ◌≤◌, cond, Bool, false, ◌==◌, inl, length}
 use Rattle.std.specs.Option.{option_map}
 use Rattle.std.specs.Prelude.{Contains}
-use Rattle.kc_machine.specs.Machine.{pool_size}
-use Rattle.kc_machine.specs.Schedules.{IsWellMadeTask}
-use Rattle.kc_machine_claims.specs.Histories.{History, Placed, ending}
-use Rattle.kc_machine_claims.specs.Traces.{first_store}
+use Rattle.kc_hang.specs.kc_machine.Machine.{pool_size}
+use Rattle.kc_hang.specs.kc_machine.Schedules.{IsWellMadeTask}
+use Rattle.kc_hang.specs.kc_machine_claims.Histories.{History, Placed, ending}
+use Rattle.kc_hang.specs.kc_machine_claims.Traces.{first_store}
 use Rattle.kc_machine_steps.specs.declared.task.Task.TheVariants as task
 use Rattle.kc_machine_steps.specs.declared.task.Task.{Task}
 use Rattle.kc_machine_steps.specs.declared.task.Told.TheVariants as told
-use Rattle.kc_machine_traces.specs.Entries.{by}
+use Rattle.kc_hang.specs.kc_machine_traces.Entries.{by}
 use Rattle.kc_machine_words.specs.declared.words.Mode.TheVariants.{All}
 use Rattle.kc_model.proofs.Stores.{Contains-first, Contains-later}
 use Rattle.kc_model.specs.Footprint.{IsBelow, IsWellMade, put_at}
@@ -23,17 +23,18 @@ use Rattle.kc_model.specs.declared.reply.Reply.{Reply}
 use Rattle.kc_store.proofs.Doing.{did_keeps}
 use Rattle.kc_store.proofs.Ending.{runs, tried_starts}
 use Rattle.kc_store.proofs.Gaining.{gains}
-use Rattle.kc_table_seats.proofs.Keeping.{success_known}
+use Rattle.kc_hang.proofs.kc_table_seats.Keeping.{success_known}
 use Rattle.kc_store.proofs.Seeing.{keeps_then}
 use Rattle.kc_store.specs.Alone.{EndsAlone}
 use Rattle.kc_store.specs.Answers.{Gains, own_entries, placed_entry}
 use Rattle.kc_store.specs.Lone.{AllAlone, CommitsAlone}
 use Rattle.kc_store.specs.Steps.{sole_bound, steps_made}
+use Rattle.kc_store.specs.declared.verdict.Answered.{Answered}
 use Rattle.kc_store.specs.declared.verdict.Answered.TheVariants as answered
-use Rattle.kc_table_moves.specs.Origins.{opening_of}
-use Rattle.kc_table_moves.specs.Views.{SeatView, TableView, knows, opening_at_seat}
-use Rattle.kc_table_seats.proofs.Running.{does_ran}
-use Rattle.kc_table_seats.specs.Tasks.{Does, Keeps}
+use Rattle.kc_hang.specs.kc_table_moves.Origins.{opening_of}
+use Rattle.kc_hang.specs.kc_table_moves.Views.{SeatView, TableView, knows, opening_at_seat}
+use Rattle.kc_hang.proofs.kc_table_seats.Running.{does_ran}
+use Rattle.kc_hang.specs.kc_table_seats.Tasks.{Does, Keeps}
 use Rattle.kc_table_sole.proofs.Knowing.{own_before, own_behind}
 use Rattle.kc_table_sole.specs.Sole.{HasNoLife, IsSole, Rests, standing}
 use Rattle.kc_xt.specs.Commit.{Came, answer_of, run_on}
@@ -91,6 +92,14 @@ life_back v w of r none d l =
     let a = none d (omega (arith, l, n)) in
     let b = r.generations d in
     omega (arith, a, b)
+
+-- where no life was left, none is: nothing is done there
+pub ends_worn : (m : Meaning) (a : Answered) (v : SeatView) (f : Footprint) (w : SeatView) → w.of ≡ v.of → EndsAlone m a v f w → HasNoLife v → HasNoLife w
+ends_worn m (answered.Done r) v f w of e none = absurd (e.2 none)
+ends_worn m answered.Later v f w of e none = no_life v w of e.2 none
+ends_worn m answered.TooLarge v f w of e none = no_life v w of e.2 none
+ends_worn m (answered.WornLocation loc) v f w of e none = no_life v w of e.3 none
+ends_worn m answered.WornPool v f w of e none = no_life v w of e.3 none
 
 -- ---- what is committed
 

@@ -1,33 +1,33 @@
 -- What a seat knows by a task that it has done, also where it was halted since its last step.
 use Rattle.std.proofs.Common.{◌≡◌, ◌≢◌, ◌≤◌, Bool, true, false, ℕ, inl, inr, List, [], ◌∷◌, ◌++◌, Some, refl, sym, ap, ◌∙◌, subst, append_assoc}
 use Rattle.std.proofs.lemmas.List.Elements.{All-push}
-use Rattle.kc_machine.specs.Machine.{Opening}
-use Rattle.kc_machine.specs.Schedules.{BeginsWellMade}
-use Rattle.kc_machine.specs.Seats.{halted, is_idle}
-use Rattle.kc_machine_claims.specs.Histories.{Grows, IsKnown, ending}
-use Rattle.kc_machine_claims.specs.Traces.{first_store}
+use Rattle.kc_hang.specs.kc_machine.Machine.{Opening}
+use Rattle.kc_hang.specs.kc_machine.Schedules.{BeginsWellMade}
+use Rattle.kc_hang.specs.kc_machine.Seats.{halted, is_idle}
+use Rattle.kc_hang.specs.kc_machine_claims.Histories.{Grows, IsKnown, ending}
+use Rattle.kc_hang.specs.kc_machine_claims.Traces.{first_store}
 use Rattle.kc_machine_steps.specs.declared.task.Event.{Event}
 use Rattle.kc_machine_steps.specs.declared.task.Event.TheVariants.{Begin, Halt}
 use Rattle.kc_machine_steps.specs.declared.task.Task.{Task}
 use Rattle.kc_machine_steps.specs.declared.task.Told.{Told}
 use Rattle.kc_machine_steps.specs.declared.task.Told.TheVariants as told
-use Rattle.kc_machine_traces.proofs.Joins.{honest_joined}
-use Rattle.kc_machine_traces.proofs.Others.{history_kept}
-use Rattle.kc_machine_traces.specs.Entries.{by}
-use Rattle.kc_machine_traces.specs.Outcomes.{GainsAsTold}
+use Rattle.kc_hang.proofs.kc_machine_traces.Joins.{honest_joined}
+use Rattle.kc_hang.proofs.kc_machine_traces.Others.{history_kept}
+use Rattle.kc_hang.specs.kc_machine_traces.Entries.{by}
+use Rattle.kc_hang.specs.kc_machine_traces.Outcomes.{GainsAsTold}
 use Rattle.kc_store.proofs.Standing.{halt_told, idle_halted, stands_further, stands_halted}
 use Rattle.kc_store.specs.Answers.{own_entries}
 use Rattle.kc_store.specs.Tries.{Did}
 use Rattle.kc_store.specs.Works.{MayRun, Runs}
-use Rattle.kc_table_moves.specs.Origins.{opening_of}
-use Rattle.kc_table_moves.specs.Views.{SeatView, Stepped, knows, opening_at_seat}
-use Rattle.kc_table_seats.proofs.Following.{does_further}
-use Rattle.kc_table_seats.proofs.Keeping.{own_known}
-use Rattle.kc_table_seats.specs.Tasks.{Does, Keeps}
-use Rattle.kc_table_views.proofs.Knowing.{grows_on, known_on, versions_on}
-use Rattle.kc_table_views.proofs.Pendings.{nothing_push, waits_seat, waits_no_step}
-use Rattle.kc_table_views.specs.Known.{IsMeant, known}
-use Rattle.kc_table_views.specs.Tasks.{ran}
+use Rattle.kc_hang.specs.kc_table_moves.Origins.{opening_of}
+use Rattle.kc_hang.specs.kc_table_moves.Views.{SeatView, Stepped, knows, opening_at_seat}
+use Rattle.kc_hang.proofs.kc_table_seats.Following.{does_further}
+use Rattle.kc_hang.proofs.kc_table_seats.Keeping.{own_known}
+use Rattle.kc_hang.specs.kc_table_seats.Tasks.{Does, Keeps}
+use Rattle.kc_hang.proofs.kc_table_views.Knowing.{grows_on, known_on, versions_on}
+use Rattle.kc_hang.proofs.kc_table_views.Pendings.{nothing_push, waits_seat, waits_no_step}
+use Rattle.kc_hang.specs.kc_table_views.Known.{IsMeant, known}
+use Rattle.kc_hang.specs.kc_table_views.Tasks.{ran}
 
 -- ---- steps and halts
 

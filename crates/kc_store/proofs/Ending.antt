@@ -1,12 +1,12 @@
 -- The steps of a task to its end.
-use Rattle.std.proofs.Common.{◌≡◌, ◌≢◌, ◌<◌, ◌≤◌, Bool, true, false, not, ℕ, ◌+◌, ◌⊎◌, inl, inr, List, Some, length, refl, sym, ap, ◌∙◌, arith, if◌then◌else◌}
+use Rattle.std.proofs.Common.{◌≡◌, ◌≢◌, ◌<◌, ◌≤◌, Bool, true, false, not, ℕ, ◌+◌, ◌-◌, ◌⊎◌, inl, inr, List, Some, length, refl, sym, ap, ◌∙◌, arith, if◌then◌else◌}
 use Rattle.std.proofs.lemmas.List.{length-map}
 use Rattle.std.specs.Prelude.{IfOk, Result, Ok, Err}
-use Rattle.kc_machine.specs.Schedules.{IsWellMadeTask}
-use Rattle.kc_machine.specs.Seats.{begun_idle, halted, is_idle}
-use Rattle.kc_machine.specs.Works.{Work}
-use Rattle.kc_machine.specs.Works as work
-use Rattle.kc_machine.specs.declared.seat.Seat.{Seat}
+use Rattle.kc_hang.specs.kc_machine.Schedules.{IsWellMadeTask}
+use Rattle.kc_hang.specs.kc_machine.Seats.{begun_idle, halted, is_idle}
+use Rattle.kc_hang.specs.kc_machine.Works.{Work}
+use Rattle.kc_hang.specs.kc_machine.Works as work
+use Rattle.kc_hang.specs.kc_machine.declared.seat.Seat.{Seat}
 use Rattle.kc_machine_steps.specs.Lines.{line_of, lines_of}
 use Rattle.kc_model.specs.declared.footprint.TheConstants.{MOST}
 use Rattle.kc_model.specs.declared.footprint.Line.{Line}
@@ -18,20 +18,20 @@ use Rattle.kc_machine_words.specs.declared.words.Mode.{Mode}
 use Rattle.kc_model.specs.declared.footprint.Footprint.{Footprint}
 use Rattle.kc_model.specs.declared.footprint.Loc.{Loc}
 use Rattle.kc_model.specs.declared.footprint.Seen.{Seen}
-use Rattle.kc_store.proofs.Counting.{ran_counts}
 use Rattle.kc_store.proofs.Doing.{did_does}
 use Rattle.kc_store.proofs.Fitting.{known_fits}
 use Rattle.kc_store.proofs.Gaining.{does_meant}
 use Rattle.kc_store.proofs.Standing.{halts, is_tried, ran_stands}
 use Rattle.kc_store.specs.Steps.{steps_made}
 use Rattle.kc_store.specs.Works.{Ends, LooksAt, MayRun, Runs, Stands, commits, is_told_committing, is_told_looking, is_told_swapping, looks, swaps}
-use Rattle.kc_table_moves.specs.Views.{SeatView, Starts, Stepped, opening_at_seat, Ran}
-use Rattle.kc_table_seats.proofs.Halting.{halt_sends}
-use Rattle.kc_table_seats.proofs.Keeping.{looks_saw}
-use Rattle.kc_table_seats.proofs.Running.{does_ran}
-use Rattle.kc_table_seats.proofs.Stopping.{free_ran, halted_ends}
-use Rattle.kc_table_seats.specs.Halts.{is_halted, may_halt, steps_left, was_halted}
-use Rattle.kc_table_seats.specs.Tasks.{Does}
+use Rattle.kc_store.specs.declared.budget.Budget.{Budget}
+use Rattle.kc_hang.specs.kc_table_moves.Views.{SeatView, Starts, Stepped, opening_at_seat, Ran}
+use Rattle.kc_hang.proofs.kc_table_seats.Halting.{halt_sends}
+use Rattle.kc_hang.proofs.kc_table_seats.Keeping.{looks_saw}
+use Rattle.kc_hang.proofs.kc_table_seats.Running.{does_ran}
+use Rattle.kc_hang.proofs.kc_table_seats.Stopping.{free_ran, halted_ends}
+use Rattle.kc_hang.specs.kc_table_seats.Halts.{is_halted, may_halt, steps_left, was_halted}
+use Rattle.kc_hang.specs.kc_table_seats.Tasks.{Does}
 use Rattle.kc_xt.specs.Peeks.{IsLook}
 use Rattle.kc_xt.specs.declared.peek.PeekBusy.{PeekBusy}
 
@@ -90,28 +90,22 @@ module _ (t : Task) (v u : SeatView) (e : is_tried t ≡ true) (idle : is_idle v
   may_be_halted busy = halts t u.seat runs.stands.in_task busy
 
   -- it ended in that call
-  pub ends_straight : (a : Told) (left : ℕ) → is_idle u.seat.work ≡ true → u.seat.told ≡ Some a → Ends t v left a u left
-  ends_straight a left ended says =
-      let up = ran_counts v u t r in
-      record {
-        ran = record { did = inl runs.does; stands = runs.stands };
-        idle = ended;
-        says = says;
-        spent = λ h. absurd (free.0 (says ∙ ap Some h));
-        made = omega (arith, up);
-      }
+  pub ends_straight : (a : Told) (b : Budget) → is_idle u.seat.work ≡ true → u.seat.told ≡ Some a → Ends t v b a u
+  ends_straight a b ended says = record {
+    ran = record { did = inl runs.does; stands = runs.stands };
+    idle = ended;
+    says = says;
+    spent = λ h. absurd (free.0 (says ∙ ap Some h));
+  }
 
   -- it ended by steps behind that call
-  pub ends_late : (w : SeatView) (a : Told) (left rest : ℕ) → (Runs v t u → MayRun v t w) → is_idle w.seat.work ≡ true → (w.seat.told ≡ Some told.Halted → rest ≡ 0) → steps_made u + left ≤ steps_made w + rest → w.seat.told ≡ Some a → Ends t v left a w rest
-  ends_late w a left rest on ended spent more says =
-      let up = ran_counts v u t r in
-      record {
-        ran = on runs;
-        idle = ended;
-        says = says;
-        spent = λ h. spent (says ∙ ap Some h);
-        made = omega (arith, up, more);
-      }
+  pub ends_late : (w : SeatView) (a : Told) (b : Budget) → (Runs v t u → MayRun v t w) → is_idle w.seat.work ≡ true → (w.seat.told ≡ Some told.Halted → b.most + steps_made u ≤ steps_made w + (u.seat.made - b.before)) → w.seat.told ≡ Some a → Ends t v b a w
+  ends_late w a b on ended spent says = record {
+    ran = on runs;
+    idle = ended;
+    says = says;
+    spent = λ h. let x = spent (says ∙ ap Some h) in let n = runs.stands.no_more in let c = runs.stands.counts in omega (arith, x, n, c);
+  }
 
 -- ---- what it may be told
 
@@ -170,6 +164,7 @@ pub few_reads : (f : Footprint) (xs : List Line) → lines_of f ≡ xs → lengt
 few_reads f xs e few = let n = ap length (sym e) in let m = length-map f.reads.items (λ r. line_of f.puts.items r) in omega (arith, few, n, m)
 
 -- what a look gives
-pub look_of_ends : (v w : SeatView) (l : Loc) (left rest : ℕ) (r : Result Seen PeekBusy) → l.0 < v.of.origin.locations → LooksAt l.0 v left r w rest → IfOk r (λ seen. IsLook l.0 seen)
-look_of_ends v w l left rest (Ok r) below e = is_look v w l r below (did_does v w (task.Look l) (told.Seen r) e.ran.did e.idle e.says (λ x. absurd (cc))) e.says
-look_of_ends v w l left rest (Err b) below e = tt
+pub look_of_ends : (v w : SeatView) (l : Loc) (b : Budget) (r : Result Seen PeekBusy) → l.0 < v.of.origin.locations → LooksAt l.0 v b r w → IfOk r (λ seen. IsLook l.0 seen)
+look_of_ends v w l b (Ok r) below (inl (h, e)) = is_look v w l r below (did_does v w (task.Look l) (told.Seen r) e.ran.did e.idle e.says (λ x. absurd (cc))) e.says
+look_of_ends v w l b (Ok r) below (inr (n, s, e)) = absurd (cc)
+look_of_ends v w l b (Err x) below e = tt

@@ -2,25 +2,25 @@
 use Rattle.std.proofs.Common.{◌≡◌, ◌≤◌, ◌<◌, Bool, true, false, ℕ, ◌+◌, List, [], refl, ap, ◌∙◌, arith, subst, take, if◌then◌else◌}
 use Rattle.std.specs.Prelude.{nat_lt}
 use Rattle.std.proofs.lemmas.Bool.Decides.{nat_tests}
-use Rattle.kc_machine.specs.Machine.{Opening, World, run}
-use Rattle.kc_machine_claims.specs.Claims.{history_at, stands_for}
-use Rattle.kc_machine_claims.specs.Histories.{IsKnown, none, ending, putting}
-use Rattle.kc_machine_claims.specs.Traces.{first_store}
-use Rattle.kc_machine_histories.proofs.Growing.{stood_since}
-use Rattle.kc_machine_ranges.proofs.Runs.{words_in}
-use Rattle.kc_machine_ranges.specs.Ranges.{WordIn, WorldIn}
-use Rattle.kc_machine_resolving.proofs.Growing.{along, fronts_made}
-use Rattle.kc_machine_resolving.proofs.Resolving.{words_resolve}
+use Rattle.kc_hang.specs.kc_machine.Machine.{Opening, World, run}
+use Rattle.kc_hang.specs.kc_machine_claims.Claims.{history_at, stands_for}
+use Rattle.kc_hang.specs.kc_machine_claims.Histories.{IsKnown, none, ending, putting}
+use Rattle.kc_hang.specs.kc_machine_claims.Traces.{first_store}
+use Rattle.kc_hang.proofs.kc_machine_histories.Growing.{stood_since}
+use Rattle.kc_hang.proofs.kc_machine_ranges.Runs.{words_in}
+use Rattle.kc_hang.specs.kc_machine_ranges.Ranges.{WordIn, WorldIn}
+use Rattle.kc_hang.proofs.kc_machine_resolving.Growing.{along, fronts_made}
+use Rattle.kc_hang.proofs.kc_machine_resolving.Resolving.{words_resolve}
 use Rattle.kc_machine_steps.specs.Lines.{next_version, resolved_version, succeeds}
 use Rattle.kc_machine_steps.specs.declared.task.Event.{Event}
 use Rattle.kc_machine_words.specs.declared.words.First.{First}
 use Rattle.kc_machine_words.specs.declared.words.Phase.{Phase}
-use Rattle.kc_machine_traces.proofs.Known.{versions_rise}
+use Rattle.kc_hang.proofs.kc_machine_traces.Known.{versions_rise}
 use Rattle.kc_model.specs.declared.footprint.Seen.{Seen}
 use Rattle.kc_model.specs.declared.footprint.TheConstants.{LAST_VERSION}
 use Rattle.kc_model.specs.declared.word.Word.{Word}
 use Rattle.kc_model.specs.declared.word.Word.TheVariants.{Plain, Ref}
-use Rattle.kc_table_views.specs.Known.{IsMeant, known}
+use Rattle.kc_hang.specs.kc_table_views.Known.{IsMeant, known}
 
 next_fits : (v : ℕ) (b : Bool) → nat_lt v LAST_VERSION ≡ b → v ≤ LAST_VERSION → next_version v ≤ LAST_VERSION
 next_fits v true e h = rw e (below e)

@@ -2,16 +2,16 @@
 use Rattle.std.proofs.Common.{◌≡◌, ◌==◌, ◌<◌, ◌≤◌, true, ℕ, ◌+◌, [], ◌∷◌, ◌++◌, Option, None, Some, refl, sym, ap, ◌∙◌, arith, subst, append-nil, get_or}
 use Rattle.std.specs.Prelude.{All, Contains, IfSome, slice_get}
 use Rattle.std.proofs.lemmas.List.Elements.{Contains-append_right, Contains-get_or}
-use Rattle.kc_machine.specs.Seats.{is_idle}
-use Rattle.kc_machine_claims.specs.Claims.{HasPut}
-use Rattle.kc_machine_claims.specs.Histories.{History, Placed, RisesByPlace}
-use Rattle.kc_machine_histories.proofs.Filters.{found, got}
-use Rattle.kc_machine_histories.proofs.Places.{rises}
+use Rattle.kc_hang.specs.kc_machine.Seats.{is_idle}
+use Rattle.kc_hang.specs.kc_machine_claims.Claims.{HasPut}
+use Rattle.kc_hang.specs.kc_machine_claims.Histories.{History, Placed, RisesByPlace}
+use Rattle.kc_hang.proofs.kc_machine_histories.Filters.{found, got}
+use Rattle.kc_hang.proofs.kc_machine_histories.Places.{rises}
 use Rattle.kc_machine_steps.specs.declared.task.Task.{Task}
 use Rattle.kc_machine_steps.specs.declared.task.Task.TheVariants as task
 use Rattle.kc_machine_steps.specs.declared.task.Told.TheVariants as told
-use Rattle.kc_machine_traces.specs.Entries.{by}
-use Rattle.kc_machine_traces.specs.Outcomes.{GainsAsTold, GainsTheCall, IsEntryOf}
+use Rattle.kc_hang.specs.kc_machine_traces.Entries.{by}
+use Rattle.kc_hang.specs.kc_machine_traces.Outcomes.{GainsAsTold, GainsTheCall, IsEntryOf}
 use Rattle.kc_machine_words.specs.declared.words.Mode.{Mode}
 use Rattle.kc_model.proofs.Stores.{Contains-first}
 use Rattle.kc_model.specs.Footprint.{IsWellMade, Reads}
@@ -21,13 +21,13 @@ use Rattle.kc_model.specs.declared.footprint.TheConstants.{LAST_VERSION}
 use Rattle.kc_store.proofs.Counting.{is_same}
 use Rattle.kc_store.proofs.Among.{filtered_in, grows_in, in_filtered, place_before, rises_filtered}
 use Rattle.kc_store.specs.Answers.{Gains, GainsNothing, WasOvertaken, own_entries, placed_entry}
-use Rattle.kc_table_moves.specs.Origins.{opening_of}
-use Rattle.kc_table_moves.specs.Views.{SeatView, knows, opening_at_seat}
-use Rattle.kc_table_seats.proofs.Keeping.{own_known}
-use Rattle.kc_table_seats.specs.Tasks.{Does, Keeps}
-use Rattle.kc_table_views.proofs.Knowing.{whole}
-use Rattle.kc_table_views.specs.Known.{IsMeant, IsWhole, known}
-use Rattle.kc_table_views.specs.Tasks.{FailureTaught, SuccessTaught}
+use Rattle.kc_hang.specs.kc_table_moves.Origins.{opening_of}
+use Rattle.kc_hang.specs.kc_table_moves.Views.{SeatView, knows, opening_at_seat}
+use Rattle.kc_hang.proofs.kc_table_seats.Keeping.{own_known}
+use Rattle.kc_hang.specs.kc_table_seats.Tasks.{Does, Keeps}
+use Rattle.kc_hang.proofs.kc_table_views.Knowing.{whole}
+use Rattle.kc_hang.specs.kc_table_views.Known.{IsMeant, IsWhole, known}
+use Rattle.kc_hang.specs.kc_table_views.Tasks.{FailureTaught, SuccessTaught}
 
 -- what holds of the whole list that a seat knows
 pub does_meant : (v w : SeatView) (t : _) → Does v t w → IsMeant (opening_at_seat w) w.past

@@ -2,7 +2,14 @@ pub mod Counting
 pub mod Standing
 pub mod Doing
 pub mod Among
+pub mod Coming
+pub mod Meant
 pub mod Seeing
+pub mod Quiet
+pub mod Remembering
+pub mod Resting
+pub mod Opening
+pub mod Waits
 pub mod Gaining
 pub mod Fitting
 pub mod Ending
@@ -15,6 +22,9 @@ pub mod Back
 pub mod Filling
 pub mod LoneLooking
 pub mod LoneCommits
+pub mod LoneTold
 pub mod Concluding
 pub mod Within
 mod Swapping
+pub use Rattle.kc_hang.proofs.kc_machine_histories as kc_machine_histories
+pub use Rattle.kc_hang.proofs.kc_machine_traces as kc_machine_traces

@@ -1,11 +1,11 @@
 -- The commit of the only caller.
 use Rattle.std.proofs.Common.{Bool, Some, ap, arith, false, inl, inr, length, not, sym, true, ℕ, ◌+◌, ◌<◌, ◌∙◌, ◌≡◌}
 use Rattle.std.proofs.Math.Seq.{take-length}
-use Rattle.kc_machine.specs.Schedules.{IsWellMadeTask}
-use Rattle.kc_machine.specs.Seats.{is_idle}
-use Rattle.kc_machine_alone.specs.Stretches.{stretch}
-use Rattle.kc_machine_claims.specs.Histories.{IsKnown, ending}
-use Rattle.kc_machine_claims.specs.Traces.{first_store}
+use Rattle.kc_hang.specs.kc_machine.Schedules.{IsWellMadeTask}
+use Rattle.kc_hang.specs.kc_machine.Seats.{is_idle}
+use Rattle.kc_hang.specs.kc_machine_alone.Stretches.{stretch}
+use Rattle.kc_hang.specs.kc_machine_claims.Histories.{IsKnown, ending}
+use Rattle.kc_hang.specs.kc_machine_claims.Traces.{first_store}
 use Rattle.kc_machine_steps.specs.declared.task.Task.TheVariants as task
 use Rattle.kc_machine_steps.specs.declared.task.Told.TheVariants as told
 use Rattle.kc_machine_words.specs.declared.words.Mode.TheVariants.{All}
@@ -17,7 +17,7 @@ use Rattle.kc_model.specs.declared.footprint.TheConstants.{MOST}
 use Rattle.kc_store.proofs.LoneLooking.{steps_counted}
 use Rattle.kc_store.specs.Lone.{CommitsAlone, is_worn}
 use Rattle.kc_store.specs.Steps.{steps_made}
-use Rattle.kc_table_moves.specs.Views.{SeatView, Stepped, knows, opening_at_seat, Ran, begun_at, further}
+use Rattle.kc_hang.specs.kc_table_moves.Views.{SeatView, Stepped, knows, opening_at_seat, Ran, begun_at, further}
 use Rattle.kc_table_sole.proofs.Ending.{ends_soon, ends_within, made_or_worn}
 use Rattle.kc_table_sole.specs.Sole.{HasNoLife, IsMadeOrWorn, IsSole, Rests, count, standing}
 

@@ -1,7 +1,7 @@
 -- The looks of the only caller: each shows what stands, by one step.
 use Rattle.std.proofs.Common.{List, Some, [], ap, arith, inl, length, refl, subst, suc, sym, true, ℕ, ◌+◌, ◌<◌, ◌∙◌, ◌∷◌, ◌≡◌, ◌≢◌, ◌⊎◌, inr}
 use Rattle.std.specs.Prelude.{Contains, Err, Ok, Result}
-use Rattle.kc_machine.specs.Seats.{is_idle}
+use Rattle.kc_hang.specs.kc_machine.Seats.{is_idle}
 use Rattle.kc_machine_steps.specs.declared.task.Task.TheVariants as task
 use Rattle.kc_machine_steps.specs.declared.task.Told.TheVariants as told
 use Rattle.kc_model.specs.declared.footprint.Footprint.{Footprint}
@@ -18,7 +18,7 @@ use Rattle.kc_store.specs.Lone.{AllAlone, LooksAlone, Passes}
 use Rattle.kc_store.specs.LoneLooks.{SoleGives}
 use Rattle.kc_store.specs.Steps.{steps_made}
 use Rattle.kc_store.specs.declared.sole_peek.SolePeek.{SolePeek}
-use Rattle.kc_table_moves.specs.Views.{SeatView, seen_at, Ran, StepsTo, further, here}
+use Rattle.kc_hang.specs.kc_table_moves.Views.{SeatView, seen_at, Ran, StepsTo, further, here}
 use Rattle.kc_table_sole.proofs.Telling.{tells}
 use Rattle.kc_table_sole.specs.Sole.{IsSole, TellsWhatStands, count, standing}
 use Rattle.kc_xt.proofs.Rooms.{length-with_looks}

@@ -1,19 +1,24 @@
 -- The looks of a try: what they know, and that nothing known before put from what they saw.
 use Rattle.std.proofs.Common.{◌≡◌, ℕ, ◌⊎◌, inl, inr, List, [], ◌∷◌, refl, sym, ap, ◌∙◌, arith, subst}
 use Rattle.std.specs.Prelude.{Contains, Result, Ok, Err}
-use Rattle.kc_machine_claims.specs.Claims.{HasPut}
-use Rattle.kc_machine_claims.specs.Histories.{IsKnown}
-use Rattle.kc_machine_claims.specs.Traces.{first_store}
-use Rattle.kc_machine_histories.proofs.Insertions.{grows_on, grows_same}
+use Rattle.kc_hang.specs.kc_machine_claims.Claims.{HasPut}
+use Rattle.kc_hang.specs.kc_machine_claims.Histories.{IsKnown}
+use Rattle.kc_hang.specs.kc_machine_claims.Traces.{first_store}
+use Rattle.kc_hang.proofs.kc_machine_histories.Insertions.{grows_on, grows_same}
+use Rattle.kc_machine_steps.specs.declared.task.Task.{Task}
+use Rattle.kc_machine_steps.specs.declared.task.Told.{Told}
 use Rattle.kc_machine_steps.specs.declared.task.Told.TheVariants as told
 use Rattle.kc_model.specs.declared.footprint.Seen.{Seen}
 use Rattle.kc_store.proofs.Among.{first_or_later, grows_put, nothing_in}
+use Rattle.kc_store.proofs.Coming.{come_gains}
 use Rattle.kc_store.proofs.Doing.{did_does, did_gains, did_keeps}
 use Rattle.kc_store.specs.Answers.{own_entries}
-use Rattle.kc_store.specs.Tries.{Sees, look_of}
-use Rattle.kc_table_moves.specs.Views.{SeatView, knows, opening_at_seat}
-use Rattle.kc_table_seats.proofs.Keeping.{looks_saw, put_past}
-use Rattle.kc_table_seats.specs.Tasks.{Does, Keeps, Saw}
+use Rattle.kc_store.specs.Tries.{Comes, Sees, look_of}
+use Rattle.kc_store.specs.Works.{EndsOrIsLeft}
+use Rattle.kc_store.specs.declared.budget.Budget.{Budget}
+use Rattle.kc_hang.specs.kc_table_moves.Views.{SeatView, knows, opening_at_seat}
+use Rattle.kc_hang.proofs.kc_table_seats.Keeping.{looks_saw, put_past}
+use Rattle.kc_hang.specs.kc_table_seats.Tasks.{Does, Keeps, Saw}
 use Rattle.kc_xt.specs.Peeks.{Looks}
 use Rattle.kc_xt.specs.declared.peek.PeekBusy.{PeekBusy}
 
@@ -31,6 +36,14 @@ keeps_then u v w a b = record {
   versions = λ l. let x = a.versions l in let y = b.versions l in omega (arith, x, y);
 }
 
+pub come_keeps : (start v : SeatView) (t : Task) (a : Told) (w : SeatView) → Comes start v t a w → Keeps v w
+come_keeps start v t a w (inl s) = did_keeps v w t s.did
+come_keeps start v t a w (inr n) = subst (Keeps v) (sym n.stays) (keeps_same v)
+
+pub ended_keeps : (v : SeatView) (b : Budget) (t : Task) (a : Told) (w : SeatView) → EndsOrIsLeft t v b a w → Keeps v w
+ended_keeps v b t a w (inl (has, e)) = did_keeps v w t e.ran.did
+ended_keeps v b t a w (inr (none, halted, stays)) = subst (Keeps v) (sym stays) (keeps_same v)
+
 -- ---- one look
 
 pub look_does : (start v w : SeatView) (l : ℕ) (r : Seen) → Sees start v l (Ok r) w → Does v (look_of l) w
@@ -41,12 +54,12 @@ look_saw start v w l r s = looks_saw v w (record { 0 = l }) r (look_does start v
 
 pub look_keeps : (start v w : SeatView) (l : ℕ) (r : Result Seen PeekBusy) → Sees start v l r w → Keeps v w
 look_keeps start v w l (Ok r) s = did_keeps v w (look_of l) s.did
-look_keeps start v w l (Err b) s = did_keeps v w (look_of l) s.did
+look_keeps start v w l (Err b) s = come_keeps start v (look_of l) told.Halted w s
 
 -- a look gains no entry
 pub look_gains_none : (start v w : SeatView) (l : ℕ) (r : Result Seen PeekBusy) → Sees start v l r w → own_entries w ≡ own_entries v
-look_gains_none start v w l (Ok r) s = subst (λ a. Rattle.kc_machine_traces.specs.Outcomes.GainsAsTold v.number (look_of l) a (own_entries v) (own_entries w)) s.says (did_gains v w (look_of l) s.did s.idle)
-look_gains_none start v w l (Err b) s = subst (λ a. Rattle.kc_machine_traces.specs.Outcomes.GainsAsTold v.number (look_of l) a (own_entries v) (own_entries w)) s.says (did_gains v w (look_of l) s.did s.idle)
+look_gains_none start v w l (Ok r) s = subst (λ a. Rattle.kc_hang.specs.kc_machine_traces.Outcomes.GainsAsTold v.number (look_of l) a (own_entries v) (own_entries w)) s.says (did_gains v w (look_of l) s.did s.idle)
+look_gains_none start v w l (Err b) s = come_gains start v (look_of l) told.Halted w s
 
 -- nothing that was known put from what the look saw
 look_unput : (start v w : SeatView) (l : ℕ) (r : Seen) → Sees start v l (Ok r) w → ¬ HasPut (knows v) r

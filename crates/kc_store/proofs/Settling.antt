@@ -1,40 +1,45 @@
 -- From what came of looks and commits to what a try answers.
-use Rattle.std.proofs.Common.{◌≡◌, ◌≢◌, ◌<◌, ◌≤◌, true, false, ℕ, ◌+◌, ◌-◌, List, [], ◌∷◌, ◌++◌, Some, refl, sym, ap, ◌∙◌, arith, subst}
+use Rattle.std.proofs.Common.{◌≡◌, ◌≢◌, ◌<◌, ◌≤◌, ◌⊎◌, ◌||◌, inl, inr, Bool, true, false, ℕ, ◌+◌, ◌-◌, List, [], ◌∷◌, ◌++◌, Some, refl, sym, ap, ◌∙◌, arith, subst}
 use Rattle.std.specs.Prelude.{Contains, Err, slice_get}
 use borrow.Author.Tests.{eqb-true}
-use Rattle.kc_machine.specs.Seats.{is_idle}
-use Rattle.kc_machine_claims.specs.Claims.{HasPut}
-use Rattle.kc_machine_claims.specs.Histories.{IsKnown}
-use Rattle.kc_machine_claims.specs.Traces.{first_store}
+use Rattle.kc_hang.specs.kc_machine.Seats.{is_idle}
+use Rattle.kc_hang.specs.kc_machine_claims.Claims.{HasPut}
+use Rattle.kc_hang.specs.kc_machine_claims.Histories.{IsKnown}
+use Rattle.kc_hang.specs.kc_machine_claims.Traces.{first_store}
 use Rattle.kc_machine_steps.specs.declared.task.Task.{Task}
 use Rattle.kc_machine_steps.specs.declared.task.Task.TheVariants as task
 use Rattle.kc_machine_steps.specs.declared.task.Told.{Told}
 use Rattle.kc_machine_steps.specs.declared.task.Told.TheVariants as told
-use Rattle.kc_machine_traces.specs.Outcomes.{GainsAsTold}
+use Rattle.kc_hang.specs.kc_machine_traces.Outcomes.{GainsAsTold}
 use Rattle.kc_machine_words.specs.declared.words.Mode.{Mode}
 use Rattle.kc_machine_words.specs.declared.words.Mode.TheVariants.{All, Light}
 use Rattle.kc_model.specs.Footprint.{IsBelow, IsWellMade, Reads}
 use Rattle.kc_model.specs.declared.footprint.Footprint.{Footprint}
 use Rattle.kc_model.specs.declared.footprint.Seen.{Seen}
-use Rattle.kc_store.proofs.Doing.{did_does, did_gains, did_keeps}
+use Rattle.kc_store.proofs.Coming.{come_gains, come_spent, come_told, come_worn, did_worn, was_done}
+use Rattle.kc_store.proofs.Doing.{did_keeps}
 use Rattle.kc_store.proofs.Among.{grows_in}
 use Rattle.kc_store.proofs.Gaining.{all_from, gains, overtaken}
 use Rattle.kc_store.proofs.ReadLooks.{was_looked_at}
-use Rattle.kc_store.proofs.Seeing.{Fresh, keeps_then, look_gains_none, look_keeps, looks_fresh, looks_gain_none, looks_keep}
-use Rattle.kc_store.specs.Answers.{Gains, GainsNothing, IsBusy, Settles, own_entries, placed_entry}
-use Rattle.kc_store.specs.Steps.{HasLeft, busy_bound}
-use Rattle.kc_store.specs.Tries.{Commits, CommitsAfter, Installs, once, again, behind_swap, by_install, by_swap, Sees, WasTold, is_crossed, swap_ends}
-use Rattle.kc_store.specs.Verdicts.{entered, fate_by, is_final, lost_at, verdict_as, verdict_of}
-use Rattle.kc_store.specs.Works.{AllLooked, is_told_committing}
+use Rattle.kc_store.proofs.Seeing.{Fresh, come_keeps, keeps_then, look_gains_none, look_keeps, looks_fresh, looks_gain_none, looks_keep}
+use Rattle.kc_store.specs.Answers.{Gains, GainsNothing, IsBusy, Settles, WasOvertaken, own_entries, placed_entry}
+use Rattle.kc_store.specs.Steps.{busy_bound}
+use Rattle.kc_store.specs.Tries.{Comes, Commits, CommitsAfter, Installs, once, again, bare, behind_swap, by_install, by_swap, Sees, Tries, WasTold, is_crossed, look_of, swap_ends}
+use Rattle.kc_store.specs.Verdicts.{entered, fate_by, is_final, is_worn_by, is_worn_pool, left_of, lost_at, stays_worn, verdict_as, verdict_of}
+use Rattle.kc_store.specs.declared.verdict.Fate.{Fate}
+use Rattle.kc_store.specs.declared.verdict.Fate.TheVariants as fate
+use Rattle.kc_store.specs.Works.{AllLooked, IsFrom, StaysWorn, is_told_committing, is_told_worn}
+use Rattle.kc_store.specs.declared.budget.Budget.{Budget}
+use Rattle.kc_hang.specs.kc_table_seats.Told.{IsWornOut}
 use Rattle.kc_store.specs.declared.verdict.Answered.{Answered}
 use Rattle.kc_store.specs.declared.verdict.Answered.TheVariants as answered
 use Rattle.kc_store.specs.declared.verdict.Verdict.{Verdict}
 use Rattle.kc_store.specs.declared.verdict.Verdict.TheVariants as verdict
-use Rattle.kc_table_moves.specs.Views.{SeatView, TableView, knows, opening_at_seat}
-use Rattle.kc_table_seats.proofs.Causing.{worn_found}
-use Rattle.kc_table_seats.proofs.Keeping.{failure_known, success_known, swap_failure_known, swap_success_known}
-use Rattle.kc_table_views.specs.Tasks.{FailureTaught, SuccessTaught}
-use Rattle.kc_table_seats.specs.Tasks.{Does, Keeps}
+use Rattle.kc_hang.specs.kc_table_moves.Views.{SeatView, TableView, knows, opening_at_seat}
+use Rattle.kc_hang.proofs.kc_table_seats.Causing.{worn_found}
+use Rattle.kc_hang.proofs.kc_table_seats.Keeping.{failure_known, success_known, swap_failure_known, swap_success_known}
+use Rattle.kc_hang.specs.kc_table_views.Tasks.{FailureTaught, SuccessTaught}
+use Rattle.kc_hang.specs.kc_table_seats.Tasks.{Does, Keeps}
 use Rattle.kc_xt.specs.Commit.{Came, Looked, LooksIn, PutsWhereDone, tried_of}
 use Rattle.kc_xt.specs.Meaning.{Meaning}
 use Rattle.kc_xt.specs.Peeks.{Looks}
@@ -93,11 +98,11 @@ record Last (v : SeatView) (f : Footprint) (a : Told) (w : SeatView) : Type 0 wh
   mode : Mode
   keeps : Keeps v from
   none : own_entries from ≡ own_entries v
-  was : WasTold v from made a w
+  was : Comes v from made a w
   enters : (n : ℕ) → a ≡ told.Succeeded n → Does from made w → w.seat.told ≡ Some (told.Succeeded n) → SuccessTaught from.number n f mode (knows from) (knows w)
   fails : (i : ℕ) → a ≡ told.Failed i → Does from made w → w.seat.told ≡ Some (told.Failed i) → FailureTaught f i (knows w)
 
-last_commit : (v u : SeatView) (f : Footprint) (m : Mode) (a : Told) (w : SeatView) → Keeps v u → own_entries u ≡ own_entries v → WasTold v u (task.Commit f m) a w → Last v f a w
+last_commit : (v u : SeatView) (f : Footprint) (m : Mode) (a : Told) (w : SeatView) → Keeps v u → own_entries u ≡ own_entries v → Comes v u (task.Commit f m) a w → Last v f a w
 last_commit v u f m a w k e was = record {
   from = u;
   made = task.Commit f m;
@@ -111,15 +116,14 @@ last_commit v u f m a w k e was = record {
 
 -- behind a task that was crossed
 crossed_keeps : (v c u : SeatView) (t : Task) (i : ℕ) → Keeps v c → own_entries c ≡ own_entries v → WasTold v c t (told.Crossed i) u → Keeps v u × (own_entries u ≡ own_entries v)
-crossed_keeps v c u t i k e first =
-    (keeps_then v c u k (did_keeps c u t first.did), subst (λ y. GainsAsTold c.number t y (own_entries c) (own_entries u)) first.says (did_gains c u t first.did first.idle) ∙ e)
+crossed_keeps v c u t i k e first = (keeps_then v c u k (did_keeps c u t first.did), come_gains v c t (told.Crossed i) u (inl first) ∙ e)
 
 last_install : (v c : SeatView) (f : Footprint) (a : Told) (w : SeatView) → Keeps v c → own_entries c ≡ own_entries v → Installs v f c a w → Last v f a w
 last_install v c f a w k e (once b x was o) = last_commit v c f Light a w k e was
 last_install v c f a w k e (again i u b x first was) = let y = crossed_keeps v c u (task.Commit f Light) i k e first in last_commit v u f All a w y.0 y.1 was
 
 last_of : (v c : SeatView) (f : Footprint) (a : Told) (w : SeatView) → Keeps v c → own_entries c ≡ own_entries v → Commits v f c a w → Last v f a w
-last_of v c f a w k e (by_install b x was) = last_install v c f a w k e was
+last_of v c f a w k e (by_install b x at_once was) = last_install v c f a w k e was
 last_of v c f a w k e (behind_swap r after i u b x is first was) = let y = crossed_keeps v c u (task.Swap r after) i k e first in last_install v u f a w y.0 y.1 was
 last_of v c f a w k e (by_swap r after b x is was ends) = record {
   from = c;
@@ -135,13 +139,112 @@ last_of v c f a w k e (by_swap r after b x is was ends) = record {
 }
 
 installs_keep : (v c : SeatView) (f : Footprint) (a : Told) (w : SeatView) → Installs v f c a w → Keeps c w
-installs_keep v c f a w (once b x was o) = did_keeps c w (task.Commit f Light) was.did
-installs_keep v c f a w (again i u b x first was) = keeps_then c u w (did_keeps c u (task.Commit f Light) first.did) (did_keeps u w (task.Commit f All) was.did)
+installs_keep v c f a w (once b x was o) = come_keeps v c (task.Commit f Light) a w was
+installs_keep v c f a w (again i u b x first was) = keeps_then c u w (did_keeps c u (task.Commit f Light) first.did) (come_keeps v u (task.Commit f All) a w was)
 
 pub commits_keep : (v c : SeatView) (f : Footprint) (a : Told) (w : SeatView) → Commits v f c a w → Keeps c w
-commits_keep v c f a w (by_install b x was) = installs_keep v c f a w was
+commits_keep v c f a w (by_install b x at_once was) = installs_keep v c f a w was
 commits_keep v c f a w (behind_swap r after i u b x is first was) = keeps_then c u w (did_keeps c u (task.Swap r after) first.did) (installs_keep v u f a w was)
-commits_keep v c f a w (by_swap r after b x is was ends) = did_keeps c w (task.Swap r after) was.did
+commits_keep v c f a w (by_swap r after b x is was ends) = come_keeps v c (task.Swap r after) a w was
+
+-- ---- where no life is left
+
+looks_worn : (start v : SeatView) (es : List Seen) (w : SeatView) → Looks (Sees start) v es w → StaysWorn v w
+looks_worn start v [] w e = λ f. subst (λ (x : SeatView). IsWornOut (opening_at_seat x) x.past) e f
+looks_worn start v (r ∷ es) w (b, s, rest) = λ f. looks_worn start b es w rest (did_worn v b (look_of r.loc.0) s.did f)
+
+pub looked_worn : (m : Meaning) (t : Tried) (v : SeatView) (f : Footprint) (c : SeatView) → Looked (Sees v) m t v f c → StaysWorn v c
+looked_worn m t v f c l = go t l.made
+  where
+    go : (t : Tried) → LooksIn (Sees v) t v l.looks c → StaysWorn v c
+    go (tried.Done r) x = looks_worn v v l.looks c x
+    go tried.Later x = looks_worn v v l.looks c x
+    go tried.TooLarge x = looks_worn v v l.looks c x
+    go (tried.Worn loc) x = looks_worn v v l.looks c x
+    go tried.Busy (b, x, y) = λ f. come_worn v b (look_of y.loc) told.Halted c y.fails (looks_worn v v l.looks b x f)
+
+installs_worn : (v c : SeatView) (f : Footprint) (a : Told) (w : SeatView) → Installs v f c a w → StaysWorn c w
+installs_worn v c f a w (once b x was o) = come_worn v c (task.Commit f Light) a w was
+installs_worn v c f a w (again i u b x first was) = λ h. come_worn v u (task.Commit f All) a w was (did_worn c u (task.Commit f Light) first.did h)
+
+pub commits_worn : (v c : SeatView) (f : Footprint) (a : Told) (w : SeatView) → Commits v f c a w → StaysWorn c w
+commits_worn v c f a w (by_install b x at_once was) = installs_worn v c f a w was
+commits_worn v c f a w (behind_swap r after i u b x is first was) = λ h. installs_worn v u f a w was (did_worn c u (task.Swap r after) first.did h)
+commits_worn v c f a w (by_swap r after b x is was ends) = come_worn v c (task.Swap r after) a w was
+
+pub worn_verdict : (a : Told) (f : Footprint) (steps : ℕ) (t : Tried) → is_told_worn a ≡ true → stays_worn (verdict_as (fate_by a f steps) t) ≡ true
+worn_verdict told.Worn f steps t e = refl
+worn_verdict told.Halted f steps t e = refl
+worn_verdict (told.Succeeded n) f steps t e = absurd (cc)
+worn_verdict (told.Failed n) f steps t e = absurd (cc)
+worn_verdict (told.Crossed n) f steps t e = absurd (cc)
+worn_verdict (told.Seen n) f steps t e = absurd (cc)
+worn_verdict (told.Changed n) f steps t e = absurd (cc)
+worn_verdict told.Hung f steps t e = absurd (cc)
+worn_verdict told.Free f steps t e = absurd (cc)
+
+pub worn_pool_by : (x : Fate) (t : Tried) → is_worn_pool (verdict_as x t) ≡ is_worn_by x
+worn_pool_by fate.WornPool t = refl
+worn_pool_by (fate.Lost loc version) t = refl
+worn_pool_by (fate.Busy steps) t = refl
+worn_pool_by (fate.Entered steps) (tried.Done r) = refl
+worn_pool_by (fate.Entered steps) tried.Later = refl
+worn_pool_by (fate.Entered steps) tried.TooLarge = refl
+worn_pool_by (fate.Entered steps) (tried.Worn loc) = refl
+worn_pool_by (fate.Entered steps) tried.Busy = refl
+
+-- it notes just what it answers
+pub notes_as : (x : Fate) (t : Tried) (a : Verdict) (old new : Bool) → new ≡ (is_worn_by x || old) → a ≡ verdict_as x t → new ≡ (is_worn_pool a || old)
+notes_as x t a old new n e = n ∙ ap (λ b. b || old) (sym (worn_pool_by x t) ∙ ap is_worn_pool (sym e))
+
+-- a caller that notes it was told so knows that no life is left
+pub noted : (m : Meaning) (x : Fate) (t : Tried) (v : SeatView) (f : Footprint) (w : SeatView) (old new : Bool) → new ≡ (is_worn_by x || old) → (old ≡ true → IsWornOut (opening_at_seat v) v.past) → StaysWorn v w → Settles m (verdict_as x t) v f w → new ≡ true → IsWornOut (opening_at_seat w) w.past
+noted m fate.WornPool t v f w old new e out stays s q = s.0
+noted m (fate.Entered steps) t v f w old new e out stays s q = stays (out (sym e ∙ q))
+noted m (fate.Lost loc version) t v f w old new e out stays s q = stays (out (sym e ∙ q))
+noted m (fate.Busy steps) t v f w old new e out stays s q = stays (out (sym e ∙ q))
+
+pub worn_answer : (a : Answered) → stays_worn (verdict_of a) ≡ true → a ≡ answered.WornPool
+worn_answer answered.WornPool e = refl
+worn_answer (answered.Done r) e = absurd (cc)
+worn_answer answered.Later e = absurd (cc)
+worn_answer answered.TooLarge e = absurd (cc)
+worn_answer (answered.WornLocation loc) e = absurd (cc)
+
+-- ---- what the footprint shows
+
+pub shows : (a : Told) (f : Footprint) → (left_of a f ≡ f) ⊎ (left_of a f ≡ bare f)
+shows (told.Succeeded n) f = inl refl
+shows (told.Failed n) f = inr refl
+shows (told.Crossed n) f = inr refl
+shows told.Halted f = inr refl
+shows told.Worn f = inr refl
+shows (told.Seen n) f = inr refl
+shows (told.Changed n) f = inr refl
+shows told.Hung f = inr refl
+shows told.Free f = inr refl
+
+pub below_left : (a : Told) (f : Footprint) (n : ℕ) → IsBelow n f → IsBelow n (left_of a f)
+below_left (told.Succeeded k) f n b = b
+below_left (told.Failed k) f n b = b
+below_left (told.Crossed k) f n b = b
+below_left told.Halted f n b = b
+below_left told.Worn f n b = b
+below_left (told.Seen k) f n b = b
+below_left (told.Changed k) f n b = b
+below_left told.Hung f n b = b
+below_left told.Free f n b = b
+
+-- a try whose looks were given up, with the reads alone left
+pub looked_bare : (m : Meaning) (v : SeatView) (f : Footprint) (c : SeatView) → Looked (Sees v) m tried.Busy v f c → Tries m (bare f) v c
+looked_bare m v f c l = record { tried = tried.Busy; seen = c; plan = f; shows = inr refl; came = refl; looked = l; commits = refl }
+
+pub came_alone : (m : Meaning) (t : Tried) (before f : Footprint) → t ≢ tried.Busy → Came m t before f → Came m t f f
+came_alone m (tried.Done r) before f n x = x
+came_alone m tried.Later before f n x = x
+came_alone m tried.TooLarge before f n x = x
+came_alone m (tried.Worn loc) before f n x = x
+came_alone m tried.Busy before f n x = absurd (n refl)
 
 -- ---- the answer
 
@@ -160,29 +263,47 @@ entered_settles m tried.TooLarge before v f w steps n came puts g = (came, (puts
 entered_settles m (tried.Worn loc) before v f w steps n came puts g = (came, (puts, g))
 entered_settles m tried.Busy before v f w steps n came puts g = absurd (n refl)
 
+-- who was overtaken read it
+overtaken_bare : (v : SeatView) (f : Footprint) (l n : ℕ) (w : SeatView) → WasOvertaken v f l n w → WasOvertaken v (bare f) l n w
+overtaken_bare v f l n w o = record {
+  read = o.read;
+  reads = o.reads;
+  at = o.at;
+  next = o.next;
+  by_entry = o.by_entry;
+  known = o.known;
+  unknown = o.unknown;
+  other = o.other;
+  put = o.put;
+  puts = o.puts;
+  there = o.there;
+  ends = o.ends;
+}
+
 pub settled : (m : Meaning) (t : Tried) (before : Footprint) (v c : SeatView) (f : Footprint) (a : Told) (w : SeatView) (steps : ℕ) → t ≢ tried.Busy → Came m t before f → PutsWhereDone t f → Looked (Sees v) m t v f c → Commits v f c a w
-    → is_told_committing (Some a) ≡ true → is_crossed a ≡ false → v.seat.made + steps ≡ w.seat.made → Settles m (verdict_as (fate_by a f steps) t) v f w
+    → is_told_committing (Some a) ≡ true → is_crossed a ≡ false → v.seat.made + steps ≡ w.seat.made → Settles m (verdict_as (fate_by a f steps) t) v (left_of a f) w
 settled m t before v c f a w steps n came puts looked commits committing crossed counts =
     go a (last_of v c f a w (looked_keeps m t v f c looked) (looked_none m t v f c looked) commits) committing crossed
   where
-    does : (a : Told) (l : Last v f a w) → a ≢ told.Halted → Does l.from l.made w
-    does a l other = did_does l.from w l.made a l.was.did l.was.idle l.was.says other
+    done : (a : Told) (l : Last v f a w) → a ≢ told.Halted → Does l.from l.made w × (is_idle w.seat.work ≡ true) × (w.seat.told ≡ Some a)
+    done a l other = let s = come_told v l.from l.made a w other l.was in (was_done v l.from l.made a w other s, s.idle, s.says)
 
     gained : (a : Told) (l : Last v f a w) → GainsAsTold l.from.number l.made (Some a) (own_entries l.from) (own_entries w)
-    gained a l = subst (λ y. GainsAsTold l.from.number l.made y (own_entries l.from) (own_entries w)) l.was.says (did_gains l.from w l.made l.was.did l.was.idle)
+    gained a l = come_gains v l.from l.made a w l.was
 
     same : (a : Told) (l : Last v f a w) → w.number ≡ v.number
-    same a l = (did_keeps l.from w l.made l.was.did).number ∙ l.keeps.number
+    same a l = (come_keeps v l.from l.made a w l.was).number ∙ l.keeps.number
 
-    go : (a : Told) → Last v f a w → is_told_committing (Some a) ≡ true → is_crossed a ≡ false → Settles m (verdict_as (fate_by a f steps) t) v f w
-    go (told.Succeeded k) l e x = entered_settles m t before v f w steps n came puts (let d = does (told.Succeeded k) l (λ e. absurd (cc)) in gains v l.from w k f l.mode l.made l.keeps l.none d l.was.idle l.was.says (l.enters k refl d l.was.says))
+    go : (a : Told) → Last v f a w → is_told_committing (Some a) ≡ true → is_crossed a ≡ false → Settles m (verdict_as (fate_by a f steps) t) v (left_of a f) w
+    go (told.Succeeded k) l e x = entered_settles m t before v f w steps n came puts (let d = done (told.Succeeded k) l (λ e. absurd (cc)) in gains v l.from w k f l.mode l.made l.keeps l.none d.0 d.1 d.2 (l.enters k refl d.0 d.2))
     go (told.Failed i) l e x =
         let none : GainsNothing v w = gained (told.Failed i) l ∙ l.none in
         let unput : (r : Seen) → Reads f r → ¬ HasPut (knows v) r = λ r y. (looked_fresh m t v f c looked n r y).unput in
-        let o = overtaken v w i f unput (same (told.Failed i) l) none (l.fails i refl (does (told.Failed i) l (λ e. absurd (cc))) l.was.says) in
-        subst (λ y. Settles m (verdict_as (lost_at y steps) t) v f w) (sym o.1) (o.2, none)
-    go told.Worn l e x = (worn_found l.from w l.made (does told.Worn l (λ e. absurd (cc))) l.was.says, gained told.Worn l ∙ l.none)
-    go told.Halted l e x = ((counts, l.was.spent refl), gained told.Halted l ∙ l.none)
+        let d = done (told.Failed i) l (λ e. absurd (cc)) in
+        let o = overtaken v w i f unput (same (told.Failed i) l) none (l.fails i refl d.0 d.2) in
+        subst (λ y. Settles m (verdict_as (lost_at y steps) t) v (bare f) w) (sym o.1) (overtaken_bare v f _ _ w o.2, none, refl)
+    go told.Worn l e x = let d = done told.Worn l (λ e. absurd (cc)) in (worn_found l.from w l.made d.0 d.2, gained told.Worn l ∙ l.none, refl)
+    go told.Halted l e x = ((counts, come_spent v l.from l.made told.Halted w l.was refl), gained told.Halted l ∙ l.none, refl)
     go (told.Crossed i) l e x = absurd (cc)
     go (told.Seen r) l e x = absurd (cc)
     go told.Hung l e x = absurd (cc)
@@ -194,7 +315,7 @@ pub given_up : (m : Meaning) (v : SeatView) (f : Footprint) (c : SeatView) (step
 given_up m v f c steps l counts = go l.made
   where
     go : LooksIn (Sees v) tried.Busy v l.looks c → IsBusy v steps c × GainsNothing v c
-    go (b, x, y) = ((counts, y.fails.spent refl), looked_none m tried.Busy v f c l)
+    go (b, x, y) = ((counts, come_spent v b (look_of y.loc) told.Halted c y.fails refl), looked_none m tried.Busy v f c l)
 
 -- ---- one try behind others
 
@@ -215,7 +336,7 @@ settles_from m (verdict.Done r) v u f w e k none x = (x.0, gains_from v u f w k 
 settles_from m verdict.Later v u f w e k none x = (x.0, (x.1.0, gains_from v u f w k none x.1.1))
 settles_from m verdict.TooLarge v u f w e k none x = (x.0, (x.1.0, gains_from v u f w k none x.1.1))
 settles_from m (verdict.WornLocation loc) v u f w e k none x = (x.0, (x.1.0, gains_from v u f w k none x.1.1))
-settles_from m verdict.WornPool v u f w e k none x = (x.0, x.1 ∙ none)
+settles_from m verdict.WornPool v u f w e k none x = (x.0, x.1 ∙ none, x.2)
 settles_from m (verdict.Lost loc version) v u f w e k none x = absurd (cc)
 settles_from m (verdict.Busy steps) v u f w e k none x = absurd (cc)
 
@@ -230,8 +351,8 @@ vain_none m (verdict.WornLocation loc) u f w e x = absurd (cc)
 
 -- ---- in a call
 
-pub has_all : (v : SeatView) (z : TableView) (most : ℕ) → v.of ≡ z → most ≡ busy_bound z.origin.callers → HasLeft v v most
-has_all v z most of e = let n : busy_bound v.of.origin.callers ≡ most = ap (λ x. busy_bound x.origin.callers) of ∙ sym e in omega (arith, n)
+pub from_start : (v : SeatView) (z : TableView) (b : Budget) → v.of ≡ z → b.most ≡ busy_bound z.origin.callers → b.before ≡ v.seat.made → IsFrom v b v
+from_start v z b of most before = record { before = before; most = most ∙ sym (ap (λ x. busy_bound x.origin.callers) of); counts = omega arith; no_more = omega arith }
 
 pub counted : (a b s r : ℕ) → a ≤ b → s ≡ b → r ≡ a → a + (s - r) ≡ b
 counted a b s r up e f = omega (arith, up, e, f)
@@ -260,13 +381,13 @@ pub record Ready (z : TableView) (f : Footprint) (u : SeatView) : Type 0 where
   pub made : IsWellMade f × IsBelow u.of.origin.locations f
   pub known : (r : Seen) → Reads f r → IsKnown (first_store (opening_at_seat u)) (knows u) r
 
-pub ready : (m : Meaning) (t : Tried) (before f : Footprint) (z : TableView) (v u : SeatView) (most left end : ℕ) → v.of ≡ z → most ≡ busy_bound z.origin.callers → t ≢ tried.Busy → Came m t before f → (t ≢ tried.Busy → IsBelow end f) → end ≤ z.origin.locations
-    → AllLooked m t f v most u left → Ready z f u
-ready m t before f z v u most left end of e n came below up x =
+pub ready : (m : Meaning) (t : Tried) (before f : Footprint) (z : TableView) (v u : SeatView) (b : Budget) (end : ℕ) → v.of ≡ z → b.most ≡ busy_bound z.origin.callers → b.before ≡ v.seat.made → t ≢ tried.Busy → Came m t before f → (t ≢ tried.Busy → IsBelow end f) → end ≤ z.origin.locations
+    → AllLooked m t f v b u → Ready z f u
+ready m t before f z v u b end of most made n came below up x =
     let at = x.advances.of ∙ of in
     record {
       table = at;
       idle = x.advances.idle;
       made = (came_well m t before f n came, subst (λ y. IsBelow y.origin.locations f) (sym at) (below_more f end z.origin.locations (below n) up));
-      known = λ r y. (looked_fresh m t v f u (x.looked v (has_all v z most of e)) n r y).known;
+      known = λ r y. (looked_fresh m t v f u (x.looked v (from_start v z b of most made)) n r y).known;
     }

@@ -1,18 +1,18 @@
 -- A seat that runs a look or a commit: how it stands, behind each step.
 use Rattle.std.proofs.Common.{◌≡◌, ◌≤◌, Bool, true, false, ℕ, ◌+◌, ◌-◌, ◌&&◌, ◌==◌, [], Option, None, Some, refl, sym, ◌∙◌, arith, subst, if◌then◌else◌}
 use Rattle.std.specs.Prelude.{bit_and, nat_lt}
-use Rattle.kc_machine.specs.Seats.{after, answer_by, answer_of, begun, begun_idle, blocked_by, ended, halted, halted_by, is_idle}
-use Rattle.kc_machine.specs.Works.{Work}
-use Rattle.kc_machine.specs.Works as work
-use Rattle.kc_machine.specs.declared.seat.Seat.{Seat}
-use Rattle.kc_machine_commits.specs.Commits.{after_scan, commit_after, loaded, onward_by, scan_next, stage_next, take_next, tells_or_goes, told_of}
-use Rattle.kc_machine_commits.specs.Halts.{commit_halted, unowned}
-use Rattle.kc_machine_commits.specs.Nexts.{Next, Goes, Takes, Tells}
-use Rattle.kc_machine_commits.specs.declared.commit.Commit.{Commit}
-use Rattle.kc_machine_commits.specs.declared.commit.OwnStep.{OwnStep}
-use Rattle.kc_machine_commits.specs.declared.commit.OwnStep.TheVariants as own
-use Rattle.kc_machine_commits.specs.declared.commit.Stage.{Stage}
-use Rattle.kc_machine_commits.specs.declared.commit.Stage.TheVariants as stage
+use Rattle.kc_hang.specs.kc_machine.Seats.{after, answer_by, answer_of, begun, begun_idle, blocked_by, ended, halted, halted_by, is_idle}
+use Rattle.kc_hang.specs.kc_machine.Works.{Work}
+use Rattle.kc_hang.specs.kc_machine.Works as work
+use Rattle.kc_hang.specs.kc_machine.declared.seat.Seat.{Seat}
+use Rattle.kc_hang.specs.kc_machine_commits.Commits.{after_scan, commit_after, loaded, onward_by, scan_next, stage_next, take_next, tells_or_goes, told_of}
+use Rattle.kc_hang.specs.kc_machine_commits.Halts.{commit_halted, unowned}
+use Rattle.kc_hang.specs.kc_machine_commits.Nexts.{Next, Goes, Takes, Tells}
+use Rattle.kc_hang.specs.kc_machine_commits.declared.commit.Commit.{Commit}
+use Rattle.kc_hang.specs.kc_machine_commits.declared.commit.OwnStep.{OwnStep}
+use Rattle.kc_hang.specs.kc_machine_commits.declared.commit.OwnStep.TheVariants as own
+use Rattle.kc_hang.specs.kc_machine_commits.declared.commit.Stage.{Stage}
+use Rattle.kc_hang.specs.kc_machine_commits.declared.commit.Stage.TheVariants as stage
 use Rattle.kc_machine_steps.specs.Lines.{one_more}
 use Rattle.kc_machine_steps.specs.Looks.{halts_at_once, look_after, look_halted, look_next, told_by}
 use Rattle.kc_machine_steps.specs.declared.look.Look.{Look}
@@ -39,9 +39,10 @@ use Rattle.kc_model.specs.declared.footprint.Footprint.{Footprint}
 use Rattle.kc_model.specs.declared.footprint.Loc.{Loc}
 use Rattle.kc_model.specs.declared.footprint.Seen.{Seen}
 use Rattle.kc_model.specs.declared.word.Word.TheVariants.{Plain, Ref}
+use Rattle.kc_store.proofs.Counting.{no_more_halted, no_more_step, no_more_steps, no_more_then}
 use Rattle.kc_store.specs.Works.{Stands, is_told_committing, is_told_swapping, stands_in}
-use Rattle.kc_table_moves.specs.Views.{SeatView, Stepped, StepsTo, here, further, Ran, begun_at}
-use Rattle.kc_table_seats.specs.Halts.{may_halt}
+use Rattle.kc_hang.specs.kc_table_moves.Views.{SeatView, Stepped, StepsTo, here, further, Ran, begun_at}
+use Rattle.kc_hang.specs.kc_table_seats.Halts.{may_halt}
 
 -- from s to s' the task goes on, or has ended
 pub record GoesOn (t : Task) (s s' : Seat) : Type 0 where
@@ -268,21 +269,21 @@ steps_go t v w e idle (further u x d busy s) =
 pub ran_stands : (t : Task) (v w : SeatView) → is_tried t ≡ true → is_idle v.seat.work ≡ true → Ran v t w → Stands v t w
 ran_stands t v w e idle r =
     let g = steps_go t v w e idle r.steps in
-    record { shown = r.shown; in_task = g.in_task; blocked = g.blocked; counts = g.counts }
+    record { shown = r.shown; in_task = g.in_task; blocked = g.blocked; counts = g.counts; no_more = no_more_steps v t w r.steps }
 
 pub stands_further : (t : Task) (v u w : SeatView) → Stands v t u → is_idle u.seat.work ≡ false → Stepped u w → Stands v t w
 stands_further t v u w st busy s =
     let g = step_goes t u w s st.in_task busy in
     let p = st.counts in
     let q = g.counts in
-    record { shown = s.began; in_task = g.in_task; blocked = g.blocked ∙ st.blocked; counts = omega (arith, p, q) }
+    record { shown = s.began; in_task = g.in_task; blocked = g.blocked ∙ st.blocked; counts = omega (arith, p, q); no_more = no_more_then v u w st.no_more (no_more_step u w s) }
 
 pub stands_halted : (t : Task) (v u : SeatView) → Stands v t u → Stands v t (record u { seat = halted u.seat })
 stands_halted t v u st =
     let g = halt_goes t u.seat st.in_task in
     let p = st.counts in
     let q = g.counts in
-    record { shown = st.shown; in_task = g.in_task; blocked = g.blocked ∙ st.blocked; counts = omega (arith, p, q) }
+    record { shown = st.shown; in_task = g.in_task; blocked = g.blocked ∙ st.blocked; counts = omega (arith, p, q); no_more = no_more_halted v u st.no_more }
 
 pub halts : (t : Task) (s : Seat) → stands_in t s ≡ true → is_idle s.work ≡ false → may_halt s.work ≡ true
 halts t s e busy = go t s s.work e busy

@@ -3,27 +3,27 @@ use Rattle.std.proofs.Common.{◌≡◌, ◌<◌, ◌⊎◌, inl, inr, ℕ, ◌+
 use Rattle.std.specs.Prelude.{All, Contains}
 use Rattle.std.specs.List.{filter_map}
 use Rattle.std.proofs.lemmas.List.Elements.{All-cons, All-contains, All-head, All-map, All-nil, All-tail, Contains-get_or}
-use Rattle.kc_machine.specs.Machine.{Opening, run, seat_of}
-use Rattle.kc_machine.specs.Schedules.{IsSchedule}
-use Rattle.kc_machine_claims.specs.Histories.{History, Placed, footprint_of, inserted, put_of_line}
-use Rattle.kc_machine_claims.specs.Traces.{swap_line, trace}
-use Rattle.kc_machine_traces.proofs.Others.{run_shape}
-use Rattle.kc_machine_traces.specs.Swaps.{SwapOf}
-use Rattle.kc_machine_histories.proofs.Decisions.{history_moves}
-use Rattle.kc_machine_histories.proofs.Insertions.{inserted_contains}
-use Rattle.kc_machine_histories.specs.Decisions.{Decision}
-use Rattle.kc_machine_resolving.proofs.Lines.{made_lines}
+use Rattle.kc_hang.specs.kc_machine.Machine.{Opening, run, seat_of}
+use Rattle.kc_hang.specs.kc_machine.Schedules.{IsSchedule}
+use Rattle.kc_hang.specs.kc_machine_claims.Histories.{History, Placed, footprint_of, inserted, put_of_line}
+use Rattle.kc_hang.specs.kc_machine_claims.Traces.{swap_line, trace}
+use Rattle.kc_hang.proofs.kc_machine_traces.Others.{run_shape}
+use Rattle.kc_hang.specs.kc_machine_traces.Swaps.{SwapOf}
+use Rattle.kc_hang.proofs.kc_machine_histories.Decisions.{history_moves}
+use Rattle.kc_hang.proofs.kc_machine_histories.Insertions.{inserted_contains}
+use Rattle.kc_hang.specs.kc_machine_histories.Decisions.{Decision}
+use Rattle.kc_hang.proofs.kc_machine_resolving.Lines.{made_lines}
 use Rattle.kc_model.specs.declared.footprint.Line.{Line}
 use Rattle.kc_machine_steps.specs.declared.task.Event.{Event}
-use Rattle.kc_machine_traces.proofs.Joins.{every, made_parts}
+use Rattle.kc_hang.proofs.kc_machine_traces.Joins.{every, made_parts}
 use Rattle.kc_model.specs.Footprint.{IsBelow}
 use Rattle.kc_model.specs.declared.footprint.Put.{Put}
 use Rattle.kc_model.specs.declared.footprint.Seen.{Seen}
 use Rattle.kc_store.proofs.Among.{first_or_later, nothing_in}
 use Rattle.kc_store.specs.Within.{LiesIn}
-use Rattle.kc_table_moves.specs.Origins.{opening_of}
-use Rattle.kc_table_moves.specs.Views.{IsPast, PastView, SeatView, TableView}
-use Rattle.kc_table_views.specs.Known.{known}
+use Rattle.kc_hang.specs.kc_table_moves.Origins.{opening_of}
+use Rattle.kc_hang.specs.kc_table_moves.Views.{IsPast, PastView, SeatView, TableView}
+use Rattle.kc_hang.specs.kc_table_views.Known.{known}
 
 -- ---- what lines of locations below n say
 

@@ -1,7 +1,7 @@
 -- What a try answers, and by what.
 use Rattle.std.specs.Prelude.{◌≡◌, ◌≢◌, ℕ, ◌+◌, ◌++◌, [], ◌∷◌, List, Contains}
-use Rattle.kc_machine_claims.specs.Histories.{Placed}
-use Rattle.kc_machine_traces.specs.Entries.{by}
+use Rattle.kc_hang.specs.kc_machine_claims.Histories.{Placed}
+use Rattle.kc_hang.specs.kc_machine_traces.Entries.{by}
 use Rattle.kc_machine_words.specs.declared.words.Mode.{Mode}
 use Rattle.kc_model.specs.Footprint.{Puts, Reads}
 use Rattle.kc_model.specs.declared.footprint.Footprint.{Footprint}
@@ -11,9 +11,9 @@ use Rattle.kc_model.specs.declared.reply.Answer.TheVariants as answer
 use Rattle.kc_store.specs.Steps.{IsSpent}
 use Rattle.kc_store.specs.declared.verdict.Verdict.{Verdict}
 use Rattle.kc_store.specs.declared.verdict.Verdict.TheVariants as verdict
-use Rattle.kc_table_moves.specs.Views.{SeatView, knows, opening_at_seat}
-use Rattle.kc_table_seats.specs.Told.{IsWornOut}
-use Rattle.kc_table_views.specs.Tasks.{SuccessTaught}
+use Rattle.kc_hang.specs.kc_table_moves.Views.{SeatView, knows, opening_at_seat}
+use Rattle.kc_hang.specs.kc_table_seats.Told.{IsWornOut}
+use Rattle.kc_hang.specs.kc_table_views.Tasks.{SuccessTaught}
 use Rattle.kc_xt.specs.Commit.{Answers, Waits, Wears}
 use Rattle.kc_xt.specs.Meaning.{Meaning}
 
@@ -50,20 +50,23 @@ pub record WasOvertaken (v : SeatView) (f : Footprint) (l version : ℕ) (w : Se
   pub there : put.loc ≡ read.loc
   pub ends : put.version ≡ read.version
 
+abbrev pub PutsNothing : Footprint → Type 0
+PutsNothing f = f.puts.items ≡ []
+
 -- what is answered where an entry was made that puts nothing
 abbrev pub Looks : SeatView → Footprint → SeatView → Type 0
-Looks v f w = (f.puts.items ≡ []) × Gains v f w
+Looks v f w = PutsNothing f × Gains v f w
 
 -- so many steps were made in the call, as the seat counts them; all of those that a call makes before it is given up
 abbrev pub IsBusy : SeatView → ℕ → SeatView → Type 0
 IsBusy v steps w = (v.seat.made + steps ≡ w.seat.made) × IsSpent v w
 
--- a call of a meaning that was answered so
+-- a call of a meaning that was answered so; the footprint's puts are those that were made
 abbrev pub Settles : Meaning → Verdict → SeatView → Footprint → SeatView → Type 0
 Settles m (verdict.Done r) v f w = Answers m (answer.Reply r) f × Gains v f w
 Settles m verdict.Later v f w = Waits m f × Looks v f w
 Settles m verdict.TooLarge v f w = Answers m answer.TooLarge f × Looks v f w
 Settles m (verdict.WornLocation loc) v f w = Wears m loc.0 f × Looks v f w
-Settles m verdict.WornPool v f w = IsWornOut (opening_at_seat w) w.past × GainsNothing v w
-Settles m (verdict.Lost loc version) v f w = WasOvertaken v f loc.0 version w × GainsNothing v w
-Settles m (verdict.Busy steps) v f w = IsBusy v steps w × GainsNothing v w
+Settles m verdict.WornPool v f w = IsWornOut (opening_at_seat w) w.past × GainsNothing v w × PutsNothing f
+Settles m (verdict.Lost loc version) v f w = WasOvertaken v f loc.0 version w × GainsNothing v w × PutsNothing f
+Settles m (verdict.Busy steps) v f w = IsBusy v steps w × GainsNothing v w × PutsNothing f

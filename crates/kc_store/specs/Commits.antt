@@ -5,7 +5,7 @@ use Rattle.kc_store.specs.Answers.{Settles}
 use Rattle.kc_store.specs.Tries.{Tries}
 use Rattle.kc_store.specs.Verdicts.{is_final}
 use Rattle.kc_store.specs.declared.verdict.Verdict.{Verdict}
-use Rattle.kc_table_moves.specs.Views.{SeatView}
+use Rattle.kc_hang.specs.kc_table_moves.Views.{SeatView}
 use Rattle.kc_xt.specs.Meaning.{Meaning}
 
 -- tries one after another, each lost or given up

@@ -9,4 +9,5 @@ use Rattle.kc_xt.specs.declared.peek.PeekBusy.{PeekBusy}
 pub record PeekGives (p : StorePeek) (l : ℕ) (r : Result Seen PeekBusy) (q : StorePeek) : Type 0 where
   pub seat : q.seat.ghost_name ≡ p.seat.ghost_name
   pub table : q.table.now ≡ p.table.now
-  pub looks : LooksAt l p.seat.now p.left r q.seat.now q.left
+  pub looks : LooksAt l p.seat.now p.budget r q.seat.now
+  pub budget : q.budget ≡ p.budget

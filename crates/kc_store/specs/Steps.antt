@@ -1,9 +1,9 @@
 -- How many steps a call has made.
-use Rattle.std.specs.Prelude.{ℕ, ◌+◌, ◌*◌, ◌≤◌, ◌==◌, List, [], ◌∷◌, if◌then◌else◌}
+use Rattle.std.specs.Prelude.{ℕ, ◌+◌, ◌-◌, ◌*◌, ◌<◌, ◌≤◌, ◌==◌, List, [], ◌∷◌, if◌then◌else◌}
 use Rattle.kc_model.specs.declared.footprint.TheConstants.{MOST}
 use Rattle.kc_machine_steps.specs.declared.task.Event.{Event}
 use Rattle.kc_machine_steps.specs.declared.task.Event.TheVariants.{Begin, Step, Halt}
-use Rattle.kc_table_moves.specs.Views.{SeatView}
+use Rattle.kc_hang.specs.kc_table_moves.Views.{SeatView}
 
 -- how many of the events are steps of seat k
 abbrev pub steps_in : ℕ → List Event → ℕ
@@ -24,9 +24,9 @@ busy_bound callers = (callers + 1) * (callers + 1) * (4 * MOST * MOST)
 abbrev pub sole_bound : ℕ
 sole_bound = 128 * MOST
 
--- of these, a call that began at `start` has at most so many left
-abbrev pub HasLeft : SeatView → SeatView → ℕ → Type 0
-HasLeft start v left = steps_made start + busy_bound start.of.origin.callers ≤ steps_made v + left
+-- a call that began at `start` has some of them left, as its seat counts the steps
+abbrev pub HasSteps : SeatView → SeatView → Type 0
+HasSteps start v = v.seat.made - start.seat.made < busy_bound start.of.origin.callers
 
 -- it has made all of them: its task may be halted
 abbrev pub IsSpent : SeatView → SeatView → Type 0

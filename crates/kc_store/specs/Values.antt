@@ -15,8 +15,25 @@ use Rattle.kc_store.specs.declared.verdict.Answered.{Answered}
 use Rattle.kc_store.specs.declared.verdict.Answered.TheVariants as answered
 use Rattle.kc_store.specs.declared.verdict.Verdict.{Verdict}
 use Rattle.kc_store.specs.declared.verdict.Verdict.TheVariants as verdict
-use Rattle.kc_table_moves.specs.Views.{SeatView}
+use Rattle.kc_hang.specs.kc_table_moves.Views.{SeatView}
 use Rattle.kc_xt.specs.Meaning.{Meaning}
+
+-- what it says, its footprint aside
+abbrev pub verdict_in : Try → Verdict
+verdict_in (one.Done r f) = verdict.Done r
+verdict_in (one.Later f) = verdict.Later
+verdict_in (one.TooLarge f) = verdict.TooLarge
+verdict_in (one.Lost loc version) = verdict.Lost loc version
+verdict_in (one.Busy steps) = verdict.Busy steps
+verdict_in (one.Worn (wear.Location loc f)) = verdict.WornLocation loc
+verdict_in (one.Worn wear.Pool) = verdict.WornPool
+
+abbrev pub answered_in : Outcome → Answered
+answered_in (outcome.Done r f) = answered.Done r
+answered_in (outcome.Later f) = answered.Later
+answered_in (outcome.TooLarge f) = answered.TooLarge
+answered_in (outcome.Worn (wear.Location loc f)) = answered.WornLocation loc
+answered_in (outcome.Worn wear.Pool) = answered.WornPool
 
 -- it says this, and has the footprint where the call has an entry
 abbrev pub IsTry : Try → Verdict → Footprint → Type 0

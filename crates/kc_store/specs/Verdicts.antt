@@ -4,6 +4,7 @@ use Rattle.kc_machine_steps.specs.declared.task.Told.{Told}
 use Rattle.kc_machine_steps.specs.declared.task.Told.TheVariants as told
 use Rattle.kc_model.specs.declared.footprint.Footprint.{Footprint}
 use Rattle.kc_model.specs.declared.footprint.Seen.{Seen}
+use Rattle.kc_store.specs.Tries.{bare}
 use Rattle.kc_store.specs.declared.verdict.Answered.{Answered}
 use Rattle.kc_store.specs.declared.verdict.Answered.TheVariants as answered
 use Rattle.kc_store.specs.declared.verdict.Fate.{Fate}
@@ -33,12 +34,27 @@ fate_by (told.Failed i) f steps = lost_at (slice_get f.reads.items i) steps
 fate_by told.Worn f steps = fate.WornPool
 fate_by _ f steps = fate.Busy steps
 
+-- no descriptor had a life left
+abbrev pub is_worn_by : Fate → Bool
+is_worn_by fate.WornPool = true
+is_worn_by _ = false
+
+-- what is left of the footprint of such a try: behind an entry all of it, else what it read
+abbrev pub left_of : Told → Footprint → Footprint
+left_of (told.Succeeded n) f = f
+left_of _ f = bare f
+
 -- the verdict on what a transaction came to, whose try ended so
 abbrev pub verdict_as : Fate → Tried → Verdict
 verdict_as (fate.Entered steps) t = entered t steps
 verdict_as (fate.Lost loc version) t = verdict.Lost loc version
 verdict_as fate.WornPool t = verdict.WornPool
 verdict_as (fate.Busy steps) t = verdict.Busy steps
+
+-- it says that no descriptor has a life left
+abbrev pub is_worn_pool : Verdict → Bool
+is_worn_pool verdict.WornPool = true
+is_worn_pool _ = false
 
 -- whether the call has an entry
 abbrev pub has_entry : Verdict → Bool
@@ -49,6 +65,16 @@ has_entry (verdict.WornLocation loc) = true
 has_entry verdict.WornPool = false
 has_entry (verdict.Lost loc version) = false
 has_entry (verdict.Busy steps) = false
+
+-- all that a caller is answered that was told once that no life is left
+abbrev pub stays_worn : Verdict → Bool
+stays_worn verdict.WornPool = true
+stays_worn (verdict.Busy steps) = true
+stays_worn (verdict.Done r) = false
+stays_worn verdict.Later = false
+stays_worn verdict.TooLarge = false
+stays_worn (verdict.WornLocation loc) = false
+stays_worn (verdict.Lost loc version) = false
 
 -- whether it is answered by a commit that tries again
 abbrev pub is_final : Verdict → Bool

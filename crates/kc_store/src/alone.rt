@@ -1,19 +1,21 @@
 //! Transactions by the only caller of a store.
 
-ghost use Rattle.std.specs.Prelude.{◌≡◌, ◌≤◌, ◌+◌, true, Some, length};
-ghost use Rattle.kc_machine.specs.Seats.{is_idle};
+ghost use Rattle.std.specs.Prelude.{◌≡◌, ◌≤◌, ◌+◌, ◌||◌, true, Some, length};
+ghost use Rattle.kc_hang.specs.kc_machine.Seats.{is_idle};
 ghost use Rattle.kc_machine_steps.specs.Lines.{lines_of};
 ghost use Rattle.kc_machine_steps.specs.declared.task.Task.TheVariants as task;
 ghost use Rattle.kc_machine_words.specs.declared.words.Mode.TheVariants as mode;
 ghost use Rattle.kc_model.specs.Footprint.{IsBelow, IsWellMade};
 ghost use Rattle.kc_model.specs.Store.{Finds};
 ghost use Rattle.kc_model.specs.declared.footprint.TheConstants.{MOST};
-ghost use Rattle.kc_table_moves.specs.Views.{KnowsReads};
-ghost use Rattle.kc_table_seats.specs.Tasks.{Keeps};
+ghost use Rattle.kc_hang.specs.kc_table_moves.Views.{KnowsReads};
+ghost use Rattle.kc_hang.specs.kc_table_seats.Tasks.{Keeps};
 ghost use Rattle.kc_table_sole.specs.Sole.{standing};
-ghost use Rattle.kc_store.specs.Alone.{AnswersAlone, EndsAlone, Says};
+ghost use Rattle.kc_store.specs.Alone.{AnswersAlone, EndsAlone, IsToldAlone, Says, SoleSo, told_in};
+ghost use Rattle.kc_store.specs.Knows.{NotesWear, Remembers};
 ghost use Rattle.kc_store.specs.Lone.{CommitsAlone, is_worn};
 ghost use Rattle.kc_store.specs.Steps.{sole_bound, steps_made};
+ghost use Rattle.kc_store.specs.Verdicts.{is_worn_pool, verdict_of};
 ghost use Rattle.kc_xt.specs.Meaning.{limited};
 
 use crate::sole_peek::run_alone;
@@ -54,30 +56,32 @@ impl Sole {
 impl Store {
     /// A transaction by the only caller, of a store that was opened for one: it is told exactly what the transaction comes to on
     /// what stands, or what is worn out. The footprint is filled with what stood at each location touched, and at Done with
-    /// what it put. It takes no memory, never waits, and makes at most 32,768 steps.
+    /// what it put. It takes no memory, never waits, and makes at most 32,768 steps. A caller that is told `WornPool` keeps it in
+    /// mind, as at a try.
     pub fn sole_into<T: Transact>(
         &mut self,
         caller: &mut Caller,
         transaction: &T,
         footprint: &mut Footprint,
     ) -> Answered
-        requires alone { self.old.origin.callers ≡ 1 }
+        requires alone { self.old.callers ≡ 1 }
         requires caller { caller.old.of ≡ self.old }
-        requires idle { is_idle caller.old.seat.work ≡ true }
         requires fit { T.is_fit transaction.now }
-        requires within { T.end transaction.now ≤ self.old.origin.locations }
+        requires within { T.end transaction.now ≤ self.old.locations }
         ensures store { self.new ≡ self.old }
-        ensures ends { EndsAlone (limited (T.most transaction.now) (T.meaning transaction.now)) result caller.old footprint.new caller.new }
-        ensures steps { steps_made caller.new ≤ steps_made caller.old + sole_bound }
-        ensures keeps { Keeps caller.old caller.new }
-        ensures idle { is_idle caller.new.seat.work ≡ true }
-        ensures blocked { caller.new.seat.blocked ≡ caller.old.seat.blocked }
+        ensures told { IsToldAlone (limited (T.most transaction.now) (T.meaning transaction.now)) result caller.old footprint.new caller.new }
+        ensures ends { EndsAlone (limited (T.most transaction.now) (T.meaning transaction.now)) result caller.old.seat footprint.new caller.new.seat }
+        ensures steps { steps_made caller.new.seat ≤ steps_made caller.old.seat + sole_bound }
+        ensures keeps { Keeps caller.old.seat caller.new.seat }
+        ensures remembers { Remembers caller.old caller.new }
         ensures within { IsBelow (T.end transaction.now) footprint.new }
+        ensures notes { NotesWear caller.old (verdict_of result) caller.new }
     {
         end_alone(
             &self.table,
             &mut caller.seat,
             &mut caller.room,
+            &mut caller.worn,
             transaction,
             footprint,
         )
@@ -85,17 +89,17 @@ impl Store {
 
     /// A transaction by the only caller, answered by value: see `sole_into`.
     pub fn sole<T: Transact>(&mut self, caller: &mut Caller, transaction: &T) -> Sole
-        requires alone { self.old.origin.callers ≡ 1 }
+        requires alone { self.old.callers ≡ 1 }
         requires caller { caller.old.of ≡ self.old }
-        requires idle { is_idle caller.old.seat.work ≡ true }
         requires fit { T.is_fit transaction.now }
-        requires within { T.end transaction.now ≤ self.old.origin.locations }
+        requires within { T.end transaction.now ≤ self.old.locations }
         ensures store { self.new ≡ self.old }
-        ensures ends { AnswersAlone (limited (T.most transaction.now) (T.meaning transaction.now)) (T.end transaction.now) result caller.old caller.new }
-        ensures steps { steps_made caller.new ≤ steps_made caller.old + sole_bound }
-        ensures keeps { Keeps caller.old caller.new }
-        ensures idle { is_idle caller.new.seat.work ≡ true }
-        ensures blocked { caller.new.seat.blocked ≡ caller.old.seat.blocked }
+        ensures so { SoleSo (limited (T.most transaction.now) (T.meaning transaction.now)) (T.end transaction.now) result caller.old caller.new }
+        ensures ends { AnswersAlone (limited (T.most transaction.now) (T.meaning transaction.now)) (T.end transaction.now) result caller.old.seat caller.new.seat }
+        ensures steps { steps_made caller.new.seat ≤ steps_made caller.old.seat + sole_bound }
+        ensures keeps { Keeps caller.old.seat caller.new.seat }
+        ensures remembers { Remembers caller.old caller.new }
+        ensures notes { NotesWear caller.old (verdict_of (told_in result)) caller.new }
     {
         let mut footprint = Footprint::new();
         let answered = self.sole_into(caller, transaction, &mut footprint);
@@ -108,6 +112,7 @@ fn end_alone<T: Transact>(
     table: &KcTable,
     seat: &mut KcSeat,
     room: &mut Room,
+    worn: &mut bool,
     transaction: &T,
     footprint: &mut Footprint,
 ) -> Answered
@@ -122,6 +127,7 @@ fn end_alone<T: Transact>(
     ensures idle { is_idle seat.new.seat.work ≡ true }
     ensures blocked { seat.new.seat.blocked ≡ seat.old.seat.blocked }
     ensures within { IsBelow (T.end transaction.now) footprint.new }
+    ensures notes { worn.new ≡ (is_worn_pool (verdict_of result) || worn.old) }
 {
     let tried = run_alone(table, seat, room, transaction, footprint);
     prove!(footprint.reads.len() <= MOST);
@@ -130,6 +136,7 @@ fn end_alone<T: Transact>(
             if commit_alone(table, seat, footprint, room.as_slice()) {
                 return Answered::Done(reply);
             }
+            *worn = true;
             Answered::WornPool
         }
         Tried::Later => Answered::Later,

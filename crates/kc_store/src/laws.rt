@@ -1,18 +1,22 @@
 //! What holds of entries in any legal history, and in those of a store. An empty body: the contract is the law.
 
-ghost use Rattle.std.specs.Prelude.{◌≡◌, ℕ, Some, All, List, slice_get, take};
-ghost use Rattle.kc_machine.specs.Machine.{Opening};
-ghost use Rattle.kc_machine.specs.Schedules.{IsSchedule};
+ghost use Rattle.std.specs.Prelude.{◌≡◌, ℕ, ◌++◌, ◌∷◌, Some, All, List, slice_get, take};
+ghost use Rattle.kc_hang.specs.kc_machine.Machine.{Opening};
+ghost use Rattle.kc_hang.specs.kc_machine.Schedules.{IsSchedule};
 ghost use Rattle.kc_machine_steps.specs.declared.task.Event.{Event};
+ghost use Rattle.kc_model.specs.Legal.{IsLegal};
 ghost use Rattle.kc_model.specs.Store.{Store as Cells};
+ghost use Rattle.kc_model.specs.declared.footprint.Entry.{Entry};
 ghost use Rattle.kc_model.specs.declared.reply.Answer.{Answer};
-ghost use Rattle.kc_machine_claims.specs.Histories.{History, IsLegalHistory, Placed, ending};
+ghost use Rattle.kc_hang.specs.kc_machine_claims.Histories.{History, IsLegalHistory, Placed, ending};
 ghost use Rattle.kc_xt.specs.Commit.{Answers, IsWorn, Waits, Wears, answer_of, run_on};
 ghost use Rattle.kc_xt.specs.Meaning.{Meaning, retried};
+ghost use Rattle.kc_store.specs.Knows.{OnlyLearns, Remembers};
+ghost use Rattle.kc_store.specs.Views.{CallerView};
 ghost use Rattle.kc_store.specs.Within.{LiesIn};
-ghost use Rattle.kc_table_moves.specs.Origins.{opening_of};
-ghost use Rattle.kc_table_moves.specs.Views.{IsPast, PastView, SeatView, TableView};
-ghost use Rattle.kc_table_views.specs.Known.{known};
+ghost use Rattle.kc_hang.specs.kc_table_moves.Origins.{opening_of};
+ghost use Rattle.kc_hang.specs.kc_table_moves.Views.{IsPast, PastView, SeatView, TableView};
+ghost use Rattle.kc_hang.specs.kc_table_views.Known.{known};
 
 /// What an answer says of its meaning on every store that the entry's reads show holds of the store at the entry's place, in
 /// any legal history that has the entry.
@@ -27,4 +31,18 @@ pub fn answers_hold_at_their_place()
 pub fn entries_lie_in_the_store()
     ensures known { (o : Opening) (es : List Event) → IsSchedule o es → All (LiesIn o.locations) (known o es) }
     ensures past { (z : TableView) (seats : List SeatView) (p : PastView) → IsPast z seats p → All (LiesIn z.origin.locations) (known (opening_of p.origin) p.schedule) }
+{}
+
+/// What an answer says of its meaning on every store that the entry's reads show holds of the store at the entry's place, in any
+/// legal list of entries that has the entry.
+pub fn answers_hold_at_their_entry()
+    ensures answers { (s t e : Cells) (before behind : List Entry) (x : Entry) (m : Meaning) (a : Answer) → IsLegal s before t → IsLegal s (before ++ x ∷ behind) e → Answers m a x.footprint → answer_of (run_on m t).outcome ≡ Some a }
+    ensures waits { (s t e : Cells) (before behind : List Entry) (x : Entry) (m : Meaning) → IsLegal s before t → IsLegal s (before ++ x ∷ behind) e → Waits m x.footprint → (run_on m t).outcome ≡ retried }
+{}
+
+/// What a caller knows by one call it knows behind the next.
+pub fn what_is_known_stays_known()
+    ensures same { (c : CallerView) → OnlyLearns c c }
+    ensures remembers { (c d e : CallerView) → Remembers c d → Remembers d e → Remembers c e }
+    ensures learns { (c d e : CallerView) → OnlyLearns c d → OnlyLearns d e → OnlyLearns c e }
 {}

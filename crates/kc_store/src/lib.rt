@@ -2,6 +2,7 @@
 #![tactic(auto)]
 
 mod alone;
+mod budget;
 mod committing;
 mod laws;
 mod looks;
@@ -17,9 +18,15 @@ mod verdict;
 mod waiting;
 
 pub use alone::Sole;
-pub use kc_table::{HoldsSeat, KcSeat, Past};
-pub use laws::{answers_hold_at_their_place, entries_lie_in_the_store};
-pub use notes::Note;
+pub use kc_hang::HangState;
+pub use kc_machine_words::LAST_GENERATION;
+pub use kc_table::{HoldsSeat, KcSeat};
+pub use laws::{
+    answers_hold_at_their_entry, answers_hold_at_their_place, entries_lie_in_the_store,
+    what_is_known_stays_known,
+};
+pub use notes::{HoldsCaller, Note, Past};
 pub use store::{Caller, Store};
 pub use values::{Outcome, Try, Wear};
 pub use verdict::{Answered, Verdict};
+pub use waiting::{Hanging, hang_step, park, signalled};

@@ -1,10 +1,12 @@
 //! What callers tell each other, and what is left when all came back.
 
-ghost use Rattle.std.specs.Prelude.{◌≡◌, map};
-ghost use Rattle.kc_table_moves.specs.Views.{AreAll, IsPast, Joined};
+ghost use Rattle.std.specs.Prelude.{◌≡◌, All, map};
+ghost use Rattle.kc_store.specs.Backs.{AreAllCallers, ShowsRest};
+ghost use Rattle.kc_store.specs.Knows.{IsHistory, IsWithin, OnlyLearns};
+ghost use Rattle.kc_hang.specs.kc_table_moves.Views.{IsPast, Joined};
 
 use crate::store::{Caller, Store};
-use kc_table::{HoldsSeat, KcNote, KcSeat, Past};
+use kc_table::{HoldsSeat, KcNote, KcSeat};
 use std::marker::Model;
 
 /// What a caller knew when it was made, for another caller to learn.
@@ -14,19 +16,59 @@ pub struct Note {
 }
 
 impl Model for Note {
-    ghost use Rattle.kc_table_moves.specs.Views.{NoteView};
+    ghost use Rattle.kc_store.specs.Views.{NoteView, note_view};
 
     ghost Value = { NoteView };
 
-    ghost view = { λ n. n.note };
+    ghost view = { λ n. note_view n.note };
+}
+
+/// What is left when all callers came back: the one history.
+#[derive(Drop)]
+pub struct Past {
+    past: kc_table::Past,
+}
+
+impl Model for Past {
+    ghost use Rattle.kc_store.specs.Views.{PastView, past_view};
+
+    ghost Value = { PastView };
+
+    ghost view = { λ p. past_view p.past };
+}
+
+/// What holds a caller, and gives it up.
+pub trait HoldsCaller: HoldsSeat {
+    ghost use Rattle.std.specs.Prelude.{◌≡◌};
+    ghost use Rattle.kc_store.specs.Views.{CallerView};
+
+    ghost caller: { Self → CallerView };
+
+    /// The caller.
+    fn caller(&self) -> &Caller
+        ensures caller { result.now ≡ caller self.now }
+        ensures seat { (caller self.now).seat ≡ Self.seat self.now };
 }
 
 impl HoldsSeat for Caller {
-    ghost seat = { λ c. c };
+    ghost seat = { λ c. c.seat };
 
     fn into_seat(self) -> KcSeat {
-        let Caller { seat, room: _ } = self;
+        let Caller {
+            apart: _,
+            seat,
+            room: _,
+            worn: _,
+        } = self;
         seat
+    }
+}
+
+impl HoldsCaller for Caller {
+    ghost caller = { λ c. c };
+
+    fn caller(&self) -> &Caller {
+        self
     }
 }
 
@@ -35,7 +77,7 @@ impl Store {
     pub fn note(&self, caller: &mut Caller) -> Note
         requires { caller.old.of ≡ self.now }
         ensures caller { caller.new ≡ caller.old }
-        ensures note { (result.of ≡ caller.old.of) × (result.past ≡ caller.old.past) }
+        ensures note { (result.of ≡ caller.old.of) × (result.known ≡ caller.old.known) × (result.note.past ≡ caller.old.seat.past) }
     {
         Note {
             note: self.table.split(&mut caller.seat),
@@ -45,22 +87,37 @@ impl Store {
     /// The caller learns what a note knows.
     pub fn learn(&self, caller: &mut Caller, note: Note)
         requires { (caller.old.of ≡ self.now) × (note.of ≡ self.now) }
-        ensures { Joined caller.old note caller.new }
+        ensures joined { Joined caller.old.seat note.note caller.new.seat }
+        ensures learns { OnlyLearns caller.old caller.new }
+        ensures told { IsWithin note.known caller.new.known }
     {
         let Note { note } = note;
         self.table.join(&mut caller.seat, note);
     }
 
-    /// All callers come back, each with what holds it, and the one history shows: it is legal from the opening, and has just the
-    /// entries of the callers.
-    pub fn finish<H: HoldsSeat>(self, callers: Vec<H>) -> Past
-        requires { AreAll self (map H.seat callers.items) }
-        ensures { IsPast self (map H.seat callers.items) result }
+    /// All callers come back, in any order, each with what holds it, and the one history shows: it is legal from the opening, and has
+    /// just the entries of the callers.
+    pub fn finish<H: HoldsCaller>(self, callers: Vec<H>) -> Past
+        requires { AreAllCallers self (map H.caller callers.items) }
+        ensures history { IsHistory self (map H.caller callers.items) result }
+        ensures past { IsPast self.table (map H.seat callers.items) result.past }
     {
+        all_rest(&callers);
         let Store {
             table,
             most_steps: _,
         } = self;
-        table.finish(callers)
+        Past {
+            past: table.finish(callers),
+        }
+    }
+}
+
+// What contracts see of all of them: each rests.
+fn all_rest<H: HoldsCaller>(callers: &Vec<H>)
+    ensures { All (λ h. ShowsRest (H.caller h) (H.seat h)) callers.now.items }
+{
+    for i in 0..callers.len() {
+        callers[i].caller().shows();
     }
 }

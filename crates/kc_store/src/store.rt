@@ -1,12 +1,15 @@
 //! The store, and its callers.
 
-ghost use Rattle.std.specs.Prelude.{◌≡◌, ◌≤◌, ◌<◌, ◌↔◌, ◌⊎◌, length, replicate, All, IfOk, Err};
+ghost use Rattle.std.specs.Prelude.{◌≡◌, ◌≤◌, ◌<◌, ◌↔◌, ◌⊎◌, false, length, map, replicate, All, IfOk, Err};
 ghost use Rattle.kc_model.specs.declared.plain_store.TheConstants.{MOST_LOCATIONS};
-ghost use Rattle.kc_machine.specs.Seats.{steps_of};
-ghost use Rattle.kc_machine.specs.declared.machine.TheConstants.{MOST_CALLERS};
-ghost use Rattle.kc_table_moves.specs.Views.{AreAll, IsPast, OpensAt, opened_seats};
-ghost use Rattle.kc_store.specs.Steps.{busy_bound};
+ghost use Rattle.kc_hang.specs.kc_machine.Seats.{steps_of};
+ghost use Rattle.kc_hang.specs.kc_machine.declared.machine.TheConstants.{MOST_CALLERS};
+ghost use Rattle.kc_hang.specs.kc_table_moves.Views.{OpensAt, SeatView, opened_seats};
+ghost use Rattle.kc_store.specs.Knows.{OpensWith, entries_of};
+ghost use Rattle.kc_store.specs.Rests.{KnowsItsWear, Rests};
+ghost use Rattle.kc_store.specs.Views.{caller_view, opened_callers, store_view};
 
+use crossbeam_utils::CachePadded;
 use kc_machine_words::LAST_GENERATION;
 use kc_model::{LAST_VERSION, MOST, OpenError};
 use kc_table::{KcSeat, KcTable, Past};
@@ -15,9 +18,9 @@ use std::alloc::{AllocError, Global};
 use std::marker::Model;
 
 /// How many steps a call makes for each of the squared number of callers and one, before it is given up.
-const STEPS_EACH: u32 = 4 * MOST as u32 * MOST as u32;
+pub(crate) const STEPS_EACH: u32 = 4 * MOST as u32 * MOST as u32;
 
-/// A store that threads share. Contracts see its table.
+/// A store that threads share. Contracts see how many locations and callers it has.
 #[derive(Drop)]
 pub struct Store {
     pub(crate) table: KcTable,
@@ -27,38 +30,73 @@ pub struct Store {
 
 impl Model for Store {
     ghost use Rattle.std.specs.Prelude.{◌≡◌};
-    ghost use Rattle.kc_table_moves.specs.Views.{TableView};
     ghost use Rattle.kc_store.specs.Steps.{busy_bound};
+    ghost use Rattle.kc_store.specs.Views.{StoreView, store_view};
 
-    ghost Value = { TableView };
+    ghost Value = { StoreView };
 
-    ghost view = { λ s. s.table };
+    ghost view = { λ s. store_view s.table };
 
     ghost invariant = { λ s. s.most_steps ≡ busy_bound s.table.origin.callers };
 }
 
-/// A thread's right to use the store. Contracts see its seat.
+/// A thread's right to use the store. Contracts see of which store it is, its number, the entries that it knows, which of them
+/// are its own, and whether it was told that no descriptor has a life left. It runs no task and isn't blocked: one that hangs is
+/// a `Hanging`.
 #[derive(Drop)]
+#[repr(C)]
 pub struct Caller {
+    // Callers lie side by side in a vector, and each is written at every step: two threads' on one line of a cache hold each
+    // other up.
+    pub(crate) apart: CachePadded<()>,
     pub(crate) seat: KcSeat,
     /// For the log of an attempt, whose lines are those of its commit.
     pub(crate) room: Room,
+    /// It was told that no descriptor has a life left.
+    pub(crate) worn: bool,
 }
 
 impl Model for Caller {
-    ghost use Rattle.kc_table_moves.specs.Views.{SeatView};
+    ghost use Rattle.kc_store.specs.Rests.{KnowsItsWear, Rests};
+    ghost use Rattle.kc_store.specs.Views.{CallerView, caller_view};
 
-    ghost Value = { SeatView };
+    ghost Value = { CallerView };
 
-    ghost view = { λ c. c.seat };
+    ghost view = { λ c. caller_view c.worn c.seat };
+
+    ghost invariant = { λ c. Rests c.seat × KnowsItsWear c.worn c.seat };
 }
 
 impl Caller {
     /// The steps that it has made since the opening, up to 2^64 - 1.
     pub fn steps(&self) -> u64
-        ensures { result ≡ steps_of self.now.seat }
+        ensures { result ≡ steps_of self.now.seat.seat }
     {
         self.seat.steps()
+    }
+
+    /// What contracts see of a caller: its own entries are those of its number that it knows, and the rest is what its seat shows,
+    /// which rests, and what it was told.
+    pub fn shows(&self)
+        ensures own { self.now.own ≡ entries_of self.now.number self.now.known }
+        ensures view { self.now ≡ caller_view self.now.worn self.now.seat }
+        ensures rests { Rests self.now.seat }
+    {
+        let _seat = &self.seat;
+    }
+
+    // A caller with this seat, and room for its attempts. `worn`: it was told that no descriptor has a life left.
+    pub(crate) fn of(seat: KcSeat, worn: bool) -> Caller
+        requires rests { Rests seat }
+        requires wear { KnowsItsWear worn seat }
+        ensures { result ≡ caller_view worn seat }
+    {
+        Caller {
+            apart: CachePadded::new(()),
+            seat,
+            room: Room::new(),
+            worn,
+        }
     }
 }
 
@@ -75,7 +113,8 @@ impl Store {
         values: &[u32],
         callers: u32,
     ) -> Result<(Store, Vec<Caller>), OpenError>
-        ensures ok { IfOk result (λ t. OpensAt values.now (replicate (length values.now) 0) callers 0 t.0 × (t.1.items ≡ opened_seats t.0 0 callers)) }
+        ensures ok { IfOk result (λ t. OpensAt values.now (replicate (length values.now) 0) callers 0 t.0.table × (t.1.items ≡ opened_callers t.0 0 callers)) }
+        ensures opens { IfOk result (λ t. OpensWith values.now (replicate (length values.now) 0) callers t.0) }
         ensures locations { (result ≡ Err OpenError.TooManyLocs) ↔ (MOST_LOCATIONS < length values.now) }
         ensures callers { (result ≡ Err OpenError.TooManyCallers) ↔ ((length values.now ≤ MOST_LOCATIONS) × ((callers ≡ 0) ⊎ (MOST_CALLERS < callers))) }
     {
@@ -99,7 +138,8 @@ impl Store {
     ) -> Result<(Store, Vec<Caller>), OpenError>
         requires versions { (length versions.now ≡ length values.now) × All (λ v. v ≤ LAST_VERSION) versions.now }
         requires generation { generation ≤ LAST_GENERATION }
-        ensures ok { IfOk result (λ t. OpensAt values.now versions.now callers generation t.0 × (t.1.items ≡ opened_seats t.0 0 callers)) }
+        ensures ok { IfOk result (λ t. OpensAt values.now versions.now callers generation t.0.table × (t.1.items ≡ opened_callers t.0 0 callers)) }
+        ensures opens { IfOk result (λ t. OpensWith values.now versions.now callers t.0) }
         ensures locations { (result ≡ Err OpenError.TooManyLocs) ↔ (MOST_LOCATIONS < length values.now) }
         ensures callers { (result ≡ Err OpenError.TooManyCallers) ↔ ((length values.now ≤ MOST_LOCATIONS) × ((callers ≡ 0) ⊎ (MOST_CALLERS < callers))) }
     {
@@ -117,15 +157,13 @@ fn shared(
 ) -> Result<(Store, Vec<Caller>), AllocError>
     requires callers { table.origin.callers ≡ callers }
     requires few { callers ≤ MOST_CALLERS }
-    ensures store { IfOk result (λ r. r.0 ≡ table) }
-    ensures callers { IfOk result (λ r. r.1.items ≡ seats.items) }
+    requires rest { All Rests seats.items }
+    ensures store { IfOk result (λ r. r.0 ≡ store_view table) }
+    ensures callers { IfOk result (λ r. r.1.items ≡ map (caller_view false) seats.items) }
 {
     let mut given = Vec::with_capacity(alloc, seats.len())?;
     for seat in seats {
-        given.push(Caller {
-            seat,
-            room: Room::new(),
-        })?;
+        given.push(Caller::of(seat, false))?;
     }
     let most_steps = (callers + 1) * (callers + 1) * STEPS_EACH;
     Ok((Store { table, most_steps }, given))

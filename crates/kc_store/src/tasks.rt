@@ -1,6 +1,6 @@
-//! Tasks of a call: each ends, by steps that are left to the call, or by a halt.
+//! Tasks of a call: each ends, by steps that are left to the call, or by a halt. With no step left none is begun.
 
-ghost use Rattle.std.specs.Prelude.{◌≡◌, ◌≢◌, ◌+◌, ◌≤◌, true, false, Some, IfSome, [], ◌∷◌, length};
+ghost use Rattle.std.specs.Prelude.{◌≡◌, ◌≢◌, ◌+◌, ◌-◌, ◌≤◌, ◌⊎◌, true, false, Some, IfNone, IfSome, [], ◌∷◌, length};
 ghost use Rattle.kc_model.specs.declared.footprint.TheConstants.{MOST};
 ghost use Rattle.kc_model.specs.Footprint.{IsBelow, IsWellMade};
 ghost use Rattle.kc_machine_steps.specs.Lines.{lines_of};
@@ -8,15 +8,17 @@ ghost use Rattle.kc_machine_steps.specs.declared.task.Task.{Task};
 ghost use Rattle.kc_machine_steps.specs.declared.task.Task.TheVariants as task;
 ghost use Rattle.kc_machine_steps.specs.declared.task.Told.TheVariants as told;
 ghost use Rattle.kc_machine_words.specs.declared.words.Mode.TheVariants as mode;
-ghost use Rattle.kc_machine.specs.Schedules.{IsWellMadeTask};
-ghost use Rattle.kc_machine.specs.Seats.{is_idle};
-ghost use Rattle.kc_machine_claims.specs.Traces.{swap_line};
-ghost use Rattle.kc_table_moves.specs.Views.{KnowsReads, SeatView};
-ghost use Rattle.kc_table_seats.specs.Halts.{is_halted, may_halt, was_halted};
+ghost use Rattle.kc_hang.specs.kc_machine.Schedules.{IsWellMadeTask};
+ghost use Rattle.kc_hang.specs.kc_machine.Seats.{is_idle};
+ghost use Rattle.kc_hang.specs.kc_machine_claims.Traces.{swap_line};
+ghost use Rattle.kc_hang.specs.kc_table_moves.Views.{KnowsReads, SeatView, opening_at_seat};
+ghost use Rattle.kc_hang.specs.kc_table_seats.Halts.{is_halted, may_halt, was_halted};
 ghost use Rattle.kc_store.specs.Steps.{steps_made};
 ghost use Rattle.kc_store.specs.Tries.{is_crossed};
-ghost use Rattle.kc_store.specs.Works.{AllCommitted, AllInstalled, Ends, MayRun, Runs, is_told_committing, is_told_swapping};
+ghost use Rattle.kc_store.specs.Works.{AllCommitted, AllInstalled, EndsOrIsLeft, MayRun, Runs, is_one_put_line, is_told_committing, is_told_swapping, is_told_worn};
+ghost use Rattle.kc_hang.specs.kc_table_seats.Told.{IsWornOut};
 
+use crate::budget::Budget;
 use kc_machine_steps::Told;
 use kc_machine_words::Mode;
 use kc_model::{Footprint, Line, Seen};
@@ -25,7 +27,7 @@ use kc_table::{KcSeat, KcTable};
 /// Ends the task that runs: by as many steps as are left, and then by a halt.
 #[cold]
 #[inline(never)]
-pub(crate) fn end_task(table: &KcTable, seat: &mut KcSeat, left: &mut u32)
+pub(crate) fn end_task(table: &KcTable, seat: &mut KcSeat, budget: Budget)
     requires table { seat.old.of ≡ table.now }
     requires busy { is_idle seat.old.seat.work ≡ false }
     requires shown { seat.old.began ≡ false }
@@ -33,10 +35,10 @@ pub(crate) fn end_task(table: &KcTable, seat: &mut KcSeat, left: &mut u32)
     requires halts { may_halt seat.old.seat.work ≡ true }
     ensures runs { (v : SeatView) (t : Task) → Runs v t seat.old → MayRun v t seat.new }
     ensures idle { is_idle seat.new.seat.work ≡ true }
-    ensures spent { seat.new.seat.told ≡ Some told.Halted → left.new ≡ 0 }
-    ensures made { steps_made seat.old + left.old ≤ steps_made seat.new + left.new }
+    ensures spent { seat.new.seat.told ≡ Some told.Halted → budget.most + steps_made seat.old ≤ steps_made seat.new + (seat.old.seat.made - budget.before) }
 {
-    step_on(table, seat, left);
+    let mut left = budget.left(seat);
+    step_on(table, seat, &mut left);
     if seat.busy() {
         seat.halt();
         step_to_the_end(table, seat);
@@ -44,7 +46,7 @@ pub(crate) fn end_task(table: &KcTable, seat: &mut KcSeat, left: &mut u32)
 }
 
 // Steps until the task has ended, or none is left.
-fn step_on(table: &KcTable, seat: &mut KcSeat, left: &mut u32)
+fn step_on(table: &KcTable, seat: &mut KcSeat, left: &mut u64)
     requires table { seat.old.of ≡ table.now }
     requires busy { is_idle seat.old.seat.work ≡ false }
     requires shown { seat.old.began ≡ false }
@@ -79,14 +81,16 @@ fn step_to_the_end(table: &KcTable, seat: &mut KcSeat)
 }
 
 /// Commits the footprint, whose lines these are: where it reads one location and puts it, by a swap; where it doesn't, or the
-/// swap was crossed, in mode Light, and where that was crossed once more in mode All.
+/// swap was crossed, in mode Light, and where that was crossed once more in mode All. Who was told that no life is left swaps
+/// no more.
 #[inline(always)]
 pub(crate) fn commit(
     table: &KcTable,
     seat: &mut KcSeat,
     footprint: &Footprint,
     lines: &[Line],
-    left: &mut u32,
+    worn: bool,
+    budget: Budget,
 ) -> Told
     requires table { seat.old.of ≡ table.now }
     requires idle { is_idle seat.old.seat.work ≡ true }
@@ -94,23 +98,26 @@ pub(crate) fn commit(
     requires few { length lines.now ≤ MOST }
     requires made { IsWellMade footprint.now × IsBelow seat.old.of.origin.locations footprint.now }
     requires known { KnowsReads seat.old (task.Commit footprint.now mode.Light) }
-    ensures { AllCommitted footprint.now result seat.old left.old seat.new left.new }
+    requires worn { worn ≡ true → IsWornOut (opening_at_seat seat.old) seat.old.past }
+    ensures all { AllCommitted footprint.now result seat.old budget seat.new }
+    ensures worn { worn ≡ true → is_told_worn result ≡ true }
 {
-    if let Some((seen, after)) = only_put(lines) {
-        let told = swap(table, seat, seen, after, left);
+    if let Some((seen, after)) = only_put(lines, worn) {
+        let told = swap(table, seat, seen, after, budget);
         if !is_crossed(told) {
             return told;
         }
     }
-    install(table, seat, footprint, lines, left)
+    install(table, seat, footprint, lines, budget)
 }
 
-// The read and the value of the only line, where it puts.
+// The read and the value of the only line, where it puts and may be swapped.
 #[inline(always)]
-fn only_put(lines: &[Line]) -> Option<(Seen, u32)>
-    ensures { IfSome result (λ x. lines.now ≡ swap_line x.0 x.1 ∷ []) }
+fn only_put(lines: &[Line], worn: bool) -> Option<(Seen, u32)>
+    ensures some { IfSome result (λ x. (lines.now ≡ swap_line x.0 x.1 ∷ []) × (worn ≡ false)) }
+    ensures none { IfNone result ((is_one_put_line lines.now ≡ false) ⊎ (worn ≡ true)) }
 {
-    if lines.len() != 1 {
+    if worn || lines.len() != 1 {
         return None;
     }
     let line = lines[0];
@@ -119,17 +126,20 @@ fn only_put(lines: &[Line]) -> Option<(Seen, u32)>
 
 // One swap.
 #[inline(always)]
-fn swap(table: &KcTable, seat: &mut KcSeat, seen: Seen, after: u32, left: &mut u32) -> Told
+fn swap(table: &KcTable, seat: &mut KcSeat, seen: Seen, after: u32, budget: Budget) -> Told
     requires table { seat.old.of ≡ table.now }
     requires idle { is_idle seat.old.seat.work ≡ true }
     requires made { IsWellMadeTask seat.old.of.origin.locations (task.Swap seen after) }
     requires known { KnowsReads seat.old (task.Swap seen after) }
-    ensures ends { Ends (task.Swap seen after) seat.old left.old result seat.new left.new }
+    ensures ends { EndsOrIsLeft (task.Swap seen after) seat.old budget result seat.new }
     ensures swapping { is_told_swapping (Some result) ≡ true }
 {
+    if !budget.has_steps(seat) {
+        return Told::Halted;
+    }
     table.swap(seat, seen, after);
     if seat.busy() {
-        end_task(table, seat, left);
+        end_task(table, seat, budget);
         return answer_of(seat);
     }
     answer_of(seat)
@@ -141,7 +151,7 @@ fn install(
     seat: &mut KcSeat,
     footprint: &Footprint,
     lines: &[Line],
-    left: &mut u32,
+    budget: Budget,
 ) -> Told
     requires table { seat.old.of ≡ table.now }
     requires idle { is_idle seat.old.seat.work ≡ true }
@@ -149,11 +159,12 @@ fn install(
     requires few { length lines.now ≤ MOST }
     requires made { IsWellMade footprint.now × IsBelow seat.old.of.origin.locations footprint.now }
     requires known { KnowsReads seat.old (task.Commit footprint.now mode.Light) }
-    ensures { AllInstalled footprint.now result seat.old left.old seat.new left.new }
+    ensures all { AllInstalled footprint.now result seat.old budget seat.new }
+    ensures worn { IsWornOut (opening_at_seat seat.old) seat.old.past → is_told_worn result ≡ true }
 {
-    let told = commit_in(table, seat, footprint, Mode::Light, lines, left);
+    let told = commit_in(table, seat, footprint, Mode::Light, lines, budget);
     if is_crossed(told) {
-        return commit_in(table, seat, footprint, Mode::All, lines, left);
+        return commit_in(table, seat, footprint, Mode::All, lines, budget);
     }
     told
 }
@@ -171,7 +182,7 @@ fn commit_in(
     footprint: &Footprint,
     mode: Mode,
     lines: &[Line],
-    left: &mut u32,
+    budget: Budget,
 ) -> Told
     requires table { seat.old.of ≡ table.now }
     requires idle { is_idle seat.old.seat.work ≡ true }
@@ -179,12 +190,15 @@ fn commit_in(
     requires few { length lines.now ≤ MOST }
     requires made { IsWellMade footprint.now × IsBelow seat.old.of.origin.locations footprint.now }
     requires known { KnowsReads seat.old (task.Commit footprint.now mode) }
-    ensures ends { Ends (task.Commit footprint.now mode) seat.old left.old result seat.new left.new }
+    ensures ends { EndsOrIsLeft (task.Commit footprint.now mode) seat.old budget result seat.new }
     ensures committing { is_told_committing (Some result) ≡ true }
 {
+    if !budget.has_steps(seat) {
+        return Told::Halted;
+    }
     table.commit(seat, footprint, mode, lines);
     if seat.busy() {
-        end_task(table, seat, left);
+        end_task(table, seat, budget);
         return answer_of(seat);
     }
     answer_of(seat)

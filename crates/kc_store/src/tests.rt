@@ -1,9 +1,12 @@
 //! Tries that another overtakes, and looks that are given up.
 
 ghost use Rattle.std.specs.Prelude.{◌≡◌, ◌<◌, true, length, IfSome};
-ghost use Rattle.kc_machine.specs.Seats.{is_idle};
+ghost use Rattle.kc_hang.specs.kc_machine.Seats.{is_idle};
+ghost use Rattle.kc_store.specs.Rests.{Rests};
 
+use crate::budget::Budget;
 use crate::looks::look_and_run;
+use crate::store::STEPS_EACH;
 use crate::tasks::commit;
 use crate::trying::fate_of;
 use crate::verdict::verdict_on;
@@ -13,65 +16,64 @@ use kc_machine_steps::Task;
 use kc_machine_words::Mode;
 use kc_model::{Footprint, Loc, MOST};
 use kc_table::{KcSeat, KcTable};
-use kc_xt::{Trial, Went};
+use kc_xt::{Room, Trial, Went};
 use std::test::Fail;
 
 const ADD: LocOp = LocOp::FetchAdd(Loc(0), 1);
 
-// A store of these values, and two callers.
-fn open_two(rt: &HostRuntime, values: &[u32]) -> Option<(Store, Caller, Caller)>
-    ensures of { IfSome result (λ t. (t.1.of ≡ t.0) × (t.2.of ≡ t.0)) }
-    ensures idle { IfSome result (λ t. (is_idle t.1.seat.work ≡ true) × (is_idle t.2.seat.work ≡ true)) }
-    ensures locations { IfSome result (λ t. t.0.origin.locations ≡ length values.now) }
+// A store of these values, and the seats of its two callers.
+fn open_two(rt: &HostRuntime, values: &[u32]) -> Option<(Store, KcSeat, KcSeat)>
+    ensures of { IfSome result (λ t. (t.1.of ≡ t.0.table) × (t.2.of ≡ t.0.table)) }
+    ensures rest { IfSome result (λ t. Rests t.1 × Rests t.2) }
+    ensures locations { IfSome result (λ t. t.0.locations ≡ length values.now) }
 {
-    let Ok((store, mut callers)) = Store::open(rt.alloc(), values, 2) else {
+    let Ok((table, mut seats)) = KcTable::open(rt.alloc(), values, 2) else {
         return None;
     };
-    let second = callers.pop()?;
-    let first = callers.pop()?;
-    Some((store, first, second))
+    let second = seats.pop()?;
+    let first = seats.pop()?;
+    let most_steps = 9 * STEPS_EACH;
+    Some((Store { table, most_steps }, first, second))
 }
 
 // A try of the first, between whose looks and commit the second commits.
-fn overtaken(store: &Store, a: &mut Caller, b: &mut Caller) -> Option<Verdict>
-    requires first { (a.old.of ≡ store.now) × (is_idle a.old.seat.work ≡ true) }
-    requires second { (b.old.of ≡ store.now) × (is_idle b.old.seat.work ≡ true) }
-    requires location { 0 < store.now.origin.locations }
+fn overtaken(store: &Store, a: &mut KcSeat, b: KcSeat) -> Option<Verdict>
+    requires first { (a.old.of ≡ store.now.table) × (is_idle a.old.seat.work ≡ true) }
+    requires second { (b.of ≡ store.now.table) × Rests b }
+    requires location { 0 < store.now.locations }
 {
-    let mut left = store.most_steps;
-    let (mut trial, mut footprint) = (Trial::new(), Footprint::new());
+    let budget = Budget {
+        most: store.most_steps as u64,
+        before: a.steps(),
+    };
+    let (mut room, mut trial) = (Room::new(), Trial::new());
+    let mut footprint = Footprint::new();
     look_and_run(
         &store.table,
-        &mut a.seat,
-        &mut a.room,
+        a,
+        &mut room,
         &ADD,
         &mut trial,
         &mut footprint,
-        &mut left,
+        budget,
     );
     if let Went::Busy = trial.went {
         return None;
     }
     let mut other = Footprint::new();
-    store.try_commit_into(b, &ADD, &mut other);
-    let told = commit(
-        &store.table,
-        &mut a.seat,
-        &footprint,
-        a.room.as_slice(),
-        &mut left,
-    );
-    Some(verdict_on(fate_of(told, &footprint, 0), &trial))
+    store.try_commit_into(&mut Caller::of(b, false), &ADD, &mut other);
+    let told = commit(&store.table, a, &footprint, room.as_slice(), false, budget);
+    Some(verdict_on(fate_of(told, &mut footprint, 0), &trial))
 }
 
 #[test]
 fn a_try_that_another_overtakes_is_lost(rt: HostRuntime) -> Result<(), Fail> {
-    let Some((store, mut a, mut b)) = open_two(&rt, &[5]) else {
+    let Some((store, mut a, b)) = open_two(&rt, &[5]) else {
         return Err(Fail::from("not opened"));
     };
     let loc = Loc(0);
     let lost = Verdict::Lost { loc, version: 1 };
-    assert_eq!(rt; overtaken(&store, &mut a, &mut b), Some(lost));
+    assert_eq!(rt; overtaken(&store, &mut a, b), Some(lost));
     Ok(())
 }
 
@@ -86,20 +88,24 @@ fn make_steps(table: &KcTable, seat: &mut KcSeat, most: u32)
 }
 
 // Begins to put the location, and stops with a reference in its word.
-fn stop_within(store: &Store, caller: &mut Caller) -> bool
-    requires caller { (caller.old.of ≡ store.now) × (is_idle caller.old.seat.work ≡ true) }
-    requires location { 0 < store.now.origin.locations }
+fn stop_within(store: &Store, seat: &mut KcSeat) -> bool
+    requires seat { (seat.old.of ≡ store.now.table) × (is_idle seat.old.seat.work ≡ true) }
+    requires location { 0 < store.now.locations }
 {
-    let mut left = store.most_steps;
-    let (mut trial, mut footprint) = (Trial::new(), Footprint::new());
+    let budget = Budget {
+        most: store.most_steps as u64,
+        before: seat.steps(),
+    };
+    let (mut room, mut trial) = (Room::new(), Trial::new());
+    let mut footprint = Footprint::new();
     look_and_run(
         &store.table,
-        &mut caller.seat,
-        &mut caller.room,
+        seat,
+        &mut room,
         &ADD,
         &mut trial,
         &mut footprint,
-        &mut left,
+        budget,
     );
     if let Went::Busy = trial.went {
         return false;
@@ -108,28 +114,32 @@ fn stop_within(store: &Store, caller: &mut Caller) -> bool
         return false;
     }
     let mode = Mode::All;
-    caller.seat.begin(&Task::Commit { footprint, mode });
-    make_steps(&store.table, &mut caller.seat, 7);
-    caller.seat.busy()
+    seat.begin(&Task::Commit { footprint, mode });
+    make_steps(&store.table, seat, 7);
+    seat.busy()
 }
 
-// What comes of a look with no step left.
-fn look_once(store: &Store, caller: &mut Caller, footprint: &mut Footprint) -> Went
-    requires caller { (caller.old.of ≡ store.now) × (is_idle caller.old.seat.work ≡ true) }
-    requires location { 0 < store.now.origin.locations }
-    ensures of { caller.new.of ≡ caller.old.of }
-    ensures idle { is_idle caller.new.seat.work ≡ true }
+// What comes of a look by so many steps.
+fn look_within(store: &Store, seat: &mut KcSeat, most: u64, footprint: &mut Footprint) -> Went
+    requires seat { (seat.old.of ≡ store.now.table) × (is_idle seat.old.seat.work ≡ true) }
+    requires location { 0 < store.now.locations }
+    ensures of { seat.new.of ≡ seat.old.of }
+    ensures idle { is_idle seat.new.seat.work ≡ true }
+    ensures blocked { seat.new.seat.blocked ≡ seat.old.seat.blocked }
 {
-    let mut left = 0;
-    let mut trial = Trial::new();
+    let budget = Budget {
+        most,
+        before: seat.steps(),
+    };
+    let (mut room, mut trial) = (Room::new(), Trial::new());
     look_and_run(
         &store.table,
-        &mut caller.seat,
-        &mut caller.room,
+        seat,
+        &mut room,
         &ADD,
         &mut trial,
         footprint,
-        &mut left,
+        budget,
     );
     trial.went
 }
@@ -141,9 +151,14 @@ fn a_look_is_given_up_with_no_step_left(rt: HostRuntime) -> Result<(), Fail> {
     };
     assert!(rt; stop_within(&store, &mut b));
     let mut footprint = Footprint::new();
-    assert_eq!(rt; look_once(&store, &mut a, &mut footprint), Went::Busy);
+    // It isn't begun, and then halted behind its first step.
+    assert_eq!(rt; look_within(&store, &mut a, 0, &mut footprint), Went::Busy);
+    assert_eq!(rt; a.steps(), 0);
+    assert_eq!(rt; look_within(&store, &mut a, 1, &mut footprint), Went::Busy);
+    assert!(rt; a.steps() > 0);
     let loc = Loc(0);
     let lost = Verdict::Lost { loc, version: 1 };
+    let mut a = Caller::of(a, false);
     let tried = store.try_commit_into(&mut a, &ADD, &mut footprint);
     assert_eq!(rt; tried, lost);
     Ok(())

@@ -1,9 +1,12 @@
 //! Answers that own their footprint.
 
 ghost use Rattle.std.specs.Prelude.{◌≡◌, ◌≤◌, true};
-ghost use Rattle.kc_machine.specs.Seats.{is_idle};
-ghost use Rattle.kc_table_seats.specs.Tasks.{Keeps};
-ghost use Rattle.kc_store.specs.Values.{CommitsTo, IsOutcome, IsTry, TriesTo};
+ghost use Rattle.kc_hang.specs.kc_table_seats.Tasks.{Keeps};
+ghost use Rattle.kc_store.specs.Knows.{CommitsSo, NotesWear, Remembers, TriesSo};
+ghost use Rattle.kc_store.specs.Values.{CommitsTo, IsOutcome, IsTry, TriesTo, answered_in, verdict_in};
+ghost use Rattle.kc_store.specs.Verdicts.{stays_worn, verdict_of};
+ghost use Rattle.kc_store.specs.declared.values.Outcome.TheVariants as outcome;
+ghost use Rattle.kc_store.specs.declared.values.Wear.TheVariants as wear;
 ghost use Rattle.kc_xt.specs.Meaning.{limited};
 
 use crate::store::{Caller, Store};
@@ -81,13 +84,14 @@ impl Store {
     /// One try, answered by value: see `try_commit_into`.
     pub fn try_commit<T: Transact>(&self, caller: &mut Caller, transaction: &T) -> Try
         requires caller { caller.old.of ≡ self.now }
-        requires idle { is_idle caller.old.seat.work ≡ true }
         requires fit { T.is_fit transaction.now }
-        requires within { T.end transaction.now ≤ self.now.origin.locations }
-        ensures tries { TriesTo (limited (T.most transaction.now) (T.meaning transaction.now)) (T.end transaction.now) result caller.old caller.new }
-        ensures keeps { Keeps caller.old caller.new }
-        ensures idle { is_idle caller.new.seat.work ≡ true }
-        ensures blocked { caller.new.seat.blocked ≡ caller.old.seat.blocked }
+        requires within { T.end transaction.now ≤ self.now.locations }
+        ensures so { TriesSo (limited (T.most transaction.now) (T.meaning transaction.now)) (T.end transaction.now) result caller.old caller.new }
+        ensures tries { TriesTo (limited (T.most transaction.now) (T.meaning transaction.now)) (T.end transaction.now) result caller.old.seat caller.new.seat }
+        ensures keeps { Keeps caller.old.seat caller.new.seat }
+        ensures remembers { Remembers caller.old caller.new }
+        ensures worn { caller.old.worn ≡ true → stays_worn (verdict_in result) ≡ true }
+        ensures notes { NotesWear caller.old (verdict_in result) caller.new }
     {
         let mut footprint = Footprint::new();
         let verdict = self.try_commit_into(caller, transaction, &mut footprint);
@@ -102,13 +106,14 @@ impl Store {
         transaction: &T,
     ) -> Outcome
         requires caller { caller.old.of ≡ self.now }
-        requires idle { is_idle caller.old.seat.work ≡ true }
         requires fit { T.is_fit transaction.now }
-        requires within { T.end transaction.now ≤ self.now.origin.locations }
-        ensures tries { CommitsTo (limited (T.most transaction.now) (T.meaning transaction.now)) (T.end transaction.now) result caller.old caller.new }
-        ensures keeps { Keeps caller.old caller.new }
-        ensures idle { is_idle caller.new.seat.work ≡ true }
-        ensures blocked { caller.new.seat.blocked ≡ caller.old.seat.blocked }
+        requires within { T.end transaction.now ≤ self.now.locations }
+        ensures so { CommitsSo (limited (T.most transaction.now) (T.meaning transaction.now)) (T.end transaction.now) result caller.old caller.new }
+        ensures tries { CommitsTo (limited (T.most transaction.now) (T.meaning transaction.now)) (T.end transaction.now) result caller.old.seat caller.new.seat }
+        ensures keeps { Keeps caller.old.seat caller.new.seat }
+        ensures remembers { Remembers caller.old caller.new }
+        ensures worn { caller.old.worn ≡ true → result ≡ outcome.Worn wear.Pool }
+        ensures notes { NotesWear caller.old (verdict_of (answered_in result)) caller.new }
     {
         let mut footprint = Footprint::new();
         let answered = self.commit_into(rt, caller, transaction, &mut footprint);

@@ -1,7 +1,7 @@
 //! What a call answers, in few bytes: the footprint lies with the caller.
 
-ghost use Rattle.std.specs.Prelude.{◌≡◌, true};
-ghost use Rattle.kc_store.specs.Verdicts.{is_final, verdict_as, verdict_of};
+ghost use Rattle.std.specs.Prelude.{◌≡◌, ◌||◌, true};
+ghost use Rattle.kc_store.specs.Verdicts.{is_final, is_worn_by, verdict_as, verdict_of};
 ghost use Rattle.kc_xt.specs.Commit.{tried_of};
 
 use kc_model::{Loc, Reply};
@@ -80,6 +80,16 @@ pub(crate) fn is_final(fate: Fate, trial: &Trial) -> bool
         Fate::Entered { .. } => trial.went != Went::Busy,
         Fate::WornPool => true,
         Fate::Lost { .. } | Fate::Busy { .. } => false,
+    }
+}
+
+/// Notes where no descriptor had a life left.
+#[inline(always)]
+pub(crate) fn note_worn(worn: &mut bool, fate: Fate)
+    ensures { worn.new ≡ (is_worn_by fate || worn.old) }
+{
+    if let Fate::WornPool = fate {
+        *worn = true;
     }
 }
 

@@ -1,75 +1,168 @@
-//! A caller that waits: its seat's own calls, for tasks that hang and leave.
+//! Callers that hang on what they read.
 
-ghost use Rattle.std.specs.Prelude.{◌≡◌, not, true, false};
-ghost use Rattle.kc_machine.specs.Schedules.{IsWellMadeTask};
-ghost use Rattle.kc_machine.specs.Seats.{begun, is_idle, told_of};
-ghost use Rattle.kc_machine_steps.specs.declared.task.Task.TheVariants as task;
-ghost use Rattle.kc_table_moves.specs.Views.{Signalled, Starts, Stepped};
+ghost use Rattle.std.specs.Prelude.{◌≡◌, ◌≢◌, ◌≤◌, [], true, false, length};
+ghost use Rattle.kc_hang.specs.Hanging.{Shows, is_under_way, stepping, task_of};
+ghost use Rattle.kc_hang.specs.Hangs.{Hangs};
+ghost use Rattle.kc_hang.specs.kc_machine.Seats.{steps_of};
+ghost use Rattle.kc_model.specs.Footprint.{IsBelow};
+ghost use Rattle.kc_store.specs.HangingView.{hang_of};
+ghost use Rattle.kc_store.specs.Knows.{OnlyLearns};
+ghost use Rattle.kc_hang.specs.kc_table_moves.Views.{SeatView, Signalled, Stepped};
+ghost use Rattle.kc_hang.specs.kc_table_seats.Tasks.{Does};
 
 use crate::store::{Caller, Store};
 use arrayvec::ArrayVec;
-use kc_machine_steps::Told;
-use kc_model::{MOST, Seen};
+use kc_hang::{Hang, HangState, step, wait_for_a_change};
+use kc_model::{Footprint, MOST, Seen};
+use kc_table::KcSeat;
+use std::marker::Model;
 use std::sync::Wait;
 
-impl Caller {
-    /// Begins a hang on these reads. It touches no word, and shows with the next step. No task runs, the caller isn't blocked, and
-    /// the task is well made.
-    pub fn begin_hang(&mut self, reads: &ArrayVec<Seen, MOST>)
-        requires starts { Starts self.old (task.Hang reads.now) }
-        requires made { IsWellMadeTask self.old.of.origin.locations (task.Hang reads.now) }
-        ensures { self.new ≡ record self.old { seat = begun self.old.seat (task.Hang reads.now); began = true } }
+impl Store {
+    /// Hangs on what the footprint read, until some of it may have changed. It takes no memory.
+    pub fn wait_for_a_change<R: Wait>(&self, rt: &R, caller: &mut Caller, footprint: &Footprint)
+        requires caller { caller.old.of ≡ self.now }
+        requires reads { footprint.now.reads.items ≢ [] }
+        requires below { IsBelow self.now.locations footprint.now }
+        ensures learns { OnlyLearns caller.old caller.new }
+        ensures hangs { Hangs footprint.now.reads caller.old.seat caller.new.seat }
     {
-        self.seat.begin_hang(reads);
-    }
-
-    /// Begins a leave of these reads, likewise; the caller may be blocked.
-    pub fn begin_leave(&mut self, reads: &ArrayVec<Seen, MOST>)
-        requires starts { Starts self.old (task.Leave reads.now) }
-        requires made { IsWellMadeTask self.old.of.origin.locations (task.Leave reads.now) }
-        ensures { self.new ≡ record self.old { seat = begun self.old.seat (task.Leave reads.now); began = true } }
-    {
-        self.seat.begin_leave(reads);
-    }
-
-    /// Whether a task runs.
-    pub fn busy(&self) -> bool
-        ensures { result ≡ not (is_idle self.now.seat.work) }
-    {
-        self.seat.busy()
-    }
-
-    /// What it was told; None exactly while a task runs or none was begun.
-    pub fn told(&self) -> Option<Told>
-        ensures { result ≡ told_of self.now.seat }
-    {
-        self.seat.told()
+        wait_for_a_change(rt, &self.table, &mut caller.seat, &footprint.reads);
     }
 }
 
-impl Store {
-    /// One step of the caller's task, on one word.
-    pub fn step(&self, caller: &mut Caller)
-        requires caller { caller.old.of ≡ self.now }
-        requires busy { is_idle caller.old.seat.work ≡ false }
-        ensures { Stepped caller.old caller.new }
+/// A caller that hangs on what a footprint read, step by step, and leaves it again. It has the caller until it is free. Contracts
+/// see the caller, the reads, its state, and whether that state's task has begun.
+#[derive(Drop)]
+pub struct Hanging {
+    seat: KcSeat,
+    // Its caller was told that no descriptor has a life left.
+    worn: bool,
+    reads: ArrayVec<Seen, MOST>,
+    state: HangState,
+    begun: bool,
+}
+
+impl Model for Hanging {
+    ghost use Rattle.kc_store.specs.Hanging.{Stands};
+    ghost use Rattle.kc_store.specs.HangingView.{HangingView};
+    ghost use Rattle.kc_store.specs.Rests.{KnowsItsWear};
+    ghost use Rattle.kc_store.specs.Views.{caller_view};
+
+    ghost Value = { HangingView };
+
+    ghost view = { λ h. record { caller = caller_view h.worn h.seat; reads = h.reads; state = h.state; begun = h.begun } };
+
+    ghost invariant = { λ h. Stands h.state h.begun h.reads h.seat × KnowsItsWear h.worn h.seat };
+}
+
+impl Hanging {
+    /// A hang that is still to be made, on what the footprint read.
+    pub fn begin(caller: Caller, footprint: &Footprint) -> Hanging
+        requires reads { footprint.now.reads.items ≢ [] }
+        requires below { IsBelow caller.of.locations footprint.now }
+        ensures { result ≡ record { caller = caller; reads = footprint.now.reads; state = HangState.Going; begun = false } }
     {
-        self.table.step(&mut caller.seat);
+        let Caller {
+            apart: _,
+            seat,
+            room: _,
+            worn,
+        } = caller;
+        Hanging {
+            seat,
+            worn,
+            reads: copied(footprint.reads.as_slice()),
+            state: HangState::Going,
+            begun: false,
+        }
     }
 
-    /// Whether the caller is signalled, by one load.
-    pub fn signalled(&self, caller: &mut Caller) -> bool
-        requires { caller.old.of ≡ self.now }
-        ensures { Signalled caller.old result caller.new }
+    /// Where it stands.
+    pub fn state(&self) -> HangState
+        ensures { result ≡ self.now.state }
     {
-        self.table.signalled(&mut caller.seat)
+        self.state
     }
 
-    /// Waits until the caller is signalled.
-    pub fn park<R: Wait>(&self, rt: &R, caller: &mut Caller)
-        requires { caller.old.of ≡ self.now }
-        ensures { Signalled caller.old true caller.new }
+    /// Hangs no longer: the next steps take the bits back.
+    pub fn leave(&mut self)
+        requires { self.old.state ≡ HangState.Hung }
+        ensures { self.new ≡ record self.old { state = HangState.Leaving; begun = false } }
     {
-        self.table.park(rt, &mut caller.seat);
+        self.state = HangState::Leaving;
+        self.begun = false;
     }
+
+    /// The caller, which hangs no longer.
+    pub fn into_caller(self) -> Caller
+        requires { self.state ≡ HangState.Free }
+        ensures { result ≡ self.caller }
+    {
+        let Hanging {
+            seat,
+            worn,
+            reads: _,
+            state: _,
+            begun: _,
+        } = self;
+        Caller::of(seat, worn)
+    }
+
+    /// The steps that its caller has made since the opening, up to 2^64 - 1.
+    pub fn steps(&self) -> u64
+        ensures { result ≡ steps_of self.now.caller.seat.seat }
+    {
+        self.seat.steps()
+    }
+}
+
+fn copied(reads: &[Seen]) -> ArrayVec<Seen, MOST>
+    requires { length reads.now ≤ MOST }
+    ensures { result.items ≡ reads.now }
+{
+    match ArrayVec::try_from(reads) {
+        Ok(copy) => copy,
+        Err(_) => unreachable!("there is room"),
+    }
+}
+
+/// One step of the hang, or of its leave. Hung is answered exactly where the caller was told that it hangs; Free where the leave has
+/// ended, or a look has found another version than the one read; else the state stays.
+pub fn hang_step(store: &Store, hanging: &mut Hanging) -> HangState
+    requires caller { hanging.old.caller.of ≡ store.now }
+    requires under_way { is_under_way hanging.old.state ≡ true }
+    ensures hanging { hanging.new ≡ record hanging.old { caller = hanging.new.caller; state = result; begun = true } }
+    ensures learns { OnlyLearns hanging.old.caller hanging.new.caller }
+    ensures shows { Shows hanging.old.reads hanging.old.state result hanging.new.caller.seat }
+    ensures step { Stepped (stepping (hang_of hanging.old) hanging.old.caller.seat) hanging.new.caller.seat }
+    ensures first { hanging.old.begun ≡ false → Does hanging.old.caller.seat (task_of (hang_of hanging.old)) hanging.new.caller.seat }
+    ensures further { hanging.old.begun ≡ true → (v : SeatView) → Does v (task_of (hang_of hanging.old)) hanging.old.caller.seat → Does v (task_of (hang_of hanging.old)) hanging.new.caller.seat }
+{
+    let mut hang = Hang::at(&hanging.reads, hanging.state, hanging.begun);
+    let state = step(&store.table, &mut hanging.seat, &mut hang);
+    hanging.state = state;
+    hanging.begun = true;
+    state
+}
+
+/// Whether the caller's signal stands, by one load.
+pub fn signalled(store: &Store, hanging: &mut Hanging) -> bool
+    requires { hanging.old.caller.of ≡ store.now }
+    ensures hanging { hanging.new ≡ record hanging.old { caller = hanging.new.caller } }
+    ensures learns { OnlyLearns hanging.old.caller hanging.new.caller }
+    ensures signalled { Signalled hanging.old.caller.seat result hanging.new.caller.seat }
+{
+    store.table.signalled(&mut hanging.seat)
+}
+
+/// Waits until the caller is signalled. It hangs: nobody signals one that doesn't.
+pub fn park<R: Wait>(rt: &R, store: &Store, hanging: &mut Hanging)
+    requires caller { hanging.old.caller.of ≡ store.now }
+    requires hung { hanging.old.state ≡ HangState.Hung }
+    ensures hanging { hanging.new ≡ record hanging.old { caller = hanging.new.caller } }
+    ensures learns { OnlyLearns hanging.old.caller hanging.new.caller }
+    ensures signalled { Signalled hanging.old.caller.seat true hanging.new.caller.seat }
+{
+    store.table.park(rt, &mut hanging.seat);
 }

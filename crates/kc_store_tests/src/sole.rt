@@ -1,12 +1,10 @@
 //! Transactions by the only caller of a store.
 
-ghost use Rattle.std.specs.Prelude.{◌≡◌, ◌≤◌, true};
-ghost use Rattle.kc_machine.specs.Seats.{is_idle};
+ghost use Rattle.std.specs.Prelude.{◌≡◌, ◌≤◌};
 
 use kc_loc::{LocOp, Rel};
-use kc_machine_words::LAST_GENERATION;
 use kc_model::{Footprint, LAST_VERSION, Loc, Reply};
-use kc_store::{Answered, Caller, Sole, Store, Try, Wear};
+use kc_store::{Answered, Caller, LAST_GENERATION, Sole, Store, Try, Wear};
 use kc_xt::Transact;
 use std::test::Fail;
 
@@ -21,13 +19,12 @@ fn told<T: Transact>(
     transaction: &T,
     footprint: &mut Footprint,
 ) -> Answered
-    requires alone { store.old.origin.callers ≡ 1 }
-    requires caller { (caller.old.of ≡ store.old) × (is_idle caller.old.seat.work ≡ true) }
+    requires alone { store.old.callers ≡ 1 }
+    requires caller { caller.old.of ≡ store.old }
     requires fit { T.is_fit transaction.now }
-    requires within { T.end transaction.now ≤ store.old.origin.locations }
+    requires within { T.end transaction.now ≤ store.old.locations }
     ensures store { store.new ≡ store.old }
     ensures of { caller.new.of ≡ caller.old.of }
-    ensures idle { is_idle caller.new.seat.work ≡ true }
 {
     store.sole_into(caller, transaction, footprint)
 }
@@ -111,5 +108,8 @@ fn a_worn_pool_is_told_so_where_it_would_be_done(rt: HostRuntime) -> Result<(), 
         told(&mut store, &mut a, &until_one, &mut footprint),
         Answered::Later
     );
+    let Try::Worn(Wear::Pool) = store.try_commit(&mut a, &SET) else {
+        return Err(Fail::from("a put by one who was told that the pool is worn"));
+    };
     Ok(())
 }

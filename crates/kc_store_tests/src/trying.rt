@@ -1,14 +1,12 @@
 //! Tries and commits by callers of a store, and threads that count.
 
-ghost use Rattle.std.specs.Prelude.{◌≡◌, ◌+◌, ◌<◌, ◌≤◌, true, length, IfOk, IfSome};
+ghost use Rattle.std.specs.Prelude.{◌≡◌, ◌+◌, ◌<◌, ◌≤◌, length, IfOk, IfSome};
 ghost use Rattle.kc_hash.specs.Meaning.{cells_end};
-ghost use Rattle.kc_machine.specs.Seats.{is_idle};
 
 use kc_hash::{Hash, HashAct, HashOp};
 use kc_loc::{LocOp, Rel};
-use kc_machine_words::LAST_GENERATION;
 use kc_model::{Footprint, LAST_VERSION, Loc, MOST, OpenError, Reply};
-use kc_store::{Answered, Caller, Outcome, Store, Try, Verdict, Wear};
+use kc_store::{Answered, Caller, LAST_GENERATION, Outcome, Store, Try, Verdict, Wear};
 use kc_xt::Transact;
 use std::sync::Wait;
 use std::test::Fail;
@@ -22,8 +20,7 @@ const GET: LocOp = LocOp::Get(Loc(0));
 // A store of these values, and two callers.
 fn open_two(rt: &HostRuntime, values: &[u32]) -> Option<(Store, Caller, Caller)>
     ensures of { IfSome result (λ t. (t.1.of ≡ t.0) × (t.2.of ≡ t.0)) }
-    ensures idle { IfSome result (λ t. (is_idle t.1.seat.work ≡ true) × (is_idle t.2.seat.work ≡ true)) }
-    ensures locations { IfSome result (λ t. t.0.origin.locations ≡ length values.now) }
+    ensures locations { IfSome result (λ t. t.0.locations ≡ length values.now) }
 {
     let Ok((store, mut callers)) = Store::open(rt.alloc(), values, 2) else {
         return None;
@@ -40,11 +37,10 @@ fn tried<T: Transact>(
     transaction: &T,
     footprint: &mut Footprint,
 ) -> Verdict
-    requires caller { (caller.old.of ≡ store.now) × (is_idle caller.old.seat.work ≡ true) }
+    requires caller { caller.old.of ≡ store.now }
     requires fit { T.is_fit transaction.now }
-    requires within { T.end transaction.now ≤ store.now.origin.locations }
+    requires within { T.end transaction.now ≤ store.now.locations }
     ensures of { caller.new.of ≡ caller.old.of }
-    ensures idle { is_idle caller.new.seat.work ≡ true }
 {
     store.try_commit_into(caller, transaction, footprint)
 }
@@ -132,8 +128,8 @@ const KEYS: u32 = 130;
 
 // How many keys are put before a put is too large.
 fn puts(store: &Store, caller: &mut Caller, hash: Hash, footprint: &mut Footprint) -> u32
-    requires caller { (caller.old.of ≡ store.now) × (is_idle caller.old.seat.work ≡ true) }
-    requires within { cells_end hash ≤ store.now.origin.locations }
+    requires caller { caller.old.of ≡ store.now }
+    requires within { cells_end hash ≤ store.now.locations }
 {
     for key in 0..KEYS {
         let act = HashAct::Put(key, key);
@@ -206,6 +202,31 @@ fn a_pool_at_its_last_generation_is_worn(rt: HostRuntime) -> Result<(), Fail> {
 }
 
 #[test]
+fn who_was_told_worn_pool_is_told_nothing_but_that(rt: HostRuntime) -> Result<(), Fail> {
+    let Ok((store, mut callers)) = Store::open_at(rt.alloc(), &[5], &[0], 1, LAST_GENERATION) else {
+        return Err(Fail::from("not opened"));
+    };
+    let Some(mut a) = callers.pop() else {
+        return Err(Fail::from("no caller"));
+    };
+    let mut footprint = Footprint::new();
+    assert_eq!(rt;
+        tried(&store, &mut a, &GET, &mut footprint),
+        Verdict::WornPool
+    );
+    assert_eq!(rt;
+        tried(&store, &mut a, &ADD, &mut footprint),
+        Verdict::WornPool
+    );
+    assert_eq!(rt; footprint.puts.len(), 0);
+    assert_eq!(rt;
+        store.commit_into(&rt, &mut a, &ADD, &mut footprint),
+        Answered::WornPool
+    );
+    Ok(())
+}
+
+#[test]
 fn one_put_needs_no_descriptor(rt: HostRuntime) -> Result<(), Fail> {
     let Ok((store, mut callers)) = Store::open_at(rt.alloc(), &[5], &[0], 1, LAST_GENERATION) else {
         return Err(Fail::from("not opened"));
@@ -240,10 +261,9 @@ fn a_note_passes_on_what_a_caller_knows(rt: HostRuntime) -> Result<(), Fail> {
 
 // Adds one to the first location, so often.
 fn count<R: Wait>(rt: &R, store: &Store, mut caller: Caller, times: u32) -> Caller
-    requires caller { (caller.of ≡ store.now) × (is_idle caller.seat.work ≡ true) }
-    requires location { 0 < store.now.origin.locations }
+    requires caller { caller.of ≡ store.now }
+    requires location { 0 < store.now.locations }
     ensures of { result.of ≡ store.now }
-    ensures idle { is_idle result.seat.work ≡ true }
 {
     let mut footprint = Footprint::new();
     for _ in 0..times {
@@ -259,11 +279,11 @@ fn count_both<R: Threads + Wait + Sync>(
     a: Caller,
     b: Caller,
 ) -> (Caller, Caller)
-    requires first { (a.of ≡ store.now) × (is_idle a.seat.work ≡ true) }
-    requires second { (b.of ≡ store.now) × (is_idle b.seat.work ≡ true) }
-    requires location { 0 < store.now.origin.locations }
-    ensures first { (result.0.of ≡ store.now) × (is_idle result.0.seat.work ≡ true) }
-    ensures second { (result.1.of ≡ store.now) × (is_idle result.1.seat.work ≡ true) }
+    requires first { a.of ≡ store.now }
+    requires second { b.of ≡ store.now }
+    requires location { 0 < store.now.locations }
+    ensures first { result.0.of ≡ store.now }
+    ensures second { result.1.of ≡ store.now }
 {
     thread::join(
         rt,

@@ -1,12 +1,12 @@
 use Rattle.std.proofs.Common.{◌≡◌, ◌∙◌, true, false, not, ap, arith}
-use Rattle.kc_machine.specs.Seats.{is_idle}
+use Rattle.kc_hang.specs.kc_machine.Seats.{is_idle}
 use Rattle.kc_machine_steps.specs.declared.task.Task.TheVariants as task
 use Rattle.kc_machine_words.specs.declared.words.Mode.TheVariants.{All}
 use Rattle.kc_store.proofs.Counting.{step_counts}
 use Rattle.kc_store.proofs.Ending.{busy_is, few_reads, idle_is}
 use Rattle.kc_store.proofs.LoneCommits.{commits_alone, ran_on, soon}
 use Rattle.kc_store.specs.Lone.{is_worn}
-use Rattle.kc_table_seats.proofs.Running.{ran_same}
+use Rattle.kc_hang.proofs.kc_table_seats.Running.{ran_same}
 use Rattle.kc_table_sole.specs.Sole.{IsSole}
 use Rattle.kc_store.proofs.alone.commit_alone.Goals as goal
 
@@ -21,13 +21,13 @@ steps-smaller c =
     let sole : IsSole c.args.seat.now = ap (λ z. z.origin.callers) c.requires.table ∙ c.requires.alone in
     let busy : is_idle c.steps.seat.seat.work ≡ false = busy_is (is_idle c.steps.seat.seat.work) c.busy.result c.busy.ensures c.steps-test.true in
     let l = soon c.args.seat.now c.steps.seat c.args.footprint.now c.steps.invariant sole c.requires.idle busy in
-    let n = step_counts c.steps.seat c.step.new.seat c.step.ensures in
+    let n = step_counts c.steps.seat c.step.new.seat c.step.ensures.stepped in
     omega (arith, l, n)
 
 pub steps-preserved : goal.steps-preserved
 steps-preserved c =
     let busy : is_idle c.steps.seat.seat.work ≡ false = busy_is (is_idle c.steps.seat.seat.work) c.busy.result c.busy.ensures c.steps-test.true in
-    ran_on c.args.seat.now c.steps.seat c.step.new.seat c.args.footprint.now c.steps.invariant busy c.step.ensures
+    ran_on c.args.seat.now c.steps.seat c.step.new.seat c.args.footprint.now c.steps.invariant busy c.step.ensures.stepped
 
 pub returns : goal.returns
 returns c =

@@ -1,10 +1,10 @@
 use Rattle.std.proofs.Common.{◌+◌, ◌-◌}
-use Rattle.kc_machine_alone.specs.Stretches.{stretch}
+use Rattle.kc_hang.specs.kc_machine_alone.Stretches.{stretch}
 use Rattle.kc_machine_steps.specs.declared.task.Task.TheVariants as task
 use Rattle.kc_machine_words.specs.declared.words.Mode.TheVariants as mode
 use Rattle.kc_model.specs.declared.footprint.TheConstants.{MOST}
 use Rattle.kc_store.specs.Steps.{steps_made}
-use Rattle.kc_table_moves.specs.Views.{Ran}
+use Rattle.kc_hang.specs.kc_table_moves.Views.{Ran}
 use Rattle.kc_store.proofs.alone.commit_alone.Given as goal
 
 abbrev pub invariant-steps : goal.invariant-steps

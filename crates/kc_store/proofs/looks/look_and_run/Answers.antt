@@ -5,8 +5,8 @@ use Rattle.kc_store.proofs.looks.look_and_run.Goals as goal
 
 pub returns-clause-looked : goal.returns-clause-looked
 returns-clause-looked g c =
-    let e = same_seat _ _ _ _ _ c.attempt-peek.ensures.looked in
-    all_looked _ _ _ _ _ _ _ _ c.attempt-peek.ensures.looked refl refl (search rules)
+    let e = same_seat _ _ _ _ _ c.attempt.ensures.looked in
+    all_looked _ _ _ _ _ _ _ _ c.attempt.ensures.looked refl refl (search rules)
 
 pub returns-clause-lines : goal.returns-clause-lines
-returns-clause-lines g c = lines_in_room _ _ _ c.attempt-peek.ensures.lines
+returns-clause-lines g c = lines_in_room _ _ _ c.attempt.ensures.lines

@@ -1,14 +1,20 @@
-use Rattle.std.proofs.Common.{◌≡◌, ◌∙◌, true, refl, sym, subst}
+use Rattle.std.proofs.Common.{◌≡◌, ◌∙◌, true, inl, inr, refl, sym, subst}
 use Rattle.kc_machine_steps.specs.declared.task.Task.TheVariants as task
 use Rattle.kc_machine_steps.specs.declared.task.Told.TheVariants as told
 use Rattle.kc_store.proofs.Ending.{ends_late, ends_straight, free, is_look, look_of_ends, looking_told, may_be_halted, runs}
 use Rattle.kc_store.specs.Works.{is_told_looking, told_by}
-use Rattle.kc_table_seats.proofs.Running.{ran_same}
+use Rattle.kc_hang.proofs.kc_table_seats.Running.{ran_same}
 use Rattle.kc_store.proofs.looks.look_at.Goals as goal
+
+pub returns-then-not-has_steps-clause-looks : goal.returns-then-not-has_steps-clause-looks
+returns-then-not-has_steps-clause-looks c = inr (sym c.has_steps.ensures ∙ c.if-not-has_steps.true, refl, refl)
 
 pub returns-in-Some-clause-looks : goal.returns-in-Some-clause-looks
 returns-in-Some-clause-looks c =
-    ends_straight (task.Look c.args.loc) c.args.seat.now c.look.new.seat refl c.requires.idle c.requires.within c.look.ensures.ran (told.Seen c.in-Some.seen) c.args.left.now c.in-Some.ensures.some.0 c.in-Some.ensures.some.1
+    inl (
+      sym c.has_steps.ensures ∙ c.if-not-has_steps.false,
+      ends_straight (task.Look c.args.loc) c.args.seat.now c.look.new.seat refl c.requires.idle c.requires.within c.look.ensures.ran (told.Seen c.in-Some.seen) c.args.budget c.in-Some.ensures.some.0 c.in-Some.ensures.some.1,
+    )
 
 pub returns-in-Some-clause-look : goal.returns-in-Some-clause-look
 returns-in-Some-clause-look c =
@@ -34,13 +40,19 @@ pub returns-clause-looks : goal.returns-clause-looks
 returns-clause-looks c =
     let t = task.Look c.args.loc in
     let e = c.end_task.ensures in
-    ends_late t c.args.seat.now c.look.new.seat refl c.requires.idle c.requires.within c.look.ensures.ran
-    c.end_task.new.seat (told_by c.seen_by.result) c.args.left.now c.end_task.new.left (e.runs c.args.seat.now t) e.idle e.spent e.made (sym c.told.ensures ∙ c.seen_by.ensures)
+    inl (
+      sym c.has_steps.ensures ∙ c.if-not-has_steps.false,
+      ends_late t c.args.seat.now c.look.new.seat refl c.requires.idle c.requires.within c.look.ensures.ran
+          c.end_task.new.seat (told_by c.seen_by.result) c.args.budget (e.runs c.args.seat.now t) e.idle e.spent (sym c.told.ensures ∙ c.seen_by.ensures),
+    )
 
 pub returns-clause-look : goal.returns-clause-look
 returns-clause-look c =
     let t = task.Look c.args.loc in
     let e = c.end_task.ensures in
-    look_of_ends c.args.seat.now c.end_task.new.seat c.args.loc c.args.left.now c.end_task.new.left c.seen_by.result c.requires.within
-    (ends_late t c.args.seat.now c.look.new.seat refl c.requires.idle c.requires.within c.look.ensures.ran
-    c.end_task.new.seat (told_by c.seen_by.result) c.args.left.now c.end_task.new.left (e.runs c.args.seat.now t) e.idle e.spent e.made (sym c.told.ensures ∙ c.seen_by.ensures))
+    look_of_ends c.args.seat.now c.end_task.new.seat c.args.loc c.args.budget c.seen_by.result c.requires.within
+    (inl (
+      sym c.has_steps.ensures ∙ c.if-not-has_steps.false,
+      ends_late t c.args.seat.now c.look.new.seat refl c.requires.idle c.requires.within c.look.ensures.ran
+          c.end_task.new.seat (told_by c.seen_by.result) c.args.budget (e.runs c.args.seat.now t) e.idle e.spent (sym c.told.ensures ∙ c.seen_by.ensures),
+    ))

@@ -1,9 +1,9 @@
-use Rattle.std.proofs.Common.{◌≡◌, ◌∙◌, true, false, refl, subst}
-use Rattle.kc_machine.specs.Seats.{is_idle}
+use Rattle.std.proofs.Common.{◌≡◌, ◌∙◌, true, false, inl, inr, refl, sym, subst}
+use Rattle.kc_hang.specs.kc_machine.Seats.{is_idle}
 use Rattle.kc_machine_steps.specs.declared.task.Task.TheVariants as task
 use Rattle.kc_store.proofs.Ending.{busy_is, committing_told, ends_late, ends_straight, few_reads, free, idle_is, may_be_halted, runs}
 use Rattle.kc_store.specs.Works.{is_told_committing}
-use Rattle.kc_table_seats.proofs.Running.{ran_same}
+use Rattle.kc_hang.proofs.kc_table_seats.Running.{ran_same}
 use Rattle.kc_store.proofs.tasks.commit_in.Goals as goal
 
 pub commit-requires-clause-made : goal.commit-requires-clause-made
@@ -30,13 +30,19 @@ answer_of-requires c =
     let r = runs t c.args.seat.now c.commit.new.seat refl c.requires.idle (c.requires.made.0, c.requires.made.1, few) c.commit.ensures.ran in
     committing_told c.args.seat.now c.end_task.new.seat c.args.footprint.now c.args.mode (c.end_task.ensures.runs c.args.seat.now t r).stands c.end_task.ensures.idle
 
+pub returns-then-not-has_steps-clause-ends : goal.returns-then-not-has_steps-clause-ends
+returns-then-not-has_steps-clause-ends c = inr (sym c.has_steps.ensures ∙ c.if-not-has_steps.true, refl, refl)
+
 pub returns-then-busy-clause-ends : goal.returns-then-busy-clause-ends
 returns-then-busy-clause-ends c =
     let t = task.Commit c.args.footprint.now c.args.mode in
     let few = few_reads c.args.footprint.now c.args.lines.now c.requires.lines c.requires.few in
     let e = c.end_task.ensures in
-    ends_late t c.args.seat.now c.commit.new.seat refl c.requires.idle (c.requires.made.0, c.requires.made.1, few) c.commit.ensures.ran
-    c.end_task.new.seat c.answer_of.result c.args.left.now c.end_task.new.left (e.runs c.args.seat.now t) e.idle e.spent e.made c.answer_of.ensures
+    inl (
+      sym c.has_steps.ensures ∙ c.if-not-has_steps.false,
+      ends_late t c.args.seat.now c.commit.new.seat refl c.requires.idle (c.requires.made.0, c.requires.made.1, few) c.commit.ensures.ran
+          c.end_task.new.seat c.answer_of.result c.args.budget (e.runs c.args.seat.now t) e.idle e.spent c.answer_of.ensures,
+    )
 
 pub returns-then-busy-clause-committing : goal.returns-then-busy-clause-committing
 returns-then-busy-clause-committing c =
@@ -57,8 +63,11 @@ pub returns-clause-ends : goal.returns-clause-ends
 returns-clause-ends c =
     let t = task.Commit c.args.footprint.now c.args.mode in
     let few = few_reads c.args.footprint.now c.args.lines.now c.requires.lines c.requires.few in
-    ends_straight t c.args.seat.now c.commit.new.seat refl c.requires.idle (c.requires.made.0, c.requires.made.1, few) c.commit.ensures.ran
-    c.answer_of-2.result c.args.left.now (idle_is (is_idle c.commit.new.seat.seat.work) c.busy.result c.busy.ensures c.if-busy.false) c.answer_of-2.ensures
+    inl (
+      sym c.has_steps.ensures ∙ c.if-not-has_steps.false,
+      ends_straight t c.args.seat.now c.commit.new.seat refl c.requires.idle (c.requires.made.0, c.requires.made.1, few) c.commit.ensures.ran
+          c.answer_of-2.result c.args.budget (idle_is (is_idle c.commit.new.seat.seat.work) c.busy.result c.busy.ensures c.if-busy.false) c.answer_of-2.ensures,
+    )
 
 pub returns-clause-committing : goal.returns-clause-committing
 returns-clause-committing c =

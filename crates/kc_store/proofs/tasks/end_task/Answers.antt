@@ -1,7 +1,17 @@
-use Rattle.std.proofs.Common.{sym, subst}
+use Rattle.std.proofs.Common.{◌≡◌, true, false, sym, subst}
+use Rattle.kc_hang.specs.kc_machine.Seats.{is_idle}
 use Rattle.kc_store.proofs.Doing.{may_run_halted, runs_may}
+use Rattle.kc_store.proofs.Ending.{busy_is, halt_marks}
 use Rattle.kc_store.specs.Works.{MayRun}
+use Rattle.kc_hang.specs.kc_table_moves.Views.{SeatView}
+use Rattle.kc_hang.specs.kc_table_seats.Halts.{is_halted}
 use Rattle.kc_store.proofs.tasks.end_task.Goals as goal
+
+pub step_to_the_end-requires-clause-halted : goal.step_to_the_end-requires-clause-halted
+step_to_the_end-requires-clause-halted c =
+    let s = c.step_on.new.seat in
+    let busy : is_idle s.seat.work ≡ false = busy_is (is_idle s.seat.work) c.busy.result c.busy.ensures c.if-busy.true in
+    subst (λ (z : SeatView). is_idle z.seat.work ≡ false → is_halted z.seat ≡ true) (sym c.halt.ensures) (λ e. halt_marks s.seat (c.step_on.ensures.halts busy) e)
 
 pub returns-then-busy-clause-runs : goal.returns-then-busy-clause-runs
 returns-then-busy-clause-runs c = λ v t r. c.step_to_the_end.ensures.runs v t (subst (MayRun v t) (sym c.halt.ensures) (may_run_halted v c.step_on.new.seat t (c.step_on.ensures.runs v t r)))

@@ -1,11 +1,11 @@
 use Rattle.std.proofs.Common.{◌≡◌, ◌≢◌, ◌+◌, ◌≤◌, true, false, Some}
-use Rattle.kc_machine.specs.Seats.{is_idle}
+use Rattle.kc_hang.specs.kc_machine.Seats.{is_idle}
 use Rattle.kc_machine_steps.specs.declared.task.Task.{Task}
 use Rattle.kc_machine_steps.specs.declared.task.Told.TheVariants as told
 use Rattle.kc_store.specs.Steps.{steps_made}
 use Rattle.kc_store.specs.Works.{Runs}
-use Rattle.kc_table_moves.specs.Views.{SeatView}
-use Rattle.kc_table_seats.specs.Halts.{may_halt, was_halted}
+use Rattle.kc_hang.specs.kc_table_moves.Views.{SeatView}
+use Rattle.kc_hang.specs.kc_table_seats.Halts.{may_halt, was_halted}
 use Rattle.kc_store.proofs.tasks.step_on.Given as goal
 
 abbrev pub invariant-steps : goal.invariant-steps

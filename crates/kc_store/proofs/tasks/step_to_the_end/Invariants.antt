@@ -1,11 +1,11 @@
 use Rattle.std.proofs.Common.{◌≡◌, ◌≤◌, true, false}
-use Rattle.kc_machine.specs.Seats.{is_idle}
+use Rattle.kc_hang.specs.kc_machine.Seats.{is_idle}
 use Rattle.kc_machine_steps.specs.declared.task.Task.{Task}
 use Rattle.kc_store.proofs.Ending.{left_to_the_end}
 use Rattle.kc_store.specs.Steps.{steps_made}
 use Rattle.kc_store.specs.Works.{MayRun}
-use Rattle.kc_table_moves.specs.Views.{SeatView}
-use Rattle.kc_table_seats.specs.Halts.{is_halted}
+use Rattle.kc_hang.specs.kc_table_moves.Views.{SeatView}
+use Rattle.kc_hang.specs.kc_table_seats.Halts.{is_halted}
 use Rattle.kc_store.proofs.tasks.step_to_the_end.Given as goal
 
 abbrev pub invariant-steps : goal.invariant-steps

@@ -1,10 +1,10 @@
-use Rattle.std.proofs.Common.{◌≡◌, ◌∙◌, true, false, refl, subst}
-use Rattle.kc_machine.specs.Seats.{is_idle}
+use Rattle.std.proofs.Common.{◌≡◌, ◌∙◌, true, false, inl, inr, refl, sym, subst}
+use Rattle.kc_hang.specs.kc_machine.Seats.{is_idle}
 use Rattle.kc_machine_steps.specs.declared.task.Task.TheVariants as task
 use Rattle.kc_store.proofs.Ending.{busy_is, ends_late, ends_straight, free, idle_is, may_be_halted, runs, swapping_told}
 use Rattle.kc_store.proofs.Standing.{told_commits}
 use Rattle.kc_store.specs.Works.{is_told_swapping}
-use Rattle.kc_table_seats.proofs.Running.{ran_same}
+use Rattle.kc_hang.proofs.kc_table_seats.Running.{ran_same}
 use Rattle.kc_store.proofs.tasks.swap.Goals as goal
 
 pub end_task-requires-clause-table : goal.end_task-requires-clause-table
@@ -24,12 +24,18 @@ answer_of-requires c =
     let r = runs t c.args.seat.now c.swap.new.seat refl c.requires.idle c.requires.made c.swap.ensures.ran in
     told_commits c.end_task.new.seat.seat.told (swapping_told c.args.seat.now c.end_task.new.seat c.args.seen c.args.after (c.end_task.ensures.runs c.args.seat.now t r).stands c.end_task.ensures.idle)
 
+pub returns-then-not-has_steps-clause-ends : goal.returns-then-not-has_steps-clause-ends
+returns-then-not-has_steps-clause-ends c = inr (sym c.has_steps.ensures ∙ c.if-not-has_steps.true, refl, refl)
+
 pub returns-then-busy-clause-ends : goal.returns-then-busy-clause-ends
 returns-then-busy-clause-ends c =
     let t = task.Swap c.args.seen c.args.after in
     let e = c.end_task.ensures in
-    ends_late t c.args.seat.now c.swap.new.seat refl c.requires.idle c.requires.made c.swap.ensures.ran
-    c.end_task.new.seat c.answer_of.result c.args.left.now c.end_task.new.left (e.runs c.args.seat.now t) e.idle e.spent e.made c.answer_of.ensures
+    inl (
+      sym c.has_steps.ensures ∙ c.if-not-has_steps.false,
+      ends_late t c.args.seat.now c.swap.new.seat refl c.requires.idle c.requires.made c.swap.ensures.ran
+          c.end_task.new.seat c.answer_of.result c.args.budget (e.runs c.args.seat.now t) e.idle e.spent c.answer_of.ensures,
+    )
 
 pub returns-then-busy-clause-swapping : goal.returns-then-busy-clause-swapping
 returns-then-busy-clause-swapping c =
@@ -47,8 +53,11 @@ answer_of-requires-2 c =
 pub returns-clause-ends : goal.returns-clause-ends
 returns-clause-ends c =
     let t = task.Swap c.args.seen c.args.after in
-    ends_straight t c.args.seat.now c.swap.new.seat refl c.requires.idle c.requires.made c.swap.ensures.ran
-    c.answer_of-2.result c.args.left.now (idle_is (is_idle c.swap.new.seat.seat.work) c.busy.result c.busy.ensures c.if-busy.false) c.answer_of-2.ensures
+    inl (
+      sym c.has_steps.ensures ∙ c.if-not-has_steps.false,
+      ends_straight t c.args.seat.now c.swap.new.seat refl c.requires.idle c.requires.made c.swap.ensures.ran
+          c.answer_of-2.result c.args.budget (idle_is (is_idle c.swap.new.seat.seat.work) c.busy.result c.busy.ensures c.if-busy.false) c.answer_of-2.ensures,
+    )
 
 pub returns-clause-swapping : goal.returns-clause-swapping
 returns-clause-swapping c =

@@ -7,6 +7,8 @@ use Rattle.kc_store.proofs.Ending.{tried_starts}
 use Rattle.kc_store.proofs.Settling.{not_busy, ready}
 use Rattle.kc_xt.specs.Commit.{tried_of}
 use Rattle.kc_xt.specs.Meaning.{limited}
+use Rattle.kc_store.specs.Views.{StoreView}
+use Rattle.kc_store.specs.declared.budget.Budget.{Budget}
 use Rattle.kc_store.specs.declared.tests.TheConstants.{ADD}
 use Rattle.kc_store.proofs.tests.stop_within.Goals as goal
 
@@ -14,14 +16,15 @@ pub begin-requires : goal.begin-requires
 begin-requires c =
     let x = c.look_and_run.ensures in
     let f = c.look_and_run.new.footprint in
-    let of = ap (λ v. v.of) c.caller.view_is ∙ c.requires.caller.0 ∙ sym c.store.view_is in
-    let same : c.store.inside.table.origin.locations ≡ c.args.store.now.origin.locations = ap (λ z. z.origin.locations) c.store.view_is in
+    let of = c.requires.seat.0 ∙ sym (ap (λ (z : StoreView). z.table) c.store.view_is) in
+    let same : c.store.inside.table.origin.locations ≡ c.args.store.now.locations = ap (λ (z : StoreView). z.locations) c.store.view_is in
     let up : loc_end ADD ≤ c.store.inside.table.origin.locations = omega (arith, same) in
     let size = ap length c.as_slice.ensures.value in
     let few : length f.reads.items ≤ MOST = omega (arith, size) in
+    let b : Budget = record { most = c.store.inside.most_steps; before = c.steps.result } in
     let y =
-    ready (limited MOST (loc_meaning ADD)) (tried_of c.look_and_run.new.trial.went c.look_and_run.new.trial.reply) c.new-footprint.result f c.store.inside.table c.caller.inside.seat c.look_and_run.new.seat c.store.inside.most_steps c.look_and_run.new.left
-    (loc_end ADD) of c.store.invariant (not_busy c.look_and_run.new.trial.went c.look_and_run.new.trial.reply c.in_default.not-Busy) x.came x.within up x.looked in
+    ready (limited MOST (loc_meaning ADD)) (tried_of c.look_and_run.new.trial.went c.look_and_run.new.trial.reply) c.new-footprint.result f c.store.inside.table c.args.seat.now c.look_and_run.new.seat b
+    (loc_end ADD) of c.store.invariant c.steps.ensures (not_busy c.look_and_run.new.trial.went c.look_and_run.new.trial.reply c.in_default.not-Busy) x.came x.within up x.looked in
     record {
       starts = tried_starts c.look_and_run.new.seat (task.Commit f All) refl y.idle;
       made = (y.made.0, y.made.1, few);
