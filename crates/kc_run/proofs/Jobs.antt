@@ -3,11 +3,12 @@ use Rattle.std.proofs.Common.{◌≡◌, ℕ, zero, suc, ◌+◌, ◌<◌, List,
 use Rattle.std.proofs.lemmas.List.{take_more, length-map}
 use Rattle.std.specs.Prelude.{All}
 use Rattle.std.specs.Global.{Vec}
-use Rattle.crossbeam_utils.specs.Padded.{padded_value}
+use Rattle.kc_history.specs.RecordsValue.{RecordsValue}
 use Rattle.kc_history.specs.Callers.{of_caller}
 use Rattle.kc_history.specs.Records.{lists_of}
 use Rattle.kc_model.specs.declared.footprint.Entry.{Entry}
-use Rattle.kc_run.specs.Jobs.{Room, Rooms, empty_records, paired, pass_of, list_of, row_at, Ready, Ran, JobRan, AllMayRun}
+use Rattle.kc_run.specs.Jobs.{Rooms, empty_records, paired, pass_of, list_of, row_at, Ready, Ran, JobRan, AllMayRun}
+use Rattle.kc_run.specs.Run.{CanRunAll}
 use Rattle.kc_run.specs.Shared.{count_from}
 use Rattle.kc_run.specs.declared.job.Job.{Job}
 use Rattle.kc_script_bundle.specs.declared.operation.Command.{Command}
@@ -15,20 +16,20 @@ use Rattle.kc_script_runs.specs.Threads.{CommitGives, AreGiven, AreRunBy, meanin
 
 -- ---- rooms
 
-rooms_push : (limit : ℕ) (vs : List (Vec Command)) (rs : List Room) (v : Vec Command) (r : Room) → Rooms limit vs rs → padded_value r ≡ empty_records limit v.items → Rooms limit (vs ++ v ∷ []) (rs ++ r ∷ [])
+rooms_push : (limit : ℕ) (vs : List (Vec Command)) (rs : List RecordsValue) (v : Vec Command) (r : RecordsValue) → Rooms limit vs rs → r ≡ empty_records limit v.items → Rooms limit (vs ++ v ∷ []) (rs ++ r ∷ [])
 rooms_push limit [] [] v r h made = (made, tt)
 rooms_push limit [] (x ∷ rs) v r h made = absurd h
 rooms_push limit (w ∷ vs) [] v r h made = absurd h
 rooms_push limit (w ∷ vs) (x ∷ rs) v r h made = (h.0, rooms_push limit vs rs v r h.1 made)
 
 -- one room more
-pub rooms_next : (limit : ℕ) (threads : List (Vec Command)) (i : ℕ) (v : Vec Command) (r : Room) (rs rs' : List Room) → i < length threads → v ≡ get_or threads i v → Rooms limit (take i threads) rs → rs' ≡ rs ++ r ∷ []
-    → padded_value r ≡ empty_records limit v.items → Rooms limit (take (i + 1) threads) rs'
+pub rooms_next : (limit : ℕ) (threads : List (Vec Command)) (i : ℕ) (v : Vec Command) (r : RecordsValue) (rs rs' : List RecordsValue) → i < length threads → v ≡ get_or threads i v → Rooms limit (take i threads) rs → rs' ≡ rs ++ r ∷ []
+    → r ≡ empty_records limit v.items → Rooms limit (take (i + 1) threads) rs'
 rooms_next limit threads i v r rs rs' lt is h pushed made =
     let more : take (i + 1) threads ≡ take i threads ++ v ∷ [] = take_more threads i v lt ∙ ap (λ (x : Vec Command). take i threads ++ x ∷ []) (sym is) in
-    subst (λ (x : List Room). Rooms limit (take (i + 1) threads) x) (sym pushed) (subst (λ l. Rooms limit l (rs ++ r ∷ [])) (sym more) (rooms_push limit (take i threads) rs v r h made))
+    subst (λ (x : List RecordsValue). Rooms limit (take (i + 1) threads) x) (sym pushed) (subst (λ l. Rooms limit l (rs ++ r ∷ [])) (sym more) (rooms_push limit (take i threads) rs v r h made))
 
-pub rooms_length : (limit : ℕ) (threads : List (Vec Command)) (rs : List Room) → Rooms limit threads rs → length threads ≡ length rs
+pub rooms_length : (limit : ℕ) (threads : List (Vec Command)) (rs : List RecordsValue) → Rooms limit threads rs → length threads ≡ length rs
 rooms_length limit [] [] h = refl
 rooms_length limit [] (r ∷ rs) h = absurd h
 rooms_length limit (v ∷ vs) [] h = absurd h
@@ -48,6 +49,9 @@ pub row_is : (xs : List (Vec Command)) (i : ℕ) (v : Vec Command) → i < lengt
 row_is [] i v lt e = absurd (omega arith)
 row_is (x ∷ xs) zero v lt e = ap (λ (y : Vec Command). y.items) (sym e)
 row_is (x ∷ xs) (suc i) v lt e = row_is xs i v (omega arith) e
+
+pub can_row : (n : ℕ) (xs : List (Vec Command)) (i : ℕ) (v : Vec Command) (cs : List Command) → i < length xs → v ≡ get_or xs i v → cs ≡ v.items → All (λ (w : Vec Command). CanRunAll n w.items) xs → CanRunAll n cs
+can_row n xs i v cs lt is value all = subst (CanRunAll n) (sym value) (subst (λ (w : Vec Command). CanRunAll n w.items) (sym is) (all i v lt))
 
 -- the element at a place, whatever the default
 pick : {A : Type 0} (xs : List A) (i : ℕ) → i < length xs → (x : A) × ((d : A) → get_or xs i d ≡ x) × ((B : Type 0) (f : A → B) (e : B) → get_or (map f xs) i e ≡ f x)
@@ -72,12 +76,12 @@ module _ {S P : Type 0} (belongs : S → P → Type 0) (number left : P → ℕ)
   may_length k (v ∷ vs) [] h = absurd h
   may_length k (v ∷ vs) (p ∷ ps) h = ap suc (may_length (suc k) vs ps h.1)
 
-  paired_length : (ps : List P) (rs : List Room) → length ps ≡ length rs → length (paired ps rs) ≡ length ps
+  paired_length : (ps : List P) (rs : List RecordsValue) → length ps ≡ length rs → length (paired ps rs) ≡ length ps
   paired_length [] rs e = refl
   paired_length (p ∷ ps) [] e = absurd (omega arith)
   paired_length (p ∷ ps) (r ∷ rs) e = ap suc (paired_length ps rs (omega arith))
 
-  ready_all : (k : ℕ) (threads : List (Vec Command)) (ps : List P) (rs : List Room) → AllMayRun belongs number left own store k threads ps → Rooms limit threads rs → (i : ℕ) (d : Job P) → i < length (paired ps rs)
+  ready_all : (k : ℕ) (threads : List (Vec Command)) (ps : List P) (rs : List RecordsValue) → AllMayRun belongs number left own store k threads ps → Rooms limit threads rs → (i : ℕ) (d : Job P) → i < length (paired ps rs)
       → Ready belongs number left own limit store (k + i) (row_at threads i) (get_or (paired ps rs) i d)
   ready_all k [] [] rs m r i d lt = absurd (omega arith)
   ready_all k [] (p ∷ ps) rs m r i d lt = absurd m
@@ -87,13 +91,13 @@ module _ {S P : Type 0} (belongs : S → P → Type 0) (number left : P → ℕ)
   ready_all k (v ∷ vs) (p ∷ ps) (x ∷ xs) m r (suc i) d lt = let e : suc k + i ≡ k + suc i = omega arith in rw (← e) (ready_all (suc k) vs ps xs m.1 r.1 i d (omega arith))
 
   -- before the run
-  pub record AreReady (threads : List (Vec Command)) (ps : List P) (rs : List Room) (js : List (Job P)) : Type 0 where
+  pub record AreReady (threads : List (Vec Command)) (ps : List P) (rs : List RecordsValue) (js : List (Job P)) : Type 0 where
     pub jobs : length threads ≡ length js
     pub rooms : length ps ≡ length rs
     pub passes : length threads ≡ length ps
     pub each : (i : ℕ) (d : Job P) → i < length js → Ready belongs number left own limit store i (row_at threads i) (get_or js i d)
 
-  pub jobs_ready : (threads : List (Vec Command)) (ps : List P) (rs : List Room) (js : List (Job P)) → AllMayRun belongs number left own store 0 threads ps → Rooms limit threads rs → js ≡ paired ps rs → AreReady threads ps rs js
+  pub jobs_ready : (threads : List (Vec Command)) (ps : List P) (rs : List RecordsValue) (js : List (Job P)) → AllMayRun belongs number left own store 0 threads ps → Rooms limit threads rs → js ≡ paired ps rs → AreReady threads ps rs js
   jobs_ready threads ps rs js m r e =
       let a = may_length 0 threads ps m in
       let b = rooms_length limit threads rs r in
@@ -127,15 +131,15 @@ module _ {S P : Type 0} (limit : ℕ) (gives : CommitGives) (belongs : S → P �
   run_from history k (v ∷ vs) [] len ran owns = absurd (omega arith)
   run_from history k (v ∷ vs) (j ∷ js) len ran owns =
       let z : k + 0 ≡ k = omega arith in
-      let r : Ran limit gives belongs number own opening store k v.items j.pass (padded_value j.records).items = subst (λ n. Ran limit gives belongs number own opening store n v.items j.pass (padded_value j.records).items) z (ran 0 j (omega arith)) in
+      let r : Ran limit gives belongs number own opening store k v.items j.pass j.records.items = subst (λ n. Ran limit gives belongs number own opening store n v.items j.pass j.records.items) z (ran 0 j (omega arith)) in
       let o : of_caller (number j.pass) history ≡ own j.pass = owns 0 j (omega arith) in (
-        record { labelled = r.labelled; answered = r.answered; committed = subst (AreGiven gives k (meanings limit (k + 1) v.items) [] (padded_value j.records).items) (sym (ap (λ n. of_caller n history) (sym r.number_is) ∙ o)) r.own_is },
-        run_from history (suc k) vs js (omega arith) (λ i d lt. let e : k + suc i ≡ suc k + i = omega arith in subst (λ n. Ran limit gives belongs number own opening store n (row_at vs i) (get_or js i d).pass (padded_value (get_or js i d).records).items) e (ran (suc i) d (omega arith))) (λ i d lt. owns (suc i) d (omega arith)),
+        record { labelled = r.labelled; answered = r.answered; committed = subst (AreGiven gives k (meanings limit (k + 1) v.items) [] j.records.items) (sym (ap (λ n. of_caller n history) (sym r.number_is) ∙ o)) r.own_is },
+        run_from history (suc k) vs js (omega arith) (λ i d lt. let e : k + suc i ≡ suc k + i = omega arith in subst (λ n. Ran limit gives belongs number own opening store n (row_at vs i) (get_or js i d).pass (get_or js i d).records.items) e (ran (suc i) d (omega arith))) (λ i d lt. owns (suc i) d (omega arith)),
       )
 
   run_all : (history : List Entry) (threads : List (Vec Command)) (js : List (Job P)) → length threads ≡ length js → AllRan threads js → All (λ p. of_caller (number p) history ≡ own p) (map pass_of js) → AreRunBy gives limit (length (opening store)) 0 history (map (λ (v : Vec Command). v.items) threads) (lists_of (map list_of js))
   run_all history threads js len ran owns =
-      run_from history 0 threads js len (λ i d lt. let z : i ≡ 0 + i = omega arith in subst (λ n. Ran limit gives belongs number own opening store n (row_at threads i) (get_or js i d).pass (padded_value (get_or js i d).records).items) z (ran i d lt))
+      run_from history 0 threads js len (λ i d lt. let z : i ≡ 0 + i = omega arith in subst (λ n. Ran limit gives belongs number own opening store n (row_at threads i) (get_or js i d).pass (get_or js i d).records.items) z (ran i d lt))
       (λ i d lt. let p = pick js i lt in
       subst (λ (x : Job P). of_caller (number x.pass) history ≡ own x.pass) (sym (p.1 d)) (subst (λ q. of_caller (number q) history ≡ own q) (p.2 P pass_of p.0.pass) (owns i p.0.pass (let e = length-map js pass_of in omega arith))))
 
@@ -145,7 +149,7 @@ module _ {S P : Type 0} (limit : ℕ) (gives : CommitGives) (belongs : S → P �
     pub numbered : map number (map pass_of js) ≡ count_from 0 callers
     pub run : (history : List Entry) → All (λ p. of_caller (number p) history ≡ own p) (map pass_of js) → AreRunBy gives limit (length (opening store)) 0 history (map (λ (v : Vec Command). v.items) threads) (lists_of (map list_of js))
 
-  pub ran_done : (threads : List (Vec Command)) (ps : List P) (rs : List Room) (before js : List (Job P)) (callers : ℕ) → AreReady belongs number left own store limit threads ps rs before → length js ≡ length before
+  pub ran_done : (threads : List (Vec Command)) (ps : List P) (rs : List RecordsValue) (before js : List (Job P)) (callers : ℕ) → AreReady belongs number left own store limit threads ps rs before → length js ≡ length before
       → ((i : ℕ) (d : Job P) → i < length before → JobRan limit gives belongs number own opening store i (row_at threads i) (get_or js i d)) → length threads ≡ callers → AreDone threads js callers
   ran_done threads ps rs before js callers ready len ran all =
       let here : AllRan threads js = λ i d lt. ran i d (omega (arith, len, lt)) in record {

@@ -1,10 +1,10 @@
--- The values and the one history of a lock-free store whose passes came back.
+-- The values and the one history of a lock-free store whose callers came back.
 use Rattle.std.proofs.Common.{◌≡◌, ℕ, zero, suc, ◌+◌, ◌<◌, ◌==◌, Bool, true, false, cond, List, [], ◌∷◌, length, map, get_or, refl, sym, ap, ◌∙◌, subst, arith}
-use Rattle.std.specs.Prelude.{All}
+use Rattle.std.specs.Prelude.{All, IsPermutation}
 use Rattle.std.proofs.lemmas.List.{get_or-map, length-map}
 use Rattle.std.proofs.lemmas.List.Elements.{All-head, All-map, All-tail, All-weaker}
+use Rattle.std.proofs.lemmas.List.Sorted.{IsPermutation-refl}
 use Rattle.kc_history.specs.Callers.{IsBelowCallers, IsLegalFrom, of_caller}
-use Rattle.kc_machine.specs.Seats.{is_idle}
 use Rattle.kc_machine_claims.specs.Histories.{History, Placed, ending, entries}
 use Rattle.kc_machine_claims.specs.Traces.{first_store}
 use Rattle.kc_machine_traces.specs.Entries.{by}
@@ -12,12 +12,14 @@ use Rattle.kc_model.specs.Footprint.{IsBelow, put_at}
 use Rattle.kc_model.specs.Legal.{IsLegal}
 use Rattle.kc_model.specs.Store.{Finds, Store, after, cell_after, opened, store_of}
 use Rattle.kc_model.specs.declared.footprint.Entry.{Entry}
-use Rattle.kc_run.specs.Kcas.{BelongsTo, KcPassView, OpensAtZero, history_in, own_in, values_of}
+use Rattle.kc_run.specs.Kcas.{BelongsTo, values_at}
 use Rattle.kc_run.specs.Shared.{count_from}
 use Rattle.kc_store.proofs.Within.{past_lies}
+use Rattle.kc_store.specs.Backs.{AreAllCallers}
+use Rattle.kc_store.specs.Views.{CallerView, StoreView}
 use Rattle.kc_store.specs.Within.{LiesIn}
 use Rattle.kc_table_moves.specs.Origins.{Origin, opening_of}
-use Rattle.kc_table_moves.specs.Views.{AreAll, IsPart, IsPast, PastView, SeatView, TableView, numbers}
+use Rattle.kc_table_moves.specs.Views.{IsPart, IsPast, PastView, SeatView, TableView}
 use Rattle.kc_table_moves.specs.Views.{count_from as counted_from}
 use Rattle.kc_table_views.specs.Known.{known}
 
@@ -27,7 +29,7 @@ length_counted : (k n : ℕ) → length (count_from k n) ≡ n
 length_counted k zero = refl
 length_counted k (suc n) = ap suc (length_counted (suc k) n)
 
-pub values_count : (q : Origin) → length (values_of q) ≡ q.locations
+pub values_count : (q : Origin) → length (values_at q) ≡ q.locations
 values_count q = length-map (count_from 0 q.locations) (opening_of q).value ∙ length_counted 0 q.locations
 
 mapped : (f : ℕ → ℕ) (k : ℕ) (xs : List ℕ) → ((l : ℕ) → l < length xs → f (k + l) ≡ get_or xs l 0) → map f (count_from k (length xs)) ≡ xs
@@ -38,7 +40,7 @@ mapped f k (x ∷ xs) h =
     let rest = mapped f (suc k) xs (λ l lt. let at : suc k + l ≡ k + suc l = omega arith in ap f at ∙ h (suc l) (omega (arith, lt))) in
     λ i. first i ∷ rest i
 
-pub values_are : (q : Origin) (values : List ℕ) → q.locations ≡ length values → ((l : ℕ) → l < length values → (opening_of q).value l ≡ get_or values l 0) → values_of q ≡ values
+pub values_are : (q : Origin) (values : List ℕ) → q.locations ≡ length values → ((l : ℕ) → l < length values → (opening_of q).value l ≡ get_or values l 0) → values_at q ≡ values
 values_are q values n each = ap (λ m. map (opening_of q).value (count_from 0 m)) n ∙ mapped (opening_of q).value 0 values (λ l lt. let at : 0 + l ≡ l = omega arith in ap (opening_of q).value at ∙ each l lt)
 
 cells_at : (f : ℕ → ℕ) (k n l : ℕ) → l < n → store_of (opened (map f (count_from k n))) l ≡ record { version = 0; value = f (k + l) }
@@ -62,14 +64,18 @@ legal_there n s t e (x ∷ xs) same below (finds, legal) =
 entries_lie : (n : ℕ) (h : History) → All (LiesIn n) h → All (λ (x : Entry). IsBelow n x.footprint) (entries h)
 entries_lie n h lie = All-map (λ (x : Entry). IsBelow n x.footprint) (λ (x : Placed). x.entry) h (All-weaker (LiesIn n) (λ (x : Placed). IsBelow n x.entry.footprint) (λ x l. l.reads) h lie)
 
-pub legal_from_values : (z : TableView) (seats : List SeatView) (p : PastView) → OpensAtZero z → IsPast z seats p → IsLegalFrom (values_of z.origin) (history_in p)
+-- the entries of the one history of a table
+abbrev pub entries_in : PastView → List Entry
+entries_in p = entries (known (opening_of p.origin) p.schedule)
+
+pub legal_from_values : (z : TableView) (seats : List SeatView) (p : PastView) → ((l : ℕ) → l < z.origin.locations → (opening_of z.origin).version l ≡ 0) → IsPast z seats p → IsLegalFrom (values_at z.origin) (entries_in p)
 legal_from_values z seats p zeros past =
     let o = opening_of p.origin in
     let h = known o p.schedule in
-    let at_zero : (l : ℕ) → l < z.origin.locations → first_store o l ≡ store_of (opened (values_of z.origin)) l =
+    let at_zero : (l : ℕ) → l < z.origin.locations → first_store o l ≡ store_of (opened (values_at z.origin)) l =
     λ l lt. let at : 0 + l ≡ l = omega arith in
     ap (λ (q : Origin). first_store (opening_of q) l) past.origin ∙ ap (λ v. record { version = v; value = (opening_of z.origin).value l }) (zeros l lt) ∙ sym (cells_at (opening_of z.origin).value 0 z.origin.locations l lt ∙ ap (λ m. record { version = 0; value = (opening_of z.origin).value m }) at) in
-    legal_there z.origin.locations (first_store o) (store_of (opened (values_of z.origin))) (ending (first_store o) h) (entries h) at_zero (entries_lie z.origin.locations h (past_lies z seats p past)) past.whole.legal
+    legal_there z.origin.locations (first_store o) (store_of (opened (values_at z.origin))) (ending (first_store o) h) (entries h) at_zero (entries_lie z.origin.locations h (past_lies z seats p past)) past.whole.legal
 
 -- ---- callers
 
@@ -81,32 +87,33 @@ entries_by : (k : ℕ) (h : History) → of_caller k (entries h) ≡ entries (by
 entries_by k [] = refl
 entries_by k (x ∷ h) = either_way (x.entry.caller == k) x (by k h) (of_caller k (entries h)) (entries_by k h)
 
-pub own_parts : (z : TableView) (passes : List KcPassView) (p : PastView) → IsPast z (map (λ (q : KcPassView). q.seat) passes) p → All (λ (q : KcPassView). of_caller q.seat.number (history_in p) ≡ own_in q) passes
-own_parts z passes p past k d lt =
-    let f : KcPassView → SeatView = λ q. q.seat in
+pub own_parts : (z : StoreView) (callers : List CallerView) (p : PastView) → All (BelongsTo z) callers → IsPast z.table (map (λ (c : CallerView). c.seat) callers) p → All (λ (c : CallerView). of_caller c.number (entries_in p) ≡ c.own) callers
+own_parts z callers p belong past k d lt =
+    let f : CallerView → SeatView = λ c. c.seat in
     let o = opening_of p.origin in
-    let there : k < length (map f passes) = subst (λ n. k < n) (sym (length-map passes f)) lt in
-    let part = subst (IsPart o p.schedule) (get_or-map f passes k d (f d) lt) (past.parts k (f d) there) in
-    entries_by (f (get_or passes k d)).number (known o p.schedule) ∙ ap entries part.1.own
+    let c : CallerView = get_or callers k d in
+    let there : k < length (map f callers) = subst (λ n. k < n) (sym (length-map callers f)) lt in
+    let part = subst (IsPart o p.schedule) (get_or-map f callers k d (f d) lt) (past.parts k (f d) there) in
+    let shown = (belong k d lt).shown in
+    ap (λ (b : CallerView). of_caller b.number (entries_in p)) shown ∙ entries_by c.seat.number (known o p.schedule) ∙ ap entries part.1.own ∙ sym (ap (λ (b : CallerView). b.own) shown)
 
-pub below_callers : (z : TableView) (seats : List SeatView) (p : PastView) → IsPast z seats p → IsBelowCallers z.origin.callers (history_in p)
+pub below_callers : (z : TableView) (seats : List SeatView) (p : PastView) → IsPast z seats p → IsBelowCallers z.origin.callers (entries_in p)
 below_callers z seats p past =
-    subst (λ (q : Origin). IsBelowCallers q.callers (history_in p)) past.origin
+    subst (λ (q : Origin). IsBelowCallers q.callers (entries_in p)) past.origin
     (All-map (λ (e : Entry). e.caller < p.origin.callers) (λ (x : Placed). x.entry) (known (opening_of p.origin) p.schedule) past.whole.of_callers)
 
--- ---- all passes
+-- ---- all callers
 
 counts_agree : (k n : ℕ) → count_from k n ≡ counted_from k n
 counts_agree k zero = refl
 counts_agree k (suc n) = ap (λ (l : List ℕ). k ∷ l) (counts_agree (suc k) n)
 
-numbers_map : (passes : List KcPassView) → numbers (map (λ (q : KcPassView). q.seat) passes) ≡ map (λ (q : KcPassView). q.seat.number) passes
-numbers_map [] = refl
-numbers_map (p ∷ ps) = ap (λ (l : List ℕ). p.seat.number ∷ l) (numbers_map ps)
+pub map_same : {A : Type 0} (xs : List A) → map (λ x. x) xs ≡ xs
+map_same [] = refl
+map_same (x ∷ xs) = ap (λ l. x ∷ l) (map_same xs)
 
-pub are_all : (z y : TableView) (passes : List KcPassView) → y ≡ z → All (BelongsTo z) passes → map (λ (q : KcPassView). q.seat.number) passes ≡ count_from 0 z.origin.callers → AreAll y (map (λ (q : KcPassView). q.seat) passes)
-are_all z y passes e belong all = subst (λ x. AreAll x (map (λ (q : KcPassView). q.seat) passes)) (sym e) (record {
-  of = All-map (λ (s : SeatView). s.of ≡ z) (λ (q : KcPassView). q.seat) passes (All-weaker (BelongsTo z) (λ (q : KcPassView). q.seat.of ≡ z) (λ q b. b.of) passes belong);
-  idle = All-map (λ (s : SeatView). is_idle s.seat.work ≡ true) (λ (q : KcPassView). q.seat) passes (All-weaker (BelongsTo z) (λ (q : KcPassView). is_idle q.seat.seat.work ≡ true) (λ q b. b.rests.idle) passes belong);
-  all = numbers_map passes ∙ all ∙ counts_agree 0 z.origin.callers;
-})
+pub are_all : (z : StoreView) (callers : List CallerView) → All (BelongsTo z) callers → map (λ (c : CallerView). c.number) callers ≡ count_from 0 z.callers → AreAllCallers z callers
+are_all z callers belong all = record {
+  of = All-weaker (BelongsTo z) (λ (c : CallerView). c.of ≡ z) (λ c b. b.of) callers belong;
+  all = subst (IsPermutation (counted_from 0 z.callers)) (sym (all ∙ counts_agree 0 z.callers)) (IsPermutation-refl (counted_from 0 z.callers));
+}

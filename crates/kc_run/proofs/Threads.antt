@@ -1,6 +1,6 @@
 -- One thread's commits, one after another.
-use Rattle.std.proofs.Common.{◌≡◌, ℕ, suc, ◌+◌, ◌-◌, ◌≤◌, ◌<◌, List, [], ◌∷◌, ◌++◌, length, map, take, drop, get_or, refl, sym, ap, subst, ◌∙◌, arith, append_assoc}
-use Rattle.std.proofs.lemmas.List.{take_more, drop_more, map-append, length-map}
+use Rattle.std.proofs.Common.{◌≡◌, ℕ, zero, suc, ◌+◌, ◌-◌, ◌≤◌, ◌<◌, List, [], ◌∷◌, ◌++◌, length, map, take, drop, get_or, refl, sym, ap, subst, ◌∙◌, arith, append_assoc}
+use Rattle.std.proofs.lemmas.List.{take_all, take_more, drop_all, drop_more, map-append, length-map}
 use Rattle.kc_model.specs.declared.footprint.Entry.{Entry}
 use Rattle.kc_script_bundle.specs.declared.operation.Command.{Command}
 use Rattle.kc_script_bundle.specs.declared.operation.Command.TheVariants as command
@@ -12,7 +12,7 @@ use Rattle.kc_loc.specs.declared.operation.LocOp.TheVariants as loc
 use Rattle.kc_history.specs.RecordsValue.{RecordsValue}
 use Rattle.kc_history.specs.declared.record.Record.{Record}
 use Rattle.kc_history.specs.declared.record.Mark.TheVariants as mark
-use Rattle.kc_run.specs.Jobs.{empty_records}
+use Rattle.kc_run.specs.Jobs.{Ran, empty_records}
 use Rattle.kc_script_runs.specs.Labels.{Label, label, labels}
 use Rattle.kc_script_runs.proofs.Given.{given_more}
 use Rattle.kc_script_runs.specs.Threads.{asked, CommitGives, AreAnswered, AreGiven, IsAnswered, meanings}
@@ -77,7 +77,7 @@ module _ {S P : Type 0} (limit thread : ℕ) (gives : CommitGives) (belongs : S 
   ran_first store commands first records pass share fresh empty = subst (λ (v : RecordsValue). RanTo store commands first first v 0) (sym empty) (record { pass = (pass, refl); share = omega (arith, share); given = fresh; answered = tt; labelled = refl; spare = omega arith; most = refl })
 
   pub ran_more : (store : S) (commands : List Command) (first now next : P) (before after : RecordsValue) (i : ℕ) (d : Command) (r : Record) → RanTo store commands first now before i → i < length commands
-      → belongs store next × (number next ≡ number now) → left next + 1 ≡ left now → gives (number now) (asked limit thread (get_or commands i d)) (own now) r.footprint (own next) → IsAnswered (length (opening store)) (asked limit thread (get_or commands i d)) r
+      → belongs store next × (number next ≡ number now) → left now ≤ left next + 1 → gives (number now) (asked limit thread (get_or commands i d)) (own now) r.footprint (own next) → IsAnswered (length (opening store)) (asked limit thread (get_or commands i d)) r
       → after.items ≡ before.items ++ r ∷ [] → after.spare ≡ before.spare - 1 → after.limit ≡ before.limit → r.thread ≡ thread → r.mark ≡ mark.Command (i + 1) → RanTo store commands first next after (i + 1)
   ran_more store commands first now next before after i d r so_far lt pass left_is own_next answers added less same by marked = record {
     pass = (pass.0, pass.1 ∙ so_far.pass.1);
@@ -90,6 +90,22 @@ module _ {S P : Type 0} (limit thread : ℕ) (gives : CommitGives) (belongs : S 
     spare = omega (arith, so_far.spare, less, lt);
     most = same ∙ so_far.most;
   }
+
+  -- and then its end
+  pub ran_end : (store : S) (commands : List Command) (first now next : P) (before after : RecordsValue) (i k : ℕ) (r : Record) → RanTo store commands first now before i → length commands ≤ i → number first ≡ k → thread ≡ k + 1
+      → belongs store next × (number next ≡ number now) → gives (number now) (limited MOST (end_meaning 0)) (own now) r.footprint (own next) → IsAnswered (length (opening store)) (limited MOST (end_meaning 0)) r
+      → after.items ≡ before.items ++ r ∷ [] → r.thread ≡ thread → r.mark ≡ mark.End → Ran limit gives belongs number own opening store k commands next after.items
+  ran_end store commands first now next before after i k r so_far all numbered is pass own_next answers added by marked =
+      let given = subst (λ (cs : List Command). AreGiven gives (number first) (map (asked limit thread) cs) [] before.items (own now)) (take_all i commands all) so_far.given in
+      let answered = subst (λ (cs : List Command). AreAnswered (length (opening store)) (map (asked limit thread) cs) before.items) (take_all i commands all) so_far.answered in
+      let labelled = subst (λ (cs : List Command). map label before.items ++ labels thread (i + 1) cs ≡ labels thread 1 commands) (drop_all i commands all) so_far.labelled in
+      let ends = thread_ends limit thread gives commands (number first) (number now) (own now) (own next) before.items r given answered so_far.pass.1 own_next answers in record {
+        belongs_to = pass.0;
+        number_is = pass.1 ∙ so_far.pass.1 ∙ numbered;
+        labelled = subst (λ (t : ℕ). map label after.items ≡ labels t 1 commands) is (ap (map label) added ∙ labels_end thread (i + 1) before.items r (labels thread 1 commands) by marked labelled);
+        answered = subst (λ (t : ℕ). AreAnswered (length (opening store)) (meanings limit t commands) after.items) is (subst (AreAnswered (length (opening store)) (meanings limit thread commands)) (sym added) ends.1);
+        own_is = subst (λ (j : ℕ). AreGiven gives j (meanings limit (k + 1) commands) [] after.items (own next)) numbered (subst (λ (t : ℕ). AreGiven gives (number first) (meanings limit t commands) [] after.items (own next)) is (subst (λ rs. AreGiven gives (number first) (meanings limit thread commands) [] rs (own next)) (sym added) ends.0));
+      }
 
 length-labels : (thread number : ℕ) (cs : List Command) → length (labels thread number cs) ≡ length cs + 1
 length-labels thread number [] = refl

@@ -1,8 +1,6 @@
 -- What a thread's job is before and after its run.
 use Rattle.std.specs.Prelude.{◌≡◌, ℕ, zero, suc, ◌+◌, ◌≤◌, List, [], ◌∷◌, length, map}
 use Rattle.std.specs.Global.{Vec}
-use Rattle.crossbeam_utils.specs.declared.cache_padded.CachePadded.{CachePadded}
-use Rattle.crossbeam_utils.specs.Padded.{padded_value}
 use Rattle.kc_history.specs.RecordsValue.{RecordsValue}
 use Rattle.kc_history.specs.declared.record.Record.{Record}
 use Rattle.kc_model.specs.declared.footprint.Entry.{Entry}
@@ -17,25 +15,22 @@ row_at [] i = []
 row_at (v ∷ vs) zero = v.items
 row_at (v ∷ vs) (suc i) = row_at vs i
 
-abbrev pub Room : Type 0
-Room = CachePadded RecordsValue
-
 -- no record, and room for one for each of a thread's commands and its end, of at most so many locations
 abbrev pub empty_records : ℕ → List Command → RecordsValue
 empty_records limit commands = record { items = []; spare = length commands + 1; limit = limit }
 
 -- for each thread
-abbrev pub Rooms : ℕ → List (Vec Command) → List Room → Type 0
+abbrev pub Rooms : ℕ → List (Vec Command) → List RecordsValue → Type 0
 Rooms limit [] [] = Unit {0}
 Rooms limit [] (r ∷ rs) = ⊥
 Rooms limit (v ∷ vs) [] = ⊥
-Rooms limit (v ∷ vs) (r ∷ rs) = (padded_value r ≡ empty_records limit v.items) × Rooms limit vs rs
+Rooms limit (v ∷ vs) (r ∷ rs) = (r ≡ empty_records limit v.items) × Rooms limit vs rs
 
 module _ {P : Type 0} where
-  abbrev pub job : P → Room → Job P
+  abbrev pub job : P → RecordsValue → Job P
   job p r = record { pass = p; records = r }
 
-  abbrev pub paired : List P → List Room → List (Job P)
+  abbrev pub paired : List P → List RecordsValue → List (Job P)
   paired [] rs = []
   paired (p ∷ ps) [] = []
   paired (p ∷ ps) (r ∷ rs) = job p r ∷ paired ps rs
@@ -44,7 +39,7 @@ module _ {P : Type 0} where
   pass_of j = j.pass
 
   abbrev pub list_of : Job P → RecordsValue
-  list_of j = padded_value j.records
+  list_of j = j.records
 
 module _ {S P : Type 0} (belongs : S → P → Type 0) (number left : P → ℕ) (own : P → List Entry) where
   -- a pass that may commit the commands of its thread and its end, and has made no commit
@@ -64,7 +59,7 @@ module _ {S P : Type 0} (belongs : S → P → Type 0) (number left : P → ℕ)
   -- the job has its pass, and room for a record for each command and its end
   pub record Ready (limit : ℕ) (store : S) (k : ℕ) (commands : List Command) (j : Job P) : Type 0 where
     pub may : MayRun store k commands j.pass
-    pub room : padded_value j.records ≡ empty_records limit commands
+    pub room : j.records ≡ empty_records limit commands
 
 module _ {S P : Type 0} (limit : ℕ) (gives : CommitGives) (belongs : S → P → Type 0) (number : P → ℕ) (own : P → List Entry) (opening : S → List ℕ) where
   -- the pass's own list is what the commits of these records gave, which are those of the commands and the end
@@ -76,4 +71,4 @@ module _ {S P : Type 0} (limit : ℕ) (gives : CommitGives) (belongs : S → P �
     pub own_is : AreGiven gives k (meanings limit (k + 1) commands) [] records (own p)
 
   abbrev pub JobRan : S → ℕ → List Command → Job P → Type 0
-  JobRan store k commands j = Ran store k commands j.pass (padded_value j.records).items
+  JobRan store k commands j = Ran store k commands j.pass j.records.items

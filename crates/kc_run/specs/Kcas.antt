@@ -1,66 +1,43 @@
--- The lock-free store as one that threads share: its values and its history, its passes, and how it opens.
-use Rattle.std.specs.Prelude.{◌≡◌, ℕ, ◌*◌, ◌<◌, List, [], ◌∷◌, length, map, true, false}
+-- The lock-free store as one that threads share: its values and its history, its callers, and how it opens.
+use Rattle.std.specs.Prelude.{◌≡◌, ℕ, ◌+◌, ◌<◌, List, map}
 use Rattle.std.specs.Global.{Vec}
 use Rattle.kc_await.specs.Waiting.{CommitsAtLast}
-use Rattle.kc_machine.specs.Machine.{pool_size}
-use Rattle.kc_machine.specs.Seats.{fresh, is_idle}
 use Rattle.kc_machine_claims.specs.Histories.{entries}
 use Rattle.kc_model.specs.declared.footprint.Entry.{Entry}
 use Rattle.kc_model.specs.declared.footprint.Footprint.{Footprint}
-use Rattle.kc_model.specs.declared.reply.Answer.{Answer}
-use Rattle.kc_model.specs.declared.reply.Answer.TheVariants as answer
 use Rattle.kc_run.specs.Jobs.{AllMayRun}
 use Rattle.kc_run.specs.Shared.{count_from}
+use Rattle.kc_script_bundle.specs.declared.bundle.TheConstants.{MOST_COMMANDS}
 use Rattle.kc_script_bundle.specs.declared.operation.Command.{Command}
-use Rattle.kc_store.specs.Answers.{own_entries}
+use Rattle.kc_store.specs.Views.{CallerView, PastView, StoreView, caller_view, opened_caller, opened_callers, store_view}
 use Rattle.kc_store.specs.declared.verdict.Answered.{Answered}
-use Rattle.kc_store.specs.declared.verdict.Answered.TheVariants as answered
 use Rattle.kc_table_moves.specs.Origins.{Origin, opening_of}
-use Rattle.kc_table_moves.specs.Views.{PastView, SeatView, TableView, opened_seats}
+use Rattle.kc_table_moves.specs.Views.{SeatView}
 use Rattle.kc_table_views.specs.Known.{known}
 use Rattle.kc_xt.specs.Meaning.{Meaning}
 
 -- ---- the values and the history
 
 -- the opening values, location by location
-abbrev pub values_of : Origin → List ℕ
-values_of q = map (opening_of q).value (count_from 0 q.locations)
+abbrev pub values_at : Origin → List ℕ
+values_at q = map (opening_of q).value (count_from 0 q.locations)
+
+abbrev pub values_of : StoreView → List ℕ
+values_of z = values_at z.table.origin
 
 abbrev pub values_in : PastView → List ℕ
-values_in p = values_of p.origin
+values_in p = values_at p.past.origin
 
 -- the entries of the one history, in order
 abbrev pub history_in : PastView → List Entry
-history_in p = entries (known (opening_of p.origin) p.schedule)
+history_in p = entries (known (opening_of p.past.origin) p.past.schedule)
 
 -- each location opened at version 0
-abbrev pub OpensAtZero : TableView → Type 0
-OpensAtZero z = (l : ℕ) → l < z.origin.locations → (opening_of z.origin).version l ≡ 0
+pub record OpensAtZero (z : StoreView) : Type 0 where
+  pub shown : z ≡ store_view z.table
+  pub zeros : (l : ℕ) → l < z.table.origin.locations → (opening_of z.table.origin).version l ≡ 0
 
--- ---- passes
-
--- the caller's seat, and how many commits are left
-pub record KcPassView : Type 0 where
-  pub seat : SeatView
-  pub left : ℕ
-
--- the entries of its commits, and of the looks before them
-abbrev pub own_in : KcPassView → List Entry
-own_in p = entries (own_entries p.seat)
-
--- no task runs, and none is blocked
-pub record Rests (v : SeatView) : Type 0 where
-  pub idle : is_idle v.seat.work ≡ true
-  pub free : v.seat.blocked ≡ false
-
--- it is a pass of the store, and rests
-pub record BelongsTo (z : TableView) (p : KcPassView) : Type 0 where
-  pub of : p.seat.of ≡ z
-  pub rests : Rests p.seat
-
--- the seat of this number as it opens
-abbrev pub opened_seat : TableView → ℕ → SeatView
-opened_seat z k = record { of = z; number = k; past = []; began = false; seat = fresh k (pool_size z.origin.callers) (3 * k) }
+-- ---- callers
 
 -- since v the seat has made commits that wait, one after another, and nothing else
 pub data CommitsSince (v : SeatView) : SeatView → Type 0 where
@@ -68,28 +45,28 @@ pub data CommitsSince (v : SeatView) : SeatView → Type 0 where
   more : (u w : SeatView) (m : Meaning) (a : Answered) (f : Footprint) → CommitsSince v u → CommitsAtLast m a f u w → CommitsSince v w
 
 -- since the opening
-abbrev pub OnlyCommits : SeatView → Type 0
-OnlyCommits w = CommitsSince (opened_seat w.of w.number) w
+abbrev pub OnlyCommits : CallerView → Type 0
+OnlyCommits c = CommitsSince (opened_caller c.of c.number).seat c.seat
 
--- what a commit was answered that answers so
-abbrev pub answered_as : Answer → Answered
-answered_as (answer.Reply r) = answered.Done r
-answered_as answer.TooLarge = answered.TooLarge
+-- it is a caller of the store, which has made commits that wait and nothing else
+pub record BelongsTo (z : StoreView) (c : CallerView) : Type 0 where
+  pub of : c.of ≡ z
+  pub shown : c ≡ caller_view c.worn c.seat
+  pub only : OnlyCommits c
+
+-- how many commits a caller may make, at least: those of a thread's commands and of its end
+abbrev pub left_in : CallerView → ℕ
+left_in c = MOST_COMMANDS + 1
 
 -- ---- openings
 
--- each seat with its share
-abbrev pub passes_with : List SeatView → List ℕ → List KcPassView
-passes_with [] ns = []
-passes_with (s ∷ ss) [] = []
-passes_with (s ∷ ss) (n ∷ ns) = record { seat = s; left = n } ∷ passes_with ss ns
+-- a store that was opened on these values for so many callers, which have done nothing
+pub record Opened (values : List ℕ) (callers : ℕ) (store : StoreView) (all : List CallerView) : Type 0 where
+  pub opening : values_of store ≡ values
+  pub callers_are : store.callers ≡ callers
+  pub shown : store ≡ store_view store.table
+  pub dealt : all ≡ opened_callers store 0 callers
 
--- a store that was opened on these values, with a pass for each share, in their order
-pub record Opened (values shares : List ℕ) (store : TableView) (passes : List KcPassView) : Type 0 where
-  pub opening : values_of store.origin ≡ values
-  pub callers : store.origin.callers ≡ length shares
-  pub dealt : passes ≡ passes_with (opened_seats store 0 (length shares)) shares
-
--- the passes of the store are those of the threads, in their order
-abbrev pub AllKcDealt : TableView → List (Vec Command) → List KcPassView → Type 0
-AllKcDealt store threads passes = AllMayRun BelongsTo (λ (p : KcPassView). p.seat.number) (λ (p : KcPassView). p.left) own_in store 0 threads passes
+-- the callers of the store are those of the threads, in their order
+abbrev pub AllKcDealt : StoreView → List (Vec Command) → List CallerView → Type 0
+AllKcDealt store threads callers = AllMayRun BelongsTo (λ (c : CallerView). c.number) left_in (λ (c : CallerView). c.own) store 0 threads callers

@@ -4,16 +4,16 @@ ghost use Rattle.std.specs.Prelude.{◌≡◌, ◌≤◌, [], length, map, vec_c
 ghost use Rattle.kc_model.specs.declared.footprint.TheConstants.{MOST};
 ghost use Rattle.kc_run.specs.Jobs.{Rooms, empty_records, paired, pass_of, list_of};
 
-use crossbeam_utils::CachePadded;
 use kc_history::Records;
 use kc_script_bundle::{Command, MOST_COMMANDS};
 use std::alloc::{AllocError, Global};
 
-/// A pass, and the records of its thread.
+/// A pass, and the records of its thread. Passes begin with unused bytes, which hold two threads' records apart.
 #[derive(Drop)]
+#[repr(C)]
 pub struct Job<P> {
     pub pass: P,
-    pub records: CachePadded<Records>,
+    pub records: Records,
 }
 
 /// Room for a record for each command of a thread, and one for its end, of at most so many locations each.
@@ -30,7 +30,7 @@ pub fn rooms(
     alloc: Global,
     threads: &[Vec<Command>],
     limit: u32,
-) -> Result<Vec<CachePadded<Records>>, AllocError>
+) -> Result<Vec<Records>, AllocError>
     requires limit { limit ≤ MOST }
     requires commands { All (λ v. length v.items ≤ MOST_COMMANDS) threads.now }
     ensures { IfOk result (λ v. Rooms limit threads.now v.items) }
@@ -38,17 +38,13 @@ pub fn rooms(
     let mut all = Vec::with_capacity(alloc, threads.len())?;
     for i in 0..threads.len() {
         let list = room_for(alloc, threads[i].as_slice(), limit)?;
-        all.push(CachePadded::new(list))?;
+        all.push(list)?;
     }
     Ok(all)
 }
 
 /// Each pass with its thread's records.
-pub fn pair<P: Drop>(
-    passes: Vec<P>,
-    space: Vec<CachePadded<Records>>,
-    mut jobs: Vec<Job<P>>,
-) -> Vec<Job<P>>
+pub fn pair<P: Drop>(passes: Vec<P>, space: Vec<Records>, mut jobs: Vec<Job<P>>) -> Vec<Job<P>>
     requires same { length passes.items ≡ length space.items }
     requires empty { jobs.items ≡ [] }
     requires room { length passes.items ≤ vec_capacity jobs }
@@ -81,7 +77,7 @@ pub fn part<P: Drop>(
             records: list,
         } = job;
         passes.push_reserved(pass);
-        records.push_reserved(list.into_inner());
+        records.push_reserved(list);
     }
     (passes, records)
 }

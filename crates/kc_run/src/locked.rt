@@ -2,7 +2,6 @@
 
 ghost use Rattle.std.specs.Prelude.{◌≡◌, ◌<◌, ◌≤◌, All, length, map, IfOk};
 ghost use Rattle.kc_history.specs.Callers.{of_caller, IsBelowCallers, IsLegalFrom};
-ghost use Rattle.kc_script_runs.specs.Threads.{GivesOne};
 ghost use Rattle.kc_run.specs.Shared.{count_from};
 ghost use Rattle.kc_run.specs.Locked.{AllDealt};
 
@@ -16,8 +15,7 @@ use std::alloc::Global;
 use std::sync::Wait;
 
 impl Shared for LockedStore {
-    ghost use Rattle.std.specs.Prelude.{◌≡◌};
-    ghost use Rattle.kc_script_runs.specs.Threads.{GivesOne};
+    ghost use Rattle.std.specs.Prelude.{◌≡◌, false};
 
     type Pass = LockPass;
 
@@ -35,7 +33,7 @@ impl Shared for LockedStore {
 
     ghost own = { λ pass. pass.own };
 
-    ghost gives = { GivesOne };
+    ghost enters_looks = { false };
 
     ghost began = { λ past. past.opening };
 

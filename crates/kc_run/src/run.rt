@@ -8,6 +8,7 @@ ghost use Rattle.kc_script_bundle.specs.declared.bundle.TheConstants.{MOST_THREA
 ghost use Rattle.kc_script_runs.specs.Labels.{AreThreads};
 ghost use Rattle.kc_script_runs.specs.Threads.{AreRunBy};
 ghost use Rattle.kc_run.specs.Run.{CanRunAll};
+ghost use Rattle.kc_run.specs.Shared.{commit_gives};
 ghost use Rattle.kc_run.specs.Jobs.{AllMayRun, JobRan, Ready, row_at};
 
 use crate::gate::Gate;
@@ -28,8 +29,9 @@ pub struct RunRefused<S: Shared> {
     pub passes: Vec<S::Pass>,
 }
 
-/// Runs each thread's commands, each on its own pass, and shows the one history. All memory is taken before the first
-/// command. The records lie by thread, one for each command and then one for the thread's end.
+/// Runs each thread's commands, each on its own pass, and shows the one history. The records lie by thread, one for each
+/// command and then one for the thread's end. Their memory is taken before the first command. To start a thread takes
+/// some too: where that is refused the threads run one behind another, so that those that wait for each other don't end.
 ///
 /// # Errors
 ///
@@ -52,7 +54,7 @@ pub fn run_threads<S: Shared, G: Gate, R: Threads + Wait + Sync>(
     requires commands { All (λ v. CanRunAll (length (S.opening shared)) v.items) threads.now }
     ensures began { IfOk result (λ r. S.began r.1 ≡ S.opening shared) }
     ensures legal { IfOk result (λ r. IsLegalFrom (S.opening shared) (S.history r.1)) }
-    ensures run { IfOk result (λ r. AreRunBy S.gives limit (length (S.opening shared)) 0 (S.history r.1) (map (λ v. v.items) threads.now) (lists_of r.0.items)) }
+    ensures run { IfOk result (λ r. AreRunBy (commit_gives S.enters_looks) limit (length (S.opening shared)) 0 (S.history r.1) (map (λ v. v.items) threads.now) (lists_of r.0.items)) }
     ensures threads { IfOk result (λ r. AreThreads 1 (map (λ v. v.items) threads.now) (lists_of r.0.items)) }
     ensures nobody_else { IfOk result (λ r. IsBelowCallers (length threads.now) (S.history r.1)) }
     ensures refused { IfErr result (λ e. (e.shared ≡ shared) × (e.passes.items ≡ passes.items)) }
@@ -87,89 +89,13 @@ fn run_jobs<S: Shared, G: Gate, R: Threads + Wait + Sync>(
     requires commands { All (λ v. CanRunAll (length (S.opening shared.now)) v.items) threads.now }
     requires ready { (i : ℕ) (d : _) → i < length jobs.items → Ready S.belongs S.number S.left S.own limit shared.now i (row_at threads.now i) (slice_index_or jobs.items i d) }
     ensures len { length result.items ≡ length jobs.items }
-    ensures ran { (i : ℕ) (d : _) → i < length jobs.items → JobRan limit S.gives S.belongs S.number S.own S.opening shared.now i (row_at threads.now i) (slice_index_or result.items i d) }
-{
-    run_each(rt, shared, gate, threads, limit, jobs.as_mut_slice());
-    jobs
-}
-
-fn run_each<S: Shared, G: Gate, R: Threads + Wait + Sync>(
-    rt: &R,
-    shared: &S,
-    gate: &G,
-    threads: &[Vec<Command>],
-    limit: u32,
-    jobs: &mut [Job<S::Pass>],
-)
-    requires limit { (0 < limit) × (limit ≤ MOST) }
-    requires threads { (length threads.now ≡ length jobs.old) × (length threads.now ≤ MOST_THREADS) }
-    requires some { 0 < length jobs.old }
-    requires locations { 0 < length (S.opening shared.now) }
-    requires commands { All (λ v. CanRunAll (length (S.opening shared.now)) v.items) threads.now }
-    requires ready { (i : ℕ) (d : _) → i < length jobs.old → Ready S.belongs S.number S.left S.own limit shared.now i (row_at threads.now i) (slice_index_or jobs.old i d) }
-    ensures { (i : ℕ) (d : _) → i < length jobs.old → JobRan limit S.gives S.belongs S.number S.own S.opening shared.now i (row_at threads.now i) (slice_index_or jobs.new i d) }
+    ensures ran { (i : ℕ) (d : _) → i < length jobs.items → JobRan limit (commit_gives S.enters_looks) S.belongs S.number S.own S.opening shared.now i (row_at threads.now i) (slice_index_or result.items i d) }
 {
     let count = jobs.len();
     let run = |i: usize, job: &mut Job<S::Pass>|
         requires { (0 < limit) × (limit ≤ MOST) × (i < length threads.now) × (length threads.now ≤ MOST_THREADS) × (0 < length (S.opening shared.now)) × All (λ v. CanRunAll (length (S.opening shared.now)) v.items) threads.now × Ready S.belongs S.number S.left S.own limit shared.now i (row_at threads.now i) job.now }
-        ensures { JobRan limit S.gives S.belongs S.number S.own S.opening shared.entry.now i (row_at threads.entry.now i) job.exit.now }
-    { run_at(rt, shared, gate, threads, limit, i, job) };
-    thread::for_each_mut(rt, jobs, count, &run);
-}
-
-// Runs the job of the thread at this place.
-fn run_at<S: Shared, G: Gate, R: Wait>(
-    rt: &R,
-    shared: &S,
-    gate: &G,
-    threads: &[Vec<Command>],
-    limit: u32,
-    i: usize,
-    job: &mut Job<S::Pass>,
-)
-    requires limit { (0 < limit) × (limit ≤ MOST) }
-    requires thread { (i < length threads.now) × (length threads.now ≤ MOST_THREADS) }
-    requires locations { 0 < length (S.opening shared.now) }
-    requires commands { All (λ v. CanRunAll (length (S.opening shared.now)) v.items) threads.now }
-    requires ready { Ready S.belongs S.number S.left S.own limit shared.now i (row_at threads.now i) job.old }
-    ensures { JobRan limit S.gives S.belongs S.number S.own S.opening shared.now i (row_at threads.now i) job.new }
-{
-    run_job(
-        rt,
-        shared,
-        gate,
-        i as u32,
-        threads[i].as_slice(),
-        limit,
-        job,
-    );
-}
-
-fn run_job<S: Shared, G: Gate, R: Wait>(
-    rt: &R,
-    shared: &S,
-    gate: &G,
-    caller: u32,
-    commands: &[Command],
-    limit: u32,
-    job: &mut Job<S::Pass>,
-)
-    requires limit { (0 < limit) × (limit ≤ MOST) }
-    requires caller { caller < MOST_THREADS }
-    requires locations { 0 < length (S.opening shared.now) }
-    requires commands { CanRunAll (length (S.opening shared.now)) commands.now }
-    requires ready { Ready S.belongs S.number S.left S.own limit shared.now caller commands.now job.old }
-    ensures { JobRan limit S.gives S.belongs S.number S.own S.opening shared.now caller commands.now job.new }
-{
-    let records = &mut *job.records;
-    run_thread(
-        rt,
-        shared,
-        gate,
-        caller + 1,
-        commands,
-        limit,
-        &mut job.pass,
-        records,
-    );
+        ensures { JobRan limit (commit_gives S.enters_looks) S.belongs S.number S.own S.opening shared.entry.now i (row_at threads.entry.now i) job.exit.now }
+    { run_thread(rt, shared, gate, threads, limit, i, job) };
+    thread::for_each_mut(rt, jobs.as_mut_slice(), count, &run);
+    jobs
 }

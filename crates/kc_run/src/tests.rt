@@ -203,22 +203,22 @@ fn a_lock_free_store_opens_within_its_limits(rt: HostRuntime) -> Result<(), Fail
     let many = vec![in alloc; 0u32; 65_537]?;
     assert!(rt;
         matches!(
-            &KcShared::open(alloc, &many, &[1, 1]),
+            &KcShared::open(alloc, &many, 2),
             Err(OpenError::TooManyLocs)
         )
     );
     assert!(rt;
         matches!(
-            &KcShared::open(alloc, &[7, 8, 9], &[1; 65]),
+            &KcShared::open(alloc, &[7, 8, 9], 65),
             Err(OpenError::TooManyCallers)
         )
     );
     assert!(rt;
         matches!(
-            &KcShared::open(alloc, &[7, 8, 9], &[]),
+            &KcShared::open(alloc, &[7, 8, 9], 0),
             Err(OpenError::TooManyCallers)
         )
     );
-    assert!(rt; KcShared::open(alloc, &[7, 8, 9], &[1, 2]).is_ok());
+    assert!(rt; KcShared::open(alloc, &[7, 8, 9], 2).is_ok());
     Ok(())
 }

@@ -26,8 +26,8 @@ CountsFault before name limit (Err error.TooLong) after = after ≡ before
 CountsFault before name limit (Err error.NoMemory) after = after ≡ before
 CountsFault before name limit (Ok bytes) after = after ≡ before
 
--- the status is what the top call says of these words, and of a source, a shelf and a sink over the reader, the host and the writer
-abbrev pub RunsOn : {R H W : Type 0} → (R → Option (List ℕ)) → (W → Option (List ℕ)) → List (List ℕ) → R → H → W → Status → Type 0
-RunsOn {R} {H} {W} remaining contents words input host output status = (source : StdinSource R) × (shelf : DirShelf H) × (sink : StdoutSink W) × (served : Served)
+-- the status is what the top call says of these words, and of the three ends as they were and as they are left, whatever was served
+abbrev pub RunsOn : {R H W : Type 0} → (R → Option (List ℕ)) → (W → Option (List ℕ)) → List (List ℕ) → StdinSource R → StdinSource R → DirShelf H → DirShelf H → StdoutSink W → StdoutSink W → Status → Type 0
+RunsOn {R} {H} {W} remaining contents words source source' shelf shelf' sink sink' status = (served : Served)
     × Says (λ (s : StdinSource R). None) (λ (s : StdinSource R). s.faults) (PassesRead remaining) (λ (f : DirShelf H). None) (λ (f : DirShelf H). f.faults) (λ (f : DirShelf H). false) CountsFault (λ (k : StdoutSink W). None) (λ (k : StdoutSink W). k.faults) (PassesWrite contents)
-    words (record { input = input; faults = 0 }) source (record { host = host; faults = 0 }) shelf (record { output = output; faults = 0 }) sink served status
+    words source source' shelf shelf' sink sink' served status

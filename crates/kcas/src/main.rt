@@ -28,35 +28,27 @@ use words::words_of;
 
 fn main(rt: HostRuntime) -> ExitCode {
     let alloc = rt.alloc();
+    let mut source = StdinSource::new(rt.reader());
+    let mut shelf = DirShelf::new(&rt);
+    let mut sink = StdoutSink::new(io::writer(&rt));
     let status = match words_of(alloc, env::args(&rt)) {
-        Ok(words) => run_on(&rt, alloc, &words, rt.reader(), &rt, io::writer(&rt)),
+        Ok(words) => run_on(&rt, alloc, &words, &mut source, &mut shelf, &mut sink),
         Err(status) => status,
     };
     report(&rt, status)
 }
 
-// Runs the words over a reader, the files of a host, and a writer.
+// Runs the words over the three ends; the status says what became of each.
 fn run_on<I: Read + Drop, H: Files + Drop, O: Write + Drop, R: Threads + Wait + Sync>(
     rt: &R,
     alloc: Global,
     words: &[String],
-    input: I,
-    host: H,
-    output: O,
+    source: &mut StdinSource<I>,
+    shelf: &mut DirShelf<H>,
+    sink: &mut StdoutSink<O>,
 ) -> Status
-    ensures { RunsOn I.remaining O.contents (map string_bytes words.now) input host output result }
+    ensures { RunsOn I.remaining O.contents (map string_bytes words.now) source.old source.new shelf.old shelf.new sink.old sink.new result }
 {
-    let mut source = StdinSource::new(input);
-    let mut shelf = DirShelf::new(host);
-    let mut sink = StdoutSink::new(output);
-    let (status, _) = kcas_main(
-        rt,
-        alloc,
-        words,
-        &mut source,
-        &mut shelf,
-        &mut sink,
-        &OpenGate,
-    );
+    let (status, _) = kcas_main(rt, alloc, words, source, shelf, sink, &OpenGate);
     status
 }

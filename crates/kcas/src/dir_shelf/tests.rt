@@ -1,6 +1,7 @@
 ghost use Rattle.std.specs.Prelude.{◌≤◌, length, IfOk};
 
 use super::DirShelf;
+use crate::ends::{StdinSource, StdoutSink};
 use crate::run_on;
 use kc_model::{Shelf, ShelfError};
 use kc_top::Status;
@@ -156,8 +157,11 @@ fn run_files<R: Threads + Wait + Sync>(rt: &R, alloc: Global, file: &str) -> Res
     for word in ["kcas", "files", "setup", file] {
         words.push(String::from_str(alloc, word)?)?;
     }
-    let output = Vec::new(alloc);
-    Ok(run_on(rt, alloc, &words, b"".as_slice(), FewFiles, output))
+    let output: Vec<u8> = Vec::new(alloc);
+    let mut source = StdinSource::new(b"".as_slice());
+    let mut shelf = DirShelf::new(FewFiles);
+    let mut sink = StdoutSink::new(output);
+    Ok(run_on(rt, alloc, &words, &mut source, &mut shelf, &mut sink))
 }
 
 #[test]

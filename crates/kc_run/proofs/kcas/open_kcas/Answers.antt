@@ -1,6 +1,6 @@
-use Rattle.std.proofs.Common.{◌∙◌}
+use Rattle.std.proofs.Common.{refl}
 use Rattle.kc_run.proofs.Passes.{all_dealt}
 use Rattle.kc_run.proofs.kcas.open_kcas.Goals as goal
 
 pub returns-in-Ok-clause-passes : goal.returns-in-Ok-clause-passes
-returns-in-Ok-clause-passes c = all_dealt _ c.args.threads.now c.as_slice.result.now _ (c.as_slice.ensures.value ∙ c.in_ok-shares.ensures) c.in-Ok.ensures.ok.dealt
+returns-in-Ok-clause-passes c = let o = c.in-Ok.ensures.ok in all_dealt c.in-Ok.opened.0 c.args.threads.now c.in-Ok.opened.1.items _ o.shown refl o.dealt c.requires.commands
