@@ -24,6 +24,7 @@ DECLARATIONS = {
     b"stack": ["c"],
     b"queue": ["c"],
     b"table": ["b", "c"],
+    b"grow": ["c"],
     b"cache": ["b", "c"],
     b"mvar": [],
     b"promise": [],
@@ -31,6 +32,8 @@ DECLARATIONS = {
 }
 RANGES = {"v": (0, 4294967295), "c": (1, 4096), "b": (1, 1024), "k": (1, 32)}
 HEADERS = [[b"kcas", b"1"], [b"kcas", b"2"]]
+# Words of version 2 alone.
+NEW = [b"grow", b"limit"]
 MOST_LIMIT = 256
 MOST_THREADS = 16
 SIZES = {
@@ -38,6 +41,7 @@ SIZES = {
     b"stack": lambda n: 1 + n[0],
     b"queue": lambda n: 2 + n[0],
     b"table": lambda n: 2 + n[0] + 3 * n[1],
+    b"grow": lambda n: 3 + 4 * n[0],
     b"cache": lambda n: 6 + n[0] + 7 * n[1],
     b"mvar": lambda n: 2,
     b"promise": lambda n: 2,
@@ -47,12 +51,12 @@ COMMANDS = """
 loc: get N, set N V, xchg N V, swap N N, cas N V V, add N V, incr N, decr N, update N F V, modify N F V, check N R V
 stack: push N V, pop N, popw N, top N
 queue: enq N V, deq N, deqw N, front N
-table: put N V V, find N V, del N V
+table grow: put N V V, find N V, del N V
 mvar: mput N V, mtake N, mpeek N
 promise: resolve N V, await N, resolved N
 acc: bump N V, total N
 cache: cput N V V, cputw N V V, cget N V, cdel N V
-stack queue table cache: len N
+stack queue table grow cache: len N
 : cancel T
 """
 FUNCTIONS = [b"add", b"max", b"min", b"and", b"or", b"xor"]
@@ -110,6 +114,7 @@ class Reader:
             return
         word, args = words[0], words[1:]
         follows_header, self.follows_header = self.follows_header, False
+        wants(self.version == 2 or word not in NEW, n, "unknown word")
         if word in DECLARATIONS:
             self.declaration(n, word, args)
         elif word in TABLE:
@@ -120,7 +125,7 @@ class Reader:
             self.atomic(n, args)
         elif word in (b"or", b"end"):
             self.other(n, word, args)
-        elif word == b"limit" and self.version == 2:
+        elif word == b"limit":
             wants(follows_header, n, "word out of place")
             self.count(n, args, 1)
             wants(is_number(args[0], 1, MOST_LIMIT), n, "bad number")
@@ -220,6 +225,8 @@ def made(rng):
     lines = list(rng.choice([[b"kcas 1"], [b"kcas 2"], [b"kcas 2", b"limit 0256"], [b"kcas 2", b"limit 1"]]))
     names = {}
     for kind, fields in DECLARATIONS.items():
+        if kind in NEW and lines[0] == b"kcas 1":
+            continue
         name = kind[:1].upper() + b"_" + str(rng.randrange(10)).encode()
         lines.append(b" ".join([kind, name] + [str(rng.randint(1, min(RANGES[f][1], 9))).encode() for f in fields]))
         names[kind] = name
@@ -232,7 +239,7 @@ def made(rng):
         text = [word]
         for field in fields:
             text.append(
-                names[rng.choice(sorted(kinds))] if field == "N"
+                names[rng.choice(sorted(kinds & names.keys()))] if field == "N"
                 else rng.choice(FUNCTIONS) if field == "F"
                 else rng.choice(RELATIONS) if field == "R"
                 else rng.choice([b"1", b"016"]) if field == "T"

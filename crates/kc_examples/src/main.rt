@@ -12,7 +12,7 @@ use std::thread::Threads;
 use std::{fs, io};
 
 // The name of each script, and its exit number.
-const EXAMPLES: [(&str, u8); 21] = [
+const EXAMPLES: [(&str, u8); 22] = [
     ("first", 0),
     ("locations", 0),
     ("several", 0),
@@ -22,6 +22,7 @@ const EXAMPLES: [(&str, u8); 21] = [
     ("stack", 0),
     ("queue", 0),
     ("table", 0),
+    ("grow", 0),
     ("cache", 0),
     ("values", 0),
     ("transfer", 0),
@@ -37,7 +38,7 @@ const EXAMPLES: [(&str, u8); 21] = [
 ];
 
 // The name of each script of `faults/`. Beside it stands its line on standard error.
-const FAULTS: [&str; 19] = [
+const FAULTS: [&str; 20] = [
     "header",
     "unknown_word",
     "unknown_name",
@@ -56,6 +57,7 @@ const FAULTS: [&str; 19] = [
     "depth",
     "limit",
     "old_limit",
+    "old_grow",
     "cancel",
 ];
 

@@ -23,7 +23,7 @@ use Rattle.kc_script.proofs.Heads.{number_parts}
 use Rattle.kc_model.specs.declared.footprint.TheConstants.{MOST}
 use Rattle.kc_script_lines.specs.Tests.{is_number, positive_to, number_to}
 use Rattle.kc_script_lines.specs.Words.{value_on, number}
-use Rattle.kc_script.specs.Version.{limit_of}
+use Rattle.kc_script.specs.Version.{limit_of, has_kind}
 use Rattle.kc_script.specs.Reading.{unknown_line}
 use Rattle.kc_script.specs.Reading.{limit_line as limit_at}
 use Rattle.kc_script.specs.Spells.{Begins, old_header, limit_line}
@@ -38,7 +38,9 @@ use Rattle.kc_script.specs.Reading.{thread_line as opened_thread}
 use Rattle.kc_script.specs.Spells.{Line, header, thread_line, atomic_line, or_line, end_line, Declare, Block, Say, Threads, Spells}
 use Rattle.kc_script_verbs.proofs.ObjectRows.{declares_declared}
 use Rattle.kc_script_verbs.proofs.Rows.{says_said}
+use Rattle.kc_script_verbs.proofs.Tested.{declare_is}
 use Rattle.kc_script_verbs.specs.Declaring.{declare, declared_by, declared}
+use Rattle.kc_script_verbs.specs.Fields.{object_kind}
 use Rattle.kc_script_verbs.specs.Saying.{say, said_by, said}
 use Rattle.kc_script_verbs.specs.Words.{structure_word, word_of}
 
@@ -222,18 +224,19 @@ module _ (ver : Version) where
       }
 
   -- an object is read before any thread
-  declared_outside : (whole : Bool) (names : Names) (line : Line) (entry : List ℕ × Object) → declared names line ≡ Ok entry → content_line (outside ver whole names) line ≡ Ok (outside ver whole (names ++ entry ∷ []))
+  declared_outside : (whole : Bool) (names : Names) (line : Line) (entry : List ℕ × Object) → declared names line ≡ Ok entry → has_kind ver (object_kind entry.1) ≡ true → content_line (outside ver whole names) line ≡ Ok (outside ver whole (names ++ entry ∷ []))
   unfolding content_line worded_line declared_line
-  declared_outside whole names [] entry e = absurd cc
-  declared_outside whole names (first ∷ args) entry e =
+  declared_outside whole names [] entry e known = absurd cc
+  declared_outside whole names (first ∷ args) entry e known =
       let w = declared_word names (word_of first) args entry e in
-      rw (w.1, w.2) refl
+      let has : has_kind ver w.0 ≡ true = ap (has_kind ver) (sym (declare_is names w.0 args entry w.2).1) ∙ known in
+      rw (w.1, has, w.2) refl
 
   -- objects are read
-  pub declares_read : (whole : Bool) (names all : Names) (ls : List Line) (more : List Line) → Declare names ls all → all_contents (outside ver whole names) (ls ++ more) ≡ all_contents (outside ver whole all) more
+  pub declares_read : (whole : Bool) (names all : Names) (ls : List Line) (more : List Line) → Declare ver names ls all → all_contents (outside ver whole names) (ls ++ more) ≡ all_contents (outside ver whole all) more
   declares_read whole names all ls more Declare.none = refl
-  declares_read whole names all _ more (Declare.one {lines = ls} line entry e rest) =
-      read_on (outside ver whole names) (outside ver whole (names ++ entry ∷ [])) line (ls ++ more) (declared_outside whole names line entry (declares_declared names line entry e))
+  declares_read whole names all _ more (Declare.one {lines = ls} line entry known e rest) =
+      read_on (outside ver whole names) (outside ver whole (names ++ entry ∷ [])) line (ls ++ more) (declared_outside whole names line entry (declares_declared names line entry e) known)
       ∙ declares_read whole (names ++ entry ∷ []) all ls more rest
 
 -- the header is read
@@ -262,7 +265,7 @@ heading_read whole _ rest _ (Begins.limited w e) =
     ∙ read_on (outside version.New whole []) (outside (version.Limited (value_on 0 w)) whole []) (limit_line w) rest (limit_outside whole w e)
 
 -- a header and declarations are read
-pub front_read : (whole : Bool) (heading : List Line) (ver : Version) → Begins heading ver → (all : Names) (ls more : List Line) → Declare [] ls all → all_contents (opening whole) (heading ++ (ls ++ more)) ≡ all_contents (outside ver whole all) more
+pub front_read : (whole : Bool) (heading : List Line) (ver : Version) → Begins heading ver → (all : Names) (ls more : List Line) → Declare ver [] ls all → all_contents (opening whole) (heading ++ (ls ++ more)) ≡ all_contents (outside ver whole all) more
 front_read whole heading ver begins all ls more d = heading_read whole heading (ls ++ more) ver begins ∙ declares_read ver whole [] all ls more d
 
 -- what is spelled is read

@@ -27,7 +27,7 @@ use Rattle.kc_script_verbs.specs.declared.word.Word.TheVariants as word
 use Rattle.kc_script.proofs.Agree.{spells_spelled}
 use Rattle.kc_script.proofs.Heads.{header_fault, unknown_fault, unknown_comes}
 use Rattle.kc_script.specs.declared.reader.Version.{Version}
-use Rattle.kc_script.specs.Version.{version_of}
+use Rattle.kc_script.specs.Version.{version_of, has_kind, word_in}
 use Rattle.kc_script.proofs.Kept.{MakesBlocks, opening_makes}
 use Rattle.kc_script.proofs.Objects.{next_from_more}
 use Rattle.kc_script.proofs.ReadLines.{header_read, spelled_spells}
@@ -169,8 +169,8 @@ pub line_fault : (s : State) (atomics : List ℕ) (line : Line) → Made s.place
 unfolding content_line
 line_fault s atomics [] made = record { same = refl }
 line_fault s atomics (first ∷ args) made = by s.begun where
-  by : (b : Bool) → Tested (cond b (worded_line s first (word_of first) args) (header_line s (first ∷ args))) (cond b (word_tests (context_of s atomics) first (word_of first) args) ((is_header (first ∷ args), Header) ∷ []))
-  by true = word_fault s.whole s.begun s.version s.objects s.threads s.place.here s.place.count atomics s.thread s.place.open_blocks first (word_of first) args made
+  by : (b : Bool) → Tested (cond b (worded_line s first (word_in s.version (word_of first)) args) (header_line s (first ∷ args))) (cond b (word_tests (context_of s atomics) first (word_in s.version (word_of first)) args) ((is_header (first ∷ args), Header) ∷ []))
+  by true = word_fault s.whole s.begun s.version s.objects s.threads s.place.here s.place.count atomics s.thread s.place.open_blocks first (word_in s.version (word_of first)) args made
   by false = header_fault s (first ∷ args)
 
 -- ---- what a line adds
@@ -300,12 +300,25 @@ module _ (whole begun : Bool) (version : Version) (objects : Names) (threads : L
   word_comes thread blocks first (Some (word.Declare k)) args e = declared_comes thread blocks k args e
   word_comes thread blocks first (Some (word.Say v)) args e = said_comes thread blocks v args e
 
+-- a word that the version hasn't leaves the open blocks as any declaration does
+same_atomics : (version : Version) (atomics : List ℕ) (n : ℕ) (w : Option Word) → atomics_behind atomics n (word_in version w) ≡ atomics_behind atomics n w
+same_atomics version atomics n None = refl
+same_atomics version atomics n (Some word.Thread) = refl
+same_atomics version atomics n (Some word.Atomic) = refl
+same_atomics version atomics n (Some word.Or) = refl
+same_atomics version atomics n (Some word.End) = refl
+same_atomics version atomics n (Some (word.Say v)) = refl
+same_atomics version atomics n (Some (word.Declare k)) = by (has_kind version k) where
+  by : (b : Bool) → atomics_behind atomics n (cond b (Some (word.Declare k)) None) ≡ atomics
+  by true = refl
+  by false = refl
+
 pub line_comes : (s t : State) (atomics : List ℕ) (n : ℕ) (line : Line) → content_line s line ≡ Ok t → context_of t (atomics_after s.begun atomics n line) ≡ next (context_of s atomics) n line
 unfolding content_line header_line
 line_comes s t atomics n [] e = absurd cc
 line_comes s t atomics n (first ∷ args) e = by s.begun e where
-  by : (b : Bool) → cond b (worded_line s first (word_of first) args) (header_line s (first ∷ args)) ≡ Ok t → context_of t (cond b (atomics_behind atomics n (word_of first)) atomics) ≡ cond b (behind_word (context_of s atomics) n (word_of first) args) (record (context_of s atomics) { begun = true; version = version_or (version_of (word_at args 0)) })
-  by true e = word_comes s.whole s.begun s.version s.objects s.threads s.place.here s.place.count atomics n t s.thread s.place.open_blocks first (word_of first) args e
+  by : (b : Bool) → cond b (worded_line s first (word_in s.version (word_of first)) args) (header_line s (first ∷ args)) ≡ Ok t → context_of t (cond b (atomics_behind atomics n (word_of first)) atomics) ≡ cond b (behind_word (context_of s atomics) n (word_in s.version (word_of first)) args) (record (context_of s atomics) { begun = true; version = version_or (version_of (word_at args 0)) })
+  by true e = ap (context_of t) (sym (same_atomics s.version atomics n (word_of first))) ∙ word_comes s.whole s.begun s.version s.objects s.threads s.place.here s.place.count atomics n t s.thread s.place.open_blocks first (word_in s.version (word_of first)) args e
   by false e =
       let h = header_read s t (first ∷ args) e in
       ap (λ (x : State). context_of x atomics) (sym h.is) ∙ ap (λ (v : Version). record (context_of s atomics) { begun = true; version = v }) (sym (ap version_or h.said))
@@ -351,8 +364,8 @@ word_lines c atomics n first (Some (word.Say v)) args e h = more_lines c ∙ h
 line_lines : (c : Context) (atomics : List ℕ) (n : ℕ) (line : Line) → first_failing (tests c line) ≡ None → lines_in c.blocks ≡ atomics → lines_in (next c n line).blocks ≡ atomics_after c.begun atomics n line
 line_lines c atomics n [] e h = h
 line_lines c atomics n (first ∷ args) e h = by c.begun e where
-  by : (b : Bool) → first_failing (cond b (word_tests c first (word_of first) args) ((is_header (first ∷ args), Header) ∷ [])) ≡ None → lines_in (cond b (behind_word c n (word_of first) args) (record c { begun = true; version = version_or (version_of (word_at args 0)) })).blocks ≡ cond b (atomics_behind atomics n (word_of first)) atomics
-  by true e = word_lines c atomics n first (word_of first) args e h
+  by : (b : Bool) → first_failing (cond b (word_tests c first (word_in c.version (word_of first)) args) ((is_header (first ∷ args), Header) ∷ [])) ≡ None → lines_in (cond b (behind_word c n (word_in c.version (word_of first)) args) (record c { begun = true; version = version_or (version_of (word_at args 0)) })).blocks ≡ cond b (atomics_behind atomics n (word_of first)) atomics
+  by true e = word_lines c atomics n first (word_in c.version (word_of first)) args e h ∙ same_atomics c.version atomics n (word_of first)
   by false e = h
 
 -- ---- the line of a fault

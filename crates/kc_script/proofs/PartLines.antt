@@ -45,7 +45,7 @@ pub record SetupRead (setup : List ℕ) (t : State) : Type 0 where
   pub names : Names
   pub declaring : List Line
   pub lines : contents setup ≡ heading ++ declaring
-  pub declares : Declare [] declaring names
+  pub declares : Declare ver [] declaring names
   pub ends : outside ver false names ≡ t
   pub stands : Stands ver t names [] 0
 

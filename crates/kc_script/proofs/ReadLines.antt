@@ -17,7 +17,7 @@ use Rattle.kc_script_bundle.specs.declared.operation.Command.TheVariants as comm
 use Rattle.kc_script_bundle.specs.Script.{Names, Script}
 use Rattle.kc_script_verbs.specs.declared.word.Word.{Word}
 use Rattle.kc_script_verbs.specs.declared.word.Word.TheVariants as word
-use Rattle.kc_script.proofs.LineWords.{lone, thread_word}
+use Rattle.kc_script.proofs.LineWords.{lone, known_is, kind_known, thread_word}
 use Rattle.kc_script.proofs.Numbered.{then_made, part_is}
 use Rattle.kc_script.proofs.Heads.{no_limit, unknown_comes, unknown_is}
 use Rattle.kc_script_lines.specs.Words.{value_on}
@@ -27,8 +27,10 @@ use Rattle.kc_script.specs.Reading.{unknown_line}
 use Rattle.kc_script.specs.Spells.{Begins, old_header, limit_line}
 use Rattle.std.proofs.Common.{cond}
 use Rattle.kc_script.specs.declared.reader.Version.{Version}
+use Rattle.kc_script_verbs.proofs.Tested.{declare_is}
+use Rattle.kc_script_verbs.specs.Fields.{object_kind}
 use Rattle.kc_script.specs.declared.reader.Version.TheVariants as version
-use Rattle.kc_script.specs.Version.{is_new, limit_of, version_of}
+use Rattle.kc_script.specs.Version.{is_new, limit_of, version_of, has_kind, word_in}
 use Rattle.kc_script.specs.Reading.{no_names, can_limit}
 use Rattle.kc_script.proofs.Took.{outside, at, inside, all_contents, skipping, thread_took, one_took, block_took, part_took, inner_took, other_took, ends_took, out_took, in_took}
 use Rattle.kc_script.proofs.Trees.{nested, nested_push}
@@ -253,24 +255,25 @@ module _ (ver : Version) where
 
   -- what a line did before any thread
   abbrev pub OutsideTook : Bool → Names → Line → State → Type 0
-  OutsideTook whole names line next = ((whole ≡ true) × (line ≡ thread_line) × (inside ver whole names [] 0 nowhere ≡ next)) ⊎ ((entry : List ℕ × Object) × (declared names line ≡ Ok entry) × (outside ver whole (names ++ entry ∷ []) ≡ next))
+  OutsideTook whole names line next = ((whole ≡ true) × (line ≡ thread_line) × (inside ver whole names [] 0 nowhere ≡ next)) ⊎ ((entry : List ℕ × Object) × (declared names line ≡ Ok entry) × (outside ver whole (names ++ entry ∷ []) ≡ next) × (has_kind ver (object_kind entry.1) ≡ true))
 
   pub outside_first : (whole : Bool) (names : Names) (head : List ℕ) (args : List (List ℕ)) (next : State) → content_line (outside ver whole names) (head ∷ args) ≡ Ok next → OutsideTook whole names (head ∷ args) next ⊎ (unknown_line (outside ver whole names) head args ≡ Ok next)
   unfolding content_line worded_line opened_thread said_line begun_block declared_line or_at end_at
-  outside_first whole names head args next e = by (word_of head) refl e where
-    by : (w : Option Word) → word_of head ≡ w → worded_line (outside ver whole names) head w args ≡ Ok next → OutsideTook whole names (head ∷ args) next ⊎ (unknown_line (outside ver whole names) head args ≡ Ok next)
+  outside_first whole names head args next e = by (word_in ver (word_of head)) refl e where
+    by : (w : Option Word) → word_in ver (word_of head) ≡ w → worded_line (outside ver whole names) head w args ≡ Ok next → OutsideTook whole names (head ∷ args) next ⊎ (unknown_line (outside ver whole names) head args ≡ Ok next)
     by None h e = inr e
     by (Some word.Thread) h e =
         let last = λ (all : Unit {0}). given (inside ver whole names [] 0 nowhere) in
         let w = bind_ok (wants whole StrayWord) (λ (here : Unit {0}). counted 0 args >>= last) next e in
         let a = bind_ok (counted 0 args) last next w.2 in
-        inl (inl (wants_ok whole StrayWord w.0 w.1, lone head (codes "thread") args (thread_word head h) (none_counted args a.0 a.1), ok_is _ _ a.2))
+        inl (inl (wants_ok whole StrayWord w.0 w.1, lone head (codes "thread") args (thread_word ver head h) (none_counted args a.0 a.1), ok_is _ _ a.2))
     by (Some word.Atomic) h e = absurd cc
     by (Some word.Or) h e = absurd cc
     by (Some word.End) h e = absurd cc
     by (Some (word.Declare k)) h e =
         let a = bind_ok (declare names k args) (λ entry. given (outside ver whole (names ++ entry ∷ []))) next e in
-        inl (inr (a.0, ap (λ w. declared_by names w args) h ∙ a.1, ok_is _ _ a.2))
+        let known = kind_known ver (word_of head) k h in
+        inl (inr (a.0, ap (λ w. declared_by names w args) (known_is ver (word_of head) (word.Declare k) h) ∙ a.1, ok_is _ _ a.2, ap (has_kind ver) (declare_is names k args a.0 a.1).1 ∙ known))
     by (Some (word.Say v)) h e = absurd cc
 
   pub outside_took : (whole : Bool) (names : Names) (head : List ℕ) (args : List (List ℕ)) (next : State) → can_limit (outside ver whole names) ≡ false → content_line (outside ver whole names) (head ∷ args) ≡ Ok next → OutsideTook whole names (head ∷ args) next
@@ -286,7 +289,7 @@ module _ (ver : Version) where
     all : Names
     later : List (List Command)
     parts : ls ≡ declaring ++ threading
-    declares : Declare names declaring all
+    declares : Declare ver names declaring all
     follow : Threads all 0 threading later
     ends : script_at t ≡ record { limit = limit_of ver; objects = all; threads = later }
     alone : whole ≡ false → (threading ≡ []) × (outside ver whole all ≡ t)
@@ -304,14 +307,14 @@ module _ (ver : Version) where
     alone = λ part. absurd (never whole names [] 0 [] t is_whole part);
   }
 
-  outside_declared : (whole : Bool) (names : Names) (line : Line) (entry : List ℕ × Object) (ls : List Line) (t : State) → declared names line ≡ Ok entry → OutsideRead whole (names ++ entry ∷ []) ls t → OutsideRead whole names (line ∷ ls) t
-  outside_declared whole names line entry ls t e r = record {
+  outside_declared : (whole : Bool) (names : Names) (line : Line) (entry : List ℕ × Object) (ls : List Line) (t : State) → declared names line ≡ Ok entry → has_kind ver (object_kind entry.1) ≡ true → OutsideRead whole (names ++ entry ∷ []) ls t → OutsideRead whole names (line ∷ ls) t
+  outside_declared whole names line entry ls t e known r = record {
     declaring = line ∷ r.declaring;
     threading = r.threading;
     all = r.all;
     later = r.later;
     parts = ap (λ (rest : List Line). line ∷ rest) r.parts;
-    declares = Declare.one line entry (declared_declares names line entry e) r.declares;
+    declares = Declare.one line entry known (declared_declares names line entry e) r.declares;
     follow = r.follow;
     ends = r.ends;
     alone = r.alone;
@@ -328,7 +331,7 @@ module _ (ver : Version) where
       let a = bind_ok (content_line (outside ver whole names) (head ∷ args)) (λ next. all_contents next ls) t e in
       elim (outside_took whole names head args a.0 settled a.1) as (λ _. OutsideRead whole names ((head ∷ args) ∷ ls) t) [
         | inl p ↦ outside_thread whole names (head ∷ args) ls t p.0 p.1 (place_read ls whole names [] 0 [] [] 0 t (omega arith) shut (subst (λ (s : State). all_contents s ls ≡ Ok t) (sym p.2) a.2))
-        | inr p ↦ outside_declared whole names (head ∷ args) p.0 ls t p.1 (outside_read ls whole (names ++ p.0 ∷ []) t (ap (λ (x : Bool). x && is_new ver) (more_named names p.0)) shut (subst (λ (s : State). all_contents s ls ≡ Ok t) (sym p.2) a.2))
+        | inr p ↦ outside_declared whole names (head ∷ args) p.0 ls t p.1 p.3 (outside_read ls whole (names ++ p.0 ∷ []) t (ap (λ (x : Bool). x && is_new ver) (more_named names p.0)) shut (subst (λ (s : State). all_contents s ls ≡ Ok t) (sym p.2) a.2))
       ]
 
 -- ---- the header
@@ -396,7 +399,7 @@ pub record OpeningRead (whole : Bool) (cs : List Line) (t : State) : Type 0 wher
   pub all : Names
   pub later : List (List Command)
   pub parts : cs ≡ heading ++ (declaring ++ threading)
-  pub declares : Declare [] declaring all
+  pub declares : Declare version [] declaring all
   pub follow : Threads all 0 threading later
   pub ends : script_at t ≡ record { limit = limit_of version; objects = all; threads = later }
   pub alone : whole ≡ false → (threading ≡ []) × (outside version whole all ≡ t)
@@ -437,7 +440,7 @@ new_read whole cs ((head ∷ args) ∷ ls) t c shut e =
   where
     taken : (next : State) → OutsideTook version.New whole [] (head ∷ args) next → all_contents next ls ≡ Ok t → OutsideRead version.New whole [] ((head ∷ args) ∷ ls) t
     taken next (inl p) f = outside_thread version.New whole [] (head ∷ args) ls t p.0 p.1 (place_read version.New ls whole [] [] 0 [] [] 0 t (omega arith) shut (subst (λ (s : State). all_contents s ls ≡ Ok t) (sym p.2) f))
-    taken next (inr p) f = outside_declared version.New whole [] (head ∷ args) p.0 ls t p.1 (outside_read version.New ls whole (p.0 ∷ []) t refl shut (subst (λ (s : State). all_contents s ls ≡ Ok t) (sym p.2) f))
+    taken next (inr p) f = outside_declared version.New whole [] (head ∷ args) p.0 ls t p.1 p.3 (outside_read version.New ls whole (p.0 ∷ []) t refl shut (subst (λ (s : State). all_contents s ls ≡ Ok t) (sym p.2) f))
 
     limited : (next : State) → unknown_line (outside version.New whole []) head args ≡ Ok next → all_contents next ls ≡ Ok t → OpeningRead whole cs t
     limited next p f =

@@ -4,6 +4,7 @@ use Rattle.kc_script.proofs.Objects.{next_from_more, lies_more, sized_more}
 use Rattle.kc_script.proofs.Trees.{IsSmall}
 use Rattle.kc_script.specs.Spells.{Line, Declare, Block, Say, Threads, Spells}
 use Rattle.kc_script.specs.Threads.{AreThreads}
+use Rattle.kc_script.specs.declared.reader.Version.{Version}
 use Rattle.kc_script_bundle.specs.On.{AllOn, CommandIsOn, CommandsAreOn}
 use Rattle.kc_script_bundle.specs.Script.{Names, Script, next_from, LieFrom, LiesInOrder, AreSized}
 use Rattle.kc_script_bundle.specs.declared.operation.Command.{Command}
@@ -14,9 +15,9 @@ use Rattle.kc_term.specs.Tree.{Tree, op, trees, operations, all_operations, nest
 -- ---- objects
 
 -- objects that lines declare lie behind those before them
-declares_lie : (names all : Names) (lines : List Line) → Declare names lines all → LieFrom 1 names → next_from 1 names ≤ 65536 → AreSized names → LieFrom 1 all × (next_from 1 all ≤ 65536) × AreSized all
+declares_lie : {version : Version} (names all : Names) (lines : List Line) → Declare version names lines all → LieFrom 1 names → next_from 1 names ≤ 65536 → AreSized names → LieFrom 1 all × (next_from 1 all ≤ 65536) × AreSized all
 declares_lie names all lines Declare.none h le sized = (h, le, sized)
-declares_lie names all _ (Declare.one {lines = lines} line entry e rest) h le sized =
+declares_lie names all _ (Declare.one {lines = lines} line entry known e rest) h le sized =
     let p = e.3 in
     declares_lie (names ++ entry ∷ []) all lines rest (lies_more 1 names entry h p.0) (omega (arith, next_from_more 1 names entry, p.1)) (sized_more names entry sized p.2)
 

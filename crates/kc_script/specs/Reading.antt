@@ -22,7 +22,7 @@ use Rattle.kc_script_verbs.specs.declared.word.Word.{Word}
 use Rattle.kc_term.specs.Tree.{Tree}
 use Rattle.kc_script_verbs.specs.declared.word.Word.TheVariants as word
 use Rattle.kc_script.specs.FirstFault.{Fault}
-use Rattle.kc_script.specs.Version.{is_new, knows_limit, version_of, limit_of}
+use Rattle.kc_script.specs.Version.{is_new, knows_limit, version_of, limit_of, word_in}
 use Rattle.kc_script.specs.Parts.{PartFault}
 use Rattle.kc_script.specs.declared.part_error.PartError.{PartError}
 use Rattle.kc_script_verbs.specs.Declaring.{declare}
@@ -166,7 +166,7 @@ header_line s words = do
 -- a line that isn't skipped
 unfoldable pub content_line : State → List (List ℕ) → Result State Why
 content_line s [] = Err UnknownWord
-content_line s (first ∷ args) = if s.begun then worded_line s first (word_of first) args else header_line s (first ∷ args)
+content_line s (first ∷ args) = if s.begun then worded_line s first (word_in s.version (word_of first)) args else header_line s (first ∷ args)
 
 unfoldable pub any_line : State → List (List ℕ) → Result State Why
 any_line s words = if is_skipped words then Ok s else content_line s words

@@ -7,7 +7,7 @@ ghost use Rattle.kc_script_lines.specs.Gives.{Arrives, Reaches};
 ghost use Rattle.kc_script_verbs.specs.Objects.{object_of};
 ghost use Rattle.kc_script_verbs.specs.Declaring.{IsAt};
 ghost use Rattle.kc_script.specs.Blocks.{in_block};
-ghost use Rattle.kc_script.specs.Version.{knows_limit, version_of, limit_of};
+ghost use Rattle.kc_script.specs.Version.{knows_limit, version_of, limit_of, has_kind, word_in};
 ghost use Rattle.kc_script.specs.Reading.{state_of, opening, with_object, closed, begun_thread, next_thread, no_block, placed, declared_line, said_line, begun_block, thread_line, can_limit, limit_line, unknown_line, worded_line, header_line, content_line, any_line, ended, script_at, atomics_behind, atomics_after, atomics_next, nearest, at_line, read_from, part_read, spelled, files_read, parts_read, spelled_parts, of_part, in_a_part, complained, Comes, Ends, Spelled, PartComes, PartsSpelled};
 
 use crate::blocks::{atomic_line, begin_thread, end_line, in_block, op_line, or_line};
@@ -176,6 +176,29 @@ fn unknown_line(reader: &mut Reader, first: &[u8], args: &[&[u8]]) -> Result<(),
     limit_line(reader, args)
 }
 
+// Whether the version has this kind of objects. The first has no table that grows.
+fn has_kind(version: Version, kind: Kind) -> bool
+    ensures { result ≡ has_kind version kind }
+{
+    match version {
+        Version::Old => match kind {
+            Kind::Grow => false,
+            _ => true,
+        },
+        _ => true,
+    }
+}
+
+// The word that begins a line, where the version has it.
+fn word_in(version: Version, word: Option<Word>) -> Option<Word>
+    ensures { result ≡ word_in version word }
+{
+    match word {
+        Some(Word::Declare(kind)) => { if has_kind(version, kind) { word } else { None } }
+        _ => word,
+    }
+}
+
 // What a header with this word says.
 fn version_of(word: &[u8]) -> Option<Version>
     ensures { result ≡ version_of word.now }
@@ -266,7 +289,7 @@ fn content_line(
         [first, args @ ..] => {
             if reader.begun {
                 let word = word_of(first);
-                worded_line(reader, first, word, args)?;
+                worded_line(reader, first, word_in(reader.version, word), args)?;
                 keep_atomics(atomics, line, word)?;
             } else {
                 header_line(reader, words)?;

@@ -30,6 +30,19 @@ pub fn limits()
     ensures version { first_fault (codes "kcas 3\n") ≡ Some (1, Header) }
 {}
 
+/// A table that grows is declared in version 2 alone, for 1 to 4,096 keys. In version 1 no line begins with its word, not even where
+/// no declaration can stand.
+pub fn grown_tables()
+    ensures least { first_fault (codes "kcas 2\ngrow g 1\nthread\nput g 1 2\nfind g 1\ndel g 1\nlen g\n") ≡ None }
+    ensures most { first_fault (codes "kcas 2\nlimit 5\ngrow g 4096\n") ≡ None }
+    ensures below { first_fault (codes "kcas 2\ngrow g 0\n") ≡ Some (2, BadNumber) }
+    ensures above { first_fault (codes "kcas 2\ngrow g 4097\n") ≡ Some (2, BadNumber) }
+    ensures missing { first_fault (codes "kcas 2\ngrow g\n") ≡ Some (2, MissingWord) }
+    ensures old { first_fault (codes "kcas 1\ngrow g 4\n") ≡ Some (2, UnknownWord) }
+    ensures stray { first_fault (codes "kcas 1\nthread\ngrow g 4\n") ≡ Some (3, UnknownWord) }
+    ensures behind { first_fault (codes "kcas 2\nthread\ngrow g 4\n") ≡ Some (3, StrayWord) }
+{}
+
 /// A cancel of a thread from 1 to 16 stands where a command may, also of a thread that isn't there. Its number may begin with zeros.
 pub fn cancels()
     ensures last { first_fault (codes "kcas 1\nthread\natomic\ncancel 16\nend\n") ≡ None }

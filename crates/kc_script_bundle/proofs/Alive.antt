@@ -90,6 +90,7 @@ module _ (names : Names) (lie : LieFrom 1 names) where
   op_keeps (op.Promise o) on = object_keeps (op.Promise o) tt on
   op_keeps (op.Acc o) on = object_keeps (op.Acc o) tt on
   op_keeps (op.Hash o) on = object_keeps (op.Hash o) tt on
+  op_keeps (op.Grow o) on = object_keeps (op.Grow o) tt on
   op_keeps (op.Cache o) on = object_keeps (op.Cache o) tt on
   op_keeps (op.Cancel c) on = subst KeepsLive (sym (cancel_sets c)) (rw on.0 (cancel_keeps c.thread on.1))
 

@@ -10,6 +10,7 @@ use Rattle.kc_loc.specs.declared.operation.LocOp.TheVariants as loc
 use Rattle.kc_cache.proofs.Values.{cache_means}
 use Rattle.kc_cells.proofs.MvarLaw.{mvar_means}
 use Rattle.kc_cells.proofs.PromiseLaw.{promise_means}
+use Rattle.kc_grow.proofs.Values.{grow_means}
 use Rattle.kc_hash.proofs.Values.{hash_means}
 use Rattle.kc_loc.proofs.Values.{loc_has_value}
 use Rattle.kc_loc.specs.Meaning.{loc_value}
@@ -103,6 +104,7 @@ module _ (names : Names) (lie : LieFrom 1 names) where
   op_keeps (op.Promise o) n m ks on well ne = object_keeps names lie (op.Promise o) (object.Promise o.promise) on on refl refl n m ks (λ (c, (v, h, e)). (place _, (_, (promise_means o v n m ks h ne).1, refl))) well
   op_keeps (op.Acc o) n m ks on well ne = object_keeps names lie (op.Acc o) (object.Acc o.acc) on on refl refl n m ks (λ h. (number _, (_, refl, refl))) well
   op_keeps (op.Hash o) n m ks on well ne = object_keeps names lie (op.Hash o) (object.Hash o.hash) on on refl (omega arith) n m ks (λ (c, (ps, h, e)). (pairs _, (_, (hash_means o ps n m ks h ne).1, refl))) well
+  op_keeps (op.Grow o) n m ks on well ne = object_keeps names lie (op.Grow o) (object.Grow o.grow) on on refl (omega arith) n m ks (λ (c, (ps, h, e)). (pairs _, (_, (grow_means o ps n m ks h ne).1, refl))) well
   op_keeps (op.Cache o) n m ks on well ne = object_keeps names lie (op.Cache o) (object.Cache o.cache) on on refl (omega arith) n m ks (λ (c, (ps, h, e)). (pairs _, (_, (cache_means o ps n m ks h ne).1, refl))) well
   op_keeps (op.Cancel c) n m ks on well ne =
       let same = stays_outside c.live.0 (c.live.0 + 1) (op_program (op.Cancel c) replies) (op_stays (op.Cancel c)) n m ks in

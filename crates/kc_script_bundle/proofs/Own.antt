@@ -14,6 +14,8 @@ use Rattle.kc_cells.proofs.PromiseLaw.{promise_stays}
 use Rattle.kc_cells.specs.Accumulator.{acc_cells_end}
 use Rattle.kc_cells.specs.Mvar.{mvar_cells_end}
 use Rattle.kc_cells.specs.Promise.{promise_cells_end}
+use Rattle.kc_grow.proofs.GrowLaw.{grow_stays}
+use Rattle.kc_grow.specs.Meaning.{grow_end_of}
 use Rattle.kc_hash.proofs.HashLaw.{hash_stays}
 use Rattle.kc_hash.specs.Meaning.{cells_end as hash_cells_end}
 use Rattle.kc_loc.proofs.LocLaw.{loc_stays}
@@ -40,6 +42,7 @@ first_of (op.Mvar o) = o.mvar.base.0
 first_of (op.Promise o) = o.promise.base.0
 first_of (op.Acc o) = o.acc.base.0
 first_of (op.Hash o) = o.hash.base.0
+first_of (op.Grow o) = o.grow.base.0
 first_of (op.Cache o) = o.cache.base.0
 first_of (op.Cancel c) = c.live.0
 
@@ -51,6 +54,7 @@ behind_of (op.Mvar o) = mvar_cells_end o.mvar
 behind_of (op.Promise o) = promise_cells_end o.promise
 behind_of (op.Acc o) = acc_cells_end o.acc
 behind_of (op.Hash o) = hash_cells_end o.hash
+behind_of (op.Grow o) = grow_end_of o.grow
 behind_of (op.Cache o) = cache_cells_end o.cache
 behind_of (op.Cancel c) = c.live.0 + 1
 
@@ -68,6 +72,7 @@ op_stays (op.Mvar o) = mvar_stays o
 op_stays (op.Promise o) = promise_stays o
 op_stays (op.Acc o) = acc_stays o
 op_stays (op.Hash o) = hash_stays o
+op_stays (op.Grow o) = grow_stays o
 op_stays (op.Cache o) = cache_stays o
 op_stays (op.Cancel c) = loc_stays (cancel_op c)
 
@@ -101,6 +106,7 @@ module _ (names : Names) (lie : LieFrom 1 names) where
   op_within (op.Promise o) is on = has_place 1 names (object.Promise o.promise) lie on
   op_within (op.Acc o) is on = has_place 1 names (object.Acc o.acc) lie on
   op_within (op.Hash o) is on = let p = has_place 1 names (object.Hash o.hash) lie on in (p.0, omega (arith, p.1))
+  op_within (op.Grow o) is on = let p = has_place 1 names (object.Grow o.grow) lie on in (p.0, omega (arith, p.1))
   op_within (op.Cache o) is on = let p = has_place 1 names (object.Cache o.cache) lie on in (p.0, omega (arith, p.1))
   op_within (op.Cancel c) is on = absurd is
 
@@ -112,6 +118,7 @@ module _ (names : Names) (lie : LieFrom 1 names) where
   op_end_within (op.Promise o) on = (op_within (op.Promise o) tt on).1
   op_end_within (op.Acc o) on = (op_within (op.Acc o) tt on).1
   op_end_within (op.Hash o) on = let p = op_within (op.Hash o) tt on in omega (arith, p.1)
+  op_end_within (op.Grow o) on = (op_within (op.Grow o) tt on).1
   op_end_within (op.Cache o) on = let p = op_within (op.Cache o) tt on in omega (arith, p.1)
   op_end_within (op.Cancel c) on = omega (arith, on.0, next_from-above 1 names)
 
@@ -124,5 +131,6 @@ module _ (names : Names) (lie : LieFrom 1 names) where
     op_fits (op.Promise o) on = tt
     op_fits (op.Acc o) on = tt
     op_fits (op.Hash o) on = tt
+    op_fits (op.Grow o) on = tt
     op_fits (op.Cache o) on = tt
     op_fits (op.Cancel c) on = (omega (arith, on.0), on.1)

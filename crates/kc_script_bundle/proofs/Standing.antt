@@ -6,9 +6,9 @@ use Rattle.kc_cache.proofs.Cells.{cache_same, cache_shows, cache_opens}
 use Rattle.kc_cells.proofs.AccLaw.{acc_own, acc_opens}
 use Rattle.kc_cells.proofs.OnePlaces.{place_own, place_opens}
 use Rattle.kc_cells.specs.OnePlace.{held, Holds}
-use Rattle.kc_hash.proofs.Kept.{same_cells}
+use Rattle.kc_grow.proofs.Opened.{grow_opens, grow_same, grow_shows}
+use Rattle.kc_hash.proofs.Chained.{same_cells, shows as table_shows}
 use Rattle.kc_hash.proofs.Opened.{hash_opens}
-use Rattle.kc_hash.proofs.Sweeps.{shows as table_shows}
 use Rattle.kc_queue.proofs.Standing.{queue_own, queue_opens}
 use Rattle.kc_queue.specs.Meaning.{head_cell, count_cell, ring_cell, head_in, back_of, counted as queue_counted, StandsFor as QueueStands}
 use Rattle.kc_queue.specs.declared.queue.Queue.{Queue}
@@ -36,6 +36,7 @@ stands_same (object.Mvar x) m w c same (v, h, e) = (v, place_own x.base.0 m w v 
 stands_same (object.Promise p) m w c same (v, h, e) = (v, place_own p.base.0 m w v same h, e)
 stands_same (object.Acc a) m w c same (t, h, e) = (t, acc_own a m w t same h, e)
 stands_same (object.Hash x) m w c same (ps, h, e) = (ps, same_cells x m ps h w (λ l lo hi. same l lo (omega (arith, hi))), e)
+stands_same (object.Grow x) m w c same (ps, h, e) = (ps, grow_same x m w ps (λ l lo hi. same l lo (omega (arith, hi))) h, e)
 stands_same (object.Cache x) m w c same (ps, h, e) = (ps, cache_same x m w ps (λ l lo hi. same l lo (omega (arith, hi))) h, e)
 
 -- ---- it is shown, so it is one
@@ -71,6 +72,7 @@ shows (object.Mvar x) m c (v, h, e) = ap place (place_shows x.base.0 m v h) ∙ 
 shows (object.Promise p) m c (v, h, e) = ap place (place_shows p.base.0 m v h) ∙ sym e
 shows (object.Acc a) m c (t, h, e) = ap number (sym h) ∙ sym e
 shows (object.Hash x) m c (ps, h, e) = ap pairs (table_shows x m ps h) ∙ sym e
+shows (object.Grow x) m c (ps, h, e) = ap pairs (grow_shows x m ps h) ∙ sym e
 shows (object.Cache x) m c (ps, h, e) = ap pairs (cache_shows x m ps h) ∙ sym e
 
 pub all_show : (names : Names) (m : ℕ → ℕ) (cs : List Content) → AllStand names m cs → state_text names m ≡ state_lines names cs
@@ -101,4 +103,5 @@ stands_opened (object.Mvar x) m h = (None, place_opens x.base.0 m h, refl)
 stands_opened (object.Promise p) m h = (None, place_opens p.base.0 m h, refl)
 stands_opened (object.Acc a) m h = (0, acc_opens a m h, refl)
 stands_opened (object.Hash x) m h = ([], hash_opens x m h x.some_buckets x.some, refl)
+stands_opened (object.Grow x) m h = ([], grow_opens x m h, refl)
 stands_opened (object.Cache x) m h = ([], cache_opens x m x.some_buckets x.some h, refl)

@@ -11,6 +11,7 @@ use Rattle.kc_cache.specs.Meaning.{cache_program, cache_end}
 use Rattle.kc_cells.specs.Accumulator.{acc_program, acc_end}
 use Rattle.kc_cells.specs.Mvar.{mvar_program, mvar_end}
 use Rattle.kc_cells.specs.Promise.{promise_program, promise_end}
+use Rattle.kc_grow.specs.Meaning.{grow_program, grow_end}
 use Rattle.kc_hash.specs.Meaning.{hash_program, hash_end}
 use Rattle.kc_loc.specs.Meaning.{loc_program, loc_meaning, loc_end, LocIsFit}
 use Rattle.kc_queue.specs.Meaning.{queue_program, queue_end}
@@ -51,6 +52,7 @@ op_program (op.Mvar o) = mvar_program o.mvar o.act
 op_program (op.Promise o) = promise_program o.promise o.act
 op_program (op.Acc o) = acc_program o.acc o.act
 op_program (op.Hash o) = hash_program o.hash o.act
+op_program (op.Grow o) = grow_program o.grow o.act
 op_program (op.Cache o) = cache_program o.cache o.act
 op_program (op.Cancel c) = loc_program (cancel_op c)
 
@@ -66,6 +68,7 @@ op_end (op.Mvar o) = mvar_end o
 op_end (op.Promise o) = promise_end o
 op_end (op.Acc o) = acc_end o
 op_end (op.Hash o) = hash_end o
+op_end (op.Grow o) = grow_end o
 op_end (op.Cache o) = cache_end o
 op_end (op.Cancel c) = cancel_end c
 
@@ -77,6 +80,7 @@ OpIsFit (op.Mvar o) = ⊤
 OpIsFit (op.Promise o) = ⊤
 OpIsFit (op.Acc o) = ⊤
 OpIsFit (op.Hash o) = ⊤
+OpIsFit (op.Grow o) = ⊤
 OpIsFit (op.Cache o) = ⊤
 OpIsFit (op.Cancel c) = CancelIsFit c
 

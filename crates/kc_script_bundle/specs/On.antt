@@ -44,6 +44,7 @@ IsOn names (op.Mvar o) = HasObject names (object.Mvar o.mvar)
 IsOn names (op.Promise o) = HasObject names (object.Promise o.promise)
 IsOn names (op.Acc o) = HasObject names (object.Acc o.acc)
 IsOn names (op.Hash o) = HasObject names (object.Hash o.hash)
+IsOn names (op.Grow o) = HasObject names (object.Grow o.grow)
 IsOn names (op.Cache o) = HasObject names (object.Cache o.cache)
 IsOn names (op.Cancel c) = CancelIsOn c
 

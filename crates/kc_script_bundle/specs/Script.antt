@@ -10,6 +10,7 @@ use Rattle.kc_script_bundle.specs.declared.object.Object.TheVariants as object
 use Rattle.kc_cache.specs.Meaning.{cache_cells}
 use Rattle.kc_cells.specs.OnePlace.{place_cells}
 use Rattle.kc_cells.specs.declared.accumulator.TheConstants.{MOST_CELLS}
+use Rattle.kc_grow.specs.Meaning.{grow_cells}
 use Rattle.kc_hash.specs.Meaning.{hash_cells}
 use Rattle.kc_model.specs.declared.plain_store.TheConstants.{MOST_LOCATIONS}
 use Rattle.kc_queue.specs.Meaning.{queue_cells}
@@ -52,6 +53,7 @@ cells (object.Mvar x) = place_cells
 cells (object.Promise p) = place_cells
 cells (object.Acc a) = a.cells
 cells (object.Hash h) = hash_cells h
+cells (object.Grow g) = grow_cells g
 cells (object.Cache c) = cache_cells c
 
 -- where its cells begin
@@ -63,6 +65,7 @@ base (object.Mvar x) = x.base.0
 base (object.Promise p) = p.base.0
 base (object.Acc a) = a.base.0
 base (object.Hash h) = h.base.0
+base (object.Grow g) = g.base.0
 base (object.Cache c) = c.base.0
 
 -- it has the sizes that a declaration may give
@@ -74,6 +77,7 @@ IsSized (object.Mvar x) = Unit {0}
 IsSized (object.Promise p) = Unit {0}
 IsSized (object.Acc a) = (1 ≤ a.cells) × (a.cells ≤ MOST_CELLS)
 IsSized (object.Hash h) = (1 ≤ h.buckets) × (h.buckets ≤ MOST_BUCKETS) × (1 ≤ h.cap) × (h.cap ≤ MOST_ITEMS)
+IsSized (object.Grow g) = (1 ≤ g.cap) × (g.cap ≤ MOST_ITEMS)
 IsSized (object.Cache c) = (1 ≤ c.buckets) × (c.buckets ≤ MOST_BUCKETS) × (1 ≤ c.cap) × (c.cap ≤ MOST_ITEMS)
 
 abbrev pub AreSized : Names → Type 0

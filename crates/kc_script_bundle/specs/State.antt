@@ -9,6 +9,7 @@ use Rattle.kc_cells.specs.Accumulator.{acc_opening, cells_sum, AccStandsFor}
 use Rattle.kc_cells.specs.Mvar.{MvarStandsFor}
 use Rattle.kc_cells.specs.OnePlace.{place_opening, held}
 use Rattle.kc_cells.specs.Promise.{PromiseStandsFor}
+use Rattle.kc_grow.specs.Content.{grow_opening, shown as grown_shown, GrowStands}
 use Rattle.kc_hash.specs.Content.{hash_opening, shown as table_shown, StandsFor as HashStands}
 use Rattle.kc_queue.specs.Meaning.{queue_opening, head_cell, count_cell, ring_cell, head_in, back_of, counted as queue_counted, StandsFor as QueueStands}
 use Rattle.kc_queue.specs.declared.queue.Queue.{Queue}
@@ -29,6 +30,7 @@ opening_value (object.Mvar x) i = place_opening i
 opening_value (object.Promise p) i = place_opening i
 opening_value (object.Acc a) i = acc_opening a i
 opening_value (object.Hash h) i = hash_opening h i
+opening_value (object.Grow g) i = grow_opening g i
 opening_value (object.Cache c) i = cache_opening c i
 
 -- the values of so many cells, from this one on
@@ -62,6 +64,7 @@ Stands (object.Mvar x) m c = (v : Option ℕ) × MvarStandsFor x m v × (c ≡ p
 Stands (object.Promise p) m c = (v : Option ℕ) × PromiseStandsFor p m v × (c ≡ place v)
 Stands (object.Acc a) m c = (t : ℕ) × AccStandsFor a m t × (c ≡ number t)
 Stands (object.Hash h) m c = (ps : List (ℕ × ℕ)) × HashStands h m ps × (c ≡ pairs ps)
+Stands (object.Grow g) m c = (ps : List (ℕ × ℕ)) × GrowStands g m ps × (c ≡ pairs ps)
 Stands (object.Cache x) m c = (ps : List (ℕ × ℕ)) × CacheStands x m ps × (c ≡ pairs ps)
 
 -- each object's cells stand for its content
@@ -84,6 +87,7 @@ opening_content (object.Mvar x) = place None
 opening_content (object.Promise p) = place None
 opening_content (object.Acc a) = number 0
 opening_content (object.Hash h) = pairs []
+opening_content (object.Grow g) = pairs []
 opening_content (object.Cache x) = pairs []
 
 abbrev pub opening_contents : Names → List Content
@@ -114,6 +118,7 @@ shown (object.Mvar x) m = place (held x.base.0 m)
 shown (object.Promise p) m = place (held p.base.0 m)
 shown (object.Acc a) m = number (wrapped (cells_sum m a.base.0 a.cells))
 shown (object.Hash h) m = pairs (table_shown h m)
+shown (object.Grow g) m = pairs (grown_shown g m)
 shown (object.Cache c) m = pairs (cache_shown c m)
 
 -- ---- the lines

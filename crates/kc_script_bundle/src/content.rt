@@ -7,12 +7,11 @@ ghost use Rattle.kc_model.specs.Pen.{Puts};
 ghost use Rattle.kc_xt.specs.Meaning.{values};
 ghost use Rattle.kc_stack.specs.Meaning.{cells_end as stack_cells_end};
 ghost use Rattle.kc_queue.specs.Meaning.{cells_end as queue_cells_end};
-ghost use Rattle.kc_hash.specs.Content.{shown as table_shown};
 ghost use Rattle.kc_cache.specs.Content.{shown as cache_shown};
 ghost use Rattle.kc_script_bundle.specs.State.{place, stack_shown, queue_shown, number_text, pair_text, content_text};
 
 use kc_cache::Cache;
-use kc_hash::Hash;
+use kc_hash::Pairs;
 use kc_model::{Loc, Pen, PlainStore, Sink};
 use kc_queue::Queue;
 use kc_stack::Stack;
@@ -72,11 +71,10 @@ pub(crate) fn put_queue<K: Sink>(pen: &mut Pen<K>, store: &PlainStore, queue: Qu
     }
 }
 
-/// The pairs, in rising order of key.
-pub(crate) fn put_table<K: Sink>(pen: &mut Pen<K>, store: &PlainStore, hash: Hash)
-    ensures { Puts K.written K.faults K.write_gives pen.old pen.new (flat_map pair_text (table_shown hash (values (store_of store.now)))) }
+/// The pairs of a table, in rising order of key.
+pub(crate) fn put_table<K: Sink>(pen: &mut Pen<K>, mut pairs: Pairs)
+    ensures { Puts K.written K.faults K.write_gives pen.old pen.new (flat_map pair_text pairs.entry) }
 {
-    let mut pairs = hash.pairs(store);
     while let Some((key, value)) = pairs.next() {
         put_pair(pen, key, value);
     }

@@ -25,4 +25,4 @@ pub use object::Object;
 pub use operation::{Command, Op};
 pub use place::cells;
 pub use start::opening;
-pub use state::{put_state, write_state};
+pub use state::{put_state, write_object, write_state};

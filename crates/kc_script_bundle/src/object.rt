@@ -1,5 +1,6 @@
 use kc_cache::Cache;
 use kc_cells::{Accumulator, Mvar, Promise};
+use kc_grow::Grow;
 use kc_hash::Hash;
 use kc_model::Loc;
 use kc_queue::Queue;
@@ -16,5 +17,6 @@ pub enum Object {
     Promise(Promise),
     Acc(Accumulator),
     Hash(Hash),
+    Grow(Grow),
     Cache(Cache),
 }

@@ -5,6 +5,7 @@ ghost use Rattle.kc_script_bundle.specs.Meaning.{op_meaning, op_end, OpIsFit, co
 use crate::cancel::Cancel;
 use kc_cache::CacheOp;
 use kc_cells::{AccOp, MvarOp, PromiseOp};
+use kc_grow::GrowOp;
 use kc_hash::HashOp;
 use kc_loc::LocOp;
 use kc_model::{MOST, Reply};
@@ -23,6 +24,7 @@ pub enum Op {
     Promise(PromiseOp),
     Acc(AccOp),
     Hash(HashOp),
+    Grow(GrowOp),
     Cache(CacheOp),
     Cancel(Cancel),
 }
@@ -43,6 +45,7 @@ impl Transact for Op {
             Op::Promise(op) => op.bound(),
             Op::Acc(op) => op.bound(),
             Op::Hash(op) => op.bound(),
+            Op::Grow(op) => op.bound(),
             Op::Cache(op) => op.bound(),
             Op::Cancel(op) => op.bound(),
         }
@@ -61,6 +64,7 @@ impl Transact for Op {
             Op::Promise(op) => op.run(xt),
             Op::Acc(op) => op.run(xt),
             Op::Hash(op) => op.run(xt),
+            Op::Grow(op) => op.run(xt),
             Op::Cache(op) => op.run(xt),
             Op::Cancel(op) => op.run(xt),
         }

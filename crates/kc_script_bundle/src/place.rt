@@ -17,6 +17,7 @@ pub fn cells(object: Object) -> u32
         Object::Promise(promise) => promise.cells(),
         Object::Acc(acc) => acc.cells(),
         Object::Hash(hash) => hash.cells(),
+        Object::Grow(grow) => grow.cells(),
         Object::Cache(cache) => cache.cells(),
     }
 }

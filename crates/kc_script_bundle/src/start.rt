@@ -23,6 +23,7 @@ fn opening_value(object: Object, index: u32) -> u32
         Object::Promise(promise) => promise.opening(index),
         Object::Acc(acc) => acc.opening(index),
         Object::Hash(hash) => hash.opening(index),
+        Object::Grow(grow) => grow.opening(index),
         Object::Cache(cache) => cache.opening(index),
     }
 }

@@ -24,7 +24,8 @@ fn put_content<K: Sink>(pen: &mut Pen<K>, store: &PlainStore, object: Object)
         Object::Mvar(mvar) => content::put_place(pen, mvar.value(store)),
         Object::Promise(promise) => content::put_place(pen, promise.value(store)),
         Object::Acc(acc) => content::put_number(pen, acc.total(store)),
-        Object::Hash(hash) => content::put_table(pen, store, hash),
+        Object::Hash(hash) => content::put_table(pen, hash.pairs(store)),
+        Object::Grow(grow) => content::put_table(pen, grow.pairs(store)),
         Object::Cache(cache) => content::put_cache(pen, store, cache),
     }
 }
@@ -58,5 +59,20 @@ pub fn write_state<K: Sink>(bundle: &Bundle, store: &PlainStore, sink: &mut K) -
 {
     let mut pen = Pen::new(sink);
     put_state(&mut pen, bundle, store);
+    pen.end()
+}
+
+/// Writes the line of one object, with what it holds in the store. After a failed write no further one is made.
+pub fn write_object<K: Sink>(
+    store: &PlainStore,
+    name: &str,
+    object: Object,
+    sink: &mut K,
+) -> Result<(), Failed>
+    requires { base object + cells object ≤ length store.now }
+    ensures { Prints K.written K.faults K.write_gives sink.old sink.new result (state_line name.now (shown object (values (store_of store.now)))) }
+{
+    let mut pen = Pen::new(sink);
+    put_line(&mut pen, store, name, object);
     pen.end()
 }

@@ -5,6 +5,7 @@ use crate::*;
 use indexmap::IndexMap;
 use kc_cache::Cache;
 use kc_cells::{Accumulator, Mvar, Promise};
+use kc_grow::Grow;
 use kc_hash::Hash;
 use kc_model::{FrailSink, Loc, MOST, PlainStore, Reply};
 use kc_queue::Queue;
@@ -93,6 +94,17 @@ fn a_table_is_shown_in_rising_order_of_key(rt: HostRuntime) -> Result<(), Fail> 
     Ok(())
 }
 
+// A number of buckets that is too great counts as 1.
+#[test]
+fn a_table_that_grows_is_shown_as_a_table(rt: HostRuntime) -> Result<(), Fail> {
+    let grow = Object::Grow(Grow::layout(Loc(1), 2));
+    let values = [0, 2, 0, 2, 2, 1, 3, 30, 0, 8, 80, 0];
+    assert!(rt; shows(&rt, grow, &values, "o 3=30 8=80\n")?);
+    let many = [0, 2, 0, 3, 2, 1, 3, 30, 0, 8, 80, 0];
+    assert!(rt; shows(&rt, grow, &many, "o 8=80\n")?);
+    Ok(())
+}
+
 #[test]
 fn a_cache_is_shown_from_the_most_recent_pair(rt: HostRuntime) -> Result<(), Fail> {
     let cache = Object::Cache(Cache::layout(Loc(1), 1, 2));
@@ -127,6 +139,14 @@ fn objects_open_with_their_values(rt: HostRuntime) -> Result<(), Fail> {
     assert!(rt; opens(&rt, Object::Cache(cache), &opened)?);
     let table = Hash::layout(base, 1, 2);
     assert!(rt; opens(&rt, Object::Hash(table), &[0, 0, 1, 0, 0, 0, 2, 0, 0, 0])?);
+    let grow = Grow::layout(base, 2);
+    assert!(rt;
+        opens(
+            &rt,
+            Object::Grow(grow),
+            &[0, 0, 1, 1, 0, 0, 0, 0, 2, 0, 0, 0]
+        )?
+    );
     Ok(())
 }
 

@@ -23,6 +23,7 @@ fn put_declaration<K: Sink>(pen: &mut Pen<K>, name: &[u8], object: Object)
         Object::Promise(_) => put_named(pen, b"promise", name),
         Object::Acc(acc) => put_number(pen, b"acc", name, acc.cells()),
         Object::Hash(hash) => put_numbers(pen, b"table", name, hash.buckets(), hash.capacity()),
+        Object::Grow(grow) => put_number(pen, b"grow", name, grow.capacity()),
         Object::Cache(cache) => put_numbers(pen, b"cache", name, cache.buckets(), cache.capacity()),
     }
 }

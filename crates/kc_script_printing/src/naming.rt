@@ -7,8 +7,8 @@ ghost use Rattle.kc_script.specs.Canonical.{name_at};
 use indexmap::IndexMap;
 use kc_script_bundle::Object;
 
-// The first location of an object.
-fn base_of(object: Object) -> u32
+/// The first location of an object.
+pub fn base_of(object: Object) -> u32
     ensures { result ≡ base object }
 {
     match object {
@@ -19,6 +19,7 @@ fn base_of(object: Object) -> u32
         Object::Promise(promise) => promise.base().0,
         Object::Acc(acc) => acc.base().0,
         Object::Hash(hash) => hash.base().0,
+        Object::Grow(grow) => grow.base().0,
         Object::Cache(cache) => cache.base().0,
     }
 }

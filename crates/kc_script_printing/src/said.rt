@@ -3,15 +3,16 @@
 ghost use Rattle.std.specs.Prelude.{◌≡◌, ◌++◌, ◌∷◌, [], codes};
 ghost use Rattle.kc_model.specs.Pen.{Puts};
 ghost use Rattle.kc_script_bundle.specs.Script.{names_of, LieFrom, AreSized};
-ghost use Rattle.kc_script_verbs.specs.Canonical.{fun_words, rel_word, loc_words, stack_words, queue_words, table_words, mvar_words, promise_words, acc_words, cache_words};
+ghost use Rattle.kc_script_verbs.specs.Canonical.{fun_words, rel_word, loc_words, stack_words, queue_words, table_words, hash_act, mvar_words, promise_words, acc_words, cache_words};
 ghost use Rattle.kc_script.specs.Canonical.{line_of, op_line, line_text};
 
-use crate::naming::name_at;
+use crate::naming::{base_of, name_at};
 use crate::shapes::{put_choice, put_named, put_number, put_numbers, put_numeral};
 use indexmap::IndexMap;
 use kc_cache::{CacheAct, CacheOp};
 use kc_cells::{AccAct, AccOp, MvarAct, MvarOp, PromiseAct, PromiseOp};
-use kc_hash::{HashAct, HashOp};
+use kc_grow::GrowAct;
+use kc_hash::HashAct;
 use kc_loc::{Fun, LocOp, Rel};
 use kc_model::{Pen, Sink};
 use kc_queue::{QueueAct, QueueOp};
@@ -106,13 +107,31 @@ fn put_queue<K: Sink>(pen: &mut Pen<K>, objects: &IndexMap<String, Object>, oper
     }
 }
 
-fn put_table<K: Sink>(pen: &mut Pen<K>, objects: &IndexMap<String, Object>, operation: HashOp)
+// The same on a table that doesn't grow.
+fn hash_act(act: GrowAct) -> HashAct
+    ensures { result ≡ hash_act act }
+{
+    match act {
+        GrowAct::Put(key, value) => HashAct::Put(key, value),
+        GrowAct::Find(key) => HashAct::Find(key),
+        GrowAct::Del(key) => HashAct::Del(key),
+        GrowAct::Len => HashAct::Len,
+    }
+}
+
+// Of a table of either kind.
+fn put_table<K: Sink>(
+    pen: &mut Pen<K>,
+    objects: &IndexMap<String, Object>,
+    table: Object,
+    act: HashAct,
+)
     requires lie { LieFrom 1 (names_of objects.now) }
     requires sized { AreSized (names_of objects.now) }
-    ensures { Puts K.written K.faults K.write_gives pen.old pen.new (line_text (line_of (names_of objects.now) (table_words operation.hash operation.act))) }
+    ensures { Puts K.written K.faults K.write_gives pen.old pen.new (line_text (line_of (names_of objects.now) (table_words table act))) }
 {
-    let name = name_at(objects, operation.hash.base().0);
-    match operation.act {
+    let name = name_at(objects, base_of(table));
+    match act {
         HashAct::Put(key, value) => put_numbers(pen, b"put", name, key, value),
         HashAct::Find(key) => put_number(pen, b"find", name, key),
         HashAct::Del(key) => put_number(pen, b"del", name, key),
@@ -186,7 +205,13 @@ pub fn put_op<K: Sink>(pen: &mut Pen<K>, objects: &IndexMap<String, Object>, ope
         Op::Mvar(operation) => put_mvar(pen, objects, operation),
         Op::Promise(operation) => put_promise(pen, objects, operation),
         Op::Acc(operation) => put_acc(pen, objects, operation),
-        Op::Hash(operation) => put_table(pen, objects, operation),
+        Op::Hash(operation) => {
+            put_table(pen, objects, Object::Hash(operation.hash), operation.act)
+        }
+        Op::Grow(operation) => {
+            let table = Object::Grow(operation.grow);
+            put_table(pen, objects, table, hash_act(operation.act))
+        }
         Op::Cache(operation) => put_cache(pen, objects, operation),
         Op::Cancel(operation) => put_numeral(pen, b"cancel", operation.thread),
     }

@@ -57,6 +57,15 @@ fn a_fault_of_parts_has_its_part(rt: HostRuntime) {
         (x, "", "mvar 1", Some((2, 1, Why::StrayWord))),
         (x, "kcas 1", "", Some((1, 1, Why::UnknownWord))),
         (x, "limit 5", "", Some((1, 1, Why::UnknownWord))),
+        (x, "grow g 4", "", Some((1, 1, Why::UnknownWord))),
+        ("kcas 2", "", "grow g 4", Some((2, 1, Why::StrayWord))),
+        (
+            "kcas 1\ngrow g 4",
+            "foo",
+            "",
+            Some((0, 2, Why::UnknownWord)),
+        ),
+        ("kcas 2\ngrow g 4", "put g 1 2", "find g 1", None),
         (
             "kcas 2\nlimit 5",
             "",

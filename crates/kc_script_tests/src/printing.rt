@@ -77,6 +77,13 @@ fn commands_on_a_cache_are_printed(rt: HostRuntime) {
 }
 
 #[test]
+fn commands_on_a_table_that_grows_are_printed(rt: HostRuntime) {
+    let text =
+        "kcas 2\nloc x 1\ngrow g 4\nthread\nput g 1 2\natomic\nfind g 1\nend\ndel g 3\nlen g\n";
+    assert!(rt; prints(&rt, text, text));
+}
+
+#[test]
 fn blocks_are_printed_as_they_are_nested(rt: HostRuntime) {
     let text =
         "kcas 2\nloc x 1\nthread\natomic\nend\nthread\nget x\natomic\nget x\natomic\nset x 1\natomic\nend\nor\nend\nor\natomic\nor\nor\nset x 2\nend\nset x 3\nor\nend\nget x\nthread\n";

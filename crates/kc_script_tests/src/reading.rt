@@ -5,6 +5,7 @@ ghost use Rattle.kc_script_bundle.specs.Script.{script_of};
 ghost use Rattle.kc_script.specs.Spells.{Spells};
 
 use kc_cells::{AccAct, AccOp, Accumulator, Mvar, MvarAct, MvarOp, Promise, PromiseAct, PromiseOp};
+use kc_grow::{Grow, GrowAct, GrowOp};
 use kc_hash::{Hash, HashAct, HashOp};
 use kc_loc::{Fun, LocOp, Rel};
 use kc_model::Loc;
@@ -134,6 +135,29 @@ fn commands_on_tables_and_cells_are_read(rt: HostRuntime) {
 }
 
 #[test]
+fn commands_on_a_table_that_grows_are_read(rt: HostRuntime) {
+    let text =
+        "kcas 2\nloc x 5\ngrow g 0004\nmvar m\nthread\nput g 1 2\nfind g 1\ndel g 1\nlen g\nmtake m";
+    let Ok(bundle) = read(&rt, text) else {
+        panic!(rt; "it is spelled");
+    };
+    let grow = Grow::layout(Loc(2), 4);
+    assert!(rt; bundle.objects.get("g").copied() == Some(Object::Grow(grow)));
+    let mvar = Mvar::layout(Loc(21));
+    assert!(rt; bundle.objects.get("m").copied() == Some(Object::Mvar(mvar)));
+    let ops = [
+        GrowAct::Put(1, 2),
+        GrowAct::Find(1),
+        GrowAct::Del(1),
+        GrowAct::Len,
+    ]
+    .map(|act| Op::Grow(GrowOp { grow, act }));
+    for i in 0..ops.len() {
+        assert!(rt; op_at(&bundle, i) == Some(ops[i]));
+    }
+}
+
+#[test]
 fn cancels_are_read(rt: HostRuntime) {
     let ops = [1, 2, 16].map(|thread| Op::Cancel(Cancel {
         live: Loc(0),
@@ -239,6 +263,17 @@ fn a_fault_has_its_line_and_its_reason(rt: HostRuntime) {
         ("kcas 1\ntable t 1025 0", 2, Why::BadNumber),
         ("kcas 1\ntable t 1 0", 2, Why::BadNumber),
         ("kcas 1\nacc a 33", 2, Why::BadNumber),
+        ("kcas 2\ngrow g", 2, Why::MissingWord),
+        ("kcas 2\ngrow g 4 4", 2, Why::ExtraWord),
+        ("kcas 2\ngrow g 0", 2, Why::BadNumber),
+        ("kcas 2\ngrow g 4097", 2, Why::BadNumber),
+        ("kcas 2\nthread\ngrow g 4", 3, Why::StrayWord),
+        ("kcas 2\ngrow g 4\nthread\npush g 1", 4, Why::WrongKind),
+        ("kcas 2\ngrow g 4\nthread\ncget g 1", 4, Why::WrongKind),
+        ("kcas 2\ngrow g 4\nthread\nput g 1", 4, Why::MissingWord),
+        ("kcas 1\ngrow g 4", 2, Why::UnknownWord),
+        ("kcas 1\ngrow", 2, Why::UnknownWord),
+        ("kcas 1\nthread\ngrow g 4", 3, Why::UnknownWord),
         ("kcas 1\nloc x 5\nthread\nget y", 4, Why::UnknownName),
         ("kcas 1\nthread\nset 1x y", 3, Why::UnknownName),
         ("kcas 1\nloc x 1\nthread\npush x y\nfoo", 4, Why::WrongKind),

@@ -11,7 +11,7 @@ use Rattle.kc_script_verbs.specs.declared.word.Kind.TheVariants as kind
 use Rattle.kc_script_verbs.specs.declared.word.Word.{Word}
 use Rattle.kc_script_verbs.specs.declared.word.Word.TheVariants as word
 use Rattle.kc_script_verbs.proofs.Placing.{few_made}
-use Rattle.kc_script_verbs.specs.Declaring.{fields, loc_at, stack_at, queue_at, table_at, cache_at, mvar_at, promise_at, acc_at, object_at, declare, declared_by, declared, IsAt, IsPlaced}
+use Rattle.kc_script_verbs.specs.Declaring.{fields, loc_at, stack_at, queue_at, table_at, grow_at, cache_at, mvar_at, promise_at, acc_at, object_at, declare, declared_by, declared, IsAt, IsPlaced}
 use Rattle.kc_script_verbs.specs.Objects.{new_name}
 use Rattle.kc_script_verbs.specs.Words.{word_of}
 
@@ -47,6 +47,13 @@ table_placed at buckets cap o b some few e =
     let f = few_made _ _ _ _ o g.1 in
     subst (IsAt at) (ok_is _ _ f.1) (refl, omega (arith, f.0), (b.0, b.1, some, few))
 
+grow_placed : (at cap : ℕ) (o : Object) → 1 ≤ cap → cap ≤ 4096 → grow_at at cap ≡ Ok o → IsAt at o
+unfolding grow_at
+grow_placed at cap o some few e =
+    let g = few_made _ _ _ _ o e in
+    let f = few_made _ _ _ _ o g.1 in
+    subst (IsAt at) (ok_is _ _ f.1) (refl, omega (arith, f.0), (some, few))
+
 cache_placed : (at buckets cap : ℕ) (o : Object) → (1 ≤ buckets) × (buckets ≤ 1024) → 1 ≤ cap → cap ≤ 4096 → cache_at at buckets cap ≡ Ok o → IsAt at o
 unfolding cache_at
 cache_placed at buckets cap o b some few e =
@@ -77,6 +84,7 @@ object_is_at at kind.Loc args o e = let a = bind_ok (number_to 4294967295 (word_
 object_is_at at kind.Stack args o e = one_size at 4096 (word_at args 1) (stack_at at) o e (λ n some few f. stack_placed at n o some few f)
 object_is_at at kind.Queue args o e = one_size at 4096 (word_at args 1) (queue_at at) o e (λ n some few f. queue_placed at n o some few f)
 object_is_at at kind.Table args o e = one_size at 1024 (word_at args 1) (λ b. positive_to 4096 (word_at args 2) >>= table_at at b) o e (λ b some few f. one_size at 4096 (word_at args 2) (table_at at b) o f (λ n some' few' g. table_placed at b n o (some, few) some' few' g))
+object_is_at at kind.Grow args o e = one_size at 4096 (word_at args 1) (grow_at at) o e (λ n some few f. grow_placed at n o some few f)
 object_is_at at kind.Cache args o e = one_size at 1024 (word_at args 1) (λ b. positive_to 4096 (word_at args 2) >>= cache_at at b) o e (λ b some few f. one_size at 4096 (word_at args 2) (cache_at at b) o f (λ n some' few' g. cache_placed at b n o (some, few) some' few' g))
 object_is_at at kind.Mvar args o e = mvar_placed at o e
 object_is_at at kind.Promise args o e = promise_placed at o e

@@ -5,6 +5,7 @@ use Rattle.kc_cache.specs.declared.cache.Cache.{Cache}
 use Rattle.kc_cells.specs.declared.accumulator.Accumulator.{Accumulator}
 use Rattle.kc_cells.specs.declared.mvar.Mvar.{Mvar}
 use Rattle.kc_cells.specs.declared.promise.Promise.{Promise}
+use Rattle.kc_grow.specs.declared.grow.Grow.{Grow}
 use Rattle.kc_hash.specs.declared.hash.Hash.{Hash}
 use Rattle.kc_model.specs.declared.footprint.Loc.{Loc}
 use Rattle.kc_queue.specs.declared.queue.Queue.{Queue}
@@ -23,11 +24,11 @@ use Rattle.kc_script_verbs.specs.declared.word.Kind.TheVariants as kind
 use Rattle.kc_script_verbs.specs.declared.word.Word.{Word}
 use Rattle.kc_script_verbs.specs.declared.word.Word.TheVariants as word
 use Rattle.kc_script_verbs.proofs.Declared.{declared_placed}
-use Rattle.kc_script_verbs.proofs.Placing.{few_is, few_made, stack_is, queue_is, mvar_is, promise_is, acc_is, hash_is, cache_is}
+use Rattle.kc_script_verbs.proofs.Placing.{few_is, few_made, stack_is, queue_is, mvar_is, promise_is, acc_is, hash_is, grow_is, cache_is}
 use Rattle.kc_script_verbs.proofs.Rows.{At, at_respells, respells_at, number_is, number_back, positive_is, positive_back, counted_back}
 use Rattle.kc_script_verbs.proofs.Texts.{kind_text, word_has, kind_read}
 use Rattle.kc_script_verbs.specs.Canonical.{Part, declaring, IsNumeral, Respells, Declares}
-use Rattle.kc_script_verbs.specs.Declaring.{fields, loc_at, stack_at, queue_at, table_at, cache_at, mvar_at, promise_at, acc_at, object_at, next, declare, declared_by, declared, IsAt, IsPlaced}
+use Rattle.kc_script_verbs.specs.Declaring.{fields, loc_at, stack_at, queue_at, table_at, grow_at, cache_at, mvar_at, promise_at, acc_at, object_at, next, declare, declared_by, declared, IsAt, IsPlaced}
 use Rattle.kc_script_verbs.specs.Objects.{object_of, new_name}
 use Rattle.kc_script_verbs.specs.Words.{word_of}
 
@@ -48,7 +49,7 @@ module _ (names : Names) (at : ℕ) (args : List (List ℕ)) (name : List ℕ) (
       more a.0 (positive_is most (word_at args i) a.0 le a.1) a.2
 
   object_row : (k : Kind) → object_at at k args ≡ Ok o → Is k o
-  unfolding object_at loc_at stack_at queue_at table_at cache_at mvar_at promise_at acc_at
+  unfolding object_at loc_at stack_at queue_at table_at grow_at cache_at mvar_at promise_at acc_at
   object_row kind.Loc e =
       let a = bind_ok (number_to 4294967295 (word_at args 1)) (loc_at at) o e in
       let f = few_made _ _ _ _ o a.2 in
@@ -56,6 +57,7 @@ module _ (names : Names) (at : ℕ) (args : List (List ℕ)) (name : List ℕ) (
   object_row kind.Stack e = sized 4096 1 (stack_at at) o (omega arith) e (λ n h f. let m = few_made _ _ _ _ o f in subst (Is kind.Stack) (ok_is _ _ m.1) (refl, refl, (h, tt), refl))
   object_row kind.Queue e = sized 4096 1 (queue_at at) o (omega arith) e (λ n h f. let g = few_made _ _ _ _ o f in let m = few_made _ _ _ _ o g.1 in subst (Is kind.Queue) (ok_is _ _ m.1) (refl, refl, (h, tt), refl))
   object_row kind.Table e = sized 1024 1 (λ b. positive_to 4096 (word_at args 2) >>= table_at at b) o (omega arith) e (λ b h f. sized 4096 2 (table_at at b) o (omega arith) f (λ n i g. let x = few_made _ _ _ _ o g in let y = few_made _ _ _ _ o x.1 in let m = few_made _ _ _ _ o y.1 in subst (Is kind.Table) (ok_is _ _ m.1) (refl, refl, (h, (i, tt)), refl)))
+  object_row kind.Grow e = sized 4096 1 (grow_at at) o (omega arith) e (λ n h f. let g = few_made _ _ _ _ o f in let m = few_made _ _ _ _ o g.1 in subst (Is kind.Grow) (ok_is _ _ m.1) (refl, refl, (h, tt), refl))
   object_row kind.Cache e = sized 1024 1 (λ b. positive_to 4096 (word_at args 2) >>= cache_at at b) o (omega arith) e (λ b h f. sized 4096 2 (cache_at at b) o (omega arith) f (λ n i g. let x = few_made _ _ _ _ o g in let y = few_made _ _ _ _ o x.1 in let m = few_made _ _ _ _ o y.1 in subst (Is kind.Cache) (ok_is _ _ m.1) (refl, refl, (h, (i, tt)), refl)))
   object_row kind.Mvar e = let m = few_made _ _ _ _ o e in subst (Is kind.Mvar) (ok_is _ _ m.1) (refl, refl, tt, refl)
   object_row kind.Promise e = let m = few_made _ _ _ _ o e in subst (Is kind.Promise) (ok_is _ _ m.1) (refl, refl, tt, refl)
@@ -133,6 +135,12 @@ module _ (names : Names) (args : List (List ℕ)) (at : ℕ) where
       let room : at + 2 + h.buckets + 3 * h.cap ≤ 65536 = omega (arith, p.1) in
       rw (positive_back 1024 (word_at args 1) h.buckets p.2.0 p.2.1 b, positive_back 4096 (word_at args 2) h.cap p.2.2 p.2.3 n) (few_is _ _ _ _ p.2.0 ∙ few_is _ _ _ _ p.2.2 ∙ few_is _ _ _ _ room ∙ ap (λ t. given (object.Hash t)) (hash_is h at h.buckets h.cap p.2.0 p.2.2 room p.0 refl refl))
 
+  grow_back : (g : Grow) → IsAt at (object.Grow g) → IsNumeral g.cap (word_at args 1) → object_at at kind.Grow args ≡ Ok (object.Grow g)
+  unfolding object_at grow_at
+  grow_back g p n =
+      let room : at + 3 + g.cap + 3 * g.cap ≤ 65536 = omega (arith, p.1) in
+      rw (positive_back 4096 (word_at args 1) g.cap p.2.0 p.2.1 n) (few_is _ _ _ _ p.2.0 ∙ few_is _ _ _ _ room ∙ ap (λ t. given (object.Grow t)) (grow_is g at g.cap p.2.0 room p.0 refl))
+
   cache_back : (c : Cache) → IsAt at (object.Cache c) → IsNumeral c.buckets (word_at args 1) → IsNumeral c.cap (word_at args 2) → object_at at kind.Cache args ≡ Ok (object.Cache c)
   unfolding object_at cache_at
   cache_back c p b n =
@@ -170,6 +178,7 @@ module _ (names : Names) (line : List (List ℕ)) (name : List ℕ) (good : is_n
   object_declared (object.Promise x) h p = back kind.Promise [] _ h refl (λ args r. promise_back names args (next names) x p)
   object_declared (object.Acc a) h p = back kind.Acc (Part.numeral a.cells ∷ []) _ h refl (λ args r. acc_back names args (next names) a p r.0)
   object_declared (object.Hash x) h p = back kind.Table (Part.numeral x.buckets ∷ Part.numeral x.cap ∷ []) _ h refl (λ args r. table_back names args (next names) x p r.0 r.1.0)
+  object_declared (object.Grow g) h p = back kind.Grow (Part.numeral g.cap ∷ []) _ h refl (λ args r. grow_back names args (next names) g p r.0)
   object_declared (object.Cache c) h p = back kind.Cache (Part.numeral c.buckets ∷ Part.numeral c.cap ∷ []) _ h refl (λ args r. cache_back names args (next names) c p r.0 r.1.0)
 
 pub declares_declared : (names : Names) (line : List (List ℕ)) (entry : List ℕ × Object) → Declares names line entry → declared names line ≡ Ok entry

@@ -8,6 +8,7 @@ use Rattle.kc_cache.specs.declared.cache.Cache.{Cache}
 use Rattle.kc_cells.specs.declared.accumulator.Accumulator.{Accumulator}
 use Rattle.kc_cells.specs.declared.mvar.Mvar.{Mvar}
 use Rattle.kc_cells.specs.declared.promise.Promise.{Promise}
+use Rattle.kc_grow.specs.declared.grow.Grow.{Grow}
 use Rattle.kc_hash.proofs.Same.{same_hash}
 use Rattle.kc_hash.specs.declared.hash.Hash.{Hash}
 use Rattle.kc_model.specs.declared.footprint.Loc.{Loc}
@@ -70,6 +71,11 @@ pub acc_is : (x : Accumulator) (b n : ℕ) (some : 0 < n) (room : b + n ≤ 6553
 acc_is x b n some room e f =
     let P : ℕ → ℕ → Type 0 = λ y z. (s : 0 < z) (r : y + z ≤ 65536) → (let t : Accumulator = record { base = record { 0 = y }; cells = z; some = s; laid = r } in t) ≡ x in
     subst (λ y. P y n) e (subst (λ z. P x.base.0 z) f (λ s r. ap₂ (λ u v. let t : Accumulator = record { base = x.base; cells = x.cells; some = u; laid = v } in t) (le_prop s x.some) (le_prop r x.laid))) some room
+
+pub grow_is : (g : Grow) (b c : ℕ) (some : 1 ≤ c) (room : b + 3 + c + 3 * c ≤ 65536) → g.base.0 ≡ b → g.cap ≡ c → (let t : Grow = record { base = record { 0 = b }; cap = c; some = some; laid = room } in t) ≡ g
+grow_is g b c some room e f =
+    let P : ℕ → ℕ → Type 0 = λ x y. (s : 1 ≤ y) (r : x + 3 + y + 3 * y ≤ 65536) → (let t : Grow = record { base = record { 0 = x }; cap = y; some = s; laid = r } in t) ≡ g in
+    subst (λ x. P x c) e (subst (λ y. P g.base.0 y) f (λ s r. ap₂ (λ u v. let t : Grow = record { base = g.base; cap = g.cap; some = u; laid = v } in t) (le_prop s g.some) (le_prop r g.laid))) some room
 
 pub hash_is : (h : Hash) (b m n : ℕ) (some_buckets : 1 ≤ m) (some : 1 ≤ n) (room : b + 2 + m + 3 * n ≤ 65536) → h.base.0 ≡ b → h.buckets ≡ m → h.cap ≡ n → (let t : Hash = record { base = record { 0 = b }; buckets = m; cap = n; some_buckets = some_buckets; some = some; laid = room } in t) ≡ h
 hash_is h b m n some_buckets some room e f g =

@@ -24,7 +24,8 @@ use Rattle.kc_stack.specs.declared.operation.StackAct.TheVariants as stack
 use Rattle.kc_queue.specs.declared.operation.QueueAct.{QueueAct}
 use Rattle.kc_queue.specs.declared.queue.Queue.{Queue}
 use Rattle.kc_queue.specs.declared.operation.QueueAct.TheVariants as queue
-use Rattle.kc_hash.specs.declared.hash.Hash.{Hash}
+use Rattle.kc_grow.specs.declared.operation.GrowAct.{GrowAct}
+use Rattle.kc_grow.specs.declared.operation.GrowAct.TheVariants as grow
 use Rattle.kc_hash.specs.declared.operation.HashAct.{HashAct}
 use Rattle.kc_hash.specs.declared.operation.HashAct.TheVariants as table
 use Rattle.kc_cache.specs.declared.cache.Cache.{Cache}
@@ -71,11 +72,13 @@ use Rattle.kc_script_verbs.specs.declared.verb.Verb.TheVariants as verb
 use Rattle.kc_script_verbs.specs.declared.word.Word.{Word}
 use Rattle.kc_script_verbs.specs.declared.word.Word.TheVariants as word
 use Rattle.kc_script_bundle.specs.On.{CancelIsOn, IsOn}
-use Rattle.kc_script_verbs.proofs.Said.{said_on, stack_is, queue_is, table_is, cache_is, mvar_is, promise_is, acc_is}
+use Rattle.kc_script_verbs.proofs.Said.{said_on, stack_is, queue_is, table_object, table_is, cache_is, mvar_is, promise_is, acc_is}
 use Rattle.kc_script_verbs.proofs.Texts.{object_verb_text, verb_text, word_has, verb_read}
-use Rattle.kc_script_verbs.specs.Canonical.{Part, fun_words, rel_word, loc_words, stack_words, queue_words, table_words, cache_words, mvar_words, promise_words, acc_words, cancel_words, words_of, IsNamed, IsNumeral, Stands, Respells, AddsIn, IsByThread, Says}
+use Rattle.kc_script_verbs.specs.Canonical.{Part, fun_words, rel_word, loc_words, stack_words, queue_words, table_words, hash_act, cache_words, mvar_words, promise_words, acc_words, cancel_words, words_of, IsNamed, IsNumeral, Stands, Respells, AddsIn, IsByThread, Says}
+use Rattle.kc_script_verbs.specs.declared.objects.Table.{Table}
+use Rattle.kc_script_verbs.specs.declared.objects.Table.TheVariants as tables
 use Rattle.kc_script_verbs.specs.Objects.{object_of, used, as_loc, as_stack, as_queue, as_table, as_cache, as_mvar, as_promise, as_acc}
-use Rattle.kc_script_verbs.specs.Saying.{object_arity, arity, value_at, fun_named, fun_of, fun_at, rel_named, loc_named, loc_op, stack_act, queue_act, table_act, cache_act, mvar_act, promise_act, acc_act, length_of, op_on, op_of, say, said_by, said}
+use Rattle.kc_script_verbs.specs.Saying.{object_arity, arity, value_at, fun_named, fun_of, fun_at, rel_named, loc_named, loc_op, stack_act, queue_act, table_act, grow_act, table_op, cache_act, mvar_act, promise_act, acc_act, length_of, op_on, op_of, say, said_by, said}
 use Rattle.kc_script_verbs.specs.Words.{word_of}
 use Rattle.kc_script_verbs.specs.declared.saying.TheConstants.{LIVE}
 
@@ -161,6 +164,7 @@ place_is names word (object.Mvar a) x e h = absurd cc
 place_is names word (object.Promise a) x e h = absurd cc
 place_is names word (object.Acc a) x e h = absurd cc
 place_is names word (object.Hash a) x e h = absurd cc
+place_is names word (object.Grow a) x e h = absurd cc
 place_is names word (object.Cache a) x e h = absurd cc
 
 loc_named_is : (names : Names) (word : List ℕ) (x : Loc) → loc_named names word ≡ Ok x → Stands names (Part.place_name x) word
@@ -278,6 +282,19 @@ row_respells names v on first args (Part.numeral n ∷ parts) row e h count = ab
 row_respells names v on first args (Part.text t ∷ name ∷ rest) row e h count =
     (e ∙ row.0, at_respells names (name ∷ rest) args (omega (arith, count, row.3)) (subst (λ (p : Part). Stands names p (word_at args 0)) (sym row.1) h, row.2))
 
+-- what is done to a table of one kind is what is done to one of the other
+hash_of_grow : (a : HashAct) → hash_act (grow_act a) ≡ a
+hash_of_grow (table.Put k v) = refl
+hash_of_grow (table.Find k) = refl
+hash_of_grow (table.Del k) = refl
+hash_of_grow table.Len = refl
+
+grow_of_hash : (a : GrowAct) → grow_act (hash_act a) ≡ a
+grow_of_hash (grow.Put k v) = refl
+grow_of_hash (grow.Find k) = refl
+grow_of_hash (grow.Del k) = refl
+grow_of_hash grow.Len = refl
+
 module _ {A : Type 0} (args : List (List ℕ)) (P : A → Type 0) (a : A) where
   -- made of no number, of one, of two
   of_none : (made : A) → given made ≡ Ok a → P made → P a
@@ -344,14 +361,18 @@ module _ (names : Names) (args : List (List ℕ)) where
   queue_row queue_verb.DeqWait q a e = of_none args (QueueRow queue_verb.DeqWait q) a _ e (refl, refl, tt, refl)
   queue_row queue_verb.Front q a e = of_none args (QueueRow queue_verb.Front q) a _ e (refl, refl, tt, refl)
 
-  abbrev TableRow : TableWord → Hash → HashAct → Type 0
-  TableRow w h a = Row names args (object_verb.OnTable w) (Part.object_name (object.Hash h)) (table_words h a)
+  abbrev TableRow : TableWord → Object → HashAct → Type 0
+  TableRow w x a = Row names args (object_verb.OnTable w) (Part.object_name x) (table_words x a)
 
-  table_row : (w : TableWord) (h : Hash) (a : HashAct) → table_act w args ≡ Ok a → TableRow w h a
+  table_row : (w : TableWord) (x : Object) (a : HashAct) → table_act w args ≡ Ok a → TableRow w x a
   unfolding table_act
-  table_row table_verb.Put h a e = of_two args (TableRow table_verb.Put h) a (λ k v. table.Put k v) e (λ k v n m. (refl, refl, (n, (m, tt)), refl))
-  table_row table_verb.Find h a e = of_one args (TableRow table_verb.Find h) a (λ k. table.Find k) e (λ k n. (refl, refl, (n, tt), refl))
-  table_row table_verb.Del h a e = of_one args (TableRow table_verb.Del h) a (λ k. table.Del k) e (λ k n. (refl, refl, (n, tt), refl))
+  table_row table_verb.Put x a e = of_two args (TableRow table_verb.Put x) a (λ k v. table.Put k v) e (λ k v n m. (refl, refl, (n, (m, tt)), refl))
+  table_row table_verb.Find x a e = of_one args (TableRow table_verb.Find x) a (λ k. table.Find k) e (λ k n. (refl, refl, (n, tt), refl))
+  table_row table_verb.Del x a e = of_one args (TableRow table_verb.Del x) a (λ k. table.Del k) e (λ k n. (refl, refl, (n, tt), refl))
+
+  table_op_row : (thread : ℕ) (w : TableWord) (k : Table) (a : HashAct) → table_act w args ≡ Ok a → Row names args (object_verb.OnTable w) (Part.object_name (table_object k)) (words_of (table_op k a)) × IsByThread thread (table_op k a)
+  table_op_row thread w (tables.Hash h) a e = (table_row w (object.Hash h) a e, tt)
+  table_op_row thread w (tables.Grow g) a e = (subst (TableRow w (object.Grow g)) (sym (hash_of_grow a)) (table_row w (object.Grow g) a e), tt)
 
   abbrev CacheRow : CacheWord → Cache → CacheAct → Type 0
   CacheRow w c a = Row names args (object_verb.OnCache w) (Part.object_name (object.Cache c)) (cache_words c a)
@@ -404,6 +425,7 @@ module _ (names : Names) (args : List (List ℕ)) where
   length_said thread (object.Promise p) o e h = absurd cc
   length_said thread (object.Acc a) o e h = absurd cc
   length_said thread (object.Hash x) o e h = subst (Said thread object_verb.Len) (ok_is _ _ e) (record { on = Part.object_name (object.Hash x); row = (refl, refl, tt, refl); named = h; by = tt })
+  length_said thread (object.Grow x) o e h = subst (Said thread object_verb.Len) (ok_is _ _ e) (record { on = Part.object_name (object.Grow x); row = (refl, refl, tt, refl); named = h; by = tt })
   length_said thread (object.Cache c) o e h = subst (Said thread object_verb.Len) (ok_is _ _ e) (record { on = Part.object_name (object.Cache c); row = (refl, refl, tt, refl); named = h; by = tt })
 
   -- on an object of a kind
@@ -422,7 +444,7 @@ module _ (names : Names) (args : List (List ℕ)) where
       subst (Said thread (object_verb.OnLoc w)) (ok_is _ _ y.2) (record { on = Part.place_name l.0; row = loc_row w l.0 y.0 y.1; named = place_is names (word_at args 0) x l.0 l.1 h; by = tt })
   on_said thread (object_verb.OnStack w) x o e h = kind_said thread (object_verb.OnStack w) x (as_stack x) (stack_act w args) (λ k a. op.Stack (record { stack = k; act = a })) (λ k. object.Stack k) o e (stack_is x) h (λ k a f. (stack_row w k a f, tt))
   on_said thread (object_verb.OnQueue w) x o e h = kind_said thread (object_verb.OnQueue w) x (as_queue x) (queue_act w args) (λ k a. op.Queue (record { queue = k; act = a })) (λ k. object.Queue k) o e (queue_is x) h (λ k a f. (queue_row w k a f, tt))
-  on_said thread (object_verb.OnTable w) x o e h = kind_said thread (object_verb.OnTable w) x (as_table x) (table_act w args) (λ k a. op.Hash (record { hash = k; act = a })) (λ k. object.Hash k) o e (table_is x) h (λ k a f. (table_row w k a f, tt))
+  on_said thread (object_verb.OnTable w) x o e h = kind_said thread (object_verb.OnTable w) x (as_table x) (table_act w args) table_op table_object o e (table_is x) h (table_op_row thread w)
   on_said thread (object_verb.OnCache w) x o e h = kind_said thread (object_verb.OnCache w) x (as_cache x) (cache_act w args) (λ k a. op.Cache (record { cache = k; act = a })) (λ k. object.Cache k) o e (cache_is x) h (λ k a f. (cache_row w k a f, tt))
   on_said thread (object_verb.OnMvar w) x o e h = kind_said thread (object_verb.OnMvar w) x (as_mvar x) (mvar_act w args) (λ k a. op.Mvar (record { mvar = k; act = a })) (λ k. object.Mvar k) o e (mvar_is x) h (λ k a f. (mvar_row w k a f, tt))
   on_said thread (object_verb.OnPromise w) x o e h = kind_said thread (object_verb.OnPromise w) x (as_promise x) (promise_act w args) (λ k a. op.Promise (record { promise = k; act = a })) (λ k. object.Promise k) o e (promise_is x) h (λ k a f. (promise_row w k a f, tt))
@@ -521,12 +543,13 @@ module _ (thread : ℕ) (names : Names) (line : List (List ℕ)) where
   queue_read q queue.Front h = back (object_verb.OnQueue queue_verb.Front) (object.Queue q) [] _ h refl (λ args r. refl)
   queue_read q queue.Len h = back object_verb.Len (object.Queue q) [] _ h refl (λ args r. refl)
 
-  table_read : (x : Hash) (a : HashAct) → Respells names (table_words x a) line → said thread names line ≡ Ok (op.Hash (record { hash = x; act = a }))
+  -- of either kind
+  table_read : (x : Object) (k : Table) (a : HashAct) → as_table x ≡ Ok k → length_of x ≡ Ok (table_op k table.Len) → Respells names (table_words x a) line → said thread names line ≡ Ok (table_op k a)
   unfolding op_on table_act
-  table_read x (table.Put k v) h = back (object_verb.OnTable table_verb.Put) (object.Hash x) (Part.numeral k ∷ Part.numeral v ∷ []) _ h refl (λ args r. rw (value_back args 1 k r.0, value_back args 2 v r.1.0) refl)
-  table_read x (table.Find k) h = back (object_verb.OnTable table_verb.Find) (object.Hash x) (Part.numeral k ∷ []) _ h refl (λ args r. rw (value_back args 1 k r.0) refl)
-  table_read x (table.Del k) h = back (object_verb.OnTable table_verb.Del) (object.Hash x) (Part.numeral k ∷ []) _ h refl (λ args r. rw (value_back args 1 k r.0) refl)
-  table_read x table.Len h = back object_verb.Len (object.Hash x) [] _ h refl (λ args r. refl)
+  table_read x k (table.Put key v) is long h = back (object_verb.OnTable table_verb.Put) x (Part.numeral key ∷ Part.numeral v ∷ []) _ h refl (λ args r. rw (is, value_back args 1 key r.0, value_back args 2 v r.1.0) refl)
+  table_read x k (table.Find key) is long h = back (object_verb.OnTable table_verb.Find) x (Part.numeral key ∷ []) _ h refl (λ args r. rw (is, value_back args 1 key r.0) refl)
+  table_read x k (table.Del key) is long h = back (object_verb.OnTable table_verb.Del) x (Part.numeral key ∷ []) _ h refl (λ args r. rw (is, value_back args 1 key r.0) refl)
+  table_read x k table.Len is long h = back object_verb.Len x [] _ h refl (λ args r. long)
 
   mvar_read : (x : Mvar) (a : MvarAct) → Respells names (mvar_words x a) line → said thread names line ≡ Ok (op.Mvar (record { mvar = x; act = a }))
   unfolding op_on mvar_act
@@ -570,7 +593,8 @@ module _ (thread : ℕ) (names : Names) (line : List (List ℕ)) where
   says_read (op.Mvar o) h = mvar_read o.mvar o.act h.0
   says_read (op.Promise o) h = promise_read o.promise o.act h.0
   says_read (op.Acc o) h = acc_read o.acc o.act h.0 h.1
-  says_read (op.Hash o) h = table_read o.hash o.act h.0
+  says_read (op.Hash o) h = table_read (object.Hash o.hash) (tables.Hash o.hash) o.act refl refl h.0
+  says_read (op.Grow o) h = table_read (object.Grow o.grow) (tables.Grow o.grow) (hash_act o.act) refl refl h.0 ∙ ap (λ a. given (op.Grow (record { grow = o.grow; act = a }))) (grow_of_hash o.act)
   says_read (op.Cache o) h = cache_read o.cache o.act h.0
   says_read (op.Cancel c) h = cancel_read c h.0 h.1
 

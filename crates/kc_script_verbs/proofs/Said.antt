@@ -18,7 +18,6 @@ use Rattle.kc_cells.specs.declared.mvar.Mvar.{Mvar}
 use Rattle.kc_cells.specs.declared.mvar.MvarAct.{MvarAct}
 use Rattle.kc_cells.specs.declared.promise.Promise.{Promise}
 use Rattle.kc_cells.specs.declared.promise.PromiseAct.{PromiseAct}
-use Rattle.kc_hash.specs.declared.hash.Hash.{Hash}
 use Rattle.kc_hash.specs.declared.operation.HashAct.{HashAct}
 use Rattle.kc_loc.specs.declared.kinds.Rel.{Rel}
 use Rattle.kc_queue.specs.declared.operation.QueueAct.{QueueAct}
@@ -40,8 +39,10 @@ use Rattle.kc_script_verbs.specs.declared.verb.Verb.{Verb}
 use Rattle.kc_script_verbs.specs.declared.verb.Verb.TheVariants as verb
 use Rattle.kc_script_verbs.specs.declared.word.Word.{Word}
 use Rattle.kc_script_verbs.specs.declared.word.Word.TheVariants as word
+use Rattle.kc_script_verbs.specs.declared.objects.Table.{Table}
+use Rattle.kc_script_verbs.specs.declared.objects.Table.TheVariants as tables
 use Rattle.kc_script_verbs.specs.Objects.{object_of, used, as_loc, as_stack, as_queue, as_table, as_cache, as_mvar, as_promise, as_acc}
-use Rattle.kc_script_verbs.specs.Saying.{arity, value_at, fun_at, rel_named, loc_named, loc_op, stack_act, queue_act, table_act, cache_act, mvar_act, promise_act, acc_act, length_of, op_on, cancel_of, op_of, say, said_by, said}
+use Rattle.kc_script_verbs.specs.Saying.{arity, value_at, fun_at, rel_named, loc_named, loc_op, stack_act, queue_act, table_act, cache_act, mvar_act, promise_act, acc_act, table_op, length_of, op_on, cancel_of, op_of, say, said_by, said}
 use Rattle.kc_script_verbs.specs.Words.{word_of}
 use Rattle.kc_script_verbs.specs.declared.saying.TheConstants.{LIVE}
 
@@ -70,6 +71,7 @@ stack_is (object.Mvar a) x e = absurd cc
 stack_is (object.Promise a) x e = absurd cc
 stack_is (object.Acc a) x e = absurd cc
 stack_is (object.Hash a) x e = absurd cc
+stack_is (object.Grow a) x e = absurd cc
 stack_is (object.Cache a) x e = absurd cc
 
 pub queue_is : (o : Object) (x : Queue) → as_queue o ≡ Ok x → object.Queue x ≡ o
@@ -80,16 +82,23 @@ queue_is (object.Mvar a) x e = absurd cc
 queue_is (object.Promise a) x e = absurd cc
 queue_is (object.Acc a) x e = absurd cc
 queue_is (object.Hash a) x e = absurd cc
+queue_is (object.Grow a) x e = absurd cc
 queue_is (object.Cache a) x e = absurd cc
 
-pub table_is : (o : Object) (x : Hash) → as_table o ≡ Ok x → object.Hash x ≡ o
+-- a table of either kind
+abbrev pub table_object : Table → Object
+table_object (tables.Hash h) = object.Hash h
+table_object (tables.Grow g) = object.Grow g
+
+pub table_is : (o : Object) (x : Table) → as_table o ≡ Ok x → table_object x ≡ o
 table_is (object.Loc at value) x e = absurd cc
 table_is (object.Stack a) x e = absurd cc
 table_is (object.Queue a) x e = absurd cc
 table_is (object.Mvar a) x e = absurd cc
 table_is (object.Promise a) x e = absurd cc
 table_is (object.Acc a) x e = absurd cc
-table_is (object.Hash a) x e = ap (λ y. object.Hash y) (sym (ok_is _ _ e))
+table_is (object.Hash a) x e = ap table_object (sym (ok_is _ _ e))
+table_is (object.Grow a) x e = ap table_object (sym (ok_is _ _ e))
 table_is (object.Cache a) x e = absurd cc
 
 pub cache_is : (o : Object) (x : Cache) → as_cache o ≡ Ok x → object.Cache x ≡ o
@@ -100,6 +109,7 @@ cache_is (object.Mvar a) x e = absurd cc
 cache_is (object.Promise a) x e = absurd cc
 cache_is (object.Acc a) x e = absurd cc
 cache_is (object.Hash a) x e = absurd cc
+cache_is (object.Grow a) x e = absurd cc
 cache_is (object.Cache a) x e = ap (λ y. object.Cache y) (sym (ok_is _ _ e))
 
 pub mvar_is : (o : Object) (x : Mvar) → as_mvar o ≡ Ok x → object.Mvar x ≡ o
@@ -110,6 +120,7 @@ mvar_is (object.Mvar a) x e = ap (λ y. object.Mvar y) (sym (ok_is _ _ e))
 mvar_is (object.Promise a) x e = absurd cc
 mvar_is (object.Acc a) x e = absurd cc
 mvar_is (object.Hash a) x e = absurd cc
+mvar_is (object.Grow a) x e = absurd cc
 mvar_is (object.Cache a) x e = absurd cc
 
 pub promise_is : (o : Object) (x : Promise) → as_promise o ≡ Ok x → object.Promise x ≡ o
@@ -120,6 +131,7 @@ promise_is (object.Mvar a) x e = absurd cc
 promise_is (object.Promise a) x e = ap (λ y. object.Promise y) (sym (ok_is _ _ e))
 promise_is (object.Acc a) x e = absurd cc
 promise_is (object.Hash a) x e = absurd cc
+promise_is (object.Grow a) x e = absurd cc
 promise_is (object.Cache a) x e = absurd cc
 
 pub acc_is : (o : Object) (x : Accumulator) → as_acc o ≡ Ok x → object.Acc x ≡ o
@@ -130,6 +142,7 @@ acc_is (object.Mvar a) x e = absurd cc
 acc_is (object.Promise a) x e = absurd cc
 acc_is (object.Acc a) x e = ap (λ y. object.Acc y) (sym (ok_is _ _ e))
 acc_is (object.Hash a) x e = absurd cc
+acc_is (object.Grow a) x e = absurd cc
 acc_is (object.Cache a) x e = absurd cc
 
 -- a location that has a name
@@ -141,6 +154,7 @@ location_is names (object.Mvar a) l e h = absurd cc
 location_is names (object.Promise a) l e h = absurd cc
 location_is names (object.Acc a) l e h = absurd cc
 location_is names (object.Hash a) l e h = absurd cc
+location_is names (object.Grow a) l e h = absurd cc
 location_is names (object.Cache a) l e h = absurd cc
 
 -- the location that a word names
@@ -186,6 +200,10 @@ kind_on names o kinded act made kind x e is on h =
     let b = bind_ok act (λ c. given (made a.0 c)) x a.2 in
     subst (IsOn names) (ok_is _ _ b.2) (on a.0 b.0 (subst (HasObject names) (sym (is a.0 a.1)) h))
 
+table_on : (names : Names) (k : Table) (a : HashAct) → HasObject names (table_object k) → IsOn names (table_op k a)
+table_on names (tables.Hash x) a h = h
+table_on names (tables.Grow x) a h = h
+
 length_on : (names : Names) (o : Object) (x : Op) → length_of o ≡ Ok x → HasObject names o → IsOn names x
 length_on names (object.Loc at value) x e h = absurd cc
 length_on names (object.Stack a) x e h = subst (IsOn names) (ok_is _ _ e) h
@@ -194,6 +212,7 @@ length_on names (object.Mvar a) x e h = absurd cc
 length_on names (object.Promise a) x e h = absurd cc
 length_on names (object.Acc a) x e h = absurd cc
 length_on names (object.Hash a) x e h = subst (IsOn names) (ok_is _ _ e) h
+length_on names (object.Grow a) x e h = subst (IsOn names) (ok_is _ _ e) h
 length_on names (object.Cache a) x e h = subst (IsOn names) (ok_is _ _ e) h
 
 op_on_on : (thread : ℕ) (names : Names) (v : ObjectVerb) (o : Object) (args : List (List ℕ)) (x : Op) → op_on thread names v o args ≡ Ok x → HasObject names o → IsOn names x
@@ -204,7 +223,7 @@ op_on_on thread names (object_verb.OnLoc w) o args x e h =
     subst (IsOn names) (ok_is _ _ b.2) (loc_op_on names w a.0 args b.0 b.1 (location_is names o a.0 a.1 h))
 op_on_on thread names (object_verb.OnStack w) o args x e h = kind_on names o (as_stack o) (stack_act w args) (λ (k : Stack) (a : StackAct). op.Stack (record { stack = k; act = a })) (λ k. object.Stack k) x e (stack_is o) (λ k a g. g) h
 op_on_on thread names (object_verb.OnQueue w) o args x e h = kind_on names o (as_queue o) (queue_act w args) (λ (k : Queue) (a : QueueAct). op.Queue (record { queue = k; act = a })) (λ k. object.Queue k) x e (queue_is o) (λ k a g. g) h
-op_on_on thread names (object_verb.OnTable w) o args x e h = kind_on names o (as_table o) (table_act w args) (λ (k : Hash) (a : HashAct). op.Hash (record { hash = k; act = a })) (λ k. object.Hash k) x e (table_is o) (λ k a g. g) h
+op_on_on thread names (object_verb.OnTable w) o args x e h = kind_on names o (as_table o) (table_act w args) table_op table_object x e (table_is o) (table_on names) h
 op_on_on thread names (object_verb.OnCache w) o args x e h = kind_on names o (as_cache o) (cache_act w args) (λ (k : Cache) (a : CacheAct). op.Cache (record { cache = k; act = a })) (λ k. object.Cache k) x e (cache_is o) (λ k a g. g) h
 op_on_on thread names (object_verb.OnMvar w) o args x e h = kind_on names o (as_mvar o) (mvar_act w args) (λ (k : Mvar) (a : MvarAct). op.Mvar (record { mvar = k; act = a })) (λ k. object.Mvar k) x e (mvar_is o) (λ k a g. g) h
 op_on_on thread names (object_verb.OnPromise w) o args x e h = kind_on names o (as_promise o) (promise_act w args) (λ (k : Promise) (a : PromiseAct). op.Promise (record { promise = k; act = a })) (λ k. object.Promise k) x e (promise_is o) (λ k a g. g) h

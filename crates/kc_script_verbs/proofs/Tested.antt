@@ -37,7 +37,7 @@ use Rattle.kc_script_verbs.specs.declared.verb.Verb.{Verb}
 use Rattle.kc_script_verbs.specs.declared.verb.Verb.TheVariants as verb
 use Rattle.kc_script_verbs.specs.declared.word.Kind.{Kind}
 use Rattle.kc_script_verbs.specs.declared.word.Kind.TheVariants as kind
-use Rattle.kc_script_verbs.specs.Declaring.{fields, tested, at_most, laid, loc_at, stack_at, queue_at, table_at, cache_at, mvar_at, promise_at, acc_at, object_at, next, declare}
+use Rattle.kc_script_verbs.specs.Declaring.{fields, tested, at_most, laid, loc_at, stack_at, queue_at, table_at, grow_at, cache_at, mvar_at, promise_at, acc_at, object_at, next, declare}
 use Rattle.kc_script_verbs.specs.Fields.{Field, kind_fields, number_at, size_of, is_loc, is_stack, is_queue, is_table, is_cache, is_mvar, is_promise, is_acc, has_length, loc_fields, stack_fields, queue_fields, table_fields, cache_fields, mvar_fields, promise_fields, acc_fields, object_fields, verb_fields, Kinds, object_kind, kinds_of, kind_named, is_such, is_among, functions, relations, field_tests, word_tests, args_tests}
 use Rattle.kc_script_verbs.specs.Objects.{object_of, new_name, used, as_loc, as_stack, as_queue, as_table, as_cache, as_mvar, as_promise, as_acc}
 use Rattle.kc_script_verbs.specs.Saying.{arity, value_at, fun_named, fun_at, rel_named, loc_named, loc_op, stack_act, queue_act, table_act, cache_act, mvar_act, promise_act, acc_act, length_of, op_on, op_of, say}
@@ -124,6 +124,7 @@ loc_kind (object.Mvar x) = record { same = refl }
 loc_kind (object.Promise p) = record { same = refl }
 loc_kind (object.Acc a) = record { same = refl }
 loc_kind (object.Hash h) = record { same = refl }
+loc_kind (object.Grow g) = record { same = refl }
 loc_kind (object.Cache c) = record { same = refl }
 
 stack_kind : (o : Object) → Tested (as_stack o) ((is_stack (object_kind o), WrongKind) ∷ [])
@@ -134,6 +135,7 @@ stack_kind (object.Mvar x) = record { same = refl }
 stack_kind (object.Promise p) = record { same = refl }
 stack_kind (object.Acc a) = record { same = refl }
 stack_kind (object.Hash h) = record { same = refl }
+stack_kind (object.Grow g) = record { same = refl }
 stack_kind (object.Cache c) = record { same = refl }
 
 queue_kind : (o : Object) → Tested (as_queue o) ((is_queue (object_kind o), WrongKind) ∷ [])
@@ -144,6 +146,7 @@ queue_kind (object.Mvar x) = record { same = refl }
 queue_kind (object.Promise p) = record { same = refl }
 queue_kind (object.Acc a) = record { same = refl }
 queue_kind (object.Hash h) = record { same = refl }
+queue_kind (object.Grow g) = record { same = refl }
 queue_kind (object.Cache c) = record { same = refl }
 
 table_kind : (o : Object) → Tested (as_table o) ((is_table (object_kind o), WrongKind) ∷ [])
@@ -154,6 +157,7 @@ table_kind (object.Mvar x) = record { same = refl }
 table_kind (object.Promise p) = record { same = refl }
 table_kind (object.Acc a) = record { same = refl }
 table_kind (object.Hash h) = record { same = refl }
+table_kind (object.Grow g) = record { same = refl }
 table_kind (object.Cache c) = record { same = refl }
 
 cache_kind : (o : Object) → Tested (as_cache o) ((is_cache (object_kind o), WrongKind) ∷ [])
@@ -164,6 +168,7 @@ cache_kind (object.Mvar x) = record { same = refl }
 cache_kind (object.Promise p) = record { same = refl }
 cache_kind (object.Acc a) = record { same = refl }
 cache_kind (object.Hash h) = record { same = refl }
+cache_kind (object.Grow g) = record { same = refl }
 cache_kind (object.Cache c) = record { same = refl }
 
 mvar_kind : (o : Object) → Tested (as_mvar o) ((is_mvar (object_kind o), WrongKind) ∷ [])
@@ -174,6 +179,7 @@ mvar_kind (object.Mvar x) = record { same = refl }
 mvar_kind (object.Promise p) = record { same = refl }
 mvar_kind (object.Acc a) = record { same = refl }
 mvar_kind (object.Hash h) = record { same = refl }
+mvar_kind (object.Grow g) = record { same = refl }
 mvar_kind (object.Cache c) = record { same = refl }
 
 promise_kind : (o : Object) → Tested (as_promise o) ((is_promise (object_kind o), WrongKind) ∷ [])
@@ -184,6 +190,7 @@ promise_kind (object.Mvar x) = record { same = refl }
 promise_kind (object.Promise p) = record { same = refl }
 promise_kind (object.Acc a) = record { same = refl }
 promise_kind (object.Hash h) = record { same = refl }
+promise_kind (object.Grow g) = record { same = refl }
 promise_kind (object.Cache c) = record { same = refl }
 
 acc_kind : (o : Object) → Tested (as_acc o) ((is_acc (object_kind o), WrongKind) ∷ [])
@@ -194,6 +201,7 @@ acc_kind (object.Mvar x) = record { same = refl }
 acc_kind (object.Promise p) = record { same = refl }
 acc_kind (object.Acc a) = record { same = refl }
 acc_kind (object.Hash h) = record { same = refl }
+acc_kind (object.Grow g) = record { same = refl }
 acc_kind (object.Cache c) = record { same = refl }
 
 length_kind : (o : Object) → Tested (length_of o) ((has_length (object_kind o), WrongKind) ∷ [])
@@ -204,6 +212,7 @@ length_kind (object.Mvar x) = record { same = refl }
 length_kind (object.Promise p) = record { same = refl }
 length_kind (object.Acc a) = record { same = refl }
 length_kind (object.Hash h) = record { same = refl }
+length_kind (object.Grow g) = record { same = refl }
 length_kind (object.Cache c) = record { same = refl }
 
 -- ---- what stands behind the name
@@ -328,11 +337,12 @@ then_sized most w f rest more = then_fault (positive_to most w) f _ rest (positi
 
 module _ (at : ℕ) (args : List (List ℕ)) where
   object_fault : (names : Kinds) (k : Kind) → Tested (object_at at k args) (tests_from names args 1 (drop 1 (kind_fields k)) ++ (leb (at + size_of k args) 65536, TooMany Locations) ∷ [])
-  unfolding object_at loc_at stack_at queue_at table_at cache_at mvar_at promise_at acc_at
+  unfolding object_at loc_at stack_at queue_at table_at grow_at cache_at mvar_at promise_at acc_at
   object_fault names kind.Loc = then_fault (number_to 4294967295 (word_at args 1)) (loc_at at) _ _ (number_fault 4294967295 (word_at args 1)) (λ n e. laid_fault _ _ _ refl)
   object_fault names kind.Stack = then_sized 4096 (word_at args 1) (stack_at at) _ (λ n v some. laid_fault _ _ _ (omega (arith, v)))
   object_fault names kind.Queue = then_sized 4096 (word_at args 1) (queue_at at) _ (λ n v some. some_fault n _ _ some (λ le. laid_fault _ _ _ (omega (arith, v))))
   object_fault names kind.Table = then_sized 1024 (word_at args 1) _ _ (λ b u some. then_sized 4096 (word_at args 2) (table_at at b) _ (λ n v more. some_fault b _ _ some (λ le. some_fault n _ _ more (λ ge. laid_fault _ _ _ (omega (arith, u, v))))))
+  object_fault names kind.Grow = then_sized 4096 (word_at args 1) (grow_at at) _ (λ n v some. some_fault n _ _ some (λ le. laid_fault _ _ _ (omega (arith, v))))
   object_fault names kind.Cache = then_sized 1024 (word_at args 1) _ _ (λ b u some. then_sized 4096 (word_at args 2) (cache_at at b) _ (λ n v more. some_fault b _ _ some (λ le. some_fault n _ _ more (λ ge. laid_fault _ _ _ (omega (arith, u, v))))))
   object_fault names kind.Mvar = laid_fault _ _ _ refl
   object_fault names kind.Promise = laid_fault _ _ _ refl
@@ -344,6 +354,7 @@ first_new names args kind.Loc = refl
 first_new names args kind.Stack = refl
 first_new names args kind.Queue = refl
 first_new names args kind.Table = refl
+first_new names args kind.Grow = refl
 first_new names args kind.Cache = refl
 first_new names args kind.Mvar = refl
 first_new names args kind.Promise = refl
@@ -390,13 +401,14 @@ module _ (at : ℕ) (args : List (List ℕ)) (o : Object) where
   Is k x = (object_kind x ≡ k) × (cells x ≡ size_of k args)
 
   object_is : (k : Kind) → object_at at k args ≡ Ok o → Is k o
-  unfolding object_at loc_at stack_at queue_at table_at cache_at mvar_at promise_at acc_at
+  unfolding object_at loc_at stack_at queue_at table_at grow_at cache_at mvar_at promise_at acc_at
   object_is kind.Loc e =
       let a = bind_ok (number_to 4294967295 (word_at args 1)) (loc_at at) o e in
       laid_is _ _ (Is kind.Loc) (λ le. (refl, refl)) a.2
   object_is kind.Stack e = sized_is 4096 1 (stack_at at) e (λ n v f. laid_is _ _ (Is kind.Stack) (λ le. (refl, omega (arith, v))) f)
   object_is kind.Queue e = sized_is 4096 1 (queue_at at) e (λ n v f. some_is n _ (Is kind.Queue) (λ some g. laid_is _ _ (Is kind.Queue) (λ le. (refl, omega (arith, v))) g) f)
   object_is kind.Table e = sized_is 1024 1 _ e (λ b u f. sized_is 4096 2 (table_at at b) f (λ n v g. some_is b _ (Is kind.Table) (λ some x. some_is n _ (Is kind.Table) (λ more y. laid_is _ _ (Is kind.Table) (λ le. (refl, omega (arith, u, v))) y) x) g))
+  object_is kind.Grow e = sized_is 4096 1 (grow_at at) e (λ n v f. some_is n _ (Is kind.Grow) (λ some g. laid_is _ _ (Is kind.Grow) (λ le. (refl, omega (arith, v))) g) f)
   object_is kind.Cache e = sized_is 1024 1 _ e (λ b u f. sized_is 4096 2 (cache_at at b) f (λ n v g. some_is b _ (Is kind.Cache) (λ some x. some_is n _ (Is kind.Cache) (λ more y. laid_is _ _ (Is kind.Cache) (λ le. (refl, omega (arith, u, v))) y) x) g))
   object_is kind.Mvar e = laid_is _ _ (Is kind.Mvar) (λ le. (refl, refl)) e
   object_is kind.Promise e = laid_is _ _ (Is kind.Promise) (λ le. (refl, refl)) e

@@ -100,6 +100,7 @@ kind_text kind.Loc = codes "loc"
 kind_text kind.Stack = codes "stack"
 kind_text kind.Queue = codes "queue"
 kind_text kind.Table = codes "table"
+kind_text kind.Grow = codes "grow"
 kind_text kind.Cache = codes "cache"
 kind_text kind.Mvar = codes "mvar"
 kind_text kind.Promise = codes "promise"
@@ -192,7 +193,7 @@ module _ (w : List ℕ) where
 
   kind_has : Has kind_text (kind_of w)
   unfolding kind_of
-  kind_has = link kind_text kind.Loc _ (link kind_text kind.Stack _ (link kind_text kind.Queue _ (link kind_text kind.Table _ (link kind_text kind.Cache _ (link kind_text kind.Mvar _ (link kind_text kind.Promise _ (link kind_text kind.Acc _ (none kind_text))))))))
+  kind_has = link kind_text kind.Loc _ (link kind_text kind.Stack _ (link kind_text kind.Queue _ (link kind_text kind.Table _ (link kind_text kind.Grow _ (link kind_text kind.Cache _ (link kind_text kind.Mvar _ (link kind_text kind.Promise _ (link kind_text kind.Acc _ (none kind_text)))))))))
 
   -- the word that begins a line has its text
   pub word_has : (x : Word) → word_of w ≡ Some x → w ≡ text_of x
@@ -250,6 +251,7 @@ kind_read kind.Loc = refl
 kind_read kind.Stack = refl
 kind_read kind.Queue = refl
 kind_read kind.Table = refl
+kind_read kind.Grow = refl
 kind_read kind.Cache = refl
 kind_read kind.Mvar = refl
 kind_read kind.Promise = refl

@@ -14,7 +14,8 @@ use Rattle.kc_stack.specs.declared.operation.StackAct.TheVariants as stack
 use Rattle.kc_queue.specs.declared.operation.QueueAct.{QueueAct}
 use Rattle.kc_queue.specs.declared.queue.Queue.{Queue}
 use Rattle.kc_queue.specs.declared.operation.QueueAct.TheVariants as queue
-use Rattle.kc_hash.specs.declared.hash.Hash.{Hash}
+use Rattle.kc_grow.specs.declared.operation.GrowAct.{GrowAct}
+use Rattle.kc_grow.specs.declared.operation.GrowAct.TheVariants as grow
 use Rattle.kc_hash.specs.declared.operation.HashAct.{HashAct}
 use Rattle.kc_hash.specs.declared.operation.HashAct.TheVariants as table
 use Rattle.kc_cache.specs.declared.cache.Cache.{Cache}
@@ -95,11 +96,19 @@ queue_words q queue.DeqWait = Part.text (codes "deqw") ∷ Part.object_name (obj
 queue_words q queue.Front = Part.text (codes "front") ∷ Part.object_name (object.Queue q) ∷ []
 queue_words q queue.Len = Part.text (codes "len") ∷ Part.object_name (object.Queue q) ∷ []
 
-abbrev pub table_words : Hash → HashAct → List Part
-table_words h (table.Put k v) = Part.text (codes "put") ∷ Part.object_name (object.Hash h) ∷ Part.numeral k ∷ Part.numeral v ∷ []
-table_words h (table.Find k) = Part.text (codes "find") ∷ Part.object_name (object.Hash h) ∷ Part.numeral k ∷ []
-table_words h (table.Del k) = Part.text (codes "del") ∷ Part.object_name (object.Hash h) ∷ Part.numeral k ∷ []
-table_words h table.Len = Part.text (codes "len") ∷ Part.object_name (object.Hash h) ∷ []
+-- of a table of either kind
+abbrev pub table_words : Object → HashAct → List Part
+table_words o (table.Put k v) = Part.text (codes "put") ∷ Part.object_name o ∷ Part.numeral k ∷ Part.numeral v ∷ []
+table_words o (table.Find k) = Part.text (codes "find") ∷ Part.object_name o ∷ Part.numeral k ∷ []
+table_words o (table.Del k) = Part.text (codes "del") ∷ Part.object_name o ∷ Part.numeral k ∷ []
+table_words o table.Len = Part.text (codes "len") ∷ Part.object_name o ∷ []
+
+-- the same on a table that doesn't grow
+abbrev pub hash_act : GrowAct → HashAct
+hash_act (grow.Put k v) = table.Put k v
+hash_act (grow.Find k) = table.Find k
+hash_act (grow.Del k) = table.Del k
+hash_act grow.Len = table.Len
 
 abbrev pub mvar_words : Mvar → MvarAct → List Part
 mvar_words x (mvar.Put v) = Part.text (codes "mput") ∷ Part.object_name (object.Mvar x) ∷ Part.numeral v ∷ []
@@ -129,7 +138,8 @@ abbrev pub words_of : Op → List Part
 words_of (op.Loc o) = loc_words o
 words_of (op.Stack o) = stack_words o.stack o.act
 words_of (op.Queue o) = queue_words o.queue o.act
-words_of (op.Hash o) = table_words o.hash o.act
+words_of (op.Hash o) = table_words (object.Hash o.hash) o.act
+words_of (op.Grow o) = table_words (object.Grow o.grow) (hash_act o.act)
 words_of (op.Mvar o) = mvar_words o.mvar o.act
 words_of (op.Promise o) = promise_words o.promise o.act
 words_of (op.Acc o) = acc_words o.acc o.act
@@ -143,6 +153,7 @@ declaring name (object.Loc at opens) = Part.text (codes "loc") ∷ Part.text nam
 declaring name (object.Stack s) = Part.text (codes "stack") ∷ Part.text name ∷ Part.numeral s.cap ∷ []
 declaring name (object.Queue q) = Part.text (codes "queue") ∷ Part.text name ∷ Part.numeral q.cap ∷ []
 declaring name (object.Hash h) = Part.text (codes "table") ∷ Part.text name ∷ Part.numeral h.buckets ∷ Part.numeral h.cap ∷ []
+declaring name (object.Grow g) = Part.text (codes "grow") ∷ Part.text name ∷ Part.numeral g.cap ∷ []
 declaring name (object.Cache c) = Part.text (codes "cache") ∷ Part.text name ∷ Part.numeral c.buckets ∷ Part.numeral c.cap ∷ []
 declaring name (object.Mvar x) = Part.text (codes "mvar") ∷ Part.text name ∷ []
 declaring name (object.Promise p) = Part.text (codes "promise") ∷ Part.text name ∷ []

@@ -51,6 +51,9 @@ queue_at at cap = at_most 1 cap BadNumber (λ some. laid (at + 2 + cap) (λ room
 unfoldable pub table_at : ℕ → ℕ → ℕ → Result Object Why
 table_at at buckets cap = at_most 1 buckets BadNumber (λ some_buckets. at_most 1 cap BadNumber (λ some. laid (at + 2 + buckets + 3 * cap) (λ room. object.Hash (record { base = record { 0 = at }; buckets = buckets; cap = cap; some_buckets = some_buckets; some = some; laid = room }))))
 
+unfoldable pub grow_at : ℕ → ℕ → Result Object Why
+grow_at at cap = at_most 1 cap BadNumber (λ some. laid (at + 3 + cap + 3 * cap) (λ room. object.Grow (record { base = record { 0 = at }; cap = cap; some = some; laid = room })))
+
 unfoldable pub cache_at : ℕ → ℕ → ℕ → Result Object Why
 cache_at at buckets cap = at_most 1 buckets BadNumber (λ some_buckets. at_most 1 cap BadNumber (λ some. laid (at + 6 + buckets + 7 * cap) (λ room. object.Cache (record { base = record { 0 = at }; buckets = buckets; cap = cap; some_buckets = some_buckets; some = some; laid = room; table_laid = table_laid at buckets cap room; order_laid = order_laid at buckets cap room }))))
 
@@ -69,6 +72,7 @@ object_at at kind.Loc args = number_to 4294967295 (word_at args 1) >>= loc_at at
 object_at at kind.Stack args = positive_to MOST_ITEMS (word_at args 1) >>= stack_at at
 object_at at kind.Queue args = positive_to MOST_ITEMS (word_at args 1) >>= queue_at at
 object_at at kind.Table args = positive_to MOST_BUCKETS (word_at args 1) >>= λ buckets. positive_to MOST_ITEMS (word_at args 2) >>= table_at at buckets
+object_at at kind.Grow args = positive_to MOST_ITEMS (word_at args 1) >>= grow_at at
 object_at at kind.Cache args = positive_to MOST_BUCKETS (word_at args 1) >>= λ buckets. positive_to MOST_ITEMS (word_at args 2) >>= cache_at at buckets
 object_at at kind.Mvar args = mvar_at at
 object_at at kind.Promise args = promise_at at

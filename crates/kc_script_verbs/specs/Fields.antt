@@ -64,6 +64,7 @@ kind_fields kind.Loc = Field.new ∷ value ∷ []
 kind_fields kind.Stack = Field.new ∷ capacity ∷ []
 kind_fields kind.Queue = Field.new ∷ capacity ∷ []
 kind_fields kind.Table = Field.new ∷ buckets ∷ capacity ∷ []
+kind_fields kind.Grow = Field.new ∷ capacity ∷ []
 kind_fields kind.Cache = Field.new ∷ buckets ∷ capacity ∷ []
 kind_fields kind.Mvar = Field.new ∷ []
 kind_fields kind.Promise = Field.new ∷ []
@@ -78,6 +79,7 @@ size_of kind.Loc args = 1
 size_of kind.Stack args = 1 + number_at args 1
 size_of kind.Queue args = 2 + number_at args 1
 size_of kind.Table args = 2 + number_at args 1 + 3 * number_at args 2
+size_of kind.Grow args = 3 + 4 * number_at args 1
 size_of kind.Cache args = 6 + number_at args 1 + 7 * number_at args 2
 size_of kind.Mvar args = 2
 size_of kind.Promise args = 2
@@ -97,8 +99,10 @@ abbrev pub is_queue : Kind → Bool
 is_queue kind.Queue = true
 is_queue _ = false
 
+-- of either kind of table
 abbrev pub is_table : Kind → Bool
 is_table kind.Table = true
+is_table kind.Grow = true
 is_table _ = false
 
 abbrev pub is_cache : Kind → Bool
@@ -193,6 +197,7 @@ object_kind (object.Mvar x) = kind.Mvar
 object_kind (object.Promise p) = kind.Promise
 object_kind (object.Acc a) = kind.Acc
 object_kind (object.Hash h) = kind.Table
+object_kind (object.Grow g) = kind.Grow
 object_kind (object.Cache c) = kind.Cache
 
 abbrev pub kinds_of : Names → Kinds

@@ -5,7 +5,6 @@ use Rattle.kc_cache.specs.declared.cache.Cache.{Cache}
 use Rattle.kc_cells.specs.declared.accumulator.Accumulator.{Accumulator}
 use Rattle.kc_cells.specs.declared.mvar.Mvar.{Mvar}
 use Rattle.kc_cells.specs.declared.promise.Promise.{Promise}
-use Rattle.kc_hash.specs.declared.hash.Hash.{Hash}
 use Rattle.kc_model.specs.declared.footprint.Loc.{Loc}
 use Rattle.kc_queue.specs.declared.queue.Queue.{Queue}
 use Rattle.kc_script_bundle.specs.declared.object.Object.{Object}
@@ -16,6 +15,8 @@ use Rattle.kc_script_lines.specs.declared.fault.Why.TheVariants.{UnknownName, Re
 use Rattle.kc_stack.specs.declared.stack.Stack.{Stack}
 use Rattle.kc_script_bundle.specs.declared.object.Object.TheVariants as object
 use Rattle.kc_script_bundle.specs.Script.{Names}
+use Rattle.kc_script_verbs.specs.declared.objects.Table.{Table}
+use Rattle.kc_script_verbs.specs.declared.objects.Table.TheVariants as tables
 
 -- the object of this name
 abbrev pub object_of : Names → List ℕ → Option Object
@@ -47,8 +48,9 @@ abbrev pub as_queue : Object → Result Queue Why
 as_queue (object.Queue q) = Ok q
 as_queue _ = Err WrongKind
 
-abbrev pub as_table : Object → Result Hash Why
-as_table (object.Hash h) = Ok h
+abbrev pub as_table : Object → Result Table Why
+as_table (object.Hash h) = Ok (tables.Hash h)
+as_table (object.Grow g) = Ok (tables.Grow g)
 as_table _ = Err WrongKind
 
 abbrev pub as_cache : Object → Result Cache Why

@@ -16,6 +16,8 @@ use Rattle.kc_stack.specs.declared.operation.StackAct.{StackAct}
 use Rattle.kc_stack.specs.declared.operation.StackAct.TheVariants as stack
 use Rattle.kc_queue.specs.declared.operation.QueueAct.{QueueAct}
 use Rattle.kc_queue.specs.declared.operation.QueueAct.TheVariants as queue
+use Rattle.kc_grow.specs.declared.operation.GrowAct.{GrowAct}
+use Rattle.kc_grow.specs.declared.operation.GrowAct.TheVariants as grow
 use Rattle.kc_hash.specs.declared.operation.HashAct.{HashAct}
 use Rattle.kc_hash.specs.declared.operation.HashAct.TheVariants as table
 use Rattle.kc_cache.specs.declared.operation.CacheAct.{CacheAct}
@@ -56,6 +58,8 @@ use Rattle.kc_script_verbs.specs.declared.verb.Verb.{Verb}
 use Rattle.kc_script_verbs.specs.declared.verb.Verb.TheVariants as verb
 use Rattle.kc_script_verbs.specs.declared.word.Word.{Word}
 use Rattle.kc_script_verbs.specs.declared.word.Word.TheVariants as word
+use Rattle.kc_script_verbs.specs.declared.objects.Table.{Table}
+use Rattle.kc_script_verbs.specs.declared.objects.Table.TheVariants as tables
 use Rattle.kc_script_verbs.specs.Fields.{loc_fields, stack_fields, queue_fields, table_fields, cache_fields, mvar_fields, promise_fields, acc_fields, object_fields, verb_fields}
 use Rattle.kc_script_verbs.specs.Objects.{used, as_loc, as_stack, as_queue, as_table, as_cache, as_mvar, as_promise, as_acc}
 use Rattle.kc_script_verbs.specs.Words.{word_of}
@@ -173,6 +177,18 @@ table_act table_verb.Put args = value_at args 1 >>= λ k. value_at args 2 >>= λ
 table_act table_verb.Find args = value_at args 1 >>= λ k. Ok (table.Find k)
 table_act table_verb.Del args = value_at args 1 >>= λ k. Ok (table.Del k)
 
+-- the same on a table that grows
+abbrev pub grow_act : HashAct → GrowAct
+grow_act (table.Put k v) = grow.Put k v
+grow_act (table.Find k) = grow.Find k
+grow_act (table.Del k) = grow.Del k
+grow_act table.Len = grow.Len
+
+-- what is done to a table of either kind
+abbrev pub table_op : Table → HashAct → Op
+table_op (tables.Hash h) a = op.Hash (record { hash = h; act = a })
+table_op (tables.Grow g) a = op.Grow (record { grow = g; act = grow_act a })
+
 unfoldable pub cache_act : CacheWord → List (List ℕ) → Result CacheAct Why
 cache_act cache_verb.CPut args = value_at args 1 >>= λ k. value_at args 2 >>= λ v. Ok (cache.CPut k v)
 cache_act cache_verb.CPutWait args = value_at args 1 >>= λ k. value_at args 2 >>= λ v. Ok (cache.CPutWait k v)
@@ -199,6 +215,7 @@ abbrev pub length_of : Object → Result Op Why
 length_of (object.Stack s) = Ok (op.Stack (record { stack = s; act = stack.Len }))
 length_of (object.Queue q) = Ok (op.Queue (record { queue = q; act = queue.Len }))
 length_of (object.Hash h) = Ok (op.Hash (record { hash = h; act = table.Len }))
+length_of (object.Grow g) = Ok (op.Grow (record { grow = g; act = grow.Len }))
 length_of (object.Cache c) = Ok (op.Cache (record { cache = c; act = cache.Len }))
 length_of _ = Err WrongKind
 
@@ -209,7 +226,7 @@ unfoldable pub op_on : ℕ → Names → ObjectVerb → Object → List (List �
 op_on thread names (object_verb.OnLoc w) o args = as_loc o >>= λ at. loc_op names w at args >>= λ x. Ok (op.Loc x)
 op_on thread names (object_verb.OnStack w) o args = as_stack o >>= λ s. stack_act w args >>= λ a. Ok (op.Stack (record { stack = s; act = a }))
 op_on thread names (object_verb.OnQueue w) o args = as_queue o >>= λ q. queue_act w args >>= λ a. Ok (op.Queue (record { queue = q; act = a }))
-op_on thread names (object_verb.OnTable w) o args = as_table o >>= λ h. table_act w args >>= λ a. Ok (op.Hash (record { hash = h; act = a }))
+op_on thread names (object_verb.OnTable w) o args = as_table o >>= λ t. table_act w args >>= λ a. Ok (table_op t a)
 op_on thread names (object_verb.OnCache w) o args = as_cache o >>= λ c. cache_act w args >>= λ a. Ok (op.Cache (record { cache = c; act = a }))
 op_on thread names (object_verb.OnMvar w) o args = as_mvar o >>= λ x. mvar_act w args >>= λ a. Ok (op.Mvar (record { mvar = x; act = a }))
 op_on thread names (object_verb.OnPromise w) o args = as_promise o >>= λ p. promise_act w args >>= λ a. Ok (op.Promise (record { promise = p; act = a }))

@@ -143,11 +143,12 @@ kind_of w =
     else (if bytes_eq w (codes "stack") then Some kind.Stack
     else (if bytes_eq w (codes "queue") then Some kind.Queue
     else (if bytes_eq w (codes "table") then Some kind.Table
+    else (if bytes_eq w (codes "grow") then Some kind.Grow
     else (if bytes_eq w (codes "cache") then Some kind.Cache
     else (if bytes_eq w (codes "mvar") then Some kind.Mvar
     else (if bytes_eq w (codes "promise") then Some kind.Promise
     else (if bytes_eq w (codes "acc") then Some kind.Acc
-    else None)))))))
+    else None))))))))
 
 -- the word that begins a line
 unfoldable pub word_of : List ℕ → Option Word

@@ -1,12 +1,13 @@
 //! What a command does to an object, by the words behind the object's name.
 
 ghost use Rattle.std.specs.Prelude.{◌≡◌, map, length};
-ghost use Rattle.kc_script_verbs.specs.Saying.{stack_arity, queue_arity, table_arity, cache_arity, mvar_arity, promise_arity, acc_arity, stack_act, queue_act, table_act, cache_act, mvar_act, promise_act, acc_act};
+ghost use Rattle.kc_script_verbs.specs.Saying.{stack_arity, queue_arity, table_arity, cache_arity, mvar_arity, promise_arity, acc_arity, stack_act, queue_act, table_act, grow_act, cache_act, mvar_act, promise_act, acc_act};
 
 use crate::named::value_at;
 use crate::verb::{AccWord, CacheWord, MvarWord, PromiseWord, QueueWord, StackWord, TableWord};
 use kc_cache::CacheAct;
 use kc_cells::{AccAct, MvarAct, PromiseAct};
+use kc_grow::GrowAct;
 use kc_hash::HashAct;
 use kc_queue::QueueAct;
 use kc_script_lines::Why;
@@ -47,6 +48,18 @@ pub fn table_act(word: TableWord, args: &[&[u8]]) -> Result<HashAct, Why>
         TableWord::Put => Ok(HashAct::Put(value_at(args, 1)?, value_at(args, 2)?)),
         TableWord::Find => Ok(HashAct::Find(value_at(args, 1)?)),
         TableWord::Del => Ok(HashAct::Del(value_at(args, 1)?)),
+    }
+}
+
+/// The same on a table that grows.
+pub fn grow_act(act: HashAct) -> GrowAct
+    ensures { result ≡ grow_act act }
+{
+    match act {
+        HashAct::Put(key, value) => GrowAct::Put(key, value),
+        HashAct::Find(key) => GrowAct::Find(key),
+        HashAct::Del(key) => GrowAct::Del(key),
+        HashAct::Len => GrowAct::Len,
     }
 }
 

@@ -4,13 +4,14 @@ ghost use Rattle.std.specs.Prelude.{◌≡◌, ◌≤◌, map, length, None, IfO
 ghost use Rattle.kc_script_bundle.specs.Script.{names_of, next_from};
 ghost use Rattle.kc_script_lines.specs.Gives.{Reads};
 ghost use Rattle.kc_script_verbs.specs.Objects.{object_of, new_name};
-ghost use Rattle.kc_script_verbs.specs.Declaring.{fields, loc_at, stack_at, queue_at, table_at, cache_at, mvar_at, promise_at, acc_at, object_at, declare, IsAt};
+ghost use Rattle.kc_script_verbs.specs.Declaring.{fields, loc_at, stack_at, queue_at, table_at, grow_at, cache_at, mvar_at, promise_at, acc_at, object_at, declare, IsAt};
 
 use crate::objects::find;
 use crate::word::Kind;
 use indexmap::IndexMap;
 use kc_cache::Cache;
 use kc_cells::{Accumulator, MOST_CELLS, Mvar, Promise};
+use kc_grow::Grow;
 use kc_hash::Hash;
 use kc_model::{Loc, MOST_LOCATIONS};
 use kc_queue::Queue;
@@ -26,7 +27,7 @@ fn fields(kind: Kind) -> usize
     ensures { result ≡ fields kind }
 {
     match kind {
-        Kind::Loc | Kind::Stack | Kind::Queue | Kind::Acc => 2,
+        Kind::Loc | Kind::Stack | Kind::Queue | Kind::Grow | Kind::Acc => 2,
         Kind::Table | Kind::Cache => 3,
         Kind::Mvar | Kind::Promise => 1,
     }
@@ -99,6 +100,19 @@ fn table_at(at: Loc, buckets: u32, cap: u32) -> Result<Object, Why>
     Ok(Object::Hash(Hash::layout(at, buckets, cap)))
 }
 
+fn grow_at(at: Loc, cap: u32) -> Result<Object, Why>
+    requires at { at.0 ≤ MOST_LOCATIONS }
+    requires some { 1 ≤ cap }
+    requires most { cap ≤ MOST_ITEMS }
+    ensures gives { result ≡ grow_at at.0 cap }
+    ensures placed { IfOk result (IsAt at.0) }
+{
+    if at.0 + 3 + 4 * cap > END {
+        return Err(Why::TooMany(Limit::Locations));
+    }
+    Ok(Object::Grow(Grow::layout(at, cap)))
+}
+
 fn cache_at(at: Loc, buckets: u32, cap: u32) -> Result<Object, Why>
     requires at { at.0 ≤ MOST_LOCATIONS }
     requires some_buckets { 1 ≤ buckets }
@@ -165,6 +179,7 @@ fn object_at(at: Loc, kind: Kind, args: &[&[u8]]) -> Result<Object, Why>
             let buckets = positive_to(MOST_BUCKETS, word_at(args, 1))?;
             table_at(at, buckets, positive_to(MOST_ITEMS, word_at(args, 2))?)
         }
+        Kind::Grow => grow_at(at, positive_to(MOST_ITEMS, word_at(args, 1))?),
         Kind::Cache => {
             let buckets = positive_to(MOST_BUCKETS, word_at(args, 1))?;
             cache_at(at, buckets, positive_to(MOST_ITEMS, word_at(args, 2))?)

@@ -7,6 +7,7 @@ ghost use Rattle.kc_script_verbs.specs.Objects.{object_of, used, as_loc, as_stac
 use indexmap::IndexMap;
 use kc_cache::Cache;
 use kc_cells::{Accumulator, Mvar, Promise};
+use kc_grow::Grow;
 use kc_hash::Hash;
 use kc_model::Loc;
 use kc_queue::Queue;
@@ -14,6 +15,15 @@ use kc_script_bundle::Object;
 use kc_script_lines::{Why, as_name};
 use kc_stack::Stack;
 use std::alloc::{AllocError, Global};
+
+/// A table of either kind.
+#[derive(Clone, Copy, Debug, PartialEq, Eq)]
+pub enum Table {
+    /// One of so many buckets.
+    Hash(Hash),
+    /// One whose buckets split.
+    Grow(Grow),
+}
 
 /// The object of this name.
 pub fn find(objects: &IndexMap<String, Object>, name: &str) -> Option<Object>
@@ -78,11 +88,12 @@ pub fn as_queue(object: Object) -> Result<Queue, Why>
     }
 }
 
-pub fn as_table(object: Object) -> Result<Hash, Why>
+pub fn as_table(object: Object) -> Result<Table, Why>
     ensures { result ≡ as_table object }
 {
     match object {
-        Object::Hash(hash) => Ok(hash),
+        Object::Hash(hash) => Ok(Table::Hash(hash)),
+        Object::Grow(grow) => Ok(Table::Grow(grow)),
         _ => Err(Why::WrongKind),
     }
 }

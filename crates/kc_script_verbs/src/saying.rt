@@ -2,11 +2,13 @@
 
 ghost use Rattle.std.specs.Prelude.{◌≡◌, map, length};
 ghost use Rattle.kc_script_bundle.specs.Script.{names_of};
-ghost use Rattle.kc_script_verbs.specs.Saying.{loc_arity, stack_arity, queue_arity, table_arity, cache_arity, mvar_arity, promise_arity, acc_arity, object_arity, arity, length_of, op_on, cancel_of, say};
+ghost use Rattle.kc_script_verbs.specs.Saying.{loc_arity, stack_arity, queue_arity, table_arity, cache_arity, mvar_arity, promise_arity, acc_arity, object_arity, arity, length_of, table_op, op_on, cancel_of, say};
 
-use crate::acts::{acc_act, cache_act, mvar_act, promise_act, queue_act, stack_act, table_act};
+use crate::acts::{
+    acc_act, cache_act, grow_act, mvar_act, promise_act, queue_act, stack_act, table_act,
+};
 use crate::objects::{
-    as_acc, as_cache, as_loc, as_mvar, as_promise, as_queue, as_stack, as_table, used,
+    Table, as_acc, as_cache, as_loc, as_mvar, as_promise, as_queue, as_stack, as_table, used,
 };
 use crate::on_loc::loc_op;
 use crate::verb::{
@@ -16,6 +18,7 @@ use crate::verb::{
 use indexmap::IndexMap;
 use kc_cache::{CacheAct, CacheOp};
 use kc_cells::{AccOp, MvarOp, PromiseOp};
+use kc_grow::{GrowAct, GrowOp};
 use kc_hash::{HashAct, HashOp};
 use kc_model::Loc;
 use kc_queue::{QueueAct, QueueOp};
@@ -142,11 +145,28 @@ fn length_of(object: Object) -> Result<Op, Why>
             hash,
             act: HashAct::Len,
         })),
+        Object::Grow(grow) => Ok(Op::Grow(GrowOp {
+            grow,
+            act: GrowAct::Len,
+        })),
         Object::Cache(cache) => Ok(Op::Cache(CacheOp {
             cache,
             act: CacheAct::Len,
         })),
         _ => Err(Why::WrongKind),
+    }
+}
+
+// What is done to a table of either kind.
+fn table_op(table: Table, act: HashAct) -> Op
+    ensures { result ≡ table_op table act }
+{
+    match table {
+        Table::Hash(hash) => Op::Hash(HashOp { hash, act }),
+        Table::Grow(grow) => Op::Grow(GrowOp {
+            grow,
+            act: grow_act(act),
+        }),
     }
 }
 
@@ -178,9 +198,9 @@ fn op_on(
             Ok(Op::Queue(QueueOp { queue, act }))
         }
         ObjectVerb::OnTable(word) => {
-            let hash = as_table(object)?;
+            let table = as_table(object)?;
             let act = table_act(word, args)?;
-            Ok(Op::Hash(HashOp { hash, act }))
+            Ok(table_op(table, act))
         }
         ObjectVerb::OnCache(word) => {
             let cache = as_cache(object)?;

@@ -10,6 +10,7 @@ pub enum Kind {
     Stack,
     Queue,
     Table,
+    Grow,
     Cache,
     Mvar,
     Promise,
@@ -63,6 +64,9 @@ fn kind_of(word: &[u8]) -> Option<Kind>
     }
     if word == b"table".as_slice() {
         return Some(Kind::Table);
+    }
+    if word == b"grow".as_slice() {
+        return Some(Kind::Grow);
     }
     if word == b"cache".as_slice() {
         return Some(Kind::Cache);

@@ -6,6 +6,8 @@ mod cancels;
 #[cfg(test)]
 mod files;
 #[cfg(test)]
+mod grown;
+#[cfg(test)]
 mod limits;
 #[cfg(test)]
 mod runs;

@@ -221,6 +221,42 @@ fn all_threads_of_a_script_run_at_the_same_time(rt: HostRuntime) -> Result<(), F
     Ok(())
 }
 
+// Counts what it is told of.
+#[derive(Drop)]
+struct Counting {
+    before: AtomicU32,
+    after: AtomicU32,
+}
+
+impl Gate for Counting {
+    fn before(&self, _thread: u32, _number: u32) {
+        self.before.fetch_add(1, Ordering::SeqCst);
+    }
+
+    fn after(&self, _thread: u32, _number: u32) {
+        self.after.fetch_add(1, Ordering::SeqCst);
+    }
+}
+
+#[test]
+fn each_command_of_a_script_runs_once(rt: HostRuntime) -> Result<(), Fail> {
+    let alloc = rt.alloc();
+    let script = team(alloc, "kcas 1\nloc x 0\n", 4, "incr x\n", 25)?;
+    for option in STORES {
+        let gate = Counting {
+            before: AtomicU32::new(0),
+            after: AtomicU32::new(0),
+        };
+        let words = ["run", option];
+        let (status, written) = run_behind(&rt, alloc, &words, script.as_bytes(), &gate)?;
+        assert_eq!(rt; status, Status::Done);
+        assert!(rt; written.ends_with(b"state\nx 100\n"));
+        assert_eq!(rt; gate.before.load(Ordering::SeqCst), 100);
+        assert_eq!(rt; gate.after.load(Ordering::SeqCst), 100);
+    }
+    Ok(())
+}
+
 #[test]
 fn ends_that_fail_are_told_of_two_threads(rt: HostRuntime) -> Result<(), Fail> {
     for call in 1..7 {

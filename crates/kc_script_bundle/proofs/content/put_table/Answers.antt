@@ -5,7 +5,7 @@ use Rattle.kc_script_bundle.specs.State.{pair_text}
 use Rattle.kc_script_bundle.proofs.content.put_table.Goals as goal
 
 pub loop-key-init : goal.loop-key-init
-loop-key-init g c = record { same_sink = refl; owes = rw c.pairs-pairs.ensures.walk (owes_all _ _) }
+loop-key-init g c = record { same_sink = refl; owes = owes_all _ _ }
 
 pub loop-key-preserved : goal.loop-key-preserved
 loop-key-preserved g c =
