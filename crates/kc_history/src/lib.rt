@@ -21,4 +21,4 @@ pub use laws::{
 pub use record::{Head, Mark, Place, Record};
 pub use records::Records;
 pub use replaying::replay;
-pub use text::{put_text, write_text};
+pub use text::{put_text, write_reply_line, write_text};

@@ -55,6 +55,15 @@ fn put_reply_line<K: Sink>(pen: &mut Pen<K>, head: &Head)
     }
 }
 
+/// Writes the reply line of a command; of an end nothing. After a failed write no further one is made.
+pub fn write_reply_line<K: Sink>(head: &Head, sink: &mut K) -> Result<(), Failed>
+    ensures { Prints K.written K.faults K.write_gives sink.old sink.new result (reply_line (bare head.now)) }
+{
+    let mut pen = Pen::new(sink);
+    put_reply_line(&mut pen, head);
+    pen.end()
+}
+
 fn put_command_line<K: Sink>(pen: &mut Pen<K>, head: &Head)
     ensures { Puts K.written K.faults K.write_gives pen.old pen.new (label_text (bare head.now) ++ codes " " ++ answer_text head.now.answer ++ codes "\n") }
 {

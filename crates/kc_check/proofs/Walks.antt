@@ -1,0 +1,97 @@
+-- A walk over the places, as far as it has come.
+use Rattle.std.proofs.Common.{◌≡◌, ◌≢◌, ℕ, zero, suc, ◌+◌, ◌<◌, ◌≤◌, List, [], ◌∷◌, ◌++◌, All, map, length, take, drop, get_or, set, Some, refl, sym, ap, subst, ◌∙◌, arith, slice_index_or, Vec}
+use Rattle.std.proofs.lemmas.List.{drop_more, take_all}
+use Rattle.std.specs.Global.{Global}
+use Rattle.kc_history.specs.Order.{more}
+use Rattle.kc_history.specs.Ends.{AreWellMade}
+use Rattle.kc_history.specs.Records.{footprint_at, lists_of}
+use Rattle.kc_history.specs.RecordsValue.{RecordsValue}
+use Rattle.kc_history.specs.Text.{reply_line}
+use Rattle.kc_history.specs.declared.record.Place.{Place}
+use Rattle.kc_history.specs.declared.record.Record.{Record}
+use Rattle.kc_model.specs.Store.{Store}
+use Rattle.kc_script_bundle.specs.declared.operation.Command.{Command}
+use Rattle.kc_script_runs.proofs.Determined.{label_at, labelled_at}
+use Rattle.kc_check.proofs.Padded.{as_many, blank_made, counts_none, padded_threads}
+use Rattle.kc_check.proofs.Replays.{comes_more, comes_none, made_more}
+use Rattle.kc_check.specs.Ages.{IsYoung}
+use Rattle.kc_check.specs.Faults.{Comes, HasToWait, IsLabelled, IsOutOfTurn, RepliesElse, StopsAt}
+use Rattle.kc_check.specs.Parts.{IsPlace, said_at}
+use Rattle.kc_check.specs.Replays.{CommitsAt, HaveRoom, WaitsAt, all_padded, commands_of, counts}
+
+halves : {X : Type 0} (xs : List X) (i : ℕ) → xs ≡ take i xs ++ drop i xs
+halves [] zero = refl
+halves [] (suc i) = refl
+halves (x ∷ xs) zero = refl
+halves {X} (x ∷ xs) (suc i) = ap (λ (ys : List X). x ∷ ys) (halves xs i)
+
+pub parted : {X : Type 0} (xs : List X) (i : ℕ) (d : X) → i < length xs → xs ≡ take i xs ++ get_or xs i d ∷ drop (i + 1) xs
+parted {X} xs i d lt = halves xs i ∙ ap (λ (ys : List X). take i xs ++ ys) (drop_more xs i d lt)
+
+pub took : {X : Type 0} (xs : List X) (i : ℕ) → i ≤ length xs → length (take i xs) ≡ i
+took xs zero le = refl
+took [] (suc i) le = absurd (omega arith)
+took (x ∷ xs) (suc i) le = ap suc (took xs i (omega arith))
+
+one_more : {X : Type 0} (xs : List X) (i : ℕ) (d : X) → i < length xs → take (suc i) xs ≡ take i xs ++ get_or xs i d ∷ []
+one_more [] i d lt = absurd (omega arith)
+one_more (x ∷ xs) zero d lt = refl
+one_more {X} (x ∷ xs) (suc i) d lt = ap (λ (ys : List X). x ∷ ys) (one_more xs i d (omega arith))
+
+-- a thread has no more places than commands and an end
+pub index_small : (n : ℕ) (vs : List (Vec Command Global)) (p : Place) → All (λ (v : Vec Command Global). length v.items ≤ n) vs → IsPlace (commands_of vs) p → p.index ≤ n
+index_small n vs p few is = at vs p.thread few is.thread is.index
+  where
+    at : (vs : List (Vec Command Global)) (t : ℕ) → All (λ (v : Vec Command Global). length v.items ≤ n) vs → t < length (commands_of vs) → p.index ≤ length (slice_index_or (commands_of vs) t []) → p.index ≤ n
+    at [] t few lt le = absurd (omega arith)
+    at (v ∷ vs) zero few lt le = let h = few zero v (omega arith) in omega arith
+    at (v ∷ vs) (suc t) few lt le = at vs t (λ k d below. few (suc k) d (omega arith)) (omega arith) le
+
+module _ (limit : ℕ) (threads : List (List Command)) (replies : List (List (List ℕ))) (first : Store) (places : List Place) where
+  -- so many places have come
+  pub record WalkedTo (i : ℕ) (now : Store) (vs : List RecordsValue) : Type 0 where
+    pub comes : Comes limit threads replies first (take i places) (counts (lists_of vs)) now (all_padded 1 threads (lists_of vs))
+    pub room : HaveRoom limit 1 threads vs
+    pub young : IsYoung i now
+    pub made : AreWellMade (footprint_at (all_padded 1 threads (lists_of vs)))
+
+  pub walked_none : (vs : List RecordsValue) → HaveRoom limit 1 threads vs → All (λ (v : RecordsValue). v.items ≡ []) vs → IsYoung 0 first → WalkedTo 0 first vs
+  walked_none vs room empty young = record {
+    comes = subst (λ (m : ℕ → ℕ). Comes limit threads replies first [] m first (all_padded 1 threads (lists_of vs))) (sym (counts_none vs empty)) (comes_none limit threads replies first (all_padded 1 threads (lists_of vs)) (padded_threads limit 1 threads vs room));
+    room = room;
+    young = young;
+    made = blank_made 1 threads vs (as_many limit 1 threads vs room) empty;
+  }
+
+  pub walked_more : (i : ℕ) (now then : Store) (vs ws : List RecordsValue) (d : Place) → i < length places → WalkedTo i now vs → (get_or places i d).index ≡ counts (lists_of vs) (get_or places i d).thread → (c : CommitsAt limit threads (get_or places i d) now then (all_padded 1 threads (lists_of vs)) (all_padded 1 threads (lists_of ws)))
+      → counts (lists_of ws) ≡ more (get_or places i d).thread (counts (lists_of vs)) → HaveRoom limit 1 threads ws → said_at replies (get_or places i d) ≡ reply_line c.commit → IsYoung (i + 1) then → WalkedTo (i + 1) then ws
+  walked_more i now then vs ws d lt walked turn c counted room said young =
+      let p : Place = get_or places i d in
+      let others : List (List Record) = all_padded 1 threads (lists_of ws) in
+      let come = comes_more limit threads replies first (take i places) p (counts (lists_of vs)) now then (all_padded 1 threads (lists_of vs)) others walked.comes turn c said in
+      let longer : take i places ++ p ∷ [] ≡ take (i + 1) places = sym (one_more places i d lt) ∙ ap (λ (k : ℕ). take k places) (let e : suc i ≡ i + 1 = omega arith in e) in
+      record {
+        comes = subst (λ (ps : List Place). Comes limit threads replies first ps (counts (lists_of ws)) then others) longer (subst (λ (m : ℕ → ℕ). Comes limit threads replies first (take i places ++ p ∷ []) m then others) (sym counted) come);
+        room = room;
+        young = young;
+        made = made_more limit threads p now then (all_padded 1 threads (lists_of vs)) others c walked.made;
+      }
+
+  pub walked_all : (i : ℕ) (now : Store) (vs : List RecordsValue) → length places ≤ i → WalkedTo i now vs → Comes limit threads replies first places (counts (lists_of vs)) now (all_padded 1 threads (lists_of vs))
+  walked_all i now vs le walked = subst (λ (ps : List Place). Comes limit threads replies first ps (counts (lists_of vs)) now (all_padded 1 threads (lists_of vs))) (take_all i places le) walked.comes
+
+  module _ (i : ℕ) (now : Store) (vs : List RecordsValue) (d : Place) (lt : i < length places) (walked : WalkedTo i now vs) where
+    stops_at : (Wrong : Place → (ℕ → ℕ) → Store → Type 0) → Wrong (get_or places i d) (counts (lists_of vs)) now → (p : Place) × (front : List Place) × StopsAt limit threads replies first places Wrong p front × (length front ≡ i)
+    stops_at Wrong wrong = (get_or places i d, take i places, record { back = drop (i + 1) places; splits = parted places i d lt; stand = counts (lists_of vs); now = now; records = all_padded 1 threads (lists_of vs); comes = walked.comes; wrong = wrong }, took places i (omega arith))
+
+    pub stops_turn : (get_or places i d).index ≢ counts (lists_of vs) (get_or places i d).thread → (p : Place) × (front : List Place) × StopsAt limit threads replies first places (IsOutOfTurn limit threads replies first) p front × (length front ≡ i)
+    stops_turn ne = stops_at (IsOutOfTurn limit threads replies first) ne
+
+    pub stops_waits : (get_or places i d).index ≡ counts (lists_of vs) (get_or places i d).thread → WaitsAt limit threads (get_or places i d) now → (p : Place) × (front : List Place) × StopsAt limit threads replies first places (HasToWait limit threads replies first) p front × (length front ≡ i)
+    stops_waits turn w = stops_at (HasToWait limit threads replies first) (record { turn = turn; meaning = w.meaning; means = w.means; waits = w.waits })
+
+    pub stops_reply : (then : Store) (ws : List RecordsValue) → (get_or places i d).index ≡ counts (lists_of vs) (get_or places i d).thread → (c : CommitsAt limit threads (get_or places i d) now then (all_padded 1 threads (lists_of vs)) (all_padded 1 threads (lists_of ws))) → said_at replies (get_or places i d) ≢ reply_line c.commit → (p : Place) × (front : List Place) × StopsAt limit threads replies first places (RepliesElse limit threads replies first) p front × (length front ≡ i)
+    stops_reply then ws turn c differs =
+        let p : Place = get_or places i d in
+        let named = labelled_at 1 threads (all_padded 1 threads (lists_of ws)) c.labelled p.thread p.index c.commit c.stands in
+        stops_at (RepliesElse limit threads replies first) (record { turn = turn; meaning = c.meaning; means = c.means; commit = c.commit; labelled = named; commits = c.commits; differs = differs })

@@ -1,0 +1,28 @@
+use Rattle.std.proofs.Common.{◌≡◌, ◌+◌, ◌-◌, ◌<◌, ◌≤◌, ◌^◌, ◌++◌, ◌∷◌, [], List, length, sym, ap, subst, ◌∙◌, suc, arith}
+use Rattle.std.specs.Prelude.{IfErr}
+use Rattle.std.proofs.lemmas.List.{map-append}
+use Rattle.std.specs.Borrow.{Bor}
+use Rattle.kc_script_bundle.specs.declared.operation.Command.{Command}
+use Rattle.kc_check.proofs.Forming.{goes_more, if_err, now_more, thread_lacks, shapes_more}
+use Rattle.kc_check.specs.Forms.{Goes, IsReply, Shape, answers, thread_shapes}
+use Rattle.kc_check.specs.Reads.{FailsHowever}
+use Rattle.kc_check.specs.Walks.{now_of}
+use Rattle.kc_check.proofs.parting.read_thread.Goals as goal
+
+pub returns-in_err-line-clause-fails : goal.returns-in_err-line-clause-fails
+returns-in_err-line-clause-fails c =
+    if_err (λ e. (threads : List (List Command)) → FailsHowever threads (thread_shapes c.args.thread 1 c.args.commands) c.args.rest.now.bytes.now c.args.rest.now.number e) c.from_residual-in_err-line.result c.in_err-line.field-0.0 c.from_residual-in_err-line.ensures.1
+    (λ threads. thread_lacks threads c.args.thread c.loop-k.k c.args.commands c.args.rest.now.number c.loop-k.rest.number c.in_err-line.field-0.0 c.args.rest.now.bytes.now c.loop-k.rest.bytes.now (now_of c.loop-k.lines.items) c.loop-k-test.true (c.loop-k.invariant.came threads) c.in_err-line.ensures.lacks)
+
+pub loop-k-preserved : goal.loop-k-preserved
+loop-k-preserved c = record {
+  came = λ threads.
+      let more = goes_more threads (thread_shapes c.args.thread 1 c.loop-k.k) (answers c.args.thread (1 + c.loop-k.k)) c.args.rest.now.bytes.now c.args.rest.now.number (now_of c.loop-k.lines.items) c.loop-k.rest.bytes.now c.loop-k.rest.number c.in_ok-line.line.now c.read_reply.new.rest.bytes.now c.read_reply.new.rest.number
+      (c.loop-k.invariant.came threads) (subst (λ i. IsReply c.args.thread i c.in_ok-line.line.now) (let e : c.loop-k.k + 1 ≡ 1 + c.loop-k.k = omega arith in e) c.in_ok-line.ensures.says) c.in_ok-line.ensures.next c.in_ok-line.ensures.number in
+      subst (λ (ks : List Shape). Goes threads ks c.args.rest.now.bytes.now c.args.rest.now.number (now_of c.push.new.self.items) c.read_reply.new.rest.bytes.now c.read_reply.new.rest.number) (sym (shapes_more c.args.thread 1 c.loop-k.k))
+      (subst (λ ls. Goes threads (thread_shapes c.args.thread 1 c.loop-k.k ++ answers c.args.thread (1 + c.loop-k.k) ∷ []) c.args.rest.now.bytes.now c.args.rest.now.number ls c.read_reply.new.rest.bytes.now c.read_reply.new.rest.number) (sym (ap now_of c.in_ok-push.ensures.items ∙ now_more c.loop-k.lines.items c.in_ok-line.line)) more);
+  room = c.in_ok-line.ensures.room;
+}
+
+pub returns-clause-goes : goal.returns-clause-goes
+returns-clause-goes c = λ threads. subst (λ i. Goes threads (thread_shapes c.args.thread 1 i) c.args.rest.now.bytes.now c.args.rest.now.number (now_of c.loop-k.lines.items) c.loop-k.rest.bytes.now c.loop-k.rest.number) (let past = c.loop-k-test.false in let within = c.loop-k.auto.k-end in let e : c.loop-k.k ≡ c.args.commands = omega arith in e) (c.loop-k.invariant.came threads)

@@ -1,0 +1,11 @@
+use Rattle.std.proofs.Common.{ℕ, List, ◌+◌, ◌<◌, ◌^◌, length}
+use Rattle.kc_check.specs.Forms.{Goes, thread_shapes}
+use Rattle.kc_check.specs.Walks.{now_of}
+use Rattle.kc_script_bundle.specs.declared.operation.Command.{Command}
+use Rattle.kc_check.proofs.parting.read_thread.Given as goal
+
+abbrev pub invariant-loop-k : goal.invariant-loop-k
+invariant-loop-k l = record {
+  came : (threads : List (List Command)) → Goes threads (thread_shapes l.thread 1 l.k) l.fn.rest.bytes.now l.fn.rest.number (now_of l.lines.items) l.rest.bytes.now l.rest.number;
+  room : l.rest.number + length l.rest.bytes.now < 2 ^ 32;
+}

@@ -1,0 +1,10 @@
+use Rattle.std.proofs.Common.{◌+◌, ◌<◌, ◌^◌, length}
+use Rattle.kc_check.proofs.Parted.{ReadTo}
+use Rattle.kc_check.specs.Walks.{lines_in}
+use Rattle.kc_check.proofs.parting.read_threads.Given as goal
+
+abbrev pub invariant-loop-t : goal.invariant-loop-t
+invariant-loop-t l = record {
+  read : ReadTo l.threads l.t l.fn.rest.bytes.now l.fn.rest.number (lines_in l.replies.items) l.rest.bytes.now l.rest.number;
+  room : l.rest.number + length l.rest.bytes.now < 2 ^ 32;
+}

@@ -1,0 +1,12 @@
+pub mod Parts
+pub mod Forms
+pub mod Faults
+pub mod Ages
+pub mod Replays
+pub mod Laid
+pub mod Reads
+pub mod Judged
+pub mod Orders
+pub mod Shown
+pub mod Walks
+pub mod Matched

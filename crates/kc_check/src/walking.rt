@@ -1,0 +1,104 @@
+//! The places of a text in their order.
+
+ghost use Rattle.std.specs.Prelude.{◌≡◌, ◌<◌, ◌≤◌, ◌↔◌, [], All, IfErr, IfOk, IsSome, IsTrue, Some, length};
+ghost use Rattle.kc_history.specs.Ends.{AreWellMade};
+ghost use Rattle.kc_history.specs.Records.{footprint_at, lists_of, record_at};
+ghost use Rattle.kc_history.specs.Text.{reply_line};
+ghost use Rattle.kc_history.specs.declared.record.Record.{Record as Commit};
+ghost use Rattle.kc_model.specs.Store.{store_of};
+ghost use Rattle.kc_model.specs.declared.footprint.TheConstants.{LAST_VERSION, MOST};
+ghost use Rattle.kc_script_bundle.specs.declared.bundle.TheConstants.{MOST_COMMANDS, MOST_THREADS};
+ghost use Rattle.kc_check.specs.Ages.{IsYoung};
+ghost use Rattle.kc_check.specs.Faults.{Comes};
+ghost use Rattle.kc_check.specs.Parts.{IsPlace, said_at};
+ghost use Rattle.kc_check.specs.Replays.{AllCanAsk, HaveRoom, all_padded, commands_of, counts};
+ghost use Rattle.kc_check.specs.Walks.{StopsFor, lines_in};
+
+use crate::error::CheckWhy;
+use crate::matching::is_reply;
+use crate::replaying::{Desk, replay_at};
+use kc_history::{Place, Records};
+use kc_model::PlainStore;
+use kc_script_bundle::Command;
+
+/// Where a walk stopped: the index of the place, and why.
+#[derive(Clone, Copy, Debug, PartialEq, Eq)]
+pub(crate) struct Stopped {
+    pub index: usize,
+    pub why: CheckWhy,
+}
+
+// What a text says of the record at a place: of an end nothing.
+fn line_at<'a>(replies: &[Vec<&'a [u8]>], place: Place) -> &'a [u8]
+    requires { place.thread < length replies.now }
+    ensures { result.now ≡ said_at (lines_in replies.now) place }
+{
+    let lines = &replies[place.thread as usize];
+    match lines.get(place.index as usize).copied() {
+        Some(line) => line,
+        None => b"",
+    }
+}
+
+// Whether the text says what the record at a place replies.
+fn says(replies: &[Vec<&[u8]>], place: Place, records: &[Records]) -> bool
+    requires lines { place.thread < length replies.now }
+    requires stands { IsSome (record_at (lists_of records.now) place.thread place.index) }
+    ensures { (commit : Commit) → record_at (lists_of records.now) place.thread place.index ≡ Some commit → (IsTrue result ↔ (said_at (lines_in replies.now) place ≡ reply_line commit)) }
+{
+    let line = line_at(replies, place);
+    let list = &records[place.thread as usize];
+    is_reply(line, list.head(place.index as usize))
+}
+
+/// Replays the places, one after another, and adds their records. It stops at the first that is not the next of its
+/// thread, or has to wait, or replies something else than the text says.
+pub(crate) fn walk(
+    threads: &[Vec<Command>],
+    limit: u32,
+    replies: &[Vec<&[u8]>],
+    places: &[Place],
+    store: &mut PlainStore,
+    records: &mut [Records],
+) -> Result<(), Stopped>
+    requires can { AllCanAsk (length store.old) threads.now }
+    requires some { 0 < length store.old }
+    requires limit { (0 < limit) × (limit ≤ MOST) }
+    requires few { length threads.now ≤ MOST_THREADS }
+    requires commands { All (λ v. length v.items ≤ MOST_COMMANDS) threads.now }
+    requires many { length replies.now ≡ length threads.now }
+    requires places { All (IsPlace (commands_of threads.now)) places.now }
+    requires short { length places.now < LAST_VERSION }
+    requires room { HaveRoom limit 1 (commands_of threads.now) records.old }
+    requires empty { All (λ v. v.items ≡ []) records.old }
+    requires young { IsYoung 0 (store_of store.old) }
+    ensures comes { IfOk result (λ _. Comes limit (commands_of threads.now) (lines_in replies.now) (store_of store.old) places.now (counts (lists_of records.new)) (store_of store.new) (all_padded 1 (commands_of threads.now) (lists_of records.new))) }
+    ensures room { IfOk result (λ _. HaveRoom limit 1 (commands_of threads.now) records.new) }
+    ensures made { IfOk result (λ _. AreWellMade (footprint_at (all_padded 1 (commands_of threads.now) (lists_of records.new)))) }
+    ensures stops { IfErr result (λ stop. StopsFor limit (commands_of threads.now) (lines_in replies.now) (store_of store.old) places.now stop.index stop.why) }
+    ensures size { length store.new ≡ length store.old }
+{
+    let mut desk = Desk::new();
+    for i in 0..places.len() {
+        let place = places[i];
+        if place.index as usize != records[place.thread as usize].len() {
+            return Err(Stopped {
+                index: i,
+                why: CheckWhy::Turn,
+            });
+        }
+        if !replay_at(threads, limit, place, store, &mut desk, records, i as u32) {
+            return Err(Stopped {
+                index: i,
+                why: CheckWhy::Waits,
+            });
+        }
+        if !says(replies, place, records) {
+            return Err(Stopped {
+                index: i,
+                why: CheckWhy::Reply,
+            });
+        }
+    }
+    Ok(())
+}
