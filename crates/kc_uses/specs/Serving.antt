@@ -1,7 +1,5 @@
 -- A server, and a store that has it.
-use Rattle.std.specs.Prelude.{◌≡◌, ℕ, ◌≤◌, true, false}
-use Rattle.kc_machine.specs.Seats.{is_idle}
-use Rattle.kc_table_moves.specs.Views.{SeatView, TableView}
+use Rattle.std.specs.Prelude.{◌≡◌, ℕ, ◌≤◌}
 use Rattle.kc_uses.specs.declared.server.Server.{Server}
 use Rattle.kc_uses.specs.declared.server.TheConstants.{CELLS}
 
@@ -16,9 +14,3 @@ pub record IsServer (s : Server) : Type 0 where
 -- a store of so many locations has the server's cells
 abbrev pub HasServer : Server → ℕ → Type 0
 HasServer s size = IsServer s × (CELLS ≤ size)
-
--- a caller of the store that runs no task, and isn't blocked
-pub record IsFree (store : TableView) (caller : SeatView) : Type 0 where
-  pub of : caller.of ≡ store
-  pub idle : is_idle caller.seat.work ≡ true
-  pub free : caller.seat.blocked ≡ false

@@ -1,7 +1,7 @@
 //! What the server keeps, and where.
 
 ghost use Rattle.std.specs.Prelude.{◌≡◌, ◌<◌, IfOk, length};
-ghost use Rattle.kc_uses.specs.Serving.{HasServer, IsFree, IsServer};
+ghost use Rattle.kc_uses.specs.Serving.{HasServer, IsServer};
 
 use kc_cache::Cache;
 use kc_model::{Loc, PlainStore};
@@ -50,9 +50,9 @@ impl Server {
     /// A store with nothing in it that threads share without a lock, for two callers.
     pub fn share(&self, alloc: Global) -> io::Result<(Store, Caller, Caller)>
         requires { IsServer self.now }
-        ensures server { IfOk result (λ t. HasServer self.now t.0.origin.locations) }
-        ensures first { IfOk result (λ t. IsFree t.0 t.1) }
-        ensures second { IfOk result (λ t. IsFree t.0 t.2) }
+        ensures server { IfOk result (λ t. HasServer self.now t.0.locations) }
+        ensures first { IfOk result (λ t. t.1.of ≡ t.0) }
+        ensures second { IfOk result (λ t. t.2.of ≡ t.0) }
     {
         let values = self.values(alloc)?;
         let Ok((store, mut callers)) = Store::open(alloc, &values, 2) else {

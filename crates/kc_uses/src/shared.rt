@@ -1,7 +1,7 @@
 //! The same server on a store that threads share without a lock: a worker, and a client.
 
-ghost use Rattle.std.specs.Prelude.{◌≤◌};
-ghost use Rattle.kc_uses.specs.Serving.{HasServer, IsFree, IsServer};
+ghost use Rattle.std.specs.Prelude.{◌≡◌, ◌≤◌};
+ghost use Rattle.kc_uses.specs.Serving.{HasServer, IsServer};
 
 use crate::finish_job::FinishJob;
 use crate::finish_or_stop::FinishOrStop;
@@ -57,18 +57,18 @@ pub fn serve<R: Print + Threads + Wait + Sync>(
 
 // Waits for a job that never comes, until the server is closed.
 fn wait_for_more<R: Wait>(rt: &R, store: &Store, mut worker: Caller, server: &Server) -> Caller
-    requires worker { IsFree store.now worker }
-    requires server { HasServer server.now store.now.origin.locations }
-    ensures { IsFree store.now result }
+    requires worker { worker.of ≡ store.now }
+    requires server { HasServer server.now store.now.locations }
+    ensures { result.of ≡ store.now }
 {
     run(rt, store, &mut worker, &FinishOrStop::new(server));
     worker
 }
 
 fn close<R: Wait>(rt: &R, store: &Store, mut client: Caller, server: &Server) -> Caller
-    requires client { IsFree store.now client }
-    requires server { HasServer server.now store.now.origin.locations }
-    ensures { IsFree store.now result }
+    requires client { client.of ≡ store.now }
+    requires server { HasServer server.now store.now.locations }
+    ensures { result.of ≡ store.now }
 {
     run(rt, store, &mut client, &LocOp::Set(server.closed, 1));
     client
@@ -76,9 +76,9 @@ fn close<R: Wait>(rt: &R, store: &Store, mut client: Caller, server: &Server) ->
 
 // Finishes as many jobs as the client queues, and waits where there is none.
 fn work<R: Wait>(rt: &R, store: &Store, mut worker: Caller, server: &Server) -> Caller
-    requires worker { IsFree store.now worker }
-    requires server { HasServer server.now store.now.origin.locations }
-    ensures { IsFree store.now result }
+    requires worker { worker.of ≡ store.now }
+    requires server { HasServer server.now store.now.locations }
+    ensures { result.of ≡ store.now }
 {
     for _ in 0..JOBS {
         run(rt, store, &mut worker, &FinishJob::new(server));
@@ -87,9 +87,9 @@ fn work<R: Wait>(rt: &R, store: &Store, mut worker: Caller, server: &Server) -> 
 }
 
 fn queue_jobs<R: Wait>(rt: &R, store: &Store, mut client: Caller, server: &Server) -> Caller
-    requires client { IsFree store.now client }
-    requires server { HasServer server.now store.now.origin.locations }
-    ensures { IsFree store.now result }
+    requires client { client.of ≡ store.now }
+    requires server { HasServer server.now store.now.locations }
+    ensures { result.of ≡ store.now }
 {
     for job in 1..JOBS + 1 {
         let queue = QueueOp {
@@ -108,10 +108,10 @@ fn run<R: Wait, T: Transact>(
     caller: &mut Caller,
     transaction: &T,
 ) -> Option<Reply>
-    requires caller { IsFree store.now caller.old }
+    requires caller { caller.old.of ≡ store.now }
     requires fit { T.is_fit transaction.now }
-    requires within { T.end transaction.now ≤ store.now.origin.locations }
-    ensures { IsFree store.now caller.new }
+    requires within { T.end transaction.now ≤ store.now.locations }
+    ensures { caller.new.of ≡ store.now }
 {
     match commit_waiting(rt, store, caller, transaction) {
         Outcome::Done {

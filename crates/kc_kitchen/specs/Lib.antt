@@ -1,0 +1,2 @@
+pub mod Kitchen
+pub mod Serving
