@@ -1,6 +1,5 @@
 -- What an answer says.
-use Rattle.std.proofs.Common.{◌≡◌, ℕ, zero, suc, ◌+◌, ◌<◌, ◌≤◌, ◌||◌, Bool, true, false, List, [], ◌∷◌, ◌++◌, All, length, refl, sym, ◌∙◌, arith}
-use Rattle.std.proofs.lemmas.List.{append-nil}
+use Rattle.std.proofs.Common.{◌≡◌, ℕ, zero, suc, ◌||◌, Bool, true, false, List, [], ◌∷◌, All, refl, arith}
 use Rattle.std.specs.Prelude.{codes}
 use Rattle.kc_history.specs.Text.{answer_text, item_text}
 use Rattle.kc_model.specs.declared.reply.Item.{Item}

@@ -1,5 +1,5 @@
 -- From what the tests find to what a check answers.
-use Rattle.std.proofs.Common.{◌≡◌, ℕ, List, refl, sym, subst}
+use Rattle.std.proofs.Common.{ℕ, List, sym, subst}
 use Rattle.std.specs.Prelude.{IfErr, IfOk, Result, Ok, Err}
 use Rattle.kc_history.specs.declared.record.Record.{Record}
 use Rattle.kc_script_bundle.specs.Script.{Script}

@@ -1,9 +1,9 @@
 -- As many places as records, each the next of its thread, take in all records.
-use Rattle.std.proofs.Common.{◌≡◌, ◌≢◌, ◌⊎◌, inl, inr, ℕ, zero, suc, ◌+◌, ◌<◌, ◌≤◌, List, [], ◌∷◌, All, Contains, Option, Some, None, length, refl, sym, ap, subst, ◌∙◌, arith, slice_index_or, cond, ◌==◌, eq-eqb, ne_eqb}
+use Rattle.std.proofs.Common.{◌≡◌, inl, inr, ℕ, zero, suc, ◌+◌, ◌<◌, ◌≤◌, List, [], ◌∷◌, All, Option, Some, None, length, refl, sym, ap, subst, ◌∙◌, arith, slice_index_or}
 use Rattle.std.proofs.Math.Path.{fun_ext}
 use Rattle.std.proofs.lemmas.List.Sums.{sum_by-cons}
 use Rattle.std.proofs.lemmas.List.{length-map}
-use Rattle.std.specs.Prelude.{slice_get, sum_by}
+use Rattle.std.specs.Prelude.{slice_get}
 use Rattle.std.specs.Option.{option_map}
 use Rattle.kc_history.proofs.Ready.{same_or, more_same, more_other}
 use Rattle.kc_history.specs.Order.{Chooses, Footprints, Legal, NoneLeft, more, raised}
@@ -13,9 +13,8 @@ use Rattle.kc_history.specs.declared.record.Record.{Record}
 use Rattle.kc_model.specs.Store.{Store, after}
 use Rattle.kc_model.specs.declared.footprint.Footprint.{Footprint}
 use Rattle.kc_script_bundle.specs.declared.operation.Command.{Command}
-use Rattle.kc_script_runs.specs.Labels.{AreThreads, label, labels}
+use Rattle.kc_script_runs.specs.Labels.{AreThreads, label}
 use Rattle.kc_script_runs.specs.Run.{Replays}
-use Rattle.kc_check.proofs.Replays.{threads_long}
 use Rattle.kc_check.proofs.Whole.{labels_long}
 use Rattle.kc_check.specs.Faults.{InTurn}
 use Rattle.kc_check.specs.Parts.{IsPlace, places_in}

@@ -1,6 +1,5 @@
 -- A text fails one test first, at one line.
-use Rattle.std.proofs.Common.{◌≡◌, ◌≢◌, ◌⊎◌, inl, inr, ℕ, zero, suc, ◌+◌, ◌<◌, ◌≤◌, List, [], ◌∷◌, ◌++◌, Contains, Option, Some, None, length, map, refl, sym, ap, ap₂, subst, ◌∙◌, arith}
-use Rattle.std.specs.Prelude.{slice_get}
+use Rattle.std.proofs.Common.{◌≡◌, inl, inr, ℕ, zero, suc, ◌+◌, ◌<◌, ◌≤◌, List, [], ◌∷◌, ◌++◌, Contains, Option, Some, None, length, refl, sym, ap, ap₂, subst, ◌∙◌, arith}
 use Rattle.std.specs.Option.{option_map}
 use Rattle.kc_history.proofs.Choice.{some_is, none_ready, one_order}
 use Rattle.kc_history.proofs.Ready.{same_or, more_same, more_other}
@@ -11,17 +10,16 @@ use Rattle.kc_history.specs.declared.record.Record.{Record}
 use Rattle.kc_model.specs.Store.{Store}
 use Rattle.kc_script_bundle.specs.Script.{Names, Script}
 use Rattle.kc_script_bundle.specs.State.{shown, state_line}
-use Rattle.kc_script_bundle.specs.declared.object.Object.{Object}
 use Rattle.kc_script_bundle.specs.declared.operation.Command.{Command}
 use Rattle.kc_script_runs.proofs.Determined.{place, replays_are_one, same_lists}
 use Rattle.kc_script_runs.specs.Run.{opening_store}
 use Rattle.kc_xt.specs.Commit.{run_on}
-use Rattle.kc_xt.specs.Meaning.{Meaning, retried, values}
+use Rattle.kc_xt.specs.Meaning.{Meaning, values}
 use Rattle.kc_check.proofs.Counting.{all_stand}
 use Rattle.kc_check.proofs.Fronts.{none_waits, not_out_of_turn, not_replying_else, not_waiting, turns_are_one}
 use Rattle.kc_check.proofs.Refuted.{at_one, first_differ, held_apart}
 use Rattle.kc_check.proofs.Unique.{heads, tails}
-use Rattle.kc_check.specs.Faults.{Comes, ComesWhole, FailsIn, HasToWait, InTurn, IsDisordered, IsOutOfTurn, RepliesElse, ShowsElse, StopsAt}
+use Rattle.kc_check.specs.Faults.{Comes, ComesWhole, FailsIn, HasToWait, InTurn, IsOutOfTurn, RepliesElse, StopsAt}
 use Rattle.kc_check.specs.Judged.{IsSaid}
 use Rattle.kc_check.specs.Orders.{DiffersAt}
 use Rattle.kc_check.specs.Parts.{Parts, place_number, reply_number, state_number}

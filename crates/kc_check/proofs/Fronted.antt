@@ -1,9 +1,9 @@
 -- Bytes behind a front.
-use Rattle.std.proofs.Common.{◌≡◌, ◌≢◌, ℕ, true, false, Bool, List, [], ◌∷◌, ◌++◌, Option, Some, None, refl, sym, ap, ◌∙◌, append_assoc}
+use Rattle.std.proofs.Common.{◌≡◌, ℕ, List, [], ◌∷◌, ◌++◌, Option, Some, None, refl, sym, ap, ◌∙◌, append_assoc}
 use Rattle.std.specs.Borrow.{Bor}
-use Rattle.std.specs.Prelude.{IsTrue, MatchOption, codes, decimal}
+use Rattle.std.specs.Prelude.{MatchOption, codes, decimal}
 use Rattle.kc_history.specs.Text.{answer_text}
-use Rattle.kc_check.specs.Forms.{Fits, IsReply}
+use Rattle.kc_check.specs.Forms.{IsReply}
 use Rattle.kc_check.specs.Reads.{IsNoFront, SaysAnswer}
 
 pub none_longer : (a b bytes : List ℕ) → IsNoFront a bytes → IsNoFront (a ++ b) bytes

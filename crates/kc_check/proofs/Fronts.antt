@@ -1,6 +1,5 @@
 -- Places that come, and the first that doesn't.
-use Rattle.std.proofs.Common.{◌≡◌, ◌≢◌, ℕ, zero, suc, ◌+◌, ◌<◌, ◌≤◌, List, [], ◌∷◌, ◌++◌, Option, Some, None, Contains, length, refl, sym, ap, ap₂, subst, ◌∙◌, arith, slice_index_or}
-use Rattle.std.specs.Prelude.{slice_get}
+use Rattle.std.proofs.Common.{◌≡◌, ℕ, suc, List, [], ◌∷◌, ◌++◌, Some, Contains, refl, sym, ap, ap₂, subst, ◌∙◌, arith}
 use Rattle.kc_history.proofs.Choice.{some_is}
 use Rattle.kc_history.specs.Order.{more}
 use Rattle.kc_history.specs.Records.{record_at}
@@ -10,13 +9,12 @@ use Rattle.kc_history.specs.declared.record.Record.{Record}
 use Rattle.kc_model.specs.Store.{Store, after}
 use Rattle.kc_model.specs.declared.reply.Answer.{Answer}
 use Rattle.kc_script_bundle.specs.declared.operation.Command.{Command}
-use Rattle.kc_script_runs.proofs.Determined.{commits_are_one, labelled_at, label_at, record_is, replays_are_one}
-use Rattle.kc_script_runs.specs.Labels.{Label, label, labels}
+use Rattle.kc_script_runs.proofs.Determined.{commits_are_one, labelled_at, record_is, replays_are_one}
+use Rattle.kc_script_runs.specs.Labels.{label}
 use Rattle.kc_script_runs.specs.Run.{IsCommit, Replays, meaning_at}
 use Rattle.kc_xt.specs.Commit.{answer_of, run_on}
 use Rattle.kc_xt.specs.Meaning.{Meaning, Outcome, retried}
-use Rattle.kc_check.specs.Faults.{InTurn, Comes, HasToWait, IsLabelled, IsOutOfTurn, RepliesElse, StopsAt}
-use Rattle.kc_check.specs.Parts.{said_at}
+use Rattle.kc_check.specs.Faults.{InTurn, Comes, HasToWait, IsOutOfTurn, RepliesElse}
 
 -- ---- a list of places at one of them
 

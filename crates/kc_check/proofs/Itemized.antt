@@ -1,9 +1,9 @@
 -- What an item says.
-use Rattle.std.proofs.Common.{◌≡◌, ℕ, ◌<◌, ◌^◌, ◌||◌, Bool, true, false, List, ap, refl, sym, ◌∙◌}
+use Rattle.std.proofs.Common.{◌≡◌, ℕ, ◌||◌, Bool, true, false, List, refl, sym, ◌∙◌}
 use Rattle.std.proofs.lemmas.Bool.Decides.{Decides-eqb}
 use Rattle.std.proofs.lemmas.Slice.Eq.{slice_eq-Decides}
 use Rattle.std.specs.Cmp.Lexicographic.{pointwise}
-use Rattle.std.specs.Prelude.{IsTrue, codes, decimal, nat_eq}
+use Rattle.std.specs.Prelude.{codes, nat_eq}
 use Rattle.kc_history.specs.Text.{item_text}
 use Rattle.kc_model.specs.declared.reply.Item.{Item}
 use Rattle.kc_model.specs.declared.reply.Item.TheVariants as item

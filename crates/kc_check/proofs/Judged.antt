@@ -1,5 +1,5 @@
 -- From how a walk ended to what the text fails, and to the text.
-use Rattle.std.proofs.Common.{◌≡◌, ◌≢◌, ℕ, zero, suc, ◌+◌, ◌*◌, ◌<◌, ◌≤◌, List, [], ◌∷◌, ◌++◌, All, length, map, take, get_or, slice_index_or, refl, sym, ap, subst, ◌∙◌, arith, Vec}
+use Rattle.std.proofs.Common.{◌≡◌, ℕ, zero, suc, ◌+◌, ◌<◌, ◌≤◌, List, [], ◌∷◌, ◌++◌, All, length, take, get_or, slice_index_or, refl, sym, ap, subst, ◌∙◌, arith, Vec}
 use Rattle.std.proofs.lemmas.List.{length-map}
 use Rattle.std.proofs.lemmas.List.Sums.{sum_by-cons, sum_by-le}
 use Rattle.kc_history.specs.Counts.{records_in}
@@ -10,7 +10,7 @@ use Rattle.kc_history.specs.Records.{footprint_at, lists_of}
 use Rattle.kc_history.specs.RecordsValue.{RecordsValue}
 use Rattle.kc_history.specs.declared.record.Place.{Place}
 use Rattle.kc_history.specs.declared.record.Record.{Record}
-use Rattle.kc_model.specs.Store.{Store, store_of}
+use Rattle.kc_model.specs.Store.{Store}
 use Rattle.kc_script_bundle.specs.Script.{LieFrom, Names, Script}
 use Rattle.kc_script_bundle.specs.declared.operation.Command.{Command}
 use Rattle.kc_script_runs.proofs.Replayed.{opened_zero}

@@ -1,5 +1,5 @@
 -- A script that bytes spell, its opening store, and room for its records.
-use Rattle.std.proofs.Common.{◌≡◌, ◌≢◌, ◌⊎◌, inl, inr, ℕ, zero, suc, ◌+◌, ◌<◌, ◌≤◌, ◌==◌, ◌&&◌, ◌||◌, Bool, true, false, List, [], ◌∷◌, ◌++◌, length, map, take, get_or, All, refl, sym, ap, ap₂, subst, ◌∙◌, arith, slice_index_or, Vec}
+use Rattle.std.proofs.Common.{◌≡◌, ◌≢◌, ℕ, zero, suc, ◌+◌, ◌<◌, ◌≤◌, ◌&&◌, Bool, true, false, List, [], ◌∷◌, ◌++◌, length, take, get_or, All, refl, sym, ap, subst, ◌∙◌, arith, slice_index_or, Vec}
 use Rattle.std.proofs.lemmas.Bool.Decides.{nat_tests}
 use Rattle.std.proofs.lemmas.List.{length-map, take_all, take_more}
 use Rattle.std.proofs.lemmas.List.Sums.{sum_by-cons}
@@ -16,21 +16,20 @@ use Rattle.kc_script.specs.Spells.{Declare, Line, Spells}
 use Rattle.kc_script.specs.Threads.{AreThreads as AreOn}
 use Rattle.kc_script_bundle.proofs.Fitting.{command_fits, command_within}
 use Rattle.kc_script_bundle.proofs.Places.{length-cells, next_from-above}
-use Rattle.kc_script_bundle.specs.On.{CommandIsOn, CommandsAreOn}
-use Rattle.kc_script_bundle.specs.Script.{AreSized, LieFrom, LiesInOrder, Names, Script, cells, next_from, script_of}
+use Rattle.kc_script_bundle.specs.On.{CommandsAreOn}
+use Rattle.kc_script_bundle.specs.Script.{AreSized, LieFrom, Names, Script, cells, next_from, script_of}
 use Rattle.kc_script_bundle.specs.State.{opening_values}
 use Rattle.kc_script_bundle.specs.declared.bundle.Bundle.{Bundle}
 use Rattle.kc_script_bundle.specs.declared.object.Object.{Object}
 use Rattle.kc_script_bundle.specs.declared.operation.Command.{Command}
 use Rattle.kc_script_lines.specs.Words.{is_letter, is_name, is_name_byte, is_within}
 use Rattle.kc_script_runs.proofs.Replayed.{opened_zero}
-use Rattle.kc_script_runs.specs.Run.{opening_store}
 use Rattle.kc_check.specs.Forms.{AllReplies, AreHeld, AreReplies, IsFormed}
 use Rattle.kc_check.specs.Judged.{IsSaid, IsSound}
 use Rattle.kc_check.specs.Laid.{Lacks}
-use Rattle.kc_check.specs.Parts.{AsMany, Parts, commands_in, joined, places_in}
+use Rattle.kc_check.specs.Parts.{AsMany, Parts, commands_in, places_in}
 use Rattle.kc_check.specs.Reads.{HaveNames}
-use Rattle.kc_check.specs.Replays.{AllCanAsk, CanAsk, HasRoom, HaveRoom, commands_of}
+use Rattle.kc_check.specs.Replays.{AllCanAsk, HasRoom, HaveRoom, commands_of}
 
 -- ---- room
 

@@ -1,23 +1,21 @@
 -- The lines of a text's parts, one part after another.
-use Rattle.std.proofs.Common.{Bool, true, false, not, ◌≡◌, ◌≢◌, ◌⊎◌, inl, inr, ℕ, zero, suc, ◌+◌, ◌-◌, ◌^◌, ◌<◌, ◌≤◌, List, [], ◌∷◌, ◌++◌, map, take, drop, All, get_or, length, refl, sym, ap, ap₂, subst, ◌∙◌, append_assoc, arith, slice_index_or, Vec}
-use Rattle.std.proofs.lemmas.List.{append-nil, take_more, take_all, drop_more, length-map}
-use Rattle.std.specs.List.{flat_map}
+use Rattle.std.proofs.Common.{Bool, true, false, not, ◌≡◌, ◌≢◌, inl, inr, ℕ, zero, suc, ◌+◌, ◌-◌, ◌^◌, ◌<◌, ◌≤◌, List, [], ◌∷◌, ◌++◌, map, take, drop, All, get_or, length, refl, sym, ap, ap₂, subst, ◌∙◌, append_assoc, arith, slice_index_or, Vec}
+use Rattle.std.proofs.lemmas.List.{append-nil, take_more, take_all, length-map}
 use Rattle.std.specs.Global.{Global}
 use Rattle.std.proofs.lemmas.Bool.Decides.{Decides-eqb}
 use Rattle.std.proofs.lemmas.Slice.Eq.{slice_eq-Decides}
 use Rattle.std.specs.Borrow.{Bor}
 use Rattle.std.specs.Cmp.Lexicographic.{pointwise}
-use Rattle.std.specs.Prelude.{nat_eq, codes, decimal, replicate, Result, Ok, Err, IfErr}
-use Rattle.std.specs.Result.{IsErrAnd}
+use Rattle.std.specs.Prelude.{nat_eq, codes, replicate}
 use Rattle.kc_history.specs.declared.record.Place.{Place}
 use Rattle.kc_script_bundle.specs.Script.{Names as Objects, Script}
 use Rattle.kc_script_bundle.specs.declared.object.Object.{Object}
 use Rattle.kc_script_bundle.specs.declared.operation.Command.{Command}
 use Rattle.kc_check.proofs.Forming.{goes_fails, goes_more, goes_none, lacks_by_test}
 use Rattle.kc_check.proofs.Walks.{parted, took}
-use Rattle.kc_check.specs.Forms.{AllReplies, AreHeld, AreReplies, AreShaped, FailsAt, Goes, HasShape, IsFormed, IsMisformed, IsReply, LacksLine, Shape, answers, flat, holds, just, place, replies_shapes, shapes, thread_shapes}
+use Rattle.kc_check.specs.Forms.{AllReplies, AreHeld, AreReplies, AreShaped, FailsAt, Goes, HasShape, IsFormed, IsReply, LacksLine, Shape, flat, holds, just, place, replies_shapes, thread_shapes}
 use Rattle.kc_check.specs.Laid.{AreFew, IsLine}
-use Rattle.kc_check.specs.Parts.{IsPlace, Parts, joined, parts_text, place_text, places_in, places_text, replies_text}
+use Rattle.kc_check.specs.Parts.{IsPlace, joined, place_text, places_in, places_text, replies_text}
 use Rattle.kc_check.specs.Reads.{FailsForm, FailsHowever, FailsSo, LacksHere, LacksReply}
 use Rattle.kc_check.specs.Replays.{commands_of}
 use Rattle.kc_check.specs.Walks.{lines_in, now_of}

@@ -1,9 +1,9 @@
 -- The lines of a run's text are lines, whatever numbers they have; so a text that a later test refuses is no run's.
-use Rattle.std.proofs.Common.{◌≡◌, ◌≢◌, ℕ, zero, suc, ◌+◌, ◌<◌, ◌≤◌, ◌^◌, ◌/◌, ◌%◌, ◌==◌, if◌then◌else◌, Bool, true, false, List, [], ◌∷◌, ◌++◌, map, All, Option, Some, None, length, refl, sym, ap, subst, ◌∙◌, append_assoc, arith, slice_index_or}
+use Rattle.std.proofs.Common.{◌≡◌, ◌≢◌, ℕ, zero, suc, ◌+◌, ◌<◌, ◌≤◌, ◌^◌, ◌/◌, ◌%◌, ◌==◌, if◌then◌else◌, Bool, true, false, List, [], ◌∷◌, ◌++◌, map, Some, None, length, refl, sym, ap, subst, ◌∙◌, arith, slice_index_or}
 use Rattle.std.specs.Fmt.{digit_glyph, digits, digits_onto}
 use Rattle.std.specs.List.{flat_map}
 use Rattle.std.specs.Prelude.{codes, decimal, nat_lt}
-use Rattle.kc_history.specs.Text.{answer_text, item_text, items_text, mark_text, marked_reply, order_lines, reply_line, reply_lines, spaced_items}
+use Rattle.kc_history.specs.Text.{answer_text, item_text, mark_text, marked_reply, order_lines, reply_lines, spaced_items}
 use Rattle.kc_history.specs.declared.record.Mark.{Mark}
 use Rattle.kc_history.specs.declared.record.Mark.TheVariants as mark
 use Rattle.kc_history.specs.declared.record.Record.{Record}
@@ -17,14 +17,13 @@ use Rattle.kc_script_bundle.specs.Script.{Names, Script}
 use Rattle.kc_script_bundle.specs.State.{Content, content_text, items as shows_items, number as shows_number, number_text, pair_text, pairs as shows_pairs, place as shows_place, shown, state_line}
 use Rattle.kc_script_bundle.specs.declared.operation.Command.{Command}
 use Rattle.kc_script_runs.specs.Labels.{AreThreads, Label, label, labels}
-use Rattle.kc_script_runs.specs.Run.{IsText}
 use Rattle.kc_xt.specs.Meaning.{values}
 use Rattle.kc_check.proofs.Forming.{lacks_by_test, reply_is_line}
 use Rattle.kc_check.proofs.Opened.{said_parts}
 use Rattle.kc_check.proofs.Refuted.{no_later_fault}
 use Rattle.kc_check.proofs.Spaced.{held_is_line}
 use Rattle.kc_check.proofs.Unique.{heads, lacks_append, tails}
-use Rattle.kc_check.specs.Faults.{FailsIn, FailsLater, IsLegal}
+use Rattle.kc_check.specs.Faults.{FailsIn, IsLegal}
 use Rattle.kc_check.specs.Forms.{AllReplies, AreHeld, AreReplies, IsFormed}
 use Rattle.kc_check.specs.Laid.{AllLines, AllReplyLines, AreFew, IsLaid, IsLine, Lacks}
 use Rattle.kc_check.specs.Parts.{Parts}

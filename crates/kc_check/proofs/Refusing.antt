@@ -1,11 +1,11 @@
 -- A text that a test behind that of the form refuses is no run's.
-use Rattle.std.proofs.Common.{◌≡◌, ℕ, zero, suc, ◌≤◌, List, [], ◌∷◌, All, length, slice_index_or, arith, Vec}
+use Rattle.std.proofs.Common.{ℕ, zero, suc, ◌≤◌, List, [], ◌∷◌, All, length, slice_index_or, arith, Vec}
 use Rattle.std.specs.Global.{Global}
 use Rattle.std.specs.Prelude.{IfErr, Result, Ok, Err}
 use Rattle.kc_script_bundle.specs.Script.{Script}
 use Rattle.kc_script_bundle.specs.declared.operation.Command.{Command}
 use Rattle.kc_check.proofs.Printed.{later_not_legal}
-use Rattle.kc_check.specs.Faults.{FailsFor, FailsLater, IsLaterFault, IsLegal}
+use Rattle.kc_check.specs.Faults.{FailsFor, IsLaterFault, IsLegal}
 use Rattle.kc_check.specs.Reads.{HaveNames}
 use Rattle.kc_check.specs.Replays.{commands_of}
 use Rattle.kc_check.specs.declared.error.CheckError.{CheckError}

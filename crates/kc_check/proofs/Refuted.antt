@@ -1,6 +1,5 @@
 -- The text of a run fails no test behind that of its form.
-use Rattle.std.proofs.Common.{◌≡◌, ◌≢◌, ℕ, zero, suc, ◌+◌, ◌<◌, ◌≤◌, List, [], ◌∷◌, ◌++◌, Contains, Option, Some, None, length, map, refl, sym, ap, ap₂, subst, ◌∙◌, arith, append_assoc}
-use Rattle.std.proofs.lemmas.List.{length-map}
+use Rattle.std.proofs.Common.{◌≡◌, ℕ, zero, suc, ◌+◌, List, [], ◌∷◌, ◌++◌, Contains, Option, Some, None, length, map, refl, sym, ap, subst, ◌∙◌, arith}
 use Rattle.std.specs.Prelude.{codes, slice_get}
 use Rattle.kc_script_bundle.specs.declared.object.Object.{Object}
 use Rattle.kc_history.proofs.Choice.{none_ready, one_order}
@@ -10,20 +9,19 @@ use Rattle.kc_history.specs.Text.{order_lines, reply_lines}
 use Rattle.kc_history.specs.declared.record.Place.{Place}
 use Rattle.kc_history.specs.declared.record.Record.{Record}
 use Rattle.kc_model.specs.Store.{Store}
-use Rattle.kc_script_bundle.proofs.Standing.{all_show}
 use Rattle.kc_script_bundle.specs.Script.{Names, Script}
 use Rattle.kc_script_bundle.specs.State.{shown, state_line, state_text}
 use Rattle.kc_script_runs.proofs.Determined.{canonical_has, place, replays_are_one, same_lists}
 use Rattle.kc_script_bundle.specs.declared.operation.Command.{Command}
 use Rattle.kc_script_runs.specs.Labels.{AreThreads, Label, label, labels}
-use Rattle.kc_script_runs.specs.Run.{IsRun, IsText, opening_store}
+use Rattle.kc_script_runs.specs.Run.{IsRun, opening_store}
 use Rattle.kc_xt.specs.Meaning.{values}
 use Rattle.kc_check.proofs.Fronts.{not_out_of_turn, not_replying_else, not_waiting}
 use Rattle.kc_check.proofs.Shown.{parts_of, run_again, run_comes, run_count, run_laid, run_state}
-use Rattle.kc_check.proofs.Unique.{heads, line_one, parts_one, same_tail, tails}
+use Rattle.kc_check.proofs.Unique.{heads, parts_one, tails}
 use Rattle.kc_check.specs.Faults.{Comes, ComesWhole, FailsIn, HasToWait, IsDisordered, IsOutOfTurn, RepliesElse, ShowsElse, StopsAt}
 use Rattle.kc_check.specs.Laid.{AllLines, AllReplyLines, AreFew, IsLaid}
-use Rattle.kc_check.specs.Parts.{Parts, places_in}
+use Rattle.kc_check.specs.Parts.{Parts}
 use Rattle.kc_check.specs.Shown.{held_lines, replies_for}
 use Rattle.kc_check.specs.declared.error.CheckWhy.{CheckWhy}
 use Rattle.kc_check.specs.declared.error.CheckWhy.TheVariants as why

@@ -1,5 +1,5 @@
 -- What is meant at an index of a thread, and what a replay of it leaves.
-use Rattle.std.proofs.Common.{◌≡◌, ◌≢◌, ◌⊎◌, inl, inr, ℕ, zero, suc, ◌+◌, ◌<◌, ◌≤◌, List, [], ◌∷◌, ◌++◌, map, length, get_or, set, Option, Some, None, Contains, refl, sym, ap, ap₂, subst, ◌∙◌, arith, slice_index_or, Vec}
+use Rattle.std.proofs.Common.{◌≡◌, ◌≢◌, ◌⊎◌, inl, inr, ℕ, zero, suc, ◌+◌, ◌<◌, ◌≤◌, List, [], ◌∷◌, ◌++◌, length, get_or, set, Option, Some, None, Contains, refl, sym, ap, ap₂, subst, ◌∙◌, arith, slice_index_or, Vec}
 use Rattle.std.proofs.lemmas.List.{length-map}
 use Rattle.kc_check.proofs.Whole.{labels_long}
 use Rattle.std.specs.Global.{Global}

@@ -1,11 +1,10 @@
 -- The parts of a run's text.
-use Rattle.std.proofs.Common.{◌≡◌, ◌≢◌, ℕ, zero, suc, ◌+◌, ◌<◌, ◌≤◌, List, [], ◌∷◌, ◌++◌, map, All, Contains, Option, Some, None, length, refl, sym, ap, ap₂, subst, ◌∙◌, arith, slice_index_or}
+use Rattle.std.proofs.Common.{◌≡◌, ℕ, zero, suc, ◌+◌, ◌<◌, ◌≤◌, List, [], ◌∷◌, ◌++◌, map, All, Contains, Option, Some, None, length, refl, sym, ap, ap₂, ◌∙◌, arith, slice_index_or}
 use Rattle.std.proofs.lemmas.List.{append-nil, length-map}
 use Rattle.std.proofs.lemmas.List.Elements.{Contains-get_or}
 use Rattle.std.specs.List.{flat_map}
 use Rattle.std.specs.Prelude.{IsSome, codes, slice_get}
-use Rattle.kc_history.proofs.Choice.{some_is, one_order}
-use Rattle.kc_history.specs.Order.{IsCanonical}
+use Rattle.kc_history.proofs.Choice.{some_is}
 use Rattle.kc_history.specs.Records.{footprint_at, record_at}
 use Rattle.kc_history.specs.Text.{marked_reply, order_lines, reply_line, reply_lines}
 use Rattle.kc_history.specs.declared.record.Mark.{Mark}
@@ -13,21 +12,20 @@ use Rattle.kc_history.specs.declared.record.Mark.TheVariants as mark
 use Rattle.kc_history.specs.declared.record.Place.{Place}
 use Rattle.kc_history.specs.declared.record.Record.{Record}
 use Rattle.kc_model.specs.Store.{Store}
-use Rattle.kc_script_bundle.proofs.Standing.{all_show}
 use Rattle.kc_script_bundle.specs.Script.{Names, Script}
-use Rattle.kc_script_bundle.specs.State.{Content, shown, state_line, state_lines, state_text}
+use Rattle.kc_script_bundle.specs.State.{shown, state_line, state_text}
 use Rattle.kc_script_bundle.specs.declared.operation.Command.{Command}
 use Rattle.kc_script_runs.proofs.Named.{replays_named}
 use Rattle.kc_script_runs.specs.Labels.{AreThreads, Label, label, labels}
-use Rattle.kc_script_runs.specs.Run.{IsRun, IsText, opening_store}
+use Rattle.kc_script_runs.specs.Run.{IsRun, opening_store}
 use Rattle.kc_xt.specs.Meaning.{values}
 use Rattle.kc_check.proofs.Counting.{all_counted, chosen_turns, place_within}
 use Rattle.kc_check.proofs.Unique.{heads, tails}
 use Rattle.kc_check.proofs.Whole.{labels_long, order_is}
 use Rattle.std.specs.Option.{option_map}
-use Rattle.kc_check.specs.Faults.{Comes, ComesWhole}
+use Rattle.kc_check.specs.Faults.{ComesWhole}
 use Rattle.kc_check.specs.Laid.{AllLines, AllReplyLines, IsLaid}
-use Rattle.kc_check.specs.Parts.{AsMany, IsPlace, Parts, joined, parts_text, places_in, places_text, replies_text, said_at}
+use Rattle.kc_check.specs.Parts.{AsMany, IsPlace, Parts, joined, places_in, places_text, replies_text}
 use Rattle.kc_check.specs.Shown.{held_lines, lines_for, replies_for}
 
 -- ---- the replies of a thread

@@ -1,5 +1,5 @@
 -- A walk over the places, as far as it has come.
-use Rattle.std.proofs.Common.{◌≡◌, ◌≢◌, ℕ, zero, suc, ◌+◌, ◌<◌, ◌≤◌, List, [], ◌∷◌, ◌++◌, All, map, length, take, drop, get_or, set, Some, refl, sym, ap, subst, ◌∙◌, arith, slice_index_or, Vec}
+use Rattle.std.proofs.Common.{◌≡◌, ◌≢◌, ℕ, zero, suc, ◌+◌, ◌<◌, ◌≤◌, List, [], ◌∷◌, ◌++◌, All, length, take, drop, get_or, refl, sym, ap, subst, ◌∙◌, arith, slice_index_or, Vec}
 use Rattle.std.proofs.lemmas.List.{drop_more, take_all}
 use Rattle.std.specs.Global.{Global}
 use Rattle.kc_history.specs.Order.{more}
@@ -11,11 +11,11 @@ use Rattle.kc_history.specs.declared.record.Place.{Place}
 use Rattle.kc_history.specs.declared.record.Record.{Record}
 use Rattle.kc_model.specs.Store.{Store}
 use Rattle.kc_script_bundle.specs.declared.operation.Command.{Command}
-use Rattle.kc_script_runs.proofs.Determined.{label_at, labelled_at}
+use Rattle.kc_script_runs.proofs.Determined.{labelled_at}
 use Rattle.kc_check.proofs.Padded.{as_many, blank_made, counts_none, padded_threads}
 use Rattle.kc_check.proofs.Replays.{comes_more, comes_none, made_more}
 use Rattle.kc_check.specs.Ages.{IsYoung}
-use Rattle.kc_check.specs.Faults.{Comes, HasToWait, IsLabelled, IsOutOfTurn, RepliesElse, StopsAt}
+use Rattle.kc_check.specs.Faults.{Comes, HasToWait, IsOutOfTurn, RepliesElse, StopsAt}
 use Rattle.kc_check.specs.Parts.{IsPlace, said_at}
 use Rattle.kc_check.specs.Replays.{CommitsAt, HaveRoom, WaitsAt, all_padded, commands_of, counts}
 

@@ -1,5 +1,5 @@
 -- Where all places come in canonical order and the state is shown, the parts are those of a run's text.
-use Rattle.std.proofs.Common.{◌≡◌, ◌≢◌, ◌⊎◌, inl, inr, ℕ, zero, suc, ◌+◌, ◌<◌, ◌≤◌, ◌==◌, if◌then◌else◌, true, false, List, [], ◌∷◌, ◌++◌, map, Option, Some, None, Contains, All, length, refl, sym, ap, ap₂, subst, ◌∙◌, arith, slice_index_or, eq-eqb, ne_eqb}
+use Rattle.std.proofs.Common.{◌≡◌, ◌≢◌, inl, inr, ℕ, zero, suc, ◌+◌, ◌≤◌, ◌==◌, if◌then◌else◌, List, [], ◌∷◌, ◌++◌, Option, Some, None, Contains, All, length, refl, sym, ap, ap₂, ◌∙◌, arith, slice_index_or, eq-eqb, ne_eqb}
 use Rattle.std.proofs.lemmas.List.{append-nil, length-map}
 use Rattle.std.proofs.lemmas.List.Elements.{All-contains}
 use Rattle.std.specs.Prelude.{slice_get, codes, decimal, IsSome}
@@ -17,13 +17,13 @@ use Rattle.kc_model.specs.Store.{Store}
 use Rattle.kc_script_bundle.proofs.Standing.{all_show}
 use Rattle.kc_script_bundle.specs.On.{CommandsAreOn}
 use Rattle.kc_script_bundle.specs.Script.{Script, LieFrom}
-use Rattle.kc_script_bundle.specs.State.{Content, AllStand, AreWellFormed, state_lines, state_text}
+use Rattle.kc_script_bundle.specs.State.{state_lines, state_text}
 use Rattle.kc_script_bundle.specs.declared.operation.Command.{Command}
 use Rattle.kc_script_runs.proofs.Determined.{canonical_has, label_at, labelled_at, place}
 use Rattle.kc_script_runs.proofs.Formed.{run_formed}
 use Rattle.kc_script_runs.proofs.Named.{replays_named}
 use Rattle.kc_script_runs.specs.Labels.{AreThreads, Label, label, labels}
-use Rattle.kc_script_runs.specs.Run.{IsRun, IsText, opening_store, run_text}
+use Rattle.kc_script_runs.specs.Run.{IsRun, IsText, opening_store}
 use Rattle.kc_xt.specs.Meaning.{values}
 use Rattle.kc_check.specs.Faults.{ComesWhole}
 use Rattle.kc_check.specs.Parts.{Parts, AsMany, IsPlace, joined, mark_at, parts_text, place_text, places_text, replies_text}

@@ -1,14 +1,12 @@
 -- What is wrong with a text: the first of the tests that fails.
 use Rattle.std.specs.Prelude.{◌≡◌, ◌≢◌, ℕ, ◌+◌, List, [], ◌∷◌, ◌++◌, Some, Contains, length, slice_get, slice_index_or}
-use Rattle.std.specs.List.{flat_map}
 use Rattle.kc_history.specs.Order.{IsCanonical, more}
 use Rattle.kc_history.specs.Records.{record_at, footprint_at}
 use Rattle.kc_history.specs.Text.{reply_line}
 use Rattle.kc_history.specs.declared.record.Place.{Place}
 use Rattle.kc_history.specs.declared.record.Record.{Record}
 use Rattle.kc_model.specs.Store.{Store}
-use Rattle.kc_script_bundle.specs.Script.{Script, Names}
-use Rattle.kc_script_bundle.specs.State.{shown, state_line}
+use Rattle.kc_script_bundle.specs.Script.{Script}
 use Rattle.kc_script_bundle.specs.declared.operation.Command.{Command}
 use Rattle.kc_script_runs.specs.Labels.{AreThreads, label, labels}
 use Rattle.kc_script_runs.specs.Run.{IsCommit, IsText, Replays, meaning_at, opening_store}
@@ -17,7 +15,7 @@ use Rattle.kc_xt.specs.Meaning.{Meaning, retried, values}
 use Rattle.kc_check.specs.Forms.{IsFormed, IsMisformed}
 use Rattle.kc_check.specs.Orders.{DiffersAt}
 use Rattle.kc_check.specs.Shown.{UnlikeAt}
-use Rattle.kc_check.specs.Parts.{Parts, joined, said_at, reply_number, place_number, state_number}
+use Rattle.kc_check.specs.Parts.{Parts, said_at, reply_number, place_number, state_number}
 use Rattle.kc_check.specs.declared.error.CheckError.{CheckError}
 use Rattle.kc_check.specs.declared.error.CheckError.TheVariants as error
 use Rattle.kc_check.specs.declared.error.CheckWhy.{CheckWhy}

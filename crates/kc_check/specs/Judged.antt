@@ -1,5 +1,5 @@
 -- What the tests behind that of the form begin with, and how they end.
-use Rattle.std.specs.Prelude.{◌≡◌, ◌<◌, ◌≤◌, ℕ, ◌+◌, List, [], All, Vec, length, slice_index_or, get_or}
+use Rattle.std.specs.Prelude.{◌≡◌, ◌<◌, ◌≤◌, ℕ, List, [], All, Vec, length, slice_index_or, get_or}
 use Rattle.std.specs.Borrow.{Bor}
 use Rattle.std.specs.Global.{Global}
 use Rattle.kc_history.specs.RecordsValue.{RecordsValue}

@@ -1,4 +1,4 @@
-use Rattle.kc_check.proofs.Opened.{commands_few, spelled_names, threads_few}
+use Rattle.kc_check.proofs.Opened.{commands_few, spelled_names}
 use Rattle.kc_check.proofs.Refusing.{refused, short_of}
 use Rattle.kc_script_bundle.specs.Script.{script_of}
 use Rattle.kc_script.proofs.Spelled.{spelled_threads_few}

@@ -1,15 +1,12 @@
-use Rattle.std.proofs.Common.{◌≡◌, ◌≤◌, ◌<◌, ◌+◌, ◌*◌, ℕ, List, refl, length, sym, ap, ◌∙◌, subst, arith, rules}
+use Rattle.std.proofs.Common.{◌≡◌, ◌+◌, ℕ, List, refl, length, sym, ap, ◌∙◌, subst, arith}
 use Rattle.kc_history.specs.Ends.{AreWellMade}
 use Rattle.kc_history.specs.declared.record.Record.{Record}
 use Rattle.kc_history.specs.Records.{footprint_at, lists_of}
 use Rattle.kc_model.specs.Store.{store_of}
 use Rattle.kc_script_bundle.proofs.Places.{next_from-above, cells_within}
 use Rattle.kc_script_bundle.specs.Script.{CellsWithin, Script, names_of, script_of}
-use Rattle.kc_script_runs.specs.Run.{opening_store}
 use Rattle.kc_xt.specs.Meaning.{values}
-use Rattle.kc_check.proofs.HeldLines.{now_long}
-use Rattle.kc_check.proofs.Judged.{comes_legal, disorder_fails, disorder_within, few_places, given_comes, given_stop, judged_text, stop_within, unlike_within}
-use Rattle.kc_check.specs.Faults.{ComesWhole}
+use Rattle.kc_check.proofs.Judged.{comes_legal, disorder_fails, disorder_within, few_places, given_comes, given_stop, judged_text}
 use Rattle.kc_check.specs.Judged.{parts_of}
 use Rattle.kc_check.specs.Orders.{IsLegalList}
 use Rattle.kc_check.specs.Parts.{Parts, commands_in, places_in}

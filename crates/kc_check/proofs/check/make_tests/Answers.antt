@@ -1,9 +1,7 @@
-use Rattle.std.proofs.Common.{◌≡◌, ◌≤◌, ◌+◌, ◌*◌, ◌<◌, ℕ, List, length, sym, ap, ◌∙◌, subst, arith, All, Vec}
+use Rattle.std.proofs.Common.{◌≤◌, length, sym, ap, ◌∙◌, subst, arith, All, Vec}
 use Rattle.std.specs.Global.{Global}
 use Rattle.kc_history.specs.Records.{lists_of}
-use Rattle.kc_history.specs.RecordsValue.{RecordsValue}
 use Rattle.kc_script_bundle.specs.Script.{Script, script_of}
-use Rattle.kc_script_bundle.specs.State.{opening_values}
 use Rattle.kc_script_bundle.specs.declared.operation.Command.{Command}
 use Rattle.kc_script.proofs.Spelled.{spelled_lies, spelled_threads_few}
 use Rattle.kc_check.proofs.Answering.{form_fails, judged_fails, judged_legal}
@@ -11,7 +9,7 @@ use Rattle.kc_check.proofs.Forming.{if_err}
 use Rattle.kc_check.proofs.Padded.{as_many}
 use Rattle.kc_check.proofs.Opened.{commands_few, limit_of_it, objects_few, said_of, sound_of, spelled_names, threads_few, values_few}
 use Rattle.kc_check.specs.Faults.{FailsFor}
-use Rattle.kc_check.specs.Judged.{IsSaid, IsSound, parts_of}
+use Rattle.kc_check.specs.Judged.{IsSound, parts_of}
 use Rattle.kc_check.specs.Parts.{Parts, places_in}
 use Rattle.kc_check.specs.Replays.{HaveRoom, commands_of}
 use Rattle.kc_check.proofs.Replays.{commands_long}

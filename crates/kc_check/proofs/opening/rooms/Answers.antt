@@ -1,6 +1,4 @@
-use Rattle.std.proofs.Common.{◌≡◌, ◌+◌, ◌≤◌, ap, sym, subst, ◌∙◌, arith, length, get_or, Vec}
-use Rattle.std.specs.Global.{Global}
-use Rattle.kc_script_bundle.specs.declared.operation.Command.{Command}
+use Rattle.std.proofs.Common.{◌≡◌, ap, arith, length}
 use Rattle.kc_check.proofs.Opened.{all_empty, no_room, no_records, room_next, room_whole}
 use Rattle.kc_check.proofs.opening.rooms.Goals as goal
 

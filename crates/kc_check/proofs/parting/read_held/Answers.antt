@@ -1,4 +1,4 @@
-use Rattle.std.proofs.Common.{◌≡◌, [], refl, subst, arith}
+use Rattle.std.proofs.Common.{◌≡◌, [], subst}
 use Rattle.kc_check.proofs.Forming.{no_other_first, none_first}
 use Rattle.kc_check.proofs.Matched.{not_both}
 use Rattle.kc_check.proofs.Parted.{lacks_fault}

@@ -1,8 +1,5 @@
-use Rattle.std.proofs.Common.{◌≡◌, ℕ, List, [], refl, subst, sym, ◌∙◌, rules}
-use Rattle.std.proofs.lemmas.Bool.Decides.{Decides-eqb}
-use Rattle.std.proofs.lemmas.Slice.Eq.{slice_eq-Decides}
+use Rattle.std.proofs.Common.{◌≡◌, [], subst, sym, ◌∙◌}
 use Rattle.kc_check.proofs.Forming.{no_other_first, none_first}
-use Rattle.kc_check.proofs.Matched.{not_both}
 use Rattle.kc_check.proofs.Parted.{lacks_fault, other_line}
 use Rattle.kc_check.specs.Forms.{just}
 use Rattle.kc_check.specs.Laid.{IsLine}

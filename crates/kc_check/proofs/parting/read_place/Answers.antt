@@ -1,9 +1,7 @@
-use Rattle.std.proofs.Common.{◌≡◌, ◌++◌, ℕ, List, refl, subst, ap, ◌∙◌}
+use Rattle.std.proofs.Common.{◌≡◌, subst}
 use Rattle.kc_check.proofs.Forming.{no_other_first, none_first}
 use Rattle.kc_check.proofs.Parted.{few_of, lacks_fault}
-use Rattle.kc_check.proofs.Unique.{place_is_line}
 use Rattle.kc_check.specs.Forms.{Names, place}
-use Rattle.kc_check.specs.Laid.{IsLine}
 use Rattle.kc_check.specs.Replays.{commands_of}
 use Rattle.kc_check.proofs.Placed.{named_is_line}
 use Rattle.kc_check.proofs.parting.read_place.Goals as goal

@@ -1,4 +1,4 @@
-use Rattle.std.proofs.Common.{◌≡◌, ◌+◌, ◌≤◌, length, subst, sym, ap, ◌∙◌, arith}
+use Rattle.std.proofs.Common.{subst, sym}
 use Rattle.std.specs.Prelude.{replicate}
 use Rattle.kc_check.proofs.Forming.{if_err}
 use Rattle.kc_check.proofs.Parted.{PlacedTo, placed_fails, placed_more, placed_none}

@@ -1,12 +1,12 @@
-use Rattle.std.proofs.Common.{◌≡◌, ◌++◌, ℕ, List, [], map, All, length, sym, subst, ap, ◌∙◌}
-use Rattle.std.specs.Prelude.{codes, replicate}
+use Rattle.std.proofs.Common.{◌++◌, ℕ, List, [], map, All, length, sym, subst, ap, ◌∙◌}
+use Rattle.std.specs.Prelude.{replicate}
 use Rattle.kc_history.specs.declared.record.Place.{Place}
 use Rattle.kc_script_bundle.specs.Script.{Script, script_of}
 use Rattle.kc_check.proofs.Forming.{if_err}
-use Rattle.kc_check.proofs.Parted.{fails_end, fails_held, fails_order, fails_places, fails_replies, fails_state, held_shapes, none_long, order_line, state_line, text_formed}
+use Rattle.kc_check.proofs.Parted.{fails_end, fails_held, fails_order, fails_places, fails_replies, fails_state, none_long, order_line, state_line, text_formed}
 use Rattle.kc_check.specs.Forms.{AllReplies, Goes, flat, just, place, replies_shapes}
 use Rattle.kc_check.specs.Laid.{IsLine}
-use Rattle.kc_check.specs.Parts.{IsPlace, place_text, places_in}
+use Rattle.kc_check.specs.Parts.{IsPlace, place_text}
 use Rattle.kc_check.specs.Reads.{FailsForm, FailsHowever, LacksHere}
 use Rattle.kc_check.specs.Replays.{commands_of}
 use Rattle.kc_check.specs.Walks.{lines_in, now_of}

@@ -1,4 +1,4 @@
-use Rattle.std.proofs.Common.{ℕ, List, ◌+◌, ◌<◌, ◌^◌, length}
+use Rattle.std.proofs.Common.{List, ◌+◌, ◌<◌, ◌^◌, length}
 use Rattle.kc_check.specs.Forms.{Goes, thread_shapes}
 use Rattle.kc_check.specs.Walks.{now_of}
 use Rattle.kc_script_bundle.specs.declared.operation.Command.{Command}

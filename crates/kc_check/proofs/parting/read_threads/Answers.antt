@@ -1,4 +1,4 @@
-use Rattle.std.proofs.Common.{◌≡◌, ◌+◌, length, subst, sym, ap, ◌∙◌, arith}
+use Rattle.std.proofs.Common.{◌≡◌, length, subst, sym, arith}
 use Rattle.kc_check.proofs.Forming.{if_err}
 use Rattle.kc_check.proofs.Parted.{ReadTo, read_fails, read_more, read_none, read_whole}
 use Rattle.kc_check.specs.Forms.{replies_shapes}

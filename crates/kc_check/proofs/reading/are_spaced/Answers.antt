@@ -1,5 +1,5 @@
-use Rattle.std.proofs.Common.{◌≡◌, sym, refl, ◌∙◌}
-use Rattle.kc_check.proofs.Spaced.{are_spaced, says_spaced, spaced_end, spaced_off, spaced_on}
+use Rattle.std.proofs.Common.{sym, refl, ◌∙◌}
+use Rattle.kc_check.proofs.Spaced.{says_spaced, spaced_end, spaced_off, spaced_on}
 use Rattle.kc_check.proofs.reading.are_spaced.Goals as goal
 
 pub loop-i-init : goal.loop-i-init

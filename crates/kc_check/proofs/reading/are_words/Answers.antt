@@ -1,4 +1,4 @@
-use Rattle.std.proofs.Common.{◌≡◌, ◌++◌, List, ℕ, None, Some, ap, ◌∙◌}
+use Rattle.std.proofs.Common.{◌++◌, List, ℕ, Some, ap, ◌∙◌}
 use Rattle.std.proofs.lemmas.Bool.Decides.{Decides-eqb}
 use Rattle.std.proofs.lemmas.Slice.Eq.{strip_prefix_is}
 use Rattle.kc_check.proofs.Spaced.{words_spaced}

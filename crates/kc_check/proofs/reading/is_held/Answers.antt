@@ -1,4 +1,4 @@
-use Rattle.std.proofs.Common.{◌≡◌, ◌++◌, ℕ, List, None, Some, ap, refl, sym, ◌∙◌}
+use Rattle.std.proofs.Common.{◌++◌, ℕ, List, None, Some, ap, refl, sym, ◌∙◌}
 use Rattle.std.proofs.lemmas.Bool.Decides.{Decides-eqb}
 use Rattle.std.proofs.lemmas.Slice.Eq.{strip_suffix_is}
 use Rattle.kc_check.proofs.Matched.{not_both}

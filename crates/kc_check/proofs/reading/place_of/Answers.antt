@@ -1,6 +1,6 @@
 use Rattle.std.proofs.Common.{◌≡◌, ◌+◌, ◌++◌, ℕ, List, length, ap, subst, refl, ◌∙◌, arith}
 use Rattle.std.specs.Prelude.{codes, decimal}
-use Rattle.kc_check.proofs.Placed.{named_none, named_place, named_text, none_at_first, none_more, none_named}
+use Rattle.kc_check.proofs.Placed.{named_none, none_at_first, none_more, none_named}
 use Rattle.kc_check.specs.Reads.{IsNoFront}
 use Rattle.kc_check.proofs.reading.place_of.Goals as goal
 

@@ -1,5 +1,4 @@
-use Rattle.std.proofs.Common.{◌≡◌, ◌+◌, ◌≤◌, List, length, get_or, sym, ap, subst, ◌∙◌, arith, Vec}
-use Rattle.std.specs.Global.{Global}
+use Rattle.std.proofs.Common.{◌+◌, List, length, get_or, sym, ap, subst, arith}
 use Rattle.kc_script_bundle.specs.declared.operation.Command.{Command}
 use Rattle.kc_history.specs.RecordsValue.{RecordsValue}
 use Rattle.kc_check.proofs.Replays.{counts_at, fills_at, place_within, row_of, waits_at}

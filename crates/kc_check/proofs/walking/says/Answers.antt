@@ -1,7 +1,5 @@
-use Rattle.std.proofs.Common.{◌≡◌, Some, rules, sym, ap, subst, ◌∙◌}
+use Rattle.std.proofs.Common.{rules, sym, ◌∙◌}
 use Rattle.kc_history.proofs.Places.{index_within}
-use Rattle.kc_history.specs.Text.{bare, reply_line}
-use Rattle.kc_history.specs.declared.record.Record.{Record}
 use Rattle.kc_check.proofs.Headed.{head_says}
 use Rattle.kc_check.proofs.walking.says.Goals as goal
 

@@ -1,15 +1,13 @@
-use Rattle.std.proofs.Common.{◌≡◌, ◌<◌, ◌≤◌, ℕ, List, length, get_or, sym, subst, ap, arith, ◌∙◌, ◌+◌, refl}
+use Rattle.std.proofs.Common.{◌≡◌, ℕ, get_or, sym, subst, ap, arith, ◌∙◌, refl}
 use Rattle.kc_history.specs.Records.{lists_of, record_at}
 use Rattle.kc_history.specs.Text.{reply_line}
 use Rattle.kc_history.specs.declared.record.Place.{Place}
-use Rattle.kc_history.specs.declared.record.Record.{Record}
 use Rattle.kc_model.specs.Store.{store_of}
 use Rattle.kc_check.proofs.Matched.{not_both}
 use Rattle.kc_check.proofs.Replays.{place_within, same_commit, some_there, stands_at, turn_is}
 use Rattle.kc_check.proofs.Walks.{stops_reply, stops_turn, stops_waits, walked_all, walked_more, walked_none}
-use Rattle.kc_check.specs.Ages.{IsYoung}
 use Rattle.kc_check.specs.Judged.{nowhere}
-use Rattle.kc_check.specs.Parts.{IsPlace, said_at}
+use Rattle.kc_check.specs.Parts.{IsPlace}
 use Rattle.kc_check.specs.Replays.{AllCanAsk, commands_of, counts}
 use Rattle.kc_check.specs.Walks.{lines_in}
 use Rattle.kc_check.proofs.walking.walk.Goals as goal
