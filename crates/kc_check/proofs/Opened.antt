@@ -13,6 +13,7 @@ use Rattle.kc_model.specs.declared.plain_store.Cell.{Cell}
 use Rattle.kc_script.proofs.Again.{limit_fits, some_cells}
 use Rattle.kc_script.proofs.Spelled.{on_at, spelled_lies, spelled_sized, spelled_threads, spelled_threads_few}
 use Rattle.kc_script.specs.Spells.{Declare, Line, Spells}
+use Rattle.kc_script.specs.declared.reader.Version.{Version}
 use Rattle.kc_script.specs.Threads.{AreThreads as AreOn}
 use Rattle.kc_script_bundle.proofs.Fitting.{command_fits, command_within}
 use Rattle.kc_script_bundle.proofs.Places.{length-cells, next_from-above}
@@ -172,9 +173,9 @@ name_lacks w h = no_newline w (last (is_within 1 32 (length w)) (is_letter (slic
     last true false z e = absurd (cc)
     last false y z e = absurd (cc)
 
-declared_named : (names all : Names) (lines : List Line) → Declare names lines all → HaveNames names → HaveNames all
+declared_named : {version : Version} (names all : Names) (lines : List Line) → Declare version names lines all → HaveNames names → HaveNames all
 declared_named names all lines Declare.none h = h
-declared_named names all _ (Declare.one {lines = lines} line entry e rest) h = declared_named (names ++ entry ∷ []) all lines rest (push names entry h (name_lacks entry.0 e.1))
+declared_named names all _ (Declare.one {lines = lines} line entry known e rest) h = declared_named (names ++ entry ∷ []) all lines rest (push names entry h (name_lacks entry.0 e.1))
   where
     push : (xs : Names) (x : List ℕ × Object) → HaveNames xs → Lacks 10 x.0 → HaveNames (xs ++ x ∷ [])
     push [] x k l zero d lt = l
