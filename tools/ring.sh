@@ -21,7 +21,7 @@ run_and_compare() {
     start=$(date +%s%N)
     "$top/kcas" run --store "$1" < "$room/script" > "$room/text"
     took=$((took + $(date +%s%N) - start))
-    python3 "$top/tools/ring/reader.py" "$room/script" "$room/text"
+    python3 "$top/tools/second/reader.py" "$room/script" "$room/text"
 }
 
 run_largest() {
