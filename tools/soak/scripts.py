@@ -1,9 +1,9 @@
 """Scripts by number, of up to 16 threads, with every kind of object, command and block, waits and cancels among them.
 
-Each ends on every store, in every order of its threads' steps. A thread is of one of two kinds. One kind waits only for what threads of
+Each ends on every store, in every order of its threads' steps. A thread but the last is of one of two kinds. One kind waits only for what threads of
 lower numbers do by commands that never wait (a promise that is resolved, a number that only rises), or has in the same block an
 alternative that waits for such a thing or doesn't wait. The other has one command that may wait for ever, and a thread of a lower number
-cancels it, or it is the last that lives and is stranded.
+cancels it. The last thread may wait for anything: once all others have ended it is stranded.
 """
 
 import random
@@ -155,6 +155,9 @@ class Maker:
     def thread(self, number):
         drawn = self.drawn
         lines = [self.command() for _ in range(drawn.randint(0, 12))]
+        if number == self.count - 1 and drawn.random() < 0.5:
+            # Nobody waits for the last thread, so that it may wait for whatever there is.
+            return [[self.waiting()] if drawn.random() < 0.3 else line for line in lines]
         if number and drawn.random() < 0.3:
             # It may wait for ever, and has no other command that waits.
             lines = [[self.operation()] for _ in lines]
