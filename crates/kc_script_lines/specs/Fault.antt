@@ -11,6 +11,9 @@ limit_words limit.Threads = codes "too many threads"
 limit_words limit.Commands = codes "too many commands"
 limit_words limit.Block = codes "too many commands in a block"
 limit_words limit.Depth = codes "too deep"
+limit_words limit.Texts = codes "too many texts"
+limit_words limit.TextBytes = codes "text too long"
+limit_words limit.Picks = codes "too many picks"
 
 abbrev pub why_words : Why → List ℕ
 why_words why.Header = codes "no header"

@@ -20,6 +20,12 @@ pub enum Limit {
     Block,
     /// Alternatives nested more than 8 deep.
     Depth,
+    /// More than 4,096 texts.
+    Texts,
+    /// More than 64 bytes in a text.
+    TextBytes,
+    /// More than 65,536 picks.
+    Picks,
 }
 
 impl Limit {
@@ -34,6 +40,9 @@ impl Limit {
             Limit::Commands => "too many commands",
             Limit::Block => "too many commands in a block",
             Limit::Depth => "too deep",
+            Limit::Texts => "too many texts",
+            Limit::TextBytes => "text too long",
+            Limit::Picks => "too many picks",
         }
     }
 }

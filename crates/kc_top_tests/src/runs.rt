@@ -554,6 +554,9 @@ fn each_fault_has_its_words(rt: HostRuntime) {
         (Why::TooMany(Limit::Commands), "too many commands"),
         (Why::TooMany(Limit::Block), "too many commands in a block"),
         (Why::TooMany(Limit::Depth), "too deep"),
+        (Why::TooMany(Limit::Texts), "too many texts"),
+        (Why::TooMany(Limit::TextBytes), "text too long"),
+        (Why::TooMany(Limit::Picks), "too many picks"),
     ];
     for (why, words) in rows {
         assert_eq!(rt; why.words(), words);
