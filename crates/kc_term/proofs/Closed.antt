@@ -1,5 +1,5 @@
 -- What holds of a term because it holds of its operations.
-use Rattle.std.proofs.Common.{◌≡◌, ◌≢◌, ℕ, ◌≤◌, List, [], ◌∷◌, ◌++◌, None, refl, sym, ap, ◌∙◌, subst, arith}
+use Rattle.std.proofs.Common.{◌≡◌, ◌≢◌, ℕ, ◌≤◌, max, List, [], ◌∷◌, ◌++◌, None, refl, sym, ap, ◌∙◌, subst, arith}
 use Rattle.kc_model.specs.declared.reply.Item.{Item}
 use Rattle.kc_model.specs.declared.reply.Reply.{Reply}
 use Rattle.kc_model.specs.declared.reply.Reply.TheVariants as reply
@@ -112,3 +112,13 @@ module _ {O : Type 0} (mean : O → Meaning) where
   -- the locations that the operations touch, each below its operation's end
   pub term_stays_below : (end : O → ℕ) (t : Tree O) → Each (λ o. StaysBelow (end o) (mean o)) (operations t) → StaysBelow (greatest_end end (operations t)) (term_meaning mean t)
   term_stays_below end t h = of_term (below_closed (greatest_end end (operations t))) mean t (below_greatest mean end _ (operations t) (omega arith) h)
+
+-- two alternatives
+pub either_preserves : (P : (ℕ → ℕ) → Type 0) (p q : Meaning) → Preserves P p → Preserves P q → Preserves P (first_meaning p q)
+either_preserves P = (preserves_closed P).either
+
+pub either_leaves_alone : (l : ℕ) (p q : Meaning) → LeavesAlone l p → LeavesAlone l q → LeavesAlone l (first_meaning p q)
+either_leaves_alone l = (alone_closed l).either
+
+pub either_stays_below : (b c : ℕ) (p q : Meaning) → StaysBelow b p → StaysBelow c q → StaysBelow (max b c) (first_meaning p q)
+either_stays_below b c p q h g = (below_closed (max b c)).either p q (λ n m ks. below-wider b (max b c) _ (omega arith) (h n m ks)) (λ n m ks. below-wider c (max b c) _ (omega arith) (g n m ks))

@@ -2,4 +2,5 @@ pub mod Parts
 pub mod TermLaw
 pub mod Closed
 pub mod Ones
+pub mod Rows
 pub mod Worked

@@ -4,6 +4,7 @@ pub mod Shape
 pub mod Falls
 pub mod Counted
 pub mod Made
+pub mod Row
 pub mod Meaning
 pub mod Fit
 pub mod Laws

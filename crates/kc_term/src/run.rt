@@ -112,7 +112,7 @@ fn run_behind_many<O: Transact, P: Peek>(
     run_term(b, xt)
 }
 
-fn is_retry(tried: &Result<Reply, Stop>) -> bool
+pub(crate) fn is_retry(tried: &Result<Reply, Stop>) -> bool
     ensures { IsTrue result ↔ (tried.now ≡ Err Stop.Retry) }
 {
     matches!(tried, Err(Stop::Retry))

@@ -256,3 +256,98 @@ fn the_ninth_nested_alternatives_are_given_back(rt: HostRuntime) -> Result<(), F
         _ => Err(Fail::from("nine alternatives in one another")),
     }
 }
+
+// Runs operations in a row behind what ran on the log of this store.
+fn answer_row(
+    ops: &[Add],
+    store: &PlainStore,
+    xt: &mut Xt<PlainPeek>,
+) -> Result<Result<Reply, Stop>, Fail>
+    requires { length xt.old.peek ≡ length store.now }
+    ensures { length xt.new.peek ≡ length xt.old.peek }
+{
+    let row = Row { ops };
+    if ops.len() > MOST_OPERATIONS as usize || row.bound() > store.len() {
+        return Err(Fail::from("not to be run on this store"));
+    }
+    Ok(row.run(xt))
+}
+
+// Runs the first, or else the second, of two rows.
+fn answer_either(
+    first: &[Add],
+    second: &[Add],
+    store: &PlainStore,
+    xt: &mut Xt<PlainPeek>,
+) -> Result<Result<Reply, Stop>, Fail>
+    requires { length xt.old.peek ≡ length store.now }
+    ensures { length xt.new.peek ≡ length xt.old.peek }
+{
+    let either = Either {
+        first: Row { ops: first },
+        second: Row { ops: second },
+    };
+    let most = MOST_OPERATIONS as usize;
+    if first.len() > most || second.len() > most || either.bound() > store.len() {
+        return Err(Fail::from("not to be run on this store"));
+    }
+    Ok(either.run(xt))
+}
+
+#[test]
+fn a_row_replies_each_item_and_stops_where_one_waits(rt: HostRuntime) -> Result<(), Fail> {
+    let store = store_of(rt.alloc(), &[5, 6])?;
+    let mut room = Room::new();
+    let mut xt = Xt::new(PlainPeek::new(&store), &mut room, MOST as u32);
+    let add = |at, n| Add { at, least: 0, n };
+    assert_eq!(rt; answer_row(&[], &store, &mut xt)?, Ok(many(&[])));
+    assert_eq!(rt;
+        answer_row(&[add(1, 3), add(0, 1), add(1, 0)], &store, &mut xt)?,
+        Ok(many(&[Item::Value(6), Item::Value(5), Item::Value(9)]))
+    );
+    let waits = Add {
+        at: 0,
+        least: 7,
+        n: 0,
+    };
+    assert_eq!(rt;
+        answer_row(&[add(0, 0), waits, add(1, 1)], &store, &mut xt)?,
+        Err(Stop::Retry)
+    );
+    let (_, footprint) = xt.into_parts();
+    assert_eq!(rt; footprint.puts.len(), 2);
+    assert_eq!(rt; footprint.puts[1].after, 9);
+    Ok(())
+}
+
+#[test]
+fn the_first_of_two_rows_is_taken_back_where_it_waits(rt: HostRuntime) -> Result<(), Fail> {
+    let store = store_of(rt.alloc(), &[5; 12])?;
+    let mut room = Room::new();
+    let mut xt = Xt::new(PlainPeek::new(&store), &mut room, MOST as u32);
+    let add = |at, n| Add { at, least: 0, n };
+    let waits = Add {
+        at: 0,
+        least: 7,
+        n: 0,
+    };
+    assert_eq!(rt;
+        answer_either(&[add(1, 3), waits], &[add(1, 1)], &store, &mut xt)?,
+        Ok(many(&[Item::Value(5)]))
+    );
+    assert_eq!(rt;
+        answer_either(&[add(1, 0)], &[add(1, 1)], &store, &mut xt)?,
+        Ok(many(&[Item::Value(6)]))
+    );
+    for at in 2..12 {
+        assert_eq!(rt;
+            answer_row(&[add(at, 1)], &store, &mut xt)?,
+            Ok(many(&[Item::Value(5)]))
+        );
+    }
+    assert_eq!(rt;
+        answer_either(&[add(1, 3), waits], &[add(1, 0)], &store, &mut xt)?,
+        Ok(many(&[Item::Value(6)]))
+    );
+    Ok(())
+}
