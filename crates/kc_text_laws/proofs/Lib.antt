@@ -1,0 +1,5 @@
+pub mod Holding
+pub mod Owning
+pub mod Turning
+pub mod Graves
+pub mod Stores
