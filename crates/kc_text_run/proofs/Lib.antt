@@ -1,0 +1,4 @@
+pub mod Picks
+pub mod Past
+pub mod Opened
+pub mod Written
