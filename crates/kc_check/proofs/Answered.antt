@@ -8,7 +8,7 @@ use Rattle.kc_model.specs.declared.reply.Reply.TheVariants as reply
 use Rattle.kc_model.specs.declared.reply.Answer.{Answer}
 use Rattle.kc_model.specs.declared.reply.Answer.TheVariants as answer
 use Rattle.kc_check.proofs.Worded.{says_one}
-use Rattle.kc_check.specs.Forms.{Fits, ItemFits}
+use Rattle.kc_script_small.specs.Small.{Fits, ItemFits}
 use Rattle.kc_check.specs.Reads.{SayItems, SaysAnswer}
 
 or_first : (a b : Bool) → a ≡ true → (a || b) ≡ true

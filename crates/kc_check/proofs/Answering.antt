@@ -21,7 +21,7 @@ form_fails s text (error.Fault line why.Waits) h = absurd h
 form_fails s text (error.Fault line why.Reply) h = absurd h
 form_fails s text (error.Fault line why.Order) h = absurd h
 form_fails s text (error.Fault line why.State) h = absurd h
-form_fails s text error.NoMemory h = tt
+form_fails s text error.NoMemory h = absurd h
 
 -- where the text has it, the others follow
 pub later_fails : (s : Script) (text : List ℕ) (parts : Parts) (e : CheckError) → IsFormed s text parts → FailsWith s parts e → FailsFor s text e
@@ -31,7 +31,7 @@ later_fails s text parts (error.Fault line why.Waits) formed h = record { parts 
 later_fails s text parts (error.Fault line why.Reply) formed h = record { parts = parts; formed = formed; fails = h }
 later_fails s text parts (error.Fault line why.Order) formed h = record { parts = parts; formed = formed; fails = h }
 later_fails s text parts (error.Fault line why.State) formed h = record { parts = parts; formed = formed; fails = h }
-later_fails s text parts error.NoMemory formed h = tt
+later_fails s text parts error.NoMemory formed h = absurd h
 
 pub judged_fails : (s : Script) (text : List ℕ) (parts : Parts) (r : Result (Unit {0}) CheckError) → IsFormed s text parts → IfErr r (FailsWith s parts) → IfErr r (FailsFor s text)
 judged_fails s text parts (Ok u) formed h = tt

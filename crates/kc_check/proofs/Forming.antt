@@ -13,7 +13,8 @@ use Rattle.kc_model.specs.declared.reply.Answer.{Answer}
 use Rattle.kc_model.specs.declared.reply.Answer.TheVariants as answer
 use Rattle.kc_script_bundle.specs.declared.operation.Command.{Command}
 use Rattle.kc_check.proofs.Unique.{decimal_lacks, lacks_append, line_one}
-use Rattle.kc_check.specs.Forms.{AreShaped, FailsAt, Fits, Goes, HasShape, IsReply, ItemFits, Shape, answers, thread_shapes}
+use Rattle.kc_check.specs.Forms.{AreShaped, FailsAt, Goes, HasShape, IsReply, Shape, answers, thread_shapes}
+use Rattle.kc_script_small.specs.Small.{Fits, ItemFits}
 use Rattle.kc_check.specs.Laid.{IsLine, Lacks}
 use Rattle.kc_check.specs.Parts.{joined}
 use Rattle.kc_check.specs.Reads.{FailsHowever, LacksReply}

@@ -7,7 +7,7 @@ use Rattle.std.specs.Prelude.{codes, nat_eq}
 use Rattle.kc_history.specs.Text.{item_text}
 use Rattle.kc_model.specs.declared.reply.Item.{Item}
 use Rattle.kc_model.specs.declared.reply.Item.TheVariants as item
-use Rattle.kc_check.specs.Forms.{ItemFits}
+use Rattle.kc_script_small.specs.Small.{ItemFits}
 use Rattle.kc_check.specs.Reads.{IsPlainNumber, SaysItem}
 
 -- one of the words, or a number

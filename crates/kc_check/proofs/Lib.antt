@@ -1,7 +1,10 @@
 pub mod Spaced
 pub mod Answering
 pub mod Printed
-pub mod Refusing
+pub mod Spaces
+pub mod Once
+pub mod Formed
+pub mod Exact
 pub mod Opened
 pub mod Placed
 pub mod Parted

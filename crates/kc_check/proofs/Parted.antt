@@ -26,11 +26,11 @@ use Rattle.kc_check.specs.declared.error.CheckWhy.TheVariants as why
 -- ---- a part behind another
 
 module _ (threads : List (List Command)) where
-  joined_append : (ls ms : List (List ℕ)) → joined (ls ++ ms) ≡ joined ls ++ joined ms
+  pub joined_append : (ls ms : List (List ℕ)) → joined (ls ++ ms) ≡ joined ls ++ joined ms
   joined_append [] ms = refl
   joined_append (l ∷ ls) ms = ap (λ (xs : List ℕ). l ++ xs) (joined_append ls ms) ∙ sym (append_assoc l (joined ls) (joined ms))
 
-  shaped_append : (ks js : List Shape) (ls ms : List (List ℕ)) → AreShaped threads ks ls → AreShaped threads js ms → AreShaped threads (ks ++ js) (ls ++ ms)
+  pub shaped_append : (ks js : List Shape) (ls ms : List (List ℕ)) → AreShaped threads ks ls → AreShaped threads js ms → AreShaped threads (ks ++ js) (ls ++ ms)
   shaped_append [] js [] ms h k = k
   shaped_append [] js (l ∷ ls) ms h k = absurd h
   shaped_append (x ∷ ks) js [] ms h k = absurd h
@@ -59,7 +59,7 @@ module _ (threads : List (List Command)) where
   however_on ks js text n ls rest m (error.Fault line why.Reply) g h = absurd h
   however_on ks js text n ls rest m (error.Fault line why.Order) g h = absurd h
   however_on ks js text n ls rest m (error.Fault line why.State) g h = absurd h
-  however_on ks js text n ls rest m error.NoMemory g h = tt
+  however_on ks js text n ls rest m error.NoMemory g h = absurd h
 
   -- what fails fails whatever is to follow
   pub however_more : (ks more : List Shape) (text : List ℕ) (n : ℕ) (e : CheckError) → FailsHowever threads ks text n e → FailsHowever threads (ks ++ more) text n e
@@ -69,7 +69,7 @@ module _ (threads : List (List Command)) where
   however_more ks more text n (error.Fault line why.Reply) h = absurd h
   however_more ks more text n (error.Fault line why.Order) h = absurd h
   however_more ks more text n (error.Fault line why.State) h = absurd h
-  however_more ks more text n error.NoMemory h = tt
+  however_more ks more text n error.NoMemory h = absurd h
 
   -- one line that is lacking
   pub lacks_one : (k : Shape) (text : List ℕ) (n : ℕ) (e : CheckError) → LacksHere threads k text n e → FailsHowever threads (k ∷ []) text n e
@@ -337,11 +337,11 @@ held_are threads [] (l ∷ ls) h = absurd h
 held_are threads (entry ∷ names) [] h = absurd h
 held_are threads (entry ∷ names) (l ∷ ls) h = (h.0, held_are threads names ls h.1)
 
-joined_flat : (rs : List (List (List ℕ))) → joined (flat rs) ≡ replies_text rs
+pub joined_flat : (rs : List (List (List ℕ))) → joined (flat rs) ≡ replies_text rs
 joined_flat [] = refl
 joined_flat (r ∷ rs) = joined_append [] r (flat rs) ∙ ap (λ (xs : List ℕ). joined r ++ xs) (joined_flat rs)
 
-joined_places : (threads : List (List Command)) (ps : List Place) → joined (map (place_text threads) ps) ≡ places_text threads ps
+pub joined_places : (threads : List (List Command)) (ps : List Place) → joined (map (place_text threads) ps) ≡ places_text threads ps
 joined_places threads [] = refl
 joined_places threads (p ∷ ps) = ap (λ (xs : List ℕ). place_text threads p ++ xs) (joined_places threads ps)
 
@@ -354,7 +354,7 @@ so_goes threads ks more text n ls rest m (error.Fault line why.Waits) g h = absu
 so_goes threads ks more text n ls rest m (error.Fault line why.Reply) g h = absurd h
 so_goes threads ks more text n ls rest m (error.Fault line why.Order) g h = absurd h
 so_goes threads ks more text n ls rest m (error.Fault line why.State) g h = absurd h
-so_goes threads ks more text n ls rest m error.NoMemory g h = tt
+so_goes threads ks more text n ls rest m error.NoMemory g h = absurd h
 
 pub so_line : (threads : List (List Command)) (k : Shape) (ks : List Shape) (text : List ℕ) (n : ℕ) (l rest : List ℕ) (m : ℕ) (e : CheckError) → HasShape threads k l → text ≡ l ++ rest → m ≡ n + 1 → FailsSo threads ks rest m e → FailsSo threads (k ∷ ks) text n e
 so_line threads k ks text n l rest m (error.Fault line why.Form) s f i h = inr (l, rest, s, f, subst (λ (j : ℕ). FailsAt threads ks rest j line) i h)
@@ -363,7 +363,7 @@ so_line threads k ks text n l rest m (error.Fault line why.Waits) s f i h = absu
 so_line threads k ks text n l rest m (error.Fault line why.Reply) s f i h = absurd h
 so_line threads k ks text n l rest m (error.Fault line why.Order) s f i h = absurd h
 so_line threads k ks text n l rest m (error.Fault line why.State) s f i h = absurd h
-so_line threads k ks text n l rest m error.NoMemory s f i h = tt
+so_line threads k ks text n l rest m error.NoMemory s f i h = absurd h
 
 pub so_lacks : (threads : List (List Command)) (k : Shape) (ks : List Shape) (text : List ℕ) (n : ℕ) (e : CheckError) → LacksHere threads k text n e → FailsSo threads (k ∷ ks) text n e
 so_lacks threads k ks text n (error.Fault line why.Form) h = inl (h.0, h.1)
@@ -372,7 +372,7 @@ so_lacks threads k ks text n (error.Fault line why.Waits) h = absurd h
 so_lacks threads k ks text n (error.Fault line why.Reply) h = absurd h
 so_lacks threads k ks text n (error.Fault line why.Order) h = absurd h
 so_lacks threads k ks text n (error.Fault line why.State) h = absurd h
-so_lacks threads k ks text n error.NoMemory h = tt
+so_lacks threads k ks text n error.NoMemory h = absurd h
 
 pub so_however : (threads : List (List Command)) (ks more : List Shape) (text : List ℕ) (n : ℕ) (e : CheckError) → FailsHowever threads ks text n e → FailsSo threads (ks ++ more) text n e
 so_however threads ks more text n (error.Fault line why.Form) h = h more
@@ -381,7 +381,7 @@ so_however threads ks more text n (error.Fault line why.Waits) h = absurd h
 so_however threads ks more text n (error.Fault line why.Reply) h = absurd h
 so_however threads ks more text n (error.Fault line why.Order) h = absurd h
 so_however threads ks more text n (error.Fault line why.State) h = absurd h
-so_however threads ks more text n error.NoMemory h = tt
+so_however threads ks more text n error.NoMemory h = absurd h
 
 pub fails_replies : (s : Script) (text : List ℕ) (e : CheckError) → FailsHowever s.threads (replies_shapes 1 s.threads) text 1 e → FailsForm s text e
 fails_replies s text e h = so_however s.threads (replies_shapes 1 s.threads) (just (codes "order\n") ∷ (replicate (places_in s.threads) place ++ (just (codes "state\n") ∷ held_shapes s.objects))) text 1 e h

@@ -98,7 +98,7 @@ lines_are thread n (c ∷ cs) (r ∷ rs) e =
     let line : IsLine (marked_reply (mark.Command n) r) = subst (λ (k : Mark). IsLine (decimal r.thread ++ codes "." ++ mark_text k ++ codes " " ++ answer_text r.answer ++ codes "\n")) (sym marked) (command_line r.thread n r.answer) in
     (subst (λ (k : Mark). IsLine (marked_reply k r)) (sym marked) line, lines_are thread (n + 1) cs rs (tails (label r) (record { thread = thread; mark = mark.Command n }) (map label rs) (labels thread (n + 1) cs) e))
 
-replies_are_lines : (j : ℕ) (threads : List (List Command)) (records : List (List Record)) → AreThreads j threads records → AllReplyLines (replies_for threads records)
+pub replies_are_lines : (j : ℕ) (threads : List (List Command)) (records : List (List Record)) → AreThreads j threads records → AllReplyLines (replies_for threads records)
 replies_are_lines j [] records h = tt
 replies_are_lines j (cs ∷ threads) [] h = tt
 replies_are_lines j (cs ∷ threads) (rs ∷ records) h = (lines_are j 1 cs rs h.0, replies_are_lines (j + 1) threads records h.1)
@@ -122,7 +122,7 @@ content_lacks (shows_pairs ps) = pairs_lack ps
 content_lacks (shows_place None) = lacks_by_test (codes " none") refl
 content_lacks (shows_place (Some v)) = lacks_append 10 (codes " ") (decimal v) (lacks_by_test (codes " ") refl) (number_lacks 10 v (omega arith))
 
-held_are_lines : (names : Names) (m : ℕ → ℕ) → HaveNames names → AllLines (held_lines names m)
+pub held_are_lines : (names : Names) (m : ℕ → ℕ) → HaveNames names → AllLines (held_lines names m)
 held_are_lines [] m h = tt
 held_are_lines (entry ∷ names) m h = (
   record { body = entry.0 ++ content_text (shown entry.1 m); lacks = lacks_append 10 entry.0 (content_text (shown entry.1 m)) (h zero entry (omega arith)) (content_lacks (shown entry.1 m)); is = refl },
@@ -151,8 +151,14 @@ state_lines_are [] (l ∷ ls) n h = absurd h
 state_lines_are (entry ∷ names) [] n h = absurd h
 state_lines_are (entry ∷ names) (l ∷ ls) n h = (held_is_line entry.0 l (n zero entry (omega arith)) h.0, state_lines_are names ls (λ i d lt. n (suc i) d (omega arith)) h.1)
 
+-- the text of a run shows its last store
+pub legal_spelled : (s : Script) (text : List ℕ) (legal : IsLegal s text) → text ≡ reply_lines legal.records ++ codes "order\n" ++ order_lines legal.records legal.is.order ++ codes "state\n" ++ flat_map (λ entry. state_line entry.0 (shown entry.1 (values legal.is.last))) s.objects
+legal_spelled s text legal =
+    let t = legal.is in
+    t.spelled ∙ ap (λ (xs : List ℕ). reply_lines legal.records ++ codes "order\n" ++ order_lines legal.records t.order ++ codes "state\n" ++ xs) (sym (all_show s.objects (values t.last) t.contents t.stand))
+
 module _ (s : Script) (few : length s.threads ≤ 16) (short : (t : ℕ) → length (slice_index_or s.threads t []) ≤ 4096) (names : HaveNames s.objects) where
-  laid_of : (text : List ℕ) (parts : Parts) → IsFormed s text parts → IsLaid s text parts
+  pub laid_of : (text : List ℕ) (parts : Parts) → IsFormed s text parts → IsLaid s text parts
   laid_of text parts formed =
       let said = said_parts s text parts formed in
       record {
@@ -170,6 +176,4 @@ module _ (s : Script) (few : length s.threads ≤ 16) (short : (t : ℕ) → len
   later_not_legal text parts line w formed fails legal =
       let t = legal.is in
       let small : AreFew s.threads = record { threads_few = omega (arith, few); commands_few = λ u. (let le = short u in omega (arith, le)) } in
-      let spelled : text ≡ reply_lines legal.records ++ codes "order\n" ++ order_lines legal.records t.order ++ codes "state\n" ++ flat_map (λ entry. state_line entry.0 (shown entry.1 (values t.last))) s.objects =
-      t.spelled ∙ ap (λ (xs : List ℕ). reply_lines legal.records ++ codes "order\n" ++ order_lines legal.records t.order ++ codes "state\n" ++ xs) (sym (all_show s.objects (values t.last) t.contents t.stand)) in
-      no_later_fault s text parts legal.records t.order t.last line w small t.run (replies_are_lines 1 s.threads legal.records t.run.threads) (held_are_lines s.objects (values t.last) names) spelled (laid_of text parts formed) fails
+      no_later_fault s text parts legal.records t.order t.last line w small t.run (replies_are_lines 1 s.threads legal.records t.run.threads) (held_are_lines s.objects (values t.last) names) (legal_spelled s text legal) (laid_of text parts formed) fails

@@ -24,6 +24,7 @@ use Rattle.kc_check.proofs.Unique.{heads, tails}
 use Rattle.kc_check.proofs.Whole.{labels_long, order_is}
 use Rattle.std.specs.Option.{option_map}
 use Rattle.kc_check.specs.Faults.{ComesWhole}
+use Rattle.kc_check.specs.Forms.{AllReplies, AreHeld, IsFormed}
 use Rattle.kc_check.specs.Laid.{AllLines, AllReplyLines, IsLaid}
 use Rattle.kc_check.specs.Parts.{AsMany, IsPlace, Parts, joined, places_in, places_text, replies_text}
 use Rattle.kc_check.specs.Shown.{held_lines, lines_for, replies_for}
@@ -125,6 +126,10 @@ module _ (s : Script) (records : List (List Record)) (order : List Place) (last 
     spelled = spelled ∙ ap₂ (λ (a b : List ℕ). a ++ codes "order\n" ++ b ++ codes "state\n" ++ state_text s.objects (values last)) (replies_joined 1 s.threads records run.threads) (order_is s.threads records run.threads order run_each (λ p inside. replays_named s.limit s.threads records (opening_store s) last order run.replays p inside))
         ∙ ap (λ (c : List ℕ). replies_text (replies_for s.threads records) ++ codes "order\n" ++ places_text s.threads order ++ codes "state\n" ++ c) (sym (held_joined s.objects (values last)));
   }
+
+  pub run_formed : (text : List ℕ) → IsLaid s text parts_of → AllReplies 1 s.threads (replies_for s.threads records) → AreHeld s.objects (held_lines s.objects (values last)) → IsFormed s text parts_of
+  unfolding parts_of
+  run_formed text laid replies held = record { replies = replies; places = laid.places; count = laid.count; state = held; spelled = laid.spelled }
 
   pub run_again : IsRun s records parts_of.places last
   unfolding parts_of

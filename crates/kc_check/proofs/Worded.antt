@@ -9,7 +9,7 @@ use Rattle.kc_history.specs.Text.{item_text, items_text, spaced_items}
 use Rattle.kc_model.specs.declared.reply.Item.{Item}
 use Rattle.kc_model.specs.declared.reply.Item.TheVariants as item
 use Rattle.kc_check.proofs.Unique.{decimal_lacks, split_one}
-use Rattle.kc_check.specs.Forms.{ItemFits}
+use Rattle.kc_script_small.specs.Small.{ItemFits}
 use Rattle.kc_check.specs.Laid.{Lacks}
 use Rattle.kc_check.specs.Reads.{SayItems, SaysItem}
 

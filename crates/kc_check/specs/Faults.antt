@@ -117,11 +117,10 @@ abbrev pub FailsFor : Script → List ℕ → CheckError → Type 0
 FailsFor s text (error.Fault line w) = Fails s text line w
 FailsFor s text error.NoMemory = Unit {0}
 
--- a fault by one of the tests behind that of the form
-abbrev pub IsLaterFault : CheckError → Type 0
-IsLaterFault (error.Fault line why.Form) = ⊥
-IsLaterFault error.NoMemory = ⊥
-IsLaterFault other = Unit {0}
+-- a fault, and not want of memory
+abbrev pub IsFault : CheckError → Type 0
+IsFault (error.Fault line w) = Unit {0}
+IsFault error.NoMemory = ⊥
 
 -- the text is that of some records that are a run of the script
 pub record IsLegal (s : Script) (text : List ℕ) : Type 0 where

@@ -1,29 +1,16 @@
 -- The form of a text, line by line.
-use Rattle.std.specs.Prelude.{◌≡◌, ◌≢◌, ◌⊎◌, ℕ, zero, suc, ◌+◌, ◌^◌, ◌<◌, ◌≤◌, List, [], ◌∷◌, ◌++◌, All, length, replicate, map, codes, decimal}
+use Rattle.std.specs.Prelude.{◌≡◌, ◌≢◌, ◌⊎◌, ℕ, zero, suc, ◌+◌, ◌<◌, List, [], ◌∷◌, ◌++◌, All, length, replicate, map, codes, decimal}
 use Rattle.std.specs.List.{flat_map}
 use Rattle.kc_history.specs.Text.{answer_text}
 use Rattle.kc_history.specs.declared.record.Place.{Place}
-use Rattle.kc_model.specs.declared.reply.Item.{Item}
-use Rattle.kc_model.specs.declared.reply.Item.TheVariants as item
-use Rattle.kc_model.specs.declared.reply.Reply.TheVariants as reply
 use Rattle.kc_model.specs.declared.reply.Answer.{Answer}
-use Rattle.kc_model.specs.declared.reply.Answer.TheVariants as answer
 use Rattle.kc_script_bundle.specs.Script.{Script, Names as Objects}
 use Rattle.kc_script_bundle.specs.declared.object.Object.{Object}
 use Rattle.kc_script_bundle.specs.declared.operation.Command.{Command}
+use Rattle.kc_script_small.specs.Small.{Fits}
 use Rattle.kc_check.specs.Parts.{Parts, IsPlace, joined, place_text, parts_text, places_in}
 
 -- ---- the shape of a line
-
--- the answer's numbers are such as a location holds, and it has at most 16 items
-abbrev pub ItemFits : Item → Type 0
-ItemFits (item.Value n) = n < 2 ^ 32
-ItemFits other = Unit {0}
-
-abbrev pub Fits : Answer → Type 0
-Fits (answer.Reply (reply.Value n)) = n < 2 ^ 32
-Fits (answer.Reply (reply.Many items)) = (length items ≤ 16) × All ItemFits items
-Fits other = Unit {0}
 
 -- the line of a thread's command says an answer
 pub record IsReply (thread number : ℕ) (line : List ℕ) : Type 0 where

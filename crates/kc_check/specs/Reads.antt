@@ -1,10 +1,13 @@
 -- How reading a part of a text ends.
-use Rattle.std.specs.Prelude.{◌≡◌, ◌≢◌, ℕ, ◌+◌, ◌^◌, ◌<◌, ◌≤◌, List, ◌∷◌, ◌++◌, All, length, codes, decimal}
+use Rattle.std.specs.Prelude.{◌≡◌, ◌≢◌, ℕ, ◌+◌, ◌^◌, ◌<◌, ◌≤◌, List, [], ◌∷◌, ◌++◌, All, length, codes, decimal, Vec, vec_capacity}
+use Rattle.std.specs.Borrow.{Bor}
+use Rattle.std.specs.Global.{Global}
 use Rattle.std.specs.List.{flat_map}
 use Rattle.kc_script_bundle.specs.Script.{Names, Script}
 use Rattle.kc_script_bundle.specs.declared.object.Object.{Object}
 use Rattle.kc_script_bundle.specs.declared.operation.Command.{Command}
-use Rattle.kc_check.specs.Forms.{FailsAt, Fits, IsReply, IsWord, ItemFits, LacksLine, Shape, shapes}
+use Rattle.kc_check.specs.Forms.{FailsAt, IsReply, IsWord, LacksLine, Shape, shapes}
+use Rattle.kc_script_small.specs.Small.{Fits, ItemFits}
 use Rattle.kc_check.specs.Laid.{Lacks}
 use Rattle.kc_check.specs.Parts.{mark_at}
 use Rattle.kc_history.specs.Text.{answer_text, item_text, items_text, mark_text}
@@ -14,10 +17,9 @@ use Rattle.kc_check.specs.declared.error.CheckError.{CheckError}
 use Rattle.kc_check.specs.declared.error.CheckError.TheVariants as error
 use Rattle.kc_check.specs.declared.error.CheckWhy.TheVariants as why
 
--- a line of these shapes is missing, whatever follows them; want of memory says nothing
+-- a line of these shapes is missing, whatever follows them
 abbrev pub FailsHowever : List (List Command) → List Shape → List ℕ → ℕ → CheckError → Type 0
 FailsHowever threads ks text n (error.Fault line why.Form) = (more : List Shape) → FailsAt threads (ks ++ more) text n line
-FailsHowever threads ks text n error.NoMemory = Unit {0}
 FailsHowever threads ks text n other = ⊥
 
 -- no reply of the thread's command comes
@@ -70,10 +72,9 @@ abbrev pub LacksHere : List (List Command) → Shape → List ℕ → ℕ → Ch
 LacksHere threads k text n (error.Fault line why.Form) = LacksLine threads k text × (line ≡ n)
 LacksHere threads k text n other = ⊥
 
--- lines of these shapes, and nothing behind them, don't come; want of memory says nothing
+-- lines of these shapes, and nothing behind them, don't come
 abbrev pub FailsSo : List (List Command) → List Shape → List ℕ → ℕ → CheckError → Type 0
 FailsSo threads ks text n (error.Fault line why.Form) = FailsAt threads ks text n line
-FailsSo threads ks text n error.NoMemory = Unit {0}
 FailsSo threads ks text n other = ⊥
 
 -- the text hasn't the form
@@ -83,3 +84,10 @@ FailsForm s text e = FailsSo s.threads (shapes s) text 1 e
 -- no name has a newline
 abbrev pub HaveNames : Names → Type 0
 HaveNames names = All (λ (entry : List ℕ × Object). Lacks 10 entry.0) names
+
+-- the lists are empty, and each has room for the replies of its thread
+abbrev pub HaveSpace : List (List Command) → List (Vec (Bor (List ℕ)) Global) → Type 0
+HaveSpace [] [] = Unit {0}
+HaveSpace (cs ∷ threads) (v ∷ vs) = (v.items ≡ []) × (length cs ≤ vec_capacity v) × HaveSpace threads vs
+HaveSpace [] (v ∷ vs) = ⊥
+HaveSpace (cs ∷ threads) [] = ⊥

@@ -11,7 +11,7 @@ ghost use Rattle.kc_script_runs.specs.Labels.{AreThreads};
 ghost use Rattle.kc_script_runs.specs.Run.{IsText, opening_store};
 ghost use Rattle.kc_check.specs.Ages.{IsYoung};
 ghost use Rattle.kc_script.specs.Spells.{Spells};
-ghost use Rattle.kc_check.specs.Faults.{FailsFor, FailsIn, IsLaterFault, IsLegal};
+ghost use Rattle.kc_check.specs.Faults.{FailsFor, FailsIn, IsFault, IsLegal};
 ghost use Rattle.kc_check.specs.Judged.{FailsWith, IsSaid, IsSound, parts_of, stop_number};
 ghost use Rattle.kc_check.specs.Parts.{IsPlace, commands_in, parts_text, places_in, reply_number};
 ghost use Rattle.kc_check.specs.Replays.{AllCanAsk, commands_of};
@@ -19,7 +19,7 @@ ghost use Rattle.kc_check.specs.Replays.{AllCanAsk, commands_of};
 use crate::error::{CheckError, CheckWhy};
 use crate::holding::first_unlike;
 use crate::numbers::{commands_in, places_in};
-use crate::opening::{open_store, rooms};
+use crate::opening::{open_store, rooms, space_for};
 use crate::ordering::first_disorder;
 use crate::parting::read_text;
 use crate::walking::{Stopped, walk};
@@ -41,24 +41,25 @@ pub(crate) struct Said<'a> {
 
 /// Whether the text is that of some records that are a run of the bundle. The tests are made in this order: the form,
 /// line by line; the places in their order, each of which has to be the next of its thread, may not wait, and replies
-/// what its line says; the order; the state. The first that fails is the fault. All memory is taken before the first
-/// place is replayed.
+/// what its line says; the order; the state. The first that fails is the fault. All memory is taken before the
+/// first test.
 ///
 /// # Errors
 ///
-/// The first test that the text fails, with the line where it does. A text that fails one behind the first is that of
-/// no run.
+/// The first test that the text fails, with the line where it does; there is one such line and test. A text that fails
+/// one is that of no run. So memory aside the answer is `Ok` exactly where the text is that of a run, and a fault exactly
+/// where a test fails.
 pub fn check_text(alloc: Global, bundle: &Bundle, text: &[u8]) -> Result<(), CheckError>
     requires spelled { (bytes : List ℕ) × Spells bytes (script_of bundle.now) }
     requires short { length text.now ≤ MOST_TEXT }
     ensures legal { IfOk result (λ _. IsLegal (script_of bundle.now) text.now) }
     ensures fault { IfErr result (FailsFor (script_of bundle.now) text.now) }
-    ensures refuses { IfErr result (λ e. IsLaterFault e → IsLegal (script_of bundle.now) text.now → ⊥) }
+    ensures refuses { IfErr result (λ e. IsFault e → IsLegal (script_of bundle.now) text.now → ⊥) }
 {
     make_tests(alloc, bundle, text)
 }
 
-// The tests in their order.
+// All memory, and then the tests in their order.
 fn make_tests(alloc: Global, bundle: &Bundle, text: &[u8]) -> Result<(), CheckError>
     requires spelled { (bytes : List ℕ) × Spells bytes (script_of bundle.now) }
     requires short { length text.now ≤ MOST_TEXT }
@@ -70,7 +71,8 @@ fn make_tests(alloc: Global, bundle: &Bundle, text: &[u8]) -> Result<(), CheckEr
     let mut records = rooms(alloc, &bundle.threads, bundle.limit)?;
     let count = places_in(&bundle.threads);
     let mut room = Room::open(alloc, bundle.threads.len() as u32, count)?;
-    let said = read_text(alloc, bundle, count as usize, text)?;
+    let mut said = space_for(alloc, bundle, count as usize)?;
+    read_text(bundle, count as usize, text, &mut said)?;
     judge(bundle, &said, &mut store, &mut records, &mut room)
 }
 

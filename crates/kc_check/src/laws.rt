@@ -1,23 +1,21 @@
 //! What holds of the tests of a text.
 
-ghost use Rattle.std.specs.Prelude.{◌≡◌, ℕ, List, [], ◌∷◌, ◌++◌, All, codes, length, slice_index_or};
+ghost use Rattle.std.specs.Prelude.{◌≡◌, ℕ, List, [], ◌∷◌, ◌++◌, All, length, slice_index_or};
 ghost use Rattle.kc_history.specs.declared.record.Place.{Place};
 ghost use Rattle.kc_history.specs.declared.record.Record.{Record};
 ghost use Rattle.kc_model.specs.Store.{Store};
 ghost use Rattle.kc_script_bundle.specs.declared.operation.Command.{Command};
+ghost use Rattle.kc_script.specs.Spells.{Spells};
 ghost use Rattle.kc_script_bundle.specs.On.{CommandsAreOn};
 ghost use Rattle.kc_script_bundle.specs.Script.{Script, LieFrom};
 ghost use Rattle.kc_script_bundle.specs.State.{state_text};
-ghost use Rattle.kc_script_runs.specs.Run.{IsRun, IsText, opening_store};
+ghost use Rattle.kc_script_runs.specs.Run.{IsText, opening_store};
 ghost use Rattle.kc_history.specs.Order.{IsCanonical, Legal};
 ghost use Rattle.kc_history.specs.Records.{footprint_at};
 ghost use Rattle.kc_xt.specs.Meaning.{values};
-ghost use Rattle.kc_check.specs.Faults.{Comes, ComesWhole, FailsIn, HasToWait, IsOutOfTurn, RepliesElse};
-ghost use Rattle.kc_check.specs.Judged.{IsSaid};
-ghost use Rattle.kc_check.specs.Laid.{AllLines, AllReplyLines, AreFew, IsLaid};
-ghost use Rattle.kc_check.specs.Shown.{held_lines, replies_for};
+ghost use Rattle.kc_check.specs.Faults.{Comes, ComesWhole, Fails, HasToWait, IsLegal, IsOutOfTurn, RepliesElse};
+ghost use Rattle.kc_check.specs.Laid.{AreFew, IsLaid};
 ghost use Rattle.kc_check.specs.declared.error.CheckWhy.{CheckWhy as Why};
-ghost use Rattle.kc_history.specs.Text.{order_lines, reply_lines};
 ghost use Rattle.kc_check.specs.Parts.{Parts, AsMany, IsPlace, joined, parts_text, places_in};
 
 /// Where places come, none of them is wrong behind those before it.
@@ -43,13 +41,12 @@ pub fn what_comes_is_legal()
     ensures { (s : Script) (parts : Parts) (last : Store) (records : List (List Record)) → All (IsPlace s.threads) parts.places → length parts.places ≡ places_in s.threads → ComesWhole s parts last records → Legal (footprint_at records) (λ (_ : ℕ). 0) (opening_store s) parts.places last }
 {}
 
-/// A run's text fails none of the tests behind that of its form, where it is laid out as the script's texts are.
-pub fn texts_of_runs_fail_no_later_test()
-    ensures { (s : Script) (text : List ℕ) (parts : Parts) (records : List (List Record)) (order : List Place) (last : Store) (line : ℕ) (why : Why) → AreFew s.threads → IsRun s records order last → AllReplyLines (replies_for s.threads records) → AllLines (held_lines s.objects (values last))
-        → text ≡ reply_lines records ++ codes "order\n" ++ order_lines records order ++ codes "state\n" ++ state_text s.objects (values last) → IsLaid s text parts → FailsIn s parts line why → ⊥ }
+/// A run's text fails no test.
+pub fn texts_of_runs_fail_no_test()
+    ensures { (bytes : List ℕ) (s : Script) (text : List ℕ) (line : ℕ) (why : Why) → Spells bytes s → IsLegal s text → Fails s text line why → ⊥ }
 {}
 
-/// Of the tests behind that of its form a text fails one first, at one line.
-pub fn later_faults_are_one()
-    ensures { (s : Script) (parts : Parts) (line again : ℕ) (why other : Why) → IsSaid s parts → FailsIn s parts line why → FailsIn s parts again other → (line ≡ again) × (why ≡ other) }
+/// A text fails one test first, at one line.
+pub fn faults_are_one()
+    ensures { (bytes : List ℕ) (s : Script) (text : List ℕ) (line again : ℕ) (why other : Why) → Spells bytes s → Fails s text line why → Fails s text again other → (line ≡ again) × (why ≡ other) }
 {}

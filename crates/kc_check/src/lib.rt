@@ -18,6 +18,6 @@ mod walking;
 pub use check::{MOST_TEXT, check_text};
 pub use error::{CheckError, CheckWhy};
 pub use laws::{
-    later_faults_are_one, no_front_is_wrong, texts_have_their_parts_in_one_way,
-    texts_of_runs_fail_no_later_test, what_comes_is_a_text, what_comes_is_legal,
+    faults_are_one, no_front_is_wrong, texts_have_their_parts_in_one_way,
+    texts_of_runs_fail_no_test, what_comes_is_a_text, what_comes_is_legal,
 };

@@ -1,15 +1,18 @@
 //! What the tests need, taken before the first of them.
 
-ghost use Rattle.std.specs.Prelude.{◌≡◌, ◌≤◌, [], All, IfOk, length};
+ghost use Rattle.std.specs.Prelude.{◌≡◌, ◌≤◌, [], All, IfOk, length, vec_capacity};
 ghost use Rattle.kc_model.specs.Store.{opened};
 ghost use Rattle.kc_model.specs.declared.plain_store.TheConstants.{MOST_LOCATIONS};
 ghost use Rattle.kc_model.specs.declared.footprint.TheConstants.{MOST};
 ghost use Rattle.kc_script_bundle.specs.declared.bundle.TheConstants.{MOST_COMMANDS};
+ghost use Rattle.kc_script_bundle.specs.Script.{names_of, script_of};
+ghost use Rattle.kc_check.specs.Reads.{HaveSpace};
 ghost use Rattle.kc_check.specs.Replays.{HaveRoom, commands_of};
 
+use crate::check::Said;
 use kc_history::Records;
 use kc_model::{ModelError, NoMemory, PlainStore};
-use kc_script_bundle::Command;
+use kc_script_bundle::{Bundle, Command};
 use std::alloc::{AllocError, Global};
 
 /// The store with these values.
@@ -42,4 +45,33 @@ pub(crate) fn rooms(
         all.push(list)?;
     }
     Ok(all)
+}
+
+// Room for a line for each command.
+fn spaces<'a>(alloc: Global, threads: &[Vec<Command>]) -> Result<Vec<Vec<&'a [u8]>>, AllocError>
+    ensures { IfOk result (λ v. HaveSpace (commands_of threads.now) v.items) }
+{
+    let mut all = Vec::with_capacity(alloc, threads.len())?;
+    for i in 0..threads.len() {
+        let lines = Vec::with_capacity(alloc, threads[i].len())?;
+        all.push(lines)?;
+    }
+    Ok(all)
+}
+
+/// Room for what a text of the bundle says, which has so many places.
+pub(crate) fn space_for<'a>(
+    alloc: Global,
+    bundle: &Bundle,
+    count: usize,
+) -> Result<Said<'a>, AllocError>
+    ensures replies { IfOk result (λ said. HaveSpace (script_of bundle.now).threads said.replies.items) }
+    ensures places { IfOk result (λ said. (said.places.items ≡ []) × (count ≤ vec_capacity said.places)) }
+    ensures state { IfOk result (λ said. (said.state.items ≡ []) × (length (names_of bundle.now.objects) ≤ vec_capacity said.state)) }
+{
+    Ok(Said {
+        replies: spaces(alloc, &bundle.threads)?,
+        places: Vec::with_capacity(alloc, count)?,
+        state: Vec::with_capacity(alloc, bundle.objects.len())?,
+    })
 }

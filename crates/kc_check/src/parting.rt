@@ -1,6 +1,6 @@
 //! The form of a text, read line by line.
 
-ghost use Rattle.std.specs.Prelude.{◌≡◌, ◌+◌, ◌++◌, ◌<◌, ◌≤◌, ◌^◌, List, [], ◌∷◌, All, IfErr, IfOk, length, map, replicate};
+ghost use Rattle.std.specs.Prelude.{◌≡◌, ◌+◌, ◌++◌, ◌<◌, ◌≤◌, ◌^◌, List, [], ◌∷◌, All, IfErr, IfOk, length, map, replicate, vec_capacity};
 ghost use Rattle.kc_script_bundle.specs.Script.{names_of, script_of};
 ghost use Rattle.kc_script_bundle.specs.declared.bundle.TheConstants.{MOST_COMMANDS, MOST_THREADS};
 ghost use Rattle.kc_script_bundle.specs.declared.operation.Command.{Command as Asked};
@@ -8,7 +8,7 @@ ghost use Rattle.kc_check.specs.Forms.{AllReplies, Goes, IsFormed, IsHeld, IsRep
 ghost use Rattle.kc_check.specs.Judged.{parts_of};
 ghost use Rattle.kc_check.specs.Laid.{IsLine, Lacks};
 ghost use Rattle.kc_check.specs.Parts.{IsPlace, place_text, places_in};
-ghost use Rattle.kc_check.specs.Reads.{FailsForm, FailsHowever, HaveNames, LacksHere, LacksReply};
+ghost use Rattle.kc_check.specs.Reads.{FailsForm, FailsHowever, HaveNames, HaveSpace, LacksHere, LacksReply};
 ghost use Rattle.kc_check.specs.Replays.{commands_of};
 ghost use Rattle.kc_check.specs.Walks.{lines_in, now_of};
 ghost use Rattle.kc_check.specs.declared.error.CheckError.TheVariants.{Fault};
@@ -20,7 +20,6 @@ use crate::lines::Rest;
 use crate::reading::{is_held, is_reply_line, place_of};
 use kc_history::Place;
 use kc_script_bundle::{Bundle, Command};
-use std::alloc::Global;
 
 // That the line of this number has not its shape.
 fn misformed(line: u32) -> CheckError
@@ -113,125 +112,128 @@ fn read_just(rest: &mut Rest, wanted: &[u8]) -> Result<(), CheckError>
     }
 }
 
-// The reply lines of a thread that has so many commands.
+// The reply lines of a thread that has so many commands, into room that is there.
 fn read_thread<'a>(
-    alloc: Global,
     rest: &mut Rest<'a>,
     thread: u32,
     commands: usize,
-) -> Result<Vec<&'a [u8]>, CheckError>
+    lines: &mut Vec<&'a [u8]>,
+) -> Result<(), CheckError>
     requires few { commands ≤ MOST_COMMANDS }
+    requires empty { lines.old.items ≡ [] }
+    requires space { commands ≤ vec_capacity lines.old }
     requires room { rest.old.number + length rest.old.bytes.now < 2 ^ 32 }
-    ensures goes { IfOk result (λ lines. (threads : List (List Asked)) → Goes threads (thread_shapes thread 1 commands) rest.old.bytes.now rest.old.number (now_of lines.items) rest.new.bytes.now rest.new.number) }
-    ensures room { IfOk result (λ lines. rest.new.number + length rest.new.bytes.now < 2 ^ 32) }
+    ensures goes { IfOk result (λ _. (threads : List (List Asked)) → Goes threads (thread_shapes thread 1 commands) rest.old.bytes.now rest.old.number (now_of lines.new.items) rest.new.bytes.now rest.new.number) }
+    ensures room { IfOk result (λ _. rest.new.number + length rest.new.bytes.now < 2 ^ 32) }
     ensures fails { IfErr result (λ e. (threads : List (List Asked)) → FailsHowever threads (thread_shapes thread 1 commands) rest.old.bytes.now rest.old.number e) }
 {
-    let mut lines = Vec::with_capacity(alloc, commands)?;
     for k in 0..commands {
         let line = read_reply(rest, thread, k as u32 + 1)?;
-        lines.push(line)?;
+        lines.push_reserved(line);
     }
-    Ok(lines)
+    Ok(())
 }
 
-// The reply lines of all threads.
+// The reply lines of all threads, into room that is there.
 fn read_threads<'a>(
-    alloc: Global,
     rest: &mut Rest<'a>,
     threads: &[Vec<Command>],
-) -> Result<Vec<Vec<&'a [u8]>>, CheckError>
+    replies: &mut [Vec<&'a [u8]>],
+) -> Result<(), CheckError>
     requires few { length threads.now ≤ MOST_THREADS }
     requires short { All (λ v. length v.items ≤ MOST_COMMANDS) threads.now }
+    requires space { HaveSpace (commands_of threads.now) replies.old }
     requires room { rest.old.number + length rest.old.bytes.now < 2 ^ 32 }
-    ensures goes { IfOk result (λ replies. Goes (commands_of threads.now) (replies_shapes 1 (commands_of threads.now)) rest.old.bytes.now rest.old.number (flat (lines_in replies.items)) rest.new.bytes.now rest.new.number) }
-    ensures replies { IfOk result (λ replies. AllReplies 1 (commands_of threads.now) (lines_in replies.items)) }
+    ensures goes { IfOk result (λ _. Goes (commands_of threads.now) (replies_shapes 1 (commands_of threads.now)) rest.old.bytes.now rest.old.number (flat (lines_in replies.new)) rest.new.bytes.now rest.new.number) }
+    ensures replies { IfOk result (λ _. AllReplies 1 (commands_of threads.now) (lines_in replies.new)) }
+    ensures size { length replies.new ≡ length replies.old }
     ensures room { IfOk result (λ _. rest.new.number + length rest.new.bytes.now < 2 ^ 32) }
     ensures fails { IfErr result (FailsHowever (commands_of threads.now) (replies_shapes 1 (commands_of threads.now)) rest.old.bytes.now rest.old.number) }
 {
-    let mut replies = Vec::with_capacity(alloc, threads.len())?;
     for t in 0..threads.len() {
-        let lines = read_thread(alloc, rest, t as u32 + 1, threads[t].len())?;
-        replies.push(lines)?;
+        let lines = &mut replies[t];
+        read_thread(rest, t as u32 + 1, threads[t].len(), lines)?;
     }
-    Ok(replies)
+    Ok(())
 }
 
-// So many places.
+// So many places, into room that is there.
 fn read_places(
-    alloc: Global,
     rest: &mut Rest,
     threads: &[Vec<Command>],
     count: usize,
-) -> Result<Vec<Place>, CheckError>
+    places: &mut Vec<Place>,
+) -> Result<(), CheckError>
     requires few { length threads.now ≤ MOST_THREADS }
     requires short { All (λ v. length v.items ≤ MOST_COMMANDS) threads.now }
+    requires empty { places.old.items ≡ [] }
+    requires space { count ≤ vec_capacity places.old }
     requires room { rest.old.number + length rest.old.bytes.now < 2 ^ 32 }
-    ensures goes { IfOk result (λ places. Goes (commands_of threads.now) (replicate count any_place) rest.old.bytes.now rest.old.number (map (place_text (commands_of threads.now)) places.items) rest.new.bytes.now rest.new.number) }
-    ensures places { IfOk result (λ places. All (IsPlace (commands_of threads.now)) places.items) }
-    ensures count { IfOk result (λ places. length places.items ≡ count) }
+    ensures goes { IfOk result (λ _. Goes (commands_of threads.now) (replicate count any_place) rest.old.bytes.now rest.old.number (map (place_text (commands_of threads.now)) places.new.items) rest.new.bytes.now rest.new.number) }
+    ensures places { IfOk result (λ _. All (IsPlace (commands_of threads.now)) places.new.items) }
+    ensures count { IfOk result (λ _. length places.new.items ≡ count) }
     ensures room { IfOk result (λ _. rest.new.number + length rest.new.bytes.now < 2 ^ 32) }
     ensures fails { IfErr result (FailsHowever (commands_of threads.now) (replicate count any_place) rest.old.bytes.now rest.old.number) }
 {
-    let mut places = Vec::with_capacity(alloc, count)?;
     for _ in 0..count {
         let place = read_place(rest, threads)?;
-        places.push(place)?;
+        places.push_reserved(place);
     }
-    Ok(places)
+    Ok(())
 }
 
-// The lines of the state, one for each object.
+// The lines of the state, one for each object, into room that is there.
 fn read_state<'a>(
-    alloc: Global,
     rest: &mut Rest<'a>,
     bundle: &Bundle,
-) -> Result<Vec<&'a [u8]>, CheckError>
+    lines: &mut Vec<&'a [u8]>,
+) -> Result<(), CheckError>
     requires names { HaveNames (names_of bundle.now.objects) }
+    requires empty { lines.old.items ≡ [] }
+    requires space { length (names_of bundle.now.objects) ≤ vec_capacity lines.old }
     requires room { rest.old.number + length rest.old.bytes.now < 2 ^ 32 }
-    ensures goes { IfOk result (λ lines. (threads : List (List Asked)) → Goes threads (map (λ entry. any_held entry.0) (names_of bundle.now.objects)) rest.old.bytes.now rest.old.number (now_of lines.items) rest.new.bytes.now rest.new.number) }
+    ensures goes { IfOk result (λ _. (threads : List (List Asked)) → Goes threads (map (λ entry. any_held entry.0) (names_of bundle.now.objects)) rest.old.bytes.now rest.old.number (now_of lines.new.items) rest.new.bytes.now rest.new.number) }
     ensures fails { IfErr result (λ e. (threads : List (List Asked)) → FailsHowever threads (map (λ entry. any_held entry.0) (names_of bundle.now.objects)) rest.old.bytes.now rest.old.number e) }
 {
-    let mut lines = Vec::with_capacity(alloc, bundle.objects.len())?;
     for i in 0..bundle.objects.len() {
         let Some((name, _)) = bundle.objects.get_index(i) else {
             unreachable!("each index has an entry");
         };
         let line = read_held(rest, name.as_bytes())?;
-        lines.push(line)?;
+        lines.push_reserved(line);
     }
-    Ok(lines)
+    Ok(())
 }
 
-/// The parts of the text, if it has the form of the bundle's texts.
+/// The parts of the text, if it has the form of the bundle's texts, into room that is there. It takes no memory.
 pub(crate) fn read_text<'a>(
-    alloc: Global,
     bundle: &Bundle,
     count: usize,
     text: &'a [u8],
-) -> Result<Said<'a>, CheckError>
+    said: &mut Said<'a>,
+) -> Result<(), CheckError>
     requires few { length bundle.now.threads.items ≤ MOST_THREADS }
     requires short { All (λ v. length v.items ≤ MOST_COMMANDS) bundle.now.threads.items }
     requires names { HaveNames (names_of bundle.now.objects) }
     requires count { count ≡ places_in (script_of bundle.now).threads }
+    requires replies { HaveSpace (script_of bundle.now).threads said.old.replies.items }
+    requires places { (said.old.places.items ≡ []) × (count ≤ vec_capacity said.old.places) }
+    requires state { (said.old.state.items ≡ []) × (length (names_of bundle.now.objects) ≤ vec_capacity said.old.state) }
     requires long { length text.now + 1 < 2 ^ 32 }
-    ensures formed { IfOk result (λ said. IsFormed (script_of bundle.now) text.now (parts_of said.replies.items said.places.items said.state.items)) }
+    ensures formed { IfOk result (λ _. IsFormed (script_of bundle.now) text.now (parts_of said.new.replies.items said.new.places.items said.new.state.items)) }
     ensures misformed { IfErr result (FailsForm (script_of bundle.now) text.now) }
 {
     let mut rest = Rest {
         bytes: text,
         number: 1,
     };
-    let replies = read_threads(alloc, &mut rest, &bundle.threads)?;
+    read_threads(&mut rest, &bundle.threads, &mut said.replies)?;
     read_just(&mut rest, b"order\n".as_slice())?;
-    let places = read_places(alloc, &mut rest, &bundle.threads, count)?;
+    read_places(&mut rest, &bundle.threads, count, &mut said.places)?;
     read_just(&mut rest, b"state\n".as_slice())?;
-    let state = read_state(alloc, &mut rest, bundle)?;
+    read_state(&mut rest, bundle, &mut said.state)?;
     if rest.bytes.len() != 0 {
         return Err(misformed(rest.number));
     }
-    Ok(Said {
-        replies,
-        places,
-        state,
-    })
+    Ok(())
 }

@@ -66,7 +66,7 @@ judge-requires-clause-sound c =
 pub judge-requires-clause-said : goal.judge-requires-clause-said
 judge-requires-clause-said c =
     let (bytes, spells) = c.requires.spelled in
-    said_of (script_of c.args.bundle.now) c.args.text.now (parts_of c.in_ok-said.said.replies.items c.in_ok-said.said.places.items c.in_ok-said.said.state.items) (objects_few spells) c.in_ok-said.ensures.formed
+    said_of (script_of c.args.bundle.now) c.args.text.now (parts_of c.read_text.new.said.replies.items c.read_text.new.said.places.items c.read_text.new.said.state.items) (objects_few spells) c.in_ok-read_text.ensures.formed
 
 pub judge-requires-clause-threads : goal.judge-requires-clause-threads
 judge-requires-clause-threads c =
@@ -80,20 +80,20 @@ judge-requires-clause-threads c =
     let ok = b.threads.ok.0 in
     omega (arith, many, long, same, there, e, ok)
 
-pub returns-in_err-said-clause-fault : goal.returns-in_err-said-clause-fault
-returns-in_err-said-clause-fault c =
+pub returns-in_err-read_text-clause-fault : goal.returns-in_err-read_text-clause-fault
+returns-in_err-read_text-clause-fault c =
     let s : Script = script_of c.args.bundle.now in
-    let e = c.in_err-said.field-0.0 in
-    if_err (FailsFor s c.args.text.now) c.from_residual-in_err-said.result e c.from_residual-in_err-said.ensures.1 (form_fails s c.args.text.now e c.in_err-said.ensures.misformed)
+    let e = c.in_err-read_text.field-0.0 in
+    if_err (FailsFor s c.args.text.now) c.from_residual-in_err-read_text.result e c.from_residual-in_err-read_text.ensures.1 (form_fails s c.args.text.now e c.in_err-read_text.ensures.misformed)
 
 pub returns-clause-legal : goal.returns-clause-legal
 returns-clause-legal c =
     let s : Script = script_of c.args.bundle.now in
-    let parts : Parts = parts_of c.in_ok-said.said.replies.items c.in_ok-said.said.places.items c.in_ok-said.said.state.items in
-    judged_legal s c.args.text.now parts (lists_of c.judge.new.records) c.judge.result c.in_ok-said.ensures.formed c.judge.ensures.legal
+    let parts : Parts = parts_of c.read_text.new.said.replies.items c.read_text.new.said.places.items c.read_text.new.said.state.items in
+    judged_legal s c.args.text.now parts (lists_of c.judge.new.records) c.judge.result c.in_ok-read_text.ensures.formed c.judge.ensures.legal
 
 pub returns-clause-fault : goal.returns-clause-fault
 returns-clause-fault c =
     let s : Script = script_of c.args.bundle.now in
-    let parts : Parts = parts_of c.in_ok-said.said.replies.items c.in_ok-said.said.places.items c.in_ok-said.said.state.items in
-    judged_fails s c.args.text.now parts c.judge.result c.in_ok-said.ensures.formed c.judge.ensures.fails
+    let parts : Parts = parts_of c.read_text.new.said.replies.items c.read_text.new.said.places.items c.read_text.new.said.state.items in
+    judged_fails s c.args.text.now parts c.judge.result c.in_ok-read_text.ensures.formed c.judge.ensures.fails
