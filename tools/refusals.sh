@@ -1,6 +1,6 @@
 #!/usr/bin/env bash
-# Refuses the calls of the program one after another, on each store, for each of its commands: every allocation, read and write of a
-# run in turn, and makes every read and write in turn move one byte alone. The script has a block, a stack, and a command that waits,
+# Refuses the calls of the program one after another, on each store, for each of its commands, a check among them: every allocation,
+# read and write of a run in turn, and makes every read and write in turn move one byte alone. The script has a block, a stack, and a command that waits,
 # and its text is the same at each run. Of a storm, which makes many allocations, each of the first 200 is refused, and then fewer.
 # A library that stands before the C library refuses them, in the program as it is built. Where the memory to start a thread is refused,
 # the kit runs the threads one after another, and those that wait for each other don't end: that is counted, and isn't wrong.
@@ -112,4 +112,7 @@ for store in lock kcas; do
     sweep_all files --store "$store" setup.kcas first.kcas second.kcas
     sweep_all storm --store "$store" 7
 done
+# A check reads no standard input, and shares no store.
+"$program" run < "$room/script" > "$room/printed"
+sweep_all check "$room/script" "$room/printed"
 [ "$wrong" = 0 ]

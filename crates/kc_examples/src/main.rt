@@ -1,4 +1,4 @@
-//! Runs each script of `examples/`, of which `data/` is the copy that the gate lets a program read, and says whether its text and its exit number are those that stand beside it; each script of `faults/`, whether its line on standard error is that; and the script in parts of `files/`, whether its text is that. Last it says of bytes that nobody would write whether they have their faults.
+//! Runs each script of `examples/`, of which `data/` is the copy that the gate lets a program read, and says whether its text and its exit number are those that stand beside it, and whether a check accepts the text; each script of `faults/`, whether its line on standard error is that; of each text of `checks/`, whether a check refuses it with its line; and the script in parts of `files/`, whether its text is that. Last it says of bytes that nobody would write whether they have their faults.
 #![tactic(auto)]
 
 mod hostile;
@@ -12,7 +12,7 @@ use std::thread::Threads;
 use std::{fs, io};
 
 // The name of each script, and its exit number.
-const EXAMPLES: [(&str, u8); 22] = [
+const EXAMPLES: [(&str, u8); 23] = [
     ("first", 0),
     ("locations", 0),
     ("several", 0),
@@ -34,6 +34,7 @@ const EXAMPLES: [(&str, u8); 22] = [
     ("limit", 0),
     ("shutdown", 0),
     ("taken_back", 0),
+    ("checks/bundle", 0),
     ("refused", 3),
 ];
 
@@ -61,11 +62,17 @@ const FAULTS: [&str; 20] = [
     "cancel",
 ];
 
+// The name of each text of `checks/` that is none of `checks/bundle`. Beside it stands its line on standard error.
+const CHECKS: [&str; 6] = ["form", "turn", "waits", "reply", "order", "state"];
+
 // The parts of `files/`, the setup first. Beside them stands their text.
 const PARTS: [&str; 3] = ["files/setup.kcas", "files/first.kcas", "files/second.kcas"];
 
 // The exit number of a script with a fault.
 const FAULT: u8 = 3;
+
+// The exit number of a text that is of no run.
+const ILLEGAL: u8 = 8;
 
 // More bytes than any text of theirs has.
 const ROOM: usize = 4096;
@@ -83,6 +90,13 @@ fn main(rt: HostRuntime) -> io::Result<()> {
         let line = fs::read(&rt, &format!(in alloc; "faults/{name}.txt")?)?;
         let verdict = verdict_of(has_its_line(&rt, alloc, script, &line)?);
         println!(rt; "faults/{name}: {verdict}")?;
+    }
+    let bundle = fs::read(&rt, "checks/bundle.kcas")?;
+    for name in CHECKS {
+        let text = fs::read(&rt, &format!(in alloc; "checks/{name}.txt")?)?;
+        let line = fs::read(&rt, &format!(in alloc; "checks/{name}.line")?)?;
+        let verdict = verdict_of(fails_with_its_line(&rt, alloc, &bundle, &text, &line)?);
+        println!(rt; "checks/{name}: {verdict}")?;
     }
     let mut parts = Vec::new(alloc);
     for name in PARTS {
@@ -109,9 +123,62 @@ fn is_as_expected<R: Threads + Wait + Sync>(
     text: &[u8],
     number: u8,
 ) -> io::Result<bool> {
+    let bundle = script.as_slice().to_vec(alloc)?;
     let mut sink = sink(alloc)?;
     let status = run(rt, alloc, script, &mut sink)?;
-    Ok(status.number() == number && sink.bytes() == text)
+    let as_expected = status.number() == number && sink.bytes() == text;
+    Ok(as_expected && (number > 0 || is_legal(rt, alloc, &bundle, text)?))
+}
+
+// Whether a check accepts the text.
+fn is_legal<R: Threads + Wait + Sync>(
+    rt: &R,
+    alloc: Global,
+    bundle: &[u8],
+    text: &[u8],
+) -> io::Result<bool> {
+    let mut sink = sink(alloc)?;
+    let status = check(rt, alloc, bundle, text, &mut sink)?;
+    Ok(status == Status::Done && sink.bytes() == b"legal\n".as_slice())
+}
+
+// Whether a check refuses the text with this line, which ends with a newline, and nothing is written.
+fn fails_with_its_line<R: Threads + Wait + Sync>(
+    rt: &R,
+    alloc: Global,
+    bundle: &[u8],
+    text: &[u8],
+    line: &[u8],
+) -> io::Result<bool> {
+    let mut sink = sink(alloc)?;
+    let status = check(rt, alloc, bundle, text, &mut sink)?;
+    Ok(tells(status, ILLEGAL, line) && sink.bytes().is_empty())
+}
+
+// What a check of the text against the bundle comes to.
+fn check<R: Threads + Wait + Sync>(
+    rt: &R,
+    alloc: Global,
+    bundle: &[u8],
+    text: &[u8],
+    sink: &mut FrailSink,
+) -> io::Result<Status> {
+    let mut words = words(alloc, "check")?;
+    words.push(String::from_str(alloc, "bundle")?)?;
+    words.push(String::from_str(alloc, "text")?)?;
+    let mut files = Vec::new(alloc);
+    files.push((String::from_str(alloc, "bundle")?, bundle.to_vec(alloc)?))?;
+    files.push((String::from_str(alloc, "text")?, text.to_vec(alloc)?))?;
+    let mut source = FrailSource::new(Vec::new(alloc), Vec::new(alloc));
+    let mut shelf = MemShelf::new(files, Vec::new(alloc));
+    let (status, _) = kcas_main(rt, alloc, &words, &mut source, &mut shelf, sink, &OpenGate);
+    Ok(status)
+}
+
+// Whether the status has this number and this line, which ends with a newline.
+fn tells(status: Status, number: u8, line: &[u8]) -> bool {
+    let told = status.line();
+    status.number() == number && line.strip_suffix(b"\n".as_slice()) == Some(told.as_bytes())
 }
 
 fn parts_are_as_expected<R: Threads + Wait + Sync>(
@@ -148,12 +215,7 @@ fn has_its_line<R: Threads + Wait + Sync>(
 ) -> io::Result<bool> {
     let mut sink = sink(alloc)?;
     let status = run(rt, alloc, script, &mut sink)?;
-    let told = status.line();
-    Ok(
-        status.number() == FAULT
-            && sink.bytes().is_empty()
-            && line.strip_suffix(b"\n".as_slice()) == Some(told.as_bytes()),
-    )
+    Ok(tells(status, FAULT, line) && sink.bytes().is_empty())
 }
 
 // Whether the bytes are refused with their fault, and nothing is written.

@@ -2,6 +2,7 @@ pub mod Asks
 pub mod Bundles
 pub mod Causes
 pub mod Commits
+pub mod Complete
 pub mod Shown
 pub mod Commands
 pub mod Parts

@@ -3,6 +3,8 @@ pub mod Served
 pub mod Ran
 pub mod Words
 pub mod Reading
+pub mod Checking
+pub mod Complete
 pub mod Statuses
 pub mod Numbers
 pub mod Lines

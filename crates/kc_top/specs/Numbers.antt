@@ -11,3 +11,4 @@ number status.ReadFault = 4
 number status.WriteFault = 5
 number status.NoMemory = 6
 number status.TooLong = 7
+number (status.Illegal line why) = 8

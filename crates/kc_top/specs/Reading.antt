@@ -1,9 +1,10 @@
 -- What a command reads.
-use Rattle.std.specs.Prelude.{◌≡◌, ◌⊎◌, ℕ, ◌≤◌, Bool, List, ◌∷◌, drop, length, Option, Result}
+use Rattle.std.specs.Prelude.{◌≡◌, ◌⊎◌, ℕ, ◌≤◌, Bool, List, ◌∷◌, drop, length, Option, Result, Ok}
 use Rattle.kc_model.specs.Outside.{CameWhole, CamePast, CameSome, CameFront}
-use Rattle.kc_model.specs.Shelves.{Fetched, FetchFails, FetchPasses, FetchedUntil, FetchedPart}
+use Rattle.kc_model.specs.Shelves.{Fetched, FetchFails, FetchPasses, FetchStarves, FetchedUntil, FetchedPart, Has}
 use Rattle.kc_model.specs.declared.outside.Failed.{Failed}
 use Rattle.kc_model.specs.declared.outside.ShelfError.{ShelfError}
+use Rattle.kc_check.specs.declared.check.TheConstants.{MOST_TEXT}
 use Rattle.kc_script_bundle.specs.Script.{Script}
 use Rattle.kc_script_lines.specs.declared.fault.ScriptError.TheVariants as error
 use Rattle.kc_script.specs.declared.part_error.PartError.TheVariants as part_error
@@ -12,8 +13,8 @@ use Rattle.kc_script.specs.Refused.{Refused}
 use Rattle.kc_script.specs.Spells.{Spells}
 use Rattle.kc_script.specs.declared.parser.TheConstants.{MOST_BYTES}
 use Rattle.kc_script_storm.specs.Storm.{storm_script}
-use Rattle.kc_top.specs.declared.command_line.Command.{Command}
-use Rattle.kc_top.specs.declared.command_line.Command.TheVariants as command
+use Rattle.kc_top.specs.declared.command_line.Origin.{Origin}
+use Rattle.kc_top.specs.declared.command_line.Origin.TheVariants as origin
 use Rattle.kc_top.specs.declared.status.Status.{Status}
 use Rattle.kc_top.specs.declared.status.Status.TheVariants as status
 
@@ -46,6 +47,7 @@ module _ {S : Type 0} (left : S → Option (List ℕ)) (faults : S → ℕ) (giv
   SourceRefuses s s' status.Usage = ⊥
   SourceRefuses s s' status.WriteFault = ⊥
   SourceRefuses s s' status.Done = ⊥
+  SourceRefuses s s' (status.Illegal line why) = ⊥
 
 -- ---- files
 
@@ -73,19 +75,47 @@ module _ {F : Type 0} (files : F → Option (List (List ℕ × List ℕ))) (faul
   FilesRefuse names f f' status.Usage = ⊥
   FilesRefuse names f f' status.WriteFault = ⊥
   FilesRefuse names f f' status.Done = ⊥
+  FilesRefuse names f f' (status.Illegal line why) = ⊥
 
--- ---- either, by the command
+  -- one call fetched the file of this name, whole, and it is no longer than its limit
+  pub record FetchedFile (limit : ℕ) (f : F) (name bytes : List ℕ) (f' : F) : Type 0 where
+    pub gave : gives f name limit (Ok bytes) f'
+    pub has : Has (files f) name bytes
+    pub within : length bytes ≤ limit
+    pub kept : files f' ≡ files f
+    pub same : sure f' ≡ sure f
+    pub faultless : faults f' ≡ faults f
+
+  -- why one call gave no file: it failed, the file is longer than its limit, or memory ran out
+  abbrev pub FileRefuses : ℕ → F → List ℕ → F → Status → Type 0
+  FileRefuses limit f name f' status.ReadFault = FetchFails files faults sure gives limit f name f'
+  FileRefuses limit f name f' status.TooLong = FetchPasses files faults sure gives limit f name f'
+  FileRefuses limit f name f' status.NoMemory = FetchStarves files faults sure gives limit f name f'
+  FileRefuses limit f name f' other = ⊥
+
+  -- a bundle and a text of these names were fetched one after the other, each within its own limit
+  pub record FetchedBoth (bundle_name text_name : List ℕ) (f : F) (bundle text : List ℕ) (f' : F) : Type 0 where
+    pub between : F
+    pub first : FetchedFile MOST_BYTES f bundle_name bundle between
+    pub second : FetchedFile MOST_TEXT between text_name text f'
+
+  -- why they were not: the bundle was refused, or it came and the text was
+  abbrev pub BothRefuse : List ℕ → List ℕ → F → F → Status → Type 0
+  BothRefuse bundle_name text_name f f' status = FileRefuses MOST_BYTES f bundle_name f' status
+      ⊎ ((between : F) × (bundle : List ℕ) × FetchedFile MOST_BYTES f bundle_name bundle between × FileRefuses MOST_TEXT between text_name f' status)
+
+-- ---- a script, by where it comes from
 
 module _ {S F : Type 0} (left : S → Option (List ℕ)) (source_faults : S → ℕ) (read_gives : S → List ℕ → Result ℕ Failed → List ℕ → S → Type 0)
     (files : F → Option (List (List ℕ × List ℕ))) (shelf_faults : F → ℕ) (sure : F → Bool) (fetch_gives : F → List ℕ → ℕ → Result (List ℕ) ShelfError → F → Type 0) (words : List (List ℕ)) where
-  -- what the command reads spells this script, and the rest of the outside is as it was; a storm reads nothing
-  abbrev pub Reads : Command → S → S → F → F → Script → Type 0
-  Reads command.Run s s' f f' script = SourceSpells left source_faults read_gives s s' script × (f' ≡ f)
-  Reads (command.Storm n) s s' f f' script = (script ≡ storm_script n) × (s' ≡ s) × (f' ≡ f)
-  Reads (command.Files setup) s s' f f' script = FilesSpell files shelf_faults sure fetch_gives (drop setup words) f f' script × (s' ≡ s)
+  -- what is read spells this script, and the rest of the outside is as it was; a storm reads nothing
+  abbrev pub Reads : Origin → S → S → F → F → Script → Type 0
+  Reads origin.Source s s' f f' script = SourceSpells left source_faults read_gives s s' script × (f' ≡ f)
+  Reads (origin.Storm n) s s' f f' script = (script ≡ storm_script n) × (s' ≡ s) × (f' ≡ f)
+  Reads (origin.Files setup) s s' f f' script = FilesSpell files shelf_faults sure fetch_gives (drop setup words) f f' script × (s' ≡ s)
 
   -- why it gave no script
-  abbrev pub Refuses : Command → S → S → F → F → Status → Type 0
-  Refuses command.Run s s' f f' status = SourceRefuses left source_faults read_gives s s' status × (f' ≡ f)
-  Refuses (command.Storm n) s s' f f' end = (end ≡ status.NoMemory) × (s' ≡ s) × (f' ≡ f)
-  Refuses (command.Files setup) s s' f f' status = FilesRefuse files shelf_faults sure fetch_gives (drop setup words) f f' status × (s' ≡ s)
+  abbrev pub Refuses : Origin → S → S → F → F → Status → Type 0
+  Refuses origin.Source s s' f f' status = SourceRefuses left source_faults read_gives s s' status × (f' ≡ f)
+  Refuses (origin.Storm n) s s' f f' end = (end ≡ status.NoMemory) × (s' ≡ s) × (f' ≡ f)
+  Refuses (origin.Files setup) s s' f f' status = FilesRefuse files shelf_faults sure fetch_gives (drop setup words) f f' status × (s' ≡ s)

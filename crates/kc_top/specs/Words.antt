@@ -7,6 +7,8 @@ use Rattle.kc_script_bundle.specs.declared.bundle.TheConstants.{MOST_THREADS}
 use Rattle.kc_script_lines.specs.Words.{number}
 use Rattle.kc_top.specs.declared.command_line.Command.{Command}
 use Rattle.kc_top.specs.declared.command_line.Command.TheVariants as command
+use Rattle.kc_top.specs.declared.command_line.Origin.{Origin}
+use Rattle.kc_top.specs.declared.command_line.Origin.TheVariants as origin
 use Rattle.kc_top.specs.declared.command_line.StoreName.{StoreName}
 use Rattle.kc_top.specs.declared.command_line.StoreName.TheVariants as store
 
@@ -38,12 +40,27 @@ abbrev pub are_names : List (List ℕ) → Bool
 are_names words = nat_le 2 (length words) && nat_le (length words) (1 + MOST_THREADS) && list_all is_name words
 
 -- the storm of the number that the word at this place spells, where it is the last one
-abbrev pub storm_at : List (List ℕ) → ℕ → Option Command
-storm_at words place = if is_word words 1 (codes "storm") && (length words == place + 1) then option_map command.Storm (number 4294967295 (slice_index_or words place [])) else None
+abbrev pub storm_at : List (List ℕ) → ℕ → Option Origin
+storm_at words place = if is_word words 1 (codes "storm") && (length words == place + 1) then option_map origin.Storm (number 4294967295 (slice_index_or words place [])) else None
+
+-- from where the words ask a script to be run
+abbrev pub origin_of : List (List ℕ) → Option Origin
+origin_of words =
+    if is_word words 1 (codes "run") && (length words == 2 + option_words words) then Some origin.Source
+    else if is_word words 1 (codes "files") && are_names (drop (2 + option_words words) words) then Some (origin.Files (2 + option_words words))
+    else storm_at words (2 + option_words words)
+
+-- a check of a text, of which just two names stand behind the command's
+abbrev pub is_check : List (List ℕ) → Bool
+is_check words = is_word words 1 (codes "check") && (length words == 4) && list_all is_name (drop 2 words)
+
+-- the file of the bundle, and that of the text, that the words of a check name
+abbrev pub bundle_name : List (List ℕ) → List ℕ
+bundle_name words = slice_index_or words 2 []
+
+abbrev pub text_name : List (List ℕ) → List ℕ
+text_name words = slice_index_or words 3 []
 
 -- what the words ask for; words that are no command ask for nothing
 abbrev pub command_of : List (List ℕ) → Option Command
-command_of words =
-    if is_word words 1 (codes "run") && (length words == 2 + option_words words) then Some command.Run
-    else if is_word words 1 (codes "files") && are_names (drop (2 + option_words words) words) then Some (command.Files (2 + option_words words))
-    else storm_at words (2 + option_words words)
+command_of words = if is_check words then Some command.Check else option_map command.Run (origin_of words)

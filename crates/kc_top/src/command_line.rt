@@ -3,7 +3,7 @@
 ghost use Rattle.std.specs.Prelude.{◌≡◌, ◌≤◌, ◌<◌, ◌+◌, ◌&&◌, ◌==◌, true, length, drop, map, codes};
 ghost use Rattle.std.specs.List.{list_all};
 ghost use Rattle.std.specs.String.{string_bytes};
-ghost use Rattle.kc_top.specs.Words.{are_names, command_of, is_name, is_word, option_words, store_of, storm_at};
+ghost use Rattle.kc_top.specs.Words.{are_names, command_of, is_check, is_name, is_word, option_words, origin_of, store_of, storm_at};
 
 use kc_script_bundle::MOST_THREADS;
 use kc_script_lines::number_of;
@@ -11,12 +11,21 @@ use kc_script_lines::number_of;
 /// What the program is asked to do.
 #[derive(Clone, Copy, Debug, PartialEq, Eq)]
 pub enum Command {
-    /// To run the script that the source spells.
-    Run,
-    /// To run a script in files: the word at this place names its setup, and each word behind it a file of a thread's
-    /// commands.
+    /// To run a script, and to write what comes of it.
+    Run(Origin),
+    /// To say whether a text is that of a run of a bundle: the third word names the file of the bundle, the fourth that
+    /// of the text.
+    Check,
+}
+
+/// Where a script to be run comes from.
+#[derive(Clone, Copy, Debug, PartialEq, Eq)]
+pub enum Origin {
+    /// The source spells it.
+    Source,
+    /// Files spell it: the word at this place names its setup, and each word behind it a file of a thread's commands.
     Files { setup: usize },
-    /// To run the storm of this number.
+    /// It is the storm of this number.
     Storm { number: u32 },
 }
 
@@ -30,16 +39,28 @@ pub enum StoreName {
 }
 
 /// What the words ask for, the program's name first. Behind it stands `run`, or `files` and the names of a setup and of 1
-/// to 16 files, or `storm` and a number. Directly behind the command's name may stand one store option, as `--store V` or
-/// `--store=V`, where V is `lock` or `kcas`. No other word begins with `-`, and none is empty.
+/// to 16 files, or `storm` and a number, or `check` and the names of a bundle and of a text. Directly behind the name of
+/// a command that runs a script may stand one store option, as `--store V` or `--store=V`, where V is `lock` or `kcas`.
+/// No other word begins with `-`, and none is empty.
 pub fn command_of(words: &[String]) -> Option<Command>
     ensures { result ≡ command_of (map string_bytes words.now) }
 {
+    if is_check(words) {
+        return Some(Command::Check);
+    }
+    let origin = origin_of(words)?;
+    Some(Command::Run(origin))
+}
+
+// From where the words ask a script to be run.
+fn origin_of(words: &[String]) -> Option<Origin>
+    ensures { result ≡ origin_of (map string_bytes words.now) }
+{
     let setup = 2 + option_words(words);
     if is_run(words, setup) {
-        Some(Command::Run)
+        Some(Origin::Source)
     } else if is_files(words, setup) {
-        Some(Command::Files { setup })
+        Some(Origin::Files { setup })
     } else {
         storm_at(words, setup)
     }
@@ -58,6 +79,13 @@ pub fn store_of(words: &[String]) -> StoreName
     }
 }
 
+// Whether they are `check`, and behind it stand two names.
+fn is_check(words: &[String]) -> bool
+    ensures { result ≡ is_check (map string_bytes words.now) }
+{
+    is_word(words, 1, "check") && words.len() == 4 && all_are_names(&words[2..])
+}
+
 // Whether they are `run`, and nothing stands behind its option.
 fn is_run(words: &[String], end: usize) -> bool
     ensures { result ≡ (is_word (map string_bytes words.now) 1 (codes "run") && (length words.now == end)) }
@@ -74,7 +102,7 @@ fn is_files(words: &[String], setup: usize) -> bool
 }
 
 // The storm of the number that the word at a place spells, where it is the last word.
-fn storm_at(words: &[String], place: usize) -> Option<Command>
+fn storm_at(words: &[String], place: usize) -> Option<Origin>
     requires { place ≤ 4 }
     ensures { result ≡ storm_at (map string_bytes words.now) place }
 {
@@ -82,7 +110,7 @@ fn storm_at(words: &[String], place: usize) -> Option<Command>
         return None;
     }
     let number = number_of(words[place].as_str().as_bytes(), u32::MAX)?;
-    Some(Command::Storm { number })
+    Some(Origin::Storm { number })
 }
 
 // Whether the word at a place is this.

@@ -1,6 +1,7 @@
-//! The top call: runs a script from the bytes of a source, and writes its text to a sink.
+//! The top call: runs a script and writes its text, or checks a text.
 #![tactic(auto)]
 
+mod checking;
 mod command_line;
 mod laws;
 mod reading;
@@ -11,10 +12,12 @@ mod status;
 mod threads;
 mod top;
 
-pub use command_line::{Command, StoreName};
+pub use command_line::{Command, Origin, StoreName};
+pub use kc_check::CheckWhy;
 pub use kc_run::{Gate, OpenGate};
 pub use laws::{
-    pasts_have_just_the_records_behind_looks, reading_fails_for_a_cause, storms_write_their_summary,
+    pasts_have_just_the_records_behind_looks, reading_fails_for_a_cause,
+    storms_write_their_summary, what_is_in_order_is_done, what_is_written_is_legal,
 };
 pub use served::Served;
 pub use status::{LONGEST_LINE, Status};

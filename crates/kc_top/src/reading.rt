@@ -1,11 +1,12 @@
-//! From what a command reads to a bundle.
+//! From what a command reads to a bundle, and for a check to a text.
 
 ghost use Rattle.std.specs.Prelude.{◌≤◌, length, map, IfOk, IfErr};
 ghost use Rattle.std.specs.String.{string_bytes};
 ghost use Rattle.kc_script_bundle.specs.Script.{script_of};
-ghost use Rattle.kc_top.specs.Reading.{SourceSpells, SourceRefuses, FilesSpell, FilesRefuse};
+ghost use Rattle.kc_top.specs.Reading.{BothRefuse, FetchedBoth, FetchedFile, FileRefuses, SourceSpells, SourceRefuses, FilesSpell, FilesRefuse};
 
 use crate::status::Status;
+use kc_check::MOST_TEXT;
 use kc_model::{ReadError, Shelf, ShelfError, Source, fetch_all, read_to_end};
 use kc_script::{MOST_BYTES, PartError, parse, parse_parts};
 use kc_script_bundle::Bundle;
@@ -51,5 +52,38 @@ pub fn from_files<F: Shelf>(
         Ok(bundle) => Ok(bundle),
         Err(PartError::Fault { part, line, why }) => Err(Status::Script { part, line, why }),
         Err(PartError::NoMemory) => Err(Status::NoMemory),
+    }
+}
+
+/// The files of a bundle and of a text, one after the other, each within its own limit.
+pub fn fetch_both<F: Shelf>(
+    alloc: Global,
+    bundle: &str,
+    text: &str,
+    shelf: &mut F,
+) -> Result<(Vec<u8>, Vec<u8>), Status>
+    ensures both { IfOk result (λ r. FetchedBoth F.files F.faults F.sure F.fetch_gives bundle.now text.now shelf.old r.0.items r.1.items shelf.new) }
+    ensures refuse { IfErr result (BothRefuse F.files F.faults F.sure F.fetch_gives bundle.now text.now shelf.old shelf.new) }
+{
+    let script = fetch_file(alloc, shelf, bundle, MOST_BYTES)?;
+    let printed = fetch_file(alloc, shelf, text, MOST_TEXT)?;
+    Ok((script, printed))
+}
+
+// The file of this name, by one call.
+fn fetch_file<F: Shelf>(
+    alloc: Global,
+    shelf: &mut F,
+    name: &str,
+    limit: usize,
+) -> Result<Vec<u8>, Status>
+    ensures fetched { IfOk result (λ bytes. FetchedFile F.files F.faults F.sure F.fetch_gives limit shelf.old name.now bytes.items shelf.new) }
+    ensures refuses { IfErr result (FileRefuses F.files F.faults F.sure F.fetch_gives limit shelf.old name.now shelf.new) }
+{
+    match shelf.fetch(alloc, name, limit) {
+        Ok(bytes) => Ok(bytes),
+        Err(ShelfError::Failed) => Err(Status::ReadFault),
+        Err(ShelfError::TooLong) => Err(Status::TooLong),
+        Err(ShelfError::NoMemory) => Err(Status::NoMemory),
     }
 }

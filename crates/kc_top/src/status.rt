@@ -1,15 +1,19 @@
-ghost use Rattle.std.specs.Prelude.{◌≡◌};
+ghost use Rattle.std.specs.Prelude.{◌≡◌, ◌≤◌, length};
 ghost use Rattle.kc_top.specs.Numbers.{number};
-ghost use Rattle.kc_top.specs.Lines.{status_line};
+ghost use Rattle.kc_top.specs.Lines.{status_line, test_words};
 ghost use Rattle.kc_top.specs.declared.status.Status.TheVariants as status;
 
 use arrayvec::ArrayString;
 use itoa::Buffer;
+use kc_check::CheckWhy;
 use kc_model::NoMemory;
-use kc_script_lines::{LONGEST_WORDS, Why};
+use kc_script_lines::Why;
 
-/// The most bytes that a line on standard error has: 19 around two numbers of ten digits, and the words for a fault.
-pub const LONGEST_LINE: usize = 39 + LONGEST_WORDS;
+/// The most bytes that a line on standard error has: those of the line for words that are no command.
+pub const LONGEST_LINE: usize = 87;
+
+/// The most bytes that the words for a test have.
+const LONGEST_TEST: usize = 23;
 
 /// How a run ended.
 #[derive(Clone, Copy, Debug, PartialEq, Eq)]
@@ -26,8 +30,10 @@ pub enum Status {
     WriteFault,
     /// Memory ran out.
     NoMemory,
-    /// More bytes came than a bundle may have.
+    /// More bytes came than a bundle, or a text to be checked, may have.
     TooLong,
+    /// The text is that of no run: the first test that it fails, and the line where it does, from 1.
+    Illegal { line: u32, why: CheckWhy },
 }
 
 impl Status {
@@ -43,6 +49,7 @@ impl Status {
             Status::WriteFault => 5,
             Status::NoMemory => 6,
             Status::TooLong => 7,
+            Status::Illegal { .. } => 8,
         }
     }
 
@@ -55,7 +62,9 @@ impl Status {
         match self {
             Status::Done => {}
             Status::Usage => {
-                text.push_str("kcas: usage: kcas run, kcas files SETUP FILE.., or kcas storm N");
+                text.push_str(
+                    "kcas: usage: kcas run, kcas files SETUP FILE.., kcas storm N, or kcas check BUNDLE TEXT",
+                );
             }
             Status::Script { part, line, why } => {
                 text.push_str("kcas: part ");
@@ -68,9 +77,30 @@ impl Status {
             Status::ReadFault => text.push_str("kcas: reading failed"),
             Status::WriteFault => text.push_str("kcas: writing failed"),
             Status::NoMemory => text.push_str("kcas: out of memory"),
-            Status::TooLong => text.push_str("kcas: input longer than 1048576 bytes"),
+            Status::TooLong => text.push_str("kcas: input too long"),
+            Status::Illegal { line, why } => {
+                text.push_str("kcas: line ");
+                text.push_str(Buffer::new().format(*line));
+                text.push_str(": ");
+                text.push_str(test_words(*why));
+            }
         }
         text
+    }
+}
+
+// The words for a test that a text fails.
+fn test_words(why: CheckWhy) -> &'static str
+    ensures words { result.now ≡ test_words why }
+    ensures short { length result.now ≤ LONGEST_TEST }
+{
+    match why {
+        CheckWhy::Form => "wrong form",
+        CheckWhy::Turn => "out of turn",
+        CheckWhy::Waits => "command waits",
+        CheckWhy::Reply => "wrong reply",
+        CheckWhy::Order => "not the canonical order",
+        CheckWhy::State => "wrong state",
     }
 }
 

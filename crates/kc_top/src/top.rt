@@ -3,11 +3,12 @@
 ghost use Rattle.std.specs.Prelude.{◌≡◌, Some, map, IfOk, IfErr};
 ghost use Rattle.std.specs.String.{string_bytes};
 ghost use Rattle.kc_script_bundle.specs.Script.{script_of};
-ghost use Rattle.kc_top.specs.Words.{command_of};
+ghost use Rattle.kc_top.specs.Words.{origin_of};
 ghost use Rattle.kc_top.specs.Reading.{Reads, Refuses};
-ghost use Rattle.kc_top.specs.Statuses.{Says, SaysOf};
+ghost use Rattle.kc_top.specs.Statuses.{RunSays, Says};
 
-use crate::command_line::{Command, command_of, store_of};
+use crate::checking::check;
+use crate::command_line::{Command, Origin, command_of, store_of};
 use crate::reading::{from_files, from_source};
 use crate::run::perform;
 use crate::served::Served;
@@ -22,7 +23,8 @@ use std::thread::Threads;
 
 /// Runs the script that the words name, and writes its text to the sink. The words have the program's name first, and
 /// then a command: `run` reads the script from the source, `files SETUP FILE..` from the shelf, a file for each thread;
-/// `storm N` runs the storm of that number, and writes its summary in place of a text.
+/// `storm N` runs the storm of that number, and writes its summary in place of a text. `check BUNDLE TEXT` reads a bundle
+/// and a text from the shelf, and writes `legal` where the text is that of a run of the bundle.
 /// All is read before it is parsed. Each thread of the script runs in a thread of its own, behind the gate, on one
 /// store: the one that a store option directly behind the command names, `--store lock` or `--store kcas`, and else the
 /// lock-free one. A thread's command may wait for another's, and nothing is promised of when it ends.
@@ -37,30 +39,34 @@ pub fn kcas_main<S: Source, F: Shelf, K: Sink, G: Gate, R: Threads + Wait + Sync
 ) -> (Status, Served)
     ensures { Says S.left S.faults S.read_gives F.files F.faults F.sure F.fetch_gives K.written K.faults K.write_gives (map string_bytes words.now) source.old source.new shelf.old shelf.new sink.old sink.new result.1 result.0 }
 {
-    let Some(command) = command_of(words) else {
-        return (Status::Usage, Served::Nothing);
-    };
-    run(rt, alloc, words, command, source, shelf, sink, gate)
+    match command_of(words) {
+        None => (Status::Usage, Served::Nothing),
+        Some(Command::Run(origin)) => run(rt, alloc, words, origin, source, shelf, sink, gate),
+        Some(Command::Check) => {
+            let status = check(alloc, words[2].as_str(), words[3].as_str(), shelf, sink);
+            (status, Served::Nothing)
+        }
+    }
 }
 
 fn run<S: Source, F: Shelf, K: Sink, G: Gate, R: Threads + Wait + Sync>(
     rt: &R,
     alloc: Global,
     words: &[String],
-    command: Command,
+    origin: Origin,
     source: &mut S,
     shelf: &mut F,
     sink: &mut K,
     gate: &G,
 ) -> (Status, Served)
-    requires { command_of (map string_bytes words.now) ≡ Some command }
-    ensures { SaysOf S.left S.faults S.read_gives F.files F.faults F.sure F.fetch_gives K.written K.faults K.write_gives (map string_bytes words.now) command source.old source.new shelf.old shelf.new sink.old sink.new result.1 result.0 }
+    requires { origin_of (map string_bytes words.now) ≡ Some origin }
+    ensures { RunSays S.left S.faults S.read_gives F.files F.faults F.sure F.fetch_gives K.written K.faults K.write_gives (map string_bytes words.now) origin source.old source.new shelf.old shelf.new sink.old sink.new result.1 result.0 }
 {
-    let bundle = match read_bundle(alloc, words, command, source, shelf) {
+    let bundle = match read_bundle(alloc, words, origin, source, shelf) {
         Ok(bundle) => bundle,
         Err(status) => return (status, Served::Nothing),
     };
-    match perform(rt, alloc, store_of(words), command, &bundle, sink, gate) {
+    match perform(rt, alloc, store_of(words), origin, &bundle, sink, gate) {
         Ok((Ok(()), served)) => (Status::Done, served),
         Ok((Err(Failed), served)) => (Status::WriteFault, served),
         Err(NoMemory) => (Status::NoMemory, Served::Nothing),
@@ -70,17 +76,17 @@ fn run<S: Source, F: Shelf, K: Sink, G: Gate, R: Threads + Wait + Sync>(
 fn read_bundle<S: Source, F: Shelf>(
     alloc: Global,
     words: &[String],
-    command: Command,
+    origin: Origin,
     source: &mut S,
     shelf: &mut F,
 ) -> Result<Bundle, Status>
-    requires { command_of (map string_bytes words.now) ≡ Some command }
-    ensures reads { IfOk result (λ bundle. Reads S.left S.faults S.read_gives F.files F.faults F.sure F.fetch_gives (map string_bytes words.now) command source.old source.new shelf.old shelf.new (script_of bundle)) }
-    ensures refuses { IfErr result (Refuses S.left S.faults S.read_gives F.files F.faults F.sure F.fetch_gives (map string_bytes words.now) command source.old source.new shelf.old shelf.new) }
+    requires { origin_of (map string_bytes words.now) ≡ Some origin }
+    ensures reads { IfOk result (λ bundle. Reads S.left S.faults S.read_gives F.files F.faults F.sure F.fetch_gives (map string_bytes words.now) origin source.old source.new shelf.old shelf.new (script_of bundle)) }
+    ensures refuses { IfErr result (Refuses S.left S.faults S.read_gives F.files F.faults F.sure F.fetch_gives (map string_bytes words.now) origin source.old source.new shelf.old shelf.new) }
 {
-    match command {
-        Command::Run => from_source(alloc, source),
-        Command::Files { setup } => from_files(alloc, shelf, &words[setup..]),
-        Command::Storm { number } => Ok(storm(alloc, number)?),
+    match origin {
+        Origin::Source => from_source(alloc, source),
+        Origin::Files { setup } => from_files(alloc, shelf, &words[setup..]),
+        Origin::Storm { number } => Ok(storm(alloc, number)?),
     }
 }

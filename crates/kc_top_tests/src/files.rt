@@ -18,7 +18,11 @@ const ONE: (&str, &str) = ("A", "incr x\n");
 
 const OTHER: (&str, &str) = ("B", "incr x\n");
 
-fn shelf(alloc: Global, files: &[(&str, &str)], failing: Vec<u64>) -> Result<MemShelf, Fail>
+pub(crate) fn shelf(
+    alloc: Global,
+    files: &[(&str, &str)],
+    failing: Vec<u64>,
+) -> Result<MemShelf, Fail>
     requires { IsTrue (are_calls failing.items) }
 {
     let mut kept = Vec::new(alloc);
@@ -32,7 +36,7 @@ fn shelf(alloc: Global, files: &[(&str, &str)], failing: Vec<u64>) -> Result<Mem
 }
 
 // The status of these words behind the program's name, over a shelf and a source that fails at once, and what was written.
-fn run_over<R: Threads + Wait + Sync>(
+pub(crate) fn run_over<R: Threads + Wait + Sync>(
     rt: &R,
     alloc: Global,
     words: &[&str],
@@ -44,7 +48,7 @@ fn run_over<R: Threads + Wait + Sync>(
     Ok((status, sink.bytes().to_vec(alloc)?))
 }
 
-fn run_files<R: Threads + Wait + Sync>(
+pub(crate) fn run_files<R: Threads + Wait + Sync>(
     rt: &R,
     alloc: Global,
     words: &[&str],
@@ -201,7 +205,7 @@ fn one_long_file_is_too_long_though_another_is_not_there(rt: HostRuntime) -> Res
 
 #[test]
 fn words_that_are_no_command_are_usage(rt: HostRuntime) -> Result<(), Fail> {
-    let rows: [&[&str]; 19] = [
+    let rows: [&[&str]; 27] = [
         &[],
         &["run", "now"],
         &["run", ""],
@@ -220,6 +224,14 @@ fn words_that_are_no_command_are_usage(rt: HostRuntime) -> Result<(), Fail> {
         &["files", "S", "--store=kcas", "A"],
         &["files", "S", ""],
         &["files", "S", "-x"],
+        &["check"],
+        &["check", "S"],
+        &["check", "S", "A", "A"],
+        &["check", "S", ""],
+        &["check", "-x", "A"],
+        &["check", "--store=kcas", "S", "A"],
+        &["check", "--store", "lock", "S", "A"],
+        &["check", "S", "A", "--store=kcas"],
         &["--help"],
     ];
     for words in rows {

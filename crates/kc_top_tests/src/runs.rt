@@ -4,7 +4,7 @@ ghost use Rattle.std.specs.Prelude.{◌≤◌, None};
 
 use kc_model::{Failed, FrailSink, FrailSource, MemShelf, Shelf, Sink, Source, SureSource};
 use kc_script_lines::{Limit, Why};
-use kc_top::{Gate, OpenGate, Served, Status, StoreName, kcas_main};
+use kc_top::{CheckWhy, Gate, OpenGate, Served, Status, StoreName, kcas_main};
 use std::alloc::Global;
 use std::fmt::Write;
 use std::sync::Wait;
@@ -17,9 +17,9 @@ pub(crate) const ROOM: usize = 4096;
 // The store options, in one word.
 pub(crate) const STORES: [&str; 2] = ["--store=lock", "--store=kcas"];
 
-const FIRST: &str = "kcas 1\nloc x 5\nthread\nget x\nset x 7\nadd x 1\n";
+pub(crate) const FIRST: &str = "kcas 1\nloc x 5\nthread\nget x\nset x 7\nadd x 1\n";
 
-const FIRST_TEXT: &str = "1.1 5\n1.2 ok\n1.3 7\norder\n1.1\n1.2\n1.3\n1.end\nstate\nx 8\n";
+pub(crate) const FIRST_TEXT: &str = "1.1 5\n1.2 ok\n1.3 7\norder\n1.1\n1.2\n1.3\n1.end\nstate\nx 8\n";
 
 // A shelf without files.
 pub(crate) fn no_files(alloc: Global) -> MemShelf {
@@ -521,17 +521,35 @@ fn each_status_has_its_line(rt: HostRuntime) {
         (Status::Done, ""),
         (
             Status::Usage,
-            "kcas: usage: kcas run, kcas files SETUP FILE.., or kcas storm N",
+            "kcas: usage: kcas run, kcas files SETUP FILE.., kcas storm N, or kcas check BUNDLE TEXT",
         ),
         (name_is_bad, "kcas: part 3 line 12: bad name"),
         (Status::ReadFault, "kcas: reading failed"),
         (Status::WriteFault, "kcas: writing failed"),
         (Status::NoMemory, "kcas: out of memory"),
-        (Status::TooLong, "kcas: input longer than 1048576 bytes"),
+        (Status::TooLong, "kcas: input too long"),
     ];
     for (status, line) in rows {
         let text = status.line();
         assert_eq!(rt; text.as_str(), line);
+    }
+}
+
+#[test]
+fn each_test_of_a_text_has_its_words(rt: HostRuntime) {
+    let rows = [
+        (CheckWhy::Form, "kcas: line 7: wrong form"),
+        (CheckWhy::Turn, "kcas: line 7: out of turn"),
+        (CheckWhy::Waits, "kcas: line 7: command waits"),
+        (CheckWhy::Reply, "kcas: line 7: wrong reply"),
+        (CheckWhy::Order, "kcas: line 7: not the canonical order"),
+        (CheckWhy::State, "kcas: line 7: wrong state"),
+    ];
+    for (why, line) in rows {
+        let status = Status::Illegal { line: 7, why };
+        let text = status.line();
+        assert_eq!(rt; text.as_str(), line);
+        assert_eq!(rt; status.number(), 8);
     }
 }
 

@@ -1,7 +1,7 @@
 use crate::line::report;
 use crate::words::words_of;
 use kc_script_lines::Why;
-use kc_top::Status;
+use kc_top::{CheckWhy, Status};
 use std::cell::RefCell;
 use std::env::{Env, FillError};
 use std::fmt::{Display, Write};
@@ -31,11 +31,15 @@ fn each_status_has_its_line_and_its_exit_number(rt: HostRuntime) -> Result<(), F
         line: 2,
         why: Why::BadNumber,
     };
+    let illegal = Status::Illegal {
+        line: 4,
+        why: CheckWhy::Order,
+    };
     let rows = [
         (Status::Done, "", 0u8),
         (
             Status::Usage,
-            "kcas: usage: kcas run, kcas files SETUP FILE.., or kcas storm N\n",
+            "kcas: usage: kcas run, kcas files SETUP FILE.., kcas storm N, or kcas check BUNDLE TEXT\n",
             2,
         ),
         (script, "kcas: part 0 line 2: bad number\n", 3),
@@ -44,9 +48,10 @@ fn each_status_has_its_line_and_its_exit_number(rt: HostRuntime) -> Result<(), F
         (Status::NoMemory, "kcas: out of memory\n", 6),
         (
             Status::TooLong,
-            "kcas: input longer than 1048576 bytes\n",
+            "kcas: input too long\n",
             7,
         ),
+        (illegal, "kcas: line 4: not the canonical order\n", 8),
     ];
     for (status, printed, number) in rows {
         let kept = KeptText(RefCell::new(String::new(rt.alloc())));
