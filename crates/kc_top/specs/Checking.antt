@@ -1,7 +1,6 @@
 -- What a check of a text comes to.
 use Rattle.std.specs.Prelude.{◌≡◌, ◌⊎◌, ℕ, Bool, List, Option, Result}
-use Rattle.kc_check.specs.Faults.{Fails, IsLaterFault, IsLegal}
-use Rattle.kc_check.specs.declared.error.CheckError.TheVariants as checking
+use Rattle.kc_check.specs.Faults.{Fails, IsLegal}
 use Rattle.kc_check.specs.declared.error.CheckWhy.{CheckWhy}
 use Rattle.kc_model.specs.declared.outside.ShelfError.{ShelfError}
 use Rattle.kc_script.specs.Refused.{Refused}
@@ -34,13 +33,13 @@ module _ {F : Type 0} (files : F → Option (List (List ℕ × List ℕ))) (faul
     pub reads : ReadsText f f' script text
     pub legal : IsLegal script text
 
-  -- this is the first test that the text fails, at this line; one that fails a test behind that of its form is of no run
+  -- this is the first test that the text fails, at this line; so it is of no run
   pub record IsRejected (f f' : F) (line : ℕ) (why : CheckWhy) : Type 0 where
     pub script : Script
     pub text : List ℕ
     pub reads : ReadsText f f' script text
     pub fails : Fails script text line why
-    pub refuted : IsLaterFault (checking.Fault line why) → IsLegal script text → ⊥
+    pub refuted : IsLegal script text → ⊥
 
   -- why no text was accepted: a file was not read, the first spells no script, the text fails a test; or memory ran out, also behind both files
   abbrev pub CheckRefuses : F → F → Status → Type 0
