@@ -6,8 +6,8 @@ use kc_await::{HangState, Hanging, commit_waiting, hang_step, signalled};
 use kc_loc::{LocOp, Rel};
 use kc_model::{Footprint, Loc, Reply};
 use kc_queue::{Queue, QueueAct, QueueOp};
-use kc_store::{Caller, Outcome, Store, Verdict};
-use kc_xt::Transact;
+use kc_store::{Caller, Fate, Outcome, Store, Verdict};
+use kc_xt::{Transact, Trial, Went};
 use std::alloc::Global;
 use std::sync::Wait;
 use std::test::Fail;
@@ -125,6 +125,7 @@ fn a_put_signals_who_hangs_on_it(rt: HostRuntime) -> Result<(), Fail> {
     assert_eq!(rt; hanging.state(), HangState::Hung);
     assert!(rt; !signalled(&store, &mut hanging));
     assert_eq!(rt; reply(&rt, &store, &mut a, &ONE), Some(Reply::Unit));
+    assert_eq!(rt; a.take_wakes(), 0);
     assert!(rt; signalled(&store, &mut hanging));
     assert_eq!(rt; leave(&rt, &store, &mut hanging), 2);
     assert_eq!(rt; hanging.state(), HangState::Free);
@@ -132,6 +133,25 @@ fn a_put_signals_who_hangs_on_it(rt: HostRuntime) -> Result<(), Fail> {
         return Err(Fail::from("it hangs"));
     };
     assert_eq!(rt; reply(&rt, &store, &mut b, &UNTIL_ONE), Some(Reply::Unit));
+    Ok(())
+}
+
+#[test]
+fn a_quiet_try_leaves_whom_it_signalled_to_its_caller(rt: HostRuntime) -> Result<(), Fail> {
+    let Some((store, mut a, b)) = open_two(rt.alloc(), &[0]) else {
+        return Err(Fail::from("not opened"));
+    };
+    let Some(mut hanging) = hanging_behind(&store, b, &UNTIL_ONE) else {
+        return Err(Fail::from("nothing to hang on"));
+    };
+    step_on(&rt, &store, &mut hanging);
+    let (mut trial, mut footprint) = (Trial::new(), Footprint::new());
+    let fate = store.try_in_place(&mut a, &ONE, &mut trial, &mut footprint);
+    assert!(rt; matches!(fate, Fate::Entered { .. }));
+    assert_eq!(rt; (trial.went, trial.reply), (Went::Done, Reply::Unit));
+    assert!(rt; signalled(&store, &mut hanging));
+    assert_eq!(rt; a.take_wakes(), 0b10);
+    assert_eq!(rt; a.take_wakes(), 0);
     Ok(())
 }
 

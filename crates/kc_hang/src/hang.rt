@@ -65,7 +65,7 @@ impl<'a> Hang<'a> {
     }
 }
 
-/// One step of the hang, or of its leave. The first one from Going and from Leaving begins the task, where no task runs, and from
+/// One step of the hang, or of its leave: it signals nobody, so nobody has to be woken behind it. The first one from Going and from Leaving begins the task, where no task runs, and from
 /// Going the seat isn't blocked; each further one is made with the seat whose task this hang began. Hung is answered
 /// exactly where the seat was told that it hangs; Free where the leave has ended, or a look has found another version than
 /// the one read; else the state stays.

@@ -15,6 +15,7 @@ pub mod Fitting
 pub mod Ending
 pub mod Looking
 pub mod ReadLooks
+pub mod OneRead
 pub mod Placing
 pub mod Crossed
 pub mod Settling

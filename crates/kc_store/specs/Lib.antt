@@ -13,6 +13,7 @@ pub mod Within
 pub mod Views
 pub mod Knows
 pub mod Rests
+pub mod Reads
 pub mod Backs
 pub mod Hanging
 pub mod HangingView

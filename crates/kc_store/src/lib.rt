@@ -4,9 +4,11 @@
 mod alone;
 mod budget;
 mod committing;
+mod in_place;
 mod laws;
 mod looks;
 mod notes;
+mod reading;
 mod sole_peek;
 mod store;
 mod tasks;
@@ -26,7 +28,8 @@ pub use laws::{
     what_is_known_stays_known,
 };
 pub use notes::{HoldsCaller, Note, Past};
+pub use reading::ReadBusy;
 pub use store::{Caller, Store};
 pub use values::{Outcome, Try, Wear};
-pub use verdict::{Answered, Verdict};
+pub use verdict::{Answered, Fate, Verdict};
 pub use waiting::{Hanging, hang_step, park, signalled};

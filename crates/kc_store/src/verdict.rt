@@ -42,8 +42,8 @@ pub enum Answered {
 }
 
 /// What became of a try whose transaction ran to an end, its reply and its other outcomes aside: few bytes.
-#[derive(Clone, Copy)]
-pub(crate) enum Fate {
+#[derive(Clone, Copy, Debug, PartialEq, Eq)]
+pub enum Fate {
     /// Its entry was made, within so many steps.
     Entered { steps: u64 },
     /// Another caller has put this location, and made this version of it.

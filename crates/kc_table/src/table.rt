@@ -111,7 +111,7 @@ impl KcTable {
         self.locations as u32
     }
 
-    /// One step of the seat, by one atomic operation on one word.
+    /// One step of the seat, by one atomic operation on one word. Where it signals another seat, that one may sleep until `wake`.
     pub fn step(&self, seat: &mut KcSeat)
         requires table { seat.old.of ≡ self.now }
         requires busy { is_idle seat.old.seat.work ≡ false }
@@ -131,6 +131,27 @@ impl KcTable {
         seat.began = false;
         if let Access::Signal(caller, true) = access {
             if caller < MOST_CALLERS {
+                seat.wakes |= 1u64 << caller;
+            }
+        }
+    }
+
+    /// Wakes whom the seat's steps have signalled since this was last done.
+    #[inline(always)]
+    pub fn wake(&self, seat: &mut KcSeat)
+        ensures { seat.new ≡ seat.old }
+    {
+        if seat.wakes != 0 {
+            self.wake_each(seat.take_wakes());
+        }
+    }
+
+    // Wakes each whose bit is set.
+    #[cold]
+    #[inline(never)]
+    fn wake_each(&self, wakes: u64) {
+        for caller in 0..MOST_CALLERS {
+            if wakes & (1u64 << caller) != 0 {
                 self.words.wake_one(signal_at(caller));
             }
         }

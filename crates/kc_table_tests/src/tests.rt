@@ -390,6 +390,8 @@ fn a_put_wakes_who_hangs_on_it(rt: HostRuntime) -> Result<(), Fail> {
     steps(&table, &mut a, &[], 100);
     assert_eq!(rt; a.told(), Some(Told::Succeeded { number: 1 }));
     assert!(rt; table.signalled(&mut b));
+    assert_eq!(rt; a.take_wakes(), 0b10);
+    table.wake(&mut a);
     table.park(&rt, &mut b);
     assert!(rt; leave(&mut b, zero));
     assert_eq!(rt; steps(&table, &mut b, &[], 100), 2);

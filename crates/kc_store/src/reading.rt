@@ -1,0 +1,48 @@
+//! Reads of one location without a transaction.
+
+ghost use Rattle.std.specs.Prelude.{◌≡◌, ◌<◌};
+ghost use Rattle.kc_hang.specs.kc_table_seats.Tasks.{Keeps};
+ghost use Rattle.kc_store.specs.Knows.{OnlyLearns};
+ghost use Rattle.kc_store.specs.Reads.{IsRead};
+
+use crate::budget::Budget;
+use crate::looks::look_at;
+use crate::store::{Caller, Store};
+use kc_model::{Loc, Seen};
+
+/// A read was given up after so many steps.
+#[derive(Clone, Copy, Debug, PartialEq, Eq)]
+pub struct ReadBusy {
+    pub steps: u64,
+}
+
+impl Store {
+    /// What stands at a location, with its version, without a transaction: by one load where a plain word stands there, and else by
+    /// the further steps of a look. It is what some front of the history that the caller knows now makes there, and no older than
+    /// what the caller knew; two reads may show two moments. It has no entry, takes no memory, never waits, and signals nobody.
+    ///
+    /// # Errors
+    ///
+    /// It was given up, with all its steps made.
+    #[inline(always)]
+    pub fn read(&self, caller: &mut Caller, at: Loc) -> Result<Seen, ReadBusy>
+        requires caller { caller.old.of ≡ self.now }
+        requires within { at.0 < self.now.locations }
+        ensures reads { IsRead at.0 result caller.old caller.new }
+        ensures learns { OnlyLearns caller.old caller.new }
+        ensures keeps { Keeps caller.old.seat caller.new.seat }
+    {
+        let before = caller.seat.steps();
+        let budget = Budget {
+            most: self.most_steps as u64,
+            before,
+        };
+        match look_at(&self.table, &mut caller.seat, at, budget) {
+            Ok(seen) => return Ok(seen),
+            Err(_) => {
+                let steps = caller.seat.steps() - before;
+                return Err(ReadBusy { steps });
+            }
+        }
+    }
+}
