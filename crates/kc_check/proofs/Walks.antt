@@ -1,10 +1,10 @@
 -- A walk over the places, as far as it has come.
-use Rattle.std.proofs.Common.{◌≡◌, ◌≢◌, ℕ, zero, suc, ◌+◌, ◌<◌, ◌≤◌, List, [], ◌∷◌, ◌++◌, All, length, take, drop, get_or, refl, sym, ap, subst, ◌∙◌, arith, slice_index_or, Vec}
+use Rattle.std.proofs.Common.{◌≡◌, ◌≢◌, ℕ, zero, suc, ◌+◌, ◌<◌, ◌≤◌, List, [], ◌∷◌, ◌++◌, All, length, take, drop, get_or, refl, sym, ap, subst, ◌∙◌, arith, slice_index_or, Some, Vec}
 use Rattle.std.proofs.lemmas.List.{drop_more, take_all}
 use Rattle.std.specs.Global.{Global}
 use Rattle.kc_history.specs.Order.{more}
 use Rattle.kc_history.specs.Ends.{AreWellMade}
-use Rattle.kc_history.specs.Records.{footprint_at, lists_of}
+use Rattle.kc_history.specs.Records.{footprint_at, lists_of, record_at}
 use Rattle.kc_history.specs.RecordsValue.{RecordsValue}
 use Rattle.kc_history.specs.Text.{reply_line}
 use Rattle.kc_history.specs.declared.record.Place.{Place}
@@ -13,7 +13,7 @@ use Rattle.kc_model.specs.Store.{Store}
 use Rattle.kc_script_bundle.specs.declared.operation.Command.{Command}
 use Rattle.kc_script_runs.proofs.Determined.{labelled_at}
 use Rattle.kc_check.proofs.Padded.{as_many, blank_made, counts_none, padded_threads}
-use Rattle.kc_check.proofs.Replays.{comes_more, comes_none, made_more}
+use Rattle.kc_check.proofs.Replays.{comes_more, comes_none, made_more, place_within, same_commit, some_there, stands_at, turn_is}
 use Rattle.kc_check.specs.Ages.{IsYoung}
 use Rattle.kc_check.specs.Faults.{Comes, HasToWait, IsOutOfTurn, RepliesElse, StopsAt}
 use Rattle.kc_check.specs.Parts.{IsPlace, said_at}
@@ -95,3 +95,24 @@ module _ (limit : ℕ) (threads : List (List Command)) (replies : List (List (Li
         let p : Place = get_or places i d in
         let named = labelled_at 1 threads (all_padded 1 threads (lists_of ws)) c.labelled p.thread p.index c.commit c.stands in
         stops_at (RepliesElse limit threads replies first) (record { turn = turn; meaning = c.meaning; means = c.means; commit = c.commit; labelled = named; commits = c.commits; differs = differs })
+
+-- ---- a turn of the walk
+
+-- the place at an index, and how many records its thread has
+pub record Stands (threads : List (Vec Command Global)) (vs : List RecordsValue) (p : Place) (long : ℕ) : Type 0 where
+  pub is : IsPlace (commands_of threads) p
+  pub within : p.thread < length vs
+  pub counted : counts (lists_of vs) p.thread ≡ long
+
+pub place_stands : (limit : ℕ) (threads : List (Vec Command Global)) (places : List Place) (i : ℕ) (d : Place) (vs : List RecordsValue) (row : RecordsValue) (long : ℕ) → All (IsPlace (commands_of threads)) places → i < length places → HaveRoom limit 1 (commands_of threads) vs → row ≡ get_or vs (get_or places i d).thread row → long ≡ length (get_or vs (get_or places i d).thread row).items → Stands threads vs (get_or places i d) long
+place_stands limit threads places i d vs row long each lt room at is =
+    let p : Place = get_or places i d in
+    let within = place_within limit threads vs p room (each i d lt) in
+    record { is = each i d lt; within = within; counted = turn_is vs p.thread row long within at is }
+
+-- the record that a replay added is the commit
+pub replayed : (limit : ℕ) (threads : List (Vec Command Global)) (vs ws : List RecordsValue) (p : Place) (now then : Store) → IsPlace (commands_of threads) p → p.index ≡ counts (lists_of vs) p.thread → HaveRoom limit 1 (commands_of threads) ws → counts (lists_of ws) ≡ more p.thread (counts (lists_of vs))
+    → (c : CommitsAt limit (commands_of threads) p now then (all_padded 1 (commands_of threads) (lists_of vs)) (all_padded 1 (commands_of threads) (lists_of ws))) → (r : Record) × (record_at (lists_of ws) p.thread p.index ≡ Some r) × (r ≡ c.commit)
+replayed limit threads vs ws p now then is turn room grown c =
+    let (r, at) = some_there (record_at (lists_of ws) p.thread p.index) (stands_at limit threads ws vs p room is turn grown) in
+    (r, at, same_commit limit threads ws p r c.commit room at c.stands)

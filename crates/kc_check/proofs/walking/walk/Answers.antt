@@ -1,11 +1,11 @@
 use Rattle.std.proofs.Common.{◌≡◌, ℕ, get_or, sym, subst, ap, arith, ◌∙◌, refl}
-use Rattle.kc_history.specs.Records.{lists_of, record_at}
+use Rattle.kc_history.specs.Records.{lists_of}
 use Rattle.kc_history.specs.Text.{reply_line}
 use Rattle.kc_history.specs.declared.record.Place.{Place}
 use Rattle.kc_model.specs.Store.{store_of}
 use Rattle.kc_check.proofs.Matched.{not_both}
-use Rattle.kc_check.proofs.Replays.{place_within, same_commit, some_there, stands_at, turn_is}
-use Rattle.kc_check.proofs.Walks.{stops_reply, stops_turn, stops_waits, walked_all, walked_more, walked_none}
+use Rattle.kc_check.proofs.Replays.{place_within, stands_at}
+use Rattle.kc_check.proofs.Walks.{place_stands, replayed, stops_reply, stops_turn, stops_waits, walked_all, walked_more, walked_none}
 use Rattle.kc_check.specs.Judged.{nowhere}
 use Rattle.kc_check.specs.Parts.{IsPlace}
 use Rattle.kc_check.specs.Replays.{AllCanAsk, commands_of, counts}
@@ -26,10 +26,8 @@ bounds-records-place c =
 pub returns-then-place-len-clause-stops : goal.returns-then-place-len-clause-stops
 returns-then-place-len-clause-stops c =
     let p : Place = get_or c.args.places.now c.loop-i.i nowhere in
-    let is : IsPlace (commands_of c.args.threads.now) p = c.requires.places c.loop-i.i nowhere c.loop-i-test.true in
-    let within = place_within c.args.limit c.args.threads.now c.loop-i.records p c.loop-i.invariant.walked.room is in
-    let count : counts (lists_of c.loop-i.records) p.thread ≡ c.len.result = turn_is c.loop-i.records p.thread c.index-records-place.result c.len.result within c.index-records-place.is c.len.ensures in
-    stops_turn c.args.limit (commands_of c.args.threads.now) (lines_in c.args.replies.now) (store_of c.args.store.now) c.args.places.now c.loop-i.i (store_of c.loop-i.store) c.loop-i.records nowhere c.loop-i-test.true c.loop-i.invariant.walked (λ e. c.if-place-len.true (e ∙ count))
+    let h = place_stands c.args.limit c.args.threads.now c.args.places.now c.loop-i.i nowhere c.loop-i.records c.index-records-place.result c.len.result c.requires.places c.loop-i-test.true c.loop-i.invariant.walked.room c.index-records-place.is c.len.ensures in
+    stops_turn c.args.limit (commands_of c.args.threads.now) (lines_in c.args.replies.now) (store_of c.args.store.now) c.args.places.now c.loop-i.i (store_of c.loop-i.store) c.loop-i.records nowhere c.loop-i-test.true c.loop-i.invariant.walked (λ e. c.if-place-len.true (e ∙ h.counted))
 
 pub returns-then-place-len-clause-size : goal.returns-then-place-len-clause-size
 returns-then-place-len-clause-size c = c.loop-i.invariant.size
@@ -43,10 +41,8 @@ replay_at-requires-clause-some c = let a = c.loop-i.invariant.size in let b = c.
 pub replay_at-requires-clause-turn : goal.replay_at-requires-clause-turn
 replay_at-requires-clause-turn c =
     let p : Place = get_or c.args.places.now c.loop-i.i nowhere in
-    let is : IsPlace (commands_of c.args.threads.now) p = c.requires.places c.loop-i.i nowhere c.loop-i-test.true in
-    let within = place_within c.args.limit c.args.threads.now c.loop-i.records p c.loop-i.invariant.walked.room is in
-    let count : counts (lists_of c.loop-i.records) p.thread ≡ c.len.result = turn_is c.loop-i.records p.thread c.index-records-place.result c.len.result within c.index-records-place.is c.len.ensures in
-    c.if-place-len.false ∙ sym count
+    let h = place_stands c.args.limit c.args.threads.now c.args.places.now c.loop-i.i nowhere c.loop-i.records c.index-records-place.result c.len.result c.requires.places c.loop-i-test.true c.loop-i.invariant.walked.room c.index-records-place.is c.len.ensures in
+    c.if-place-len.false ∙ sym h.counted
 
 pub replay_at-requires-clause-room : goal.replay_at-requires-clause-room
 replay_at-requires-clause-room c = c.loop-i.invariant.walked.room
@@ -57,10 +53,8 @@ replay_at-requires-clause-young c = c.loop-i.invariant.walked.young
 pub returns-then-not-replay_at-clause-stops : goal.returns-then-not-replay_at-clause-stops
 returns-then-not-replay_at-clause-stops c =
     let p : Place = get_or c.args.places.now c.loop-i.i nowhere in
-    let is : IsPlace (commands_of c.args.threads.now) p = c.requires.places c.loop-i.i nowhere c.loop-i-test.true in
-    let within = place_within c.args.limit c.args.threads.now c.loop-i.records p c.loop-i.invariant.walked.room is in
-    let count : counts (lists_of c.loop-i.records) p.thread ≡ c.len.result = turn_is c.loop-i.records p.thread c.index-records-place.result c.len.result within c.index-records-place.is c.len.ensures in
-    let turn : p.index ≡ counts (lists_of c.loop-i.records) p.thread = c.if-place-len.false ∙ sym count in
+    let h = place_stands c.args.limit c.args.threads.now c.args.places.now c.loop-i.i nowhere c.loop-i.records c.index-records-place.result c.len.result c.requires.places c.loop-i-test.true c.loop-i.invariant.walked.room c.index-records-place.is c.len.ensures in
+    let turn : p.index ≡ counts (lists_of c.loop-i.records) p.thread = c.if-place-len.false ∙ sym h.counted in
     stops_waits c.args.limit (commands_of c.args.threads.now) (lines_in c.args.replies.now) (store_of c.args.store.now) c.args.places.now c.loop-i.i (store_of c.loop-i.store) c.loop-i.records nowhere c.loop-i-test.true c.loop-i.invariant.walked turn (c.replay_at.ensures.waits c.if-not-replay_at.true)
 
 pub returns-then-not-replay_at-clause-size : goal.returns-then-not-replay_at-clause-size
@@ -69,23 +63,17 @@ returns-then-not-replay_at-clause-size c = c.replay_at.ensures.size ∙ c.loop-i
 pub says-requires-clause-stands : goal.says-requires-clause-stands
 says-requires-clause-stands c =
     let p : Place = get_or c.args.places.now c.loop-i.i nowhere in
-    let is : IsPlace (commands_of c.args.threads.now) p = c.requires.places c.loop-i.i nowhere c.loop-i-test.true in
-    let within = place_within c.args.limit c.args.threads.now c.loop-i.records p c.loop-i.invariant.walked.room is in
-    let count : counts (lists_of c.loop-i.records) p.thread ≡ c.len.result = turn_is c.loop-i.records p.thread c.index-records-place.result c.len.result within c.index-records-place.is c.len.ensures in
-    let turn : p.index ≡ counts (lists_of c.loop-i.records) p.thread = c.if-place-len.false ∙ sym count in
-    stands_at c.args.limit c.args.threads.now c.replay_at.new.records c.loop-i.records p (c.replay_at.ensures.room c.if-not-replay_at.false) is turn (c.replay_at.ensures.counts c.if-not-replay_at.false)
+    let h = place_stands c.args.limit c.args.threads.now c.args.places.now c.loop-i.i nowhere c.loop-i.records c.index-records-place.result c.len.result c.requires.places c.loop-i-test.true c.loop-i.invariant.walked.room c.index-records-place.is c.len.ensures in
+    let turn : p.index ≡ counts (lists_of c.loop-i.records) p.thread = c.if-place-len.false ∙ sym h.counted in
+    stands_at c.args.limit c.args.threads.now c.replay_at.new.records c.loop-i.records p (c.replay_at.ensures.room c.if-not-replay_at.false) h.is turn (c.replay_at.ensures.counts c.if-not-replay_at.false)
 
 pub returns-then-not-says-clause-stops : goal.returns-then-not-says-clause-stops
 returns-then-not-says-clause-stops c =
     let p : Place = get_or c.args.places.now c.loop-i.i nowhere in
-    let is : IsPlace (commands_of c.args.threads.now) p = c.requires.places c.loop-i.i nowhere c.loop-i-test.true in
-    let within = place_within c.args.limit c.args.threads.now c.loop-i.records p c.loop-i.invariant.walked.room is in
-    let count : counts (lists_of c.loop-i.records) p.thread ≡ c.len.result = turn_is c.loop-i.records p.thread c.index-records-place.result c.len.result within c.index-records-place.is c.len.ensures in
-    let turn : p.index ≡ counts (lists_of c.loop-i.records) p.thread = c.if-place-len.false ∙ sym count in
-    let stands = stands_at c.args.limit c.args.threads.now c.replay_at.new.records c.loop-i.records p (c.replay_at.ensures.room c.if-not-replay_at.false) is turn (c.replay_at.ensures.counts c.if-not-replay_at.false) in
+    let h = place_stands c.args.limit c.args.threads.now c.args.places.now c.loop-i.i nowhere c.loop-i.records c.index-records-place.result c.len.result c.requires.places c.loop-i-test.true c.loop-i.invariant.walked.room c.index-records-place.is c.len.ensures in
+    let turn : p.index ≡ counts (lists_of c.loop-i.records) p.thread = c.if-place-len.false ∙ sym h.counted in
     let commits = c.replay_at.ensures.commits c.if-not-replay_at.false in
-    let (r, at) = some_there (record_at (lists_of c.replay_at.new.records) p.thread p.index) stands in
-    let same : r ≡ commits.commit = same_commit c.args.limit c.args.threads.now c.replay_at.new.records p r commits.commit (c.replay_at.ensures.room c.if-not-replay_at.false) at commits.stands in
+    let (r, at, same) = replayed c.args.limit c.args.threads.now c.loop-i.records c.replay_at.new.records p (store_of c.loop-i.store) (store_of c.replay_at.new.store) h.is turn (c.replay_at.ensures.room c.if-not-replay_at.false) (c.replay_at.ensures.counts c.if-not-replay_at.false) commits in
     stops_reply c.args.limit (commands_of c.args.threads.now) (lines_in c.args.replies.now) (store_of c.args.store.now) c.args.places.now c.loop-i.i (store_of c.loop-i.store) c.loop-i.records nowhere c.loop-i-test.true c.loop-i.invariant.walked (store_of c.replay_at.new.store) c.replay_at.new.records turn commits (λ e. not_both c.says.result _ ((c.says.ensures r at).1 (e ∙ ap reply_line (sym same))) c.if-not-says.true)
 
 pub returns-then-not-says-clause-size : goal.returns-then-not-says-clause-size
@@ -94,14 +82,10 @@ returns-then-not-says-clause-size c = c.replay_at.ensures.size ∙ c.loop-i.inva
 pub loop-i-preserved : goal.loop-i-preserved
 loop-i-preserved c =
     let p : Place = get_or c.args.places.now c.loop-i.i nowhere in
-    let is : IsPlace (commands_of c.args.threads.now) p = c.requires.places c.loop-i.i nowhere c.loop-i-test.true in
-    let within = place_within c.args.limit c.args.threads.now c.loop-i.records p c.loop-i.invariant.walked.room is in
-    let count : counts (lists_of c.loop-i.records) p.thread ≡ c.len.result = turn_is c.loop-i.records p.thread c.index-records-place.result c.len.result within c.index-records-place.is c.len.ensures in
-    let turn : p.index ≡ counts (lists_of c.loop-i.records) p.thread = c.if-place-len.false ∙ sym count in
-    let stands = stands_at c.args.limit c.args.threads.now c.replay_at.new.records c.loop-i.records p (c.replay_at.ensures.room c.if-not-replay_at.false) is turn (c.replay_at.ensures.counts c.if-not-replay_at.false) in
+    let h = place_stands c.args.limit c.args.threads.now c.args.places.now c.loop-i.i nowhere c.loop-i.records c.index-records-place.result c.len.result c.requires.places c.loop-i-test.true c.loop-i.invariant.walked.room c.index-records-place.is c.len.ensures in
+    let turn : p.index ≡ counts (lists_of c.loop-i.records) p.thread = c.if-place-len.false ∙ sym h.counted in
     let commits = c.replay_at.ensures.commits c.if-not-replay_at.false in
-    let (r, at) = some_there (record_at (lists_of c.replay_at.new.records) p.thread p.index) stands in
-    let same : r ≡ commits.commit = same_commit c.args.limit c.args.threads.now c.replay_at.new.records p r commits.commit (c.replay_at.ensures.room c.if-not-replay_at.false) at commits.stands in
+    let (r, at, same) = replayed c.args.limit c.args.threads.now c.loop-i.records c.replay_at.new.records p (store_of c.loop-i.store) (store_of c.replay_at.new.store) h.is turn (c.replay_at.ensures.room c.if-not-replay_at.false) (c.replay_at.ensures.counts c.if-not-replay_at.false) commits in
     record {
       walked = walked_more c.args.limit (commands_of c.args.threads.now) (lines_in c.args.replies.now) (store_of c.args.store.now) c.args.places.now c.loop-i.i (store_of c.loop-i.store) (store_of c.replay_at.new.store) c.loop-i.records c.replay_at.new.records nowhere c.loop-i-test.true
           c.loop-i.invariant.walked turn commits (c.replay_at.ensures.counts c.if-not-replay_at.false) (c.replay_at.ensures.room c.if-not-replay_at.false) ((c.says.ensures r at).0 c.if-not-says.false ∙ ap reply_line same) (c.replay_at.ensures.young c.if-not-replay_at.false);
