@@ -10,7 +10,11 @@ use Rattle.kc_script_bundle.specs.Script.{Script}
 use Rattle.kc_script.specs.declared.parser.TheConstants.{MOST_BYTES}
 use Rattle.kc_top.proofs.Causes.{both_rises, fails_rises, front_rises, one_command}
 use Rattle.kc_check.specs.declared.check.TheConstants.{MOST_TEXT}
-use Rattle.kc_top.specs.Complete.{IsGiven, IsInOrder}
+use Rattle.kc_check.specs.Faults.{IsLegal}
+use Rattle.kc_check.specs.declared.error.CheckWhy.{CheckWhy}
+use Rattle.kc_script.proofs.Agree.{spells_one}
+use Rattle.kc_top.specs.Checking.{IsRejected}
+use Rattle.kc_top.specs.Complete.{AreGivenBoth, IsGiven, IsInOrder}
 use Rattle.kc_top.specs.Reading.{BothRefuse}
 use Rattle.kc_top.specs.Words.{bundle_name, command_of, text_name}
 use Rattle.kc_top.specs.Statuses.{Says, SaysOf}
@@ -89,6 +93,17 @@ module _ {F : Type 0} {told : F → Option (List (List ℕ × List ℕ))} {fault
 has_of : (told : Option (List (List ℕ × List ℕ))) (all : List (List ℕ × List ℕ)) (name bytes : List ℕ) → told ≡ Some all → file_of all name ≡ Some bytes → Has told name bytes
 has_of None all name bytes e is = tt
 has_of (Some files) all name bytes e is = cc (e, is)
+
+module _ {F : Type 0} {told : F → Option (List (List ℕ × List ℕ))} {faults : F → ℕ} {sure : F → Bool} {gives : F → List ℕ → ℕ → Result (List ℕ) ShelfError → F → Type 0} {bundle text : List ℕ} {f f' : F} {line : ℕ} {why : CheckWhy} where
+  -- a legal text that is told is not rejected
+  pub none_rejected : (given : AreGivenBoth (told f) bundle text) → IsLegal given.script given.text → IsRejected told faults sure gives bundle text f f' line why → ⊥
+  none_rejected given legal r =
+      let both = r.reads.both in
+      let has = subst (λ (t : Option (List (List ℕ × List ℕ))). Has t text r.text) both.first.kept both.second.has in
+      let parsed = one_has (told f) given.all bundle given.bundle r.reads.bundle given.told (has_of (told f) given.all bundle given.bundle given.told given.has_bundle) both.first.has in
+      let printed = one_has (told f) given.all text given.text r.text given.told (has_of (told f) given.all text given.text given.told given.has_text) has in
+      let script = spells_one r.reads.bundle given.script r.script (subst (λ (x : List ℕ). Spells x given.script) parsed given.spells) r.reads.spells in
+      r.refuted (subst (λ (x : Script). IsLegal x r.text) script (subst (λ (x : List ℕ). IsLegal given.script x) printed legal))
 
 module _ {S F K : Type 0} (left : S → Option (List ℕ)) (source_faults : S → ℕ) (read_gives : S → List ℕ → Result ℕ Failed → List ℕ → S → Type 0)
     (files : F → Option (List (List ℕ × List ℕ))) (shelf_faults : F → ℕ) (sure : F → Bool) (fetch_gives : F → List ℕ → ℕ → Result (List ℕ) ShelfError → F → Type 0)

@@ -5,6 +5,7 @@ ghost use Rattle.kc_model.specs.Outside.{Rises};
 ghost use Rattle.kc_model.specs.Shelves.{IsLonger, Lacks};
 ghost use Rattle.kc_check.specs.Faults.{IsLegal};
 ghost use Rattle.kc_check.specs.declared.check.TheConstants.{MOST_TEXT};
+ghost use Rattle.kc_check.specs.declared.error.CheckWhy.{CheckWhy as Why};
 ghost use Rattle.kc_script.specs.declared.parser.TheConstants.{MOST_BYTES};
 ghost use Rattle.kc_history.specs.Callers.{HasJust, IsLegalFrom};
 ghost use Rattle.kc_history.specs.declared.record.Record.{Record};
@@ -13,7 +14,7 @@ ghost use Rattle.kc_script_bundle.specs.Script.{Script};
 ghost use Rattle.kc_script_runs.specs.Looks.{IsWithoutLooks};
 ghost use Rattle.kc_script_storm.specs.Storm.{storm_script};
 ghost use Rattle.kc_script_storm.specs.Summary.{commits, summary_text};
-ghost use Rattle.kc_top.specs.Complete.{IsGiven, IsInOrder};
+ghost use Rattle.kc_top.specs.Complete.{AreGivenBoth, IsGiven, IsInOrder};
 ghost use Rattle.kc_top.specs.declared.command_line.Command.{Command as Asked};
 ghost use Rattle.kc_top.specs.declared.command_line.Command.TheVariants as command;
 ghost use Rattle.kc_top.specs.declared.command_line.Origin.TheVariants as origin;
@@ -61,6 +62,12 @@ pub fn what_is_written_is_legal<S: Source, F: Shelf, K: Sink>()
 pub fn what_is_in_order_is_done<S: Source, F: Shelf, K: Sink>()
     ensures { (words : List (List ℕ)) (s s' : S) (f f' : F) (k k' : K) (served : Serving) (command : Asked) (end : Ending) → command_of words ≡ Some command → IsGiven words command (S.left s) (F.files f)
         → (Rises (S.faults s) (S.faults s') → ⊥) → (Rises (F.faults f) (F.faults f') → ⊥) → (Rises (K.faults k) (K.faults k') → ⊥) → Says S.left S.faults S.read_gives F.files F.faults F.sure F.fetch_gives K.written K.faults K.write_gives words s s' f f' k k' served end → IsInOrder command end }
+{}
+
+/// A check finds no fault in the text of a legal history of its bundle, where the shelf tells both files.
+pub fn legal_texts_are_accepted<S: Source, F: Shelf, K: Sink>()
+    ensures { (words : List (List ℕ)) (s s' : S) (f f' : F) (k k' : K) (served : Serving) (line : ℕ) (why : Why) → command_of words ≡ Some command.Check → (given : AreGivenBoth (F.files f) (bundle_name words) (text_name words)) → IsLegal given.script given.text
+        → Says S.left S.faults S.read_gives F.files F.faults F.sure F.fetch_gives K.written K.faults K.write_gives words s s' f f' k k' served (status.Illegal line why) → ⊥ }
 {}
 
 /// What a storm writes is a function of its number: the one summary that it has. What was served are the 8,004 commits

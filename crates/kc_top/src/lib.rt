@@ -16,7 +16,7 @@ pub use command_line::{Command, Origin, StoreName};
 pub use kc_check::CheckWhy;
 pub use kc_run::{Gate, OpenGate};
 pub use laws::{
-    pasts_have_just_the_records_behind_looks, reading_fails_for_a_cause,
+    legal_texts_are_accepted, pasts_have_just_the_records_behind_looks, reading_fails_for_a_cause,
     storms_write_their_summary, what_is_in_order_is_done, what_is_written_is_legal,
 };
 pub use served::Served;

@@ -99,7 +99,10 @@ fn what_is_printed_is_legal(rt: HostRuntime) -> Result<(), Fail> {
             let words = ["run", option];
             let (status, text) = run_behind(&rt, alloc, &words, script.as_bytes(), &OpenGate)?;
             assert_eq!(rt; status, Status::Done, "{script}");
-            let files = vec![in alloc; named(alloc, "B", script.as_bytes())?, named(alloc, "T", &text)?]?;
+            let files = vec![in alloc;
+                named(alloc, "B", script.as_bytes())?,
+                named(alloc, "T", &text)?,
+            ]?;
             let mut shelf = MemShelf::new(files, Vec::new(alloc));
             let (status, written) = run_over(&rt, alloc, &WORDS, &mut shelf)?;
             assert_eq!(rt; status, Status::Done, "{script}");
@@ -209,7 +212,11 @@ fn each_file_has_a_limit_of_its_own(rt: HostRuntime) -> Result<(), Fail> {
         (MOST_BYTES + 1, MOST_TEXT + 1, Status::TooLong),
     ];
     for (bundle, text, status) in rows {
-        assert_eq!(rt; check_long(&rt, rt.alloc(), bundle, text)?, status, "{bundle} {text}");
+        assert_eq!(rt;
+            check_long(&rt, rt.alloc(), bundle, text)?,
+            status,
+            "{bundle} {text}"
+        );
     }
     Ok(())
 }

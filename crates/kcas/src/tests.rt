@@ -46,11 +46,7 @@ fn each_status_has_its_line_and_its_exit_number(rt: HostRuntime) -> Result<(), F
         (Status::ReadFault, "kcas: reading failed\n", 4),
         (Status::WriteFault, "kcas: writing failed\n", 5),
         (Status::NoMemory, "kcas: out of memory\n", 6),
-        (
-            Status::TooLong,
-            "kcas: input too long\n",
-            7,
-        ),
+        (Status::TooLong, "kcas: input too long\n", 7),
         (illegal, "kcas: line 4: not the canonical order\n", 8),
     ];
     for (status, printed, number) in rows {
