@@ -12,6 +12,7 @@ mod finish_job;
 mod finish_or_stop;
 mod server;
 mod shared;
+mod told;
 
 use finish_job::FinishJob;
 use kc_cache::{CacheAct, CacheOp};
@@ -24,6 +25,7 @@ use server::Server;
 use shared::serve;
 use std::alloc::Global;
 use std::io;
+use told::tell;
 
 fn main(rt: HostRuntime) -> io::Result<()> {
     let server = Server::new();
@@ -34,7 +36,8 @@ fn main(rt: HostRuntime) -> io::Result<()> {
     read_a_result(&rt, &server, &mut store)?;
     wait_for_a_job(&rt, &server, &mut store)?;
     take_the_first_job(&rt, rt.alloc(), &server, &mut store)?;
-    serve(&rt, rt.alloc(), &server)
+    serve(&rt, rt.alloc(), &server)?;
+    tell(&rt, rt.alloc())
 }
 
 // Commits a transaction, and prints what came of it.
