@@ -33,7 +33,7 @@ module _ {F : Type 0} (files : F → Option (List (List ℕ × List ℕ))) (faul
     pub reads : ReadsText f f' script text
     pub legal : IsLegal script text
 
-  -- this is the first test that the text fails, at this line; so it is of no run
+  -- this is the first test that the text fails, at this line, and it is that of no run of the script
   pub record IsRejected (f f' : F) (line : ℕ) (why : CheckWhy) : Type 0 where
     pub script : Script
     pub text : List ℕ
