@@ -1,5 +1,5 @@
 -- The place that a line names.
-use Rattle.std.proofs.Common.{◌≡◌, ◌≢◌, ◌⊎◌, inl, inr, ℕ, ◌+◌, ◌-◌, ◌^◌, ◌<◌, ◌≤◌, if◌then◌else◌, List, [], ◌∷◌, ◌++◌, get_or, length, Option, Some, None, refl, sym, ap, subst, ◌∙◌, append_assoc, arith, slice_index_or, eq-eqb, ne_eqb, Vec}
+use Rattle.std.proofs.Common.{◌≡◌, ◌≢◌, ◌⊎◌, inl, inr, ℕ, ◌+◌, ◌-◌, ◌^◌, ◌<◌, ◌≤◌, if◌then◌else◌, List, [], ◌∷◌, ◌++◌, take, drop, get_or, length, Option, Some, None, refl, sym, ap, subst, ◌∙◌, append_assoc, arith, slice_index_or, eq-eqb, ne_eqb, Vec}
 use Rattle.std.specs.Global.{Global}
 use Rattle.std.specs.Prelude.{MatchOption, codes, decimal}
 use Rattle.std.proofs.lemmas.Fmt.{decimal_injective}
@@ -13,10 +13,11 @@ use Rattle.kc_script_lines.specs.Words.{number}
 use Rattle.kc_check.proofs.Numerals.{number_of_decimal}
 use Rattle.kc_check.proofs.Replays.{commands_are, commands_long}
 use Rattle.kc_check.proofs.Unique.{decimal_lacks, place_is_line, split_one}
-use Rattle.kc_check.specs.Laid.{AreFew, IsLine}
+use Rattle.kc_check.proofs.Walks.{parted}
+use Rattle.kc_check.specs.Laid.{AreFew, IsLine, Lacks}
 use Rattle.kc_check.specs.Forms.{Names}
 use Rattle.kc_check.specs.Parts.{IsPlace, mark_at, place_text}
-use Rattle.kc_check.specs.Reads.{IsNoFront, IsPlainNumber, NamesNone}
+use Rattle.kc_check.specs.Reads.{IsPlainNumber, NamesNone}
 use Rattle.kc_check.specs.Replays.{commands_of}
 
 -- ---- the number of a word
@@ -96,29 +97,40 @@ pub named_is_line : (threads : List (List Command)) (line : List ℕ) → AreFew
 named_is_line threads line few named = subst IsLine (sym named.spelled) (place_is_line threads few named.at named.is)
 
 module _ (vs : List (Vec Command Global)) (line : List ℕ) where
-  -- no place of the first threads is named
-  pub NoneBelow : ℕ → Type 0
-  NoneBelow t = (p : Place) → p.thread < t → IsPlace (commands_of vs) p → line ≢ place_text (commands_of vs) p
+  -- what a line that names a place has at its first dot
+  named_parts : (named : Names (commands_of vs) line) → line ≡ decimal (named.at.thread + 1) ++ 46 ∷ (mark_text (mark_at (length (slice_index_or (commands_of vs) named.at.thread [])) named.at.index) ++ codes "\n")
+  named_parts named = named.spelled ∙ place_parts (commands_of vs) named.at ∙ append_assoc (decimal (named.at.thread + 1)) (codes ".") (mark_text (mark_at (length (slice_index_or (commands_of vs) named.at.thread [])) named.at.index) ++ codes "\n")
 
-  pub none_at_first : NoneBelow 0
-  unfolding NoneBelow
-  none_at_first p lt is e = absurd (omega arith)
+  pub no_dot : Lacks 46 line → Names (commands_of vs) line → ⊥
+  no_dot lacks named = there (decimal (named.at.thread + 1)) (mark_text (mark_at (length (slice_index_or (commands_of vs) named.at.thread [])) named.at.index) ++ codes "\n") (subst (Lacks 46) (named_parts named) lacks)
+    where
+      there : (xs ys : List ℕ) → Lacks 46 (xs ++ 46 ∷ ys) → ⊥
+      there [] ys h = h.0 refl
+      there (x ∷ xs) ys h = there xs ys h.1
 
-  pub none_more : (t n : ℕ) → n ≡ t + 1 → NoneBelow t → IsNoFront (decimal n ++ codes ".") line → NoneBelow (t + 1)
-  unfolding NoneBelow
-  none_more t n next none front p lt is e = elim (same_or p.thread t) [
-    | inl same ↦
-        let number : p.thread + 1 ≡ n = omega (arith, same, next) in
-        front (mark_text (mark_at (length (slice_index_or (commands_of vs) p.thread [])) p.index) ++ codes "\n") (e ∙ place_parts (commands_of vs) p ∙ ap (λ (k : ℕ). (decimal k ++ codes ".") ++ (mark_text (mark_at (length (slice_index_or (commands_of vs) p.thread [])) p.index) ++ codes "\n")) number)
-    | inr ne ↦ none p (omega (arith, lt, ne)) is e
-  ]
+  module _ (dot : ℕ) (within : dot < length line) (lacks : Lacks 46 (take dot line)) (at : get_or line dot 0 ≡ 46) (few : length vs ≤ 16) where
+    cut : line ≡ take dot line ++ 46 ∷ drop (dot + 1) line
+    cut = parted line dot 0 within ∙ ap (λ (b : ℕ). take dot line ++ b ∷ drop (dot + 1) line) at
 
-  pub none_named : (t : ℕ) → length vs ≤ t → NoneBelow t → Names (commands_of vs) line → ⊥
-  unfolding NoneBelow
-  none_named t le none named =
-      let long = commands_long vs in
-      let lt = named.is.thread in
-      none named.at (omega (arith, long, lt, le)) named.is named.spelled
+    thread_small : (named : Names (commands_of vs) line) → named.at.thread < length vs
+    thread_small named = let a = commands_long vs in let lt = named.is.thread in omega (arith, a, lt)
+
+    front_is : (named : Names (commands_of vs) line) → take dot line ≡ decimal (named.at.thread + 1)
+    front_is named =
+        let lt = thread_small named in
+        (split_one 46 (take dot line) (decimal (named.at.thread + 1)) (drop (dot + 1) line) (mark_text (mark_at (length (slice_index_or (commands_of vs) named.at.thread [])) named.at.index) ++ codes "\n") lacks (decimal_lacks 46 (named.at.thread + 1) (omega arith) (omega (arith, lt, few))) (sym cut ∙ named_parts named)).0
+
+    pub no_thread : (IsPlainNumber (take dot line) → ⊥) → Names (commands_of vs) line → ⊥
+    no_thread none named = let lt = thread_small named in none (named.at.thread + 1, omega (arith, lt, few), front_is named)
+
+    pub other_thread : (n : ℕ) → n < 2 ^ 32 → take dot line ≡ decimal n → (n ≡ 0) ⊎ (length vs < n) → Names (commands_of vs) line → ⊥
+    other_thread n small is out named =
+        let lt = thread_small named in
+        let same : n ≡ named.at.thread + 1 = decimal_injective n (named.at.thread + 1) (omega (arith, small)) (omega (arith, lt, few)) (sym is ∙ front_is named) in
+        elim out [ inl zero ↦ (omega (arith, zero, same)) | inr more ↦ (omega (arith, more, same, lt)) ]
+
+    pub dotted : (n : ℕ) → take dot line ≡ decimal n → line ≡ (decimal n ++ codes ".") ++ drop (dot + 1) line
+    dotted n is = cut ∙ ap (λ (xs : List ℕ). xs ++ 46 ∷ drop (dot + 1) line) is ∙ sym (append_assoc (decimal n) (codes ".") (drop (dot + 1) line))
 
   module _ (t n : ℕ) (v : Vec Command Global) (rest : List ℕ) (next : n ≡ t + 1) (lt : t < length vs) (few : length vs ≤ 16) (at : v ≡ get_or vs t v) (is : line ≡ (decimal n ++ codes ".") ++ rest) where
     row : slice_index_or (commands_of vs) t [] ≡ v.items

@@ -9,6 +9,7 @@ ghost use Rattle.kc_check.specs.Parts.{IsPlace, mark_at, place_text};
 ghost use Rattle.kc_check.specs.Reads.{IsNoFront, IsPlainNumber, NamesNone, SayItems, SaysAnswer, SaysItem, SaysSpaced, SaysWords};
 ghost use Rattle.kc_check.specs.Replays.{commands_of};
 
+use crate::lines::first_of;
 use itoa::Buffer;
 use kc_history::Place;
 use kc_script_bundle::Command;
@@ -77,25 +78,11 @@ fn is_item(word: &[u8]) -> bool
     ok | yes | no | none | full | is_plain_number(word)
 }
 
-// Where the first space stands.
-fn first_space(text: &[u8]) -> Option<usize>
-    ensures within { IfSome result (λ end. end < length text.now) }
-    ensures some { IfSome result (λ end. Lacks 32 (take end text.now) × (slice_index text.now end ≡ 32)) }
-    ensures none { IfNone result (Lacks 32 text.now) }
-{
-    for i in 0..text.len() {
-        if text[i] == b' ' {
-            return Some(i);
-        }
-    }
-    None
-}
-
 // Whether the text is what 1 to so many items say.
 fn are_items(text: &[u8], most: u32) -> bool
     ensures { IsTrue result ↔ SayItems most text.now }
 {
-    match first_space(text) {
+    match first_of(text, b' ') {
         None => (1 <= most) & is_item(text),
         Some(end) => {
             if most < 2 {
@@ -160,16 +147,21 @@ pub(crate) fn place_of(line: &[u8], threads: &[Vec<Command>]) -> Option<Place>
     ensures spelled { IfSome result (λ p. line.now ≡ place_text (commands_of threads.now) p) }
     ensures none { IfNone result (Names (commands_of threads.now) line.now → ⊥) }
 {
-    for t in 0..threads.len() {
-        let thread = t as u32;
-        if let Some(rest) = behind_both(line, thread + 1, b".".as_slice()) {
-            return match index_of(rest, threads[t].len() as u32) {
-                Some(index) => Some(Place { thread, index }),
-                None => None,
-            };
-        }
+    let Some(dot) = first_of(line, b'.') else {
+        return None;
+    };
+    let Some(number) = plain_number(&line[..dot]) else {
+        return None;
+    };
+    if number == 0 || threads.len() < number as usize {
+        return None;
     }
-    None
+    let thread = number - 1;
+    let commands = threads[thread as usize].len() as u32;
+    match index_of(&line[dot + 1..], commands) {
+        Some(index) => Some(Place { thread, index }),
+        None => None,
+    }
 }
 
 // Whether the text is a word, and words behind it with a space before each.
