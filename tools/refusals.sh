@@ -1,10 +1,10 @@
 #!/usr/bin/env bash
-# Refuses the calls of the program one after another, on each store, for each of its commands, a check among them: every allocation,
-# read and write of a run in turn, and makes every read and write in turn move one byte alone. The script has a block, a stack, and a
-# command that waits, and its text is the same at each run. Of a storm, which makes many allocations, each of the first 200 is refused,
-# and then fewer. A library that stands before the C library refuses them, in the program as it is built. Where the memory to start a
-# thread is refused, the kit runs the threads one after another, and those that wait for each other don't end: that is counted, and
-# isn't wrong.
+# Refuses the calls of the program one after another, on each store, for each of its commands, a check and a run on texts among them:
+# every allocation, read and write of a run in turn, and makes every read and write in turn move one byte alone. The script has a block,
+# a stack, and a command that waits, and its text is the same at each run. Of a storm, which makes many allocations, each of the first
+# 200 is refused, and then fewer. A library that stands before the C library refuses them, in the program as it is built. Where the
+# memory to start a thread is refused, the kit runs the threads one after another, and those that wait for each other don't end: that
+# is counted, and isn't wrong.
 # Prints a line for each sweep, and one on standard error for each wrong ending; fails where there was one.
 # Usage: tools/refusals.sh
 set -eu
@@ -116,4 +116,12 @@ done
 # A check reads no standard input, and shares no store.
 "$program" run < "$room/script" > "$room/printed"
 sweep_all check "$room/script" "$room/printed"
+# Neither does a run on texts, and it shares the lock-free store. Its picks are written by more than one call.
+for n in $(seq 1 40); do
+    echo "a text of some length, of which there are forty here, this is $n"
+done > "$room/texts"
+for n in $(seq 40 -1 1) $(seq 1 2 39) $(seq 1 40); do
+    echo "$n"
+done > "$room/picks"
+sweep_all texts "$room/texts" "$room/picks"
 [ "$wrong" = 0 ]

@@ -1,4 +1,4 @@
-//! Runs each script of `examples/`, of which `data/` is the copy that the gate lets a program read, and says whether its text and its exit number are those that stand beside it, and whether a check accepts the text; each script of `faults/`, whether its line on standard error is that; of each text of `checks/`, whether a check refuses it with its line; and the script in parts of `files/`, whether its text is that. Last it says of bytes that nobody would write whether they have their faults.
+//! Runs each script of `examples/`, of which `data/` is the copy that the gate lets a program read, and says whether its text and its exit number are those that stand beside it, and whether a check accepts the text; each script of `faults/`, whether its line on standard error is that; of each text of `checks/`, whether a check refuses it with its line; the script in parts of `files/`, whether its text is that; and the picks of `texts/`, whether the picked texts are written, and of each file there with a fault whether its line is that. Last it says of bytes that nobody would write whether they have their faults.
 #![tactic(auto)]
 
 mod hostile;
@@ -65,10 +65,16 @@ const FAULTS: [&str; 20] = [
 // The name of each text of `checks/` that is none of `checks/bundle`. Beside it stands its line on standard error.
 const CHECKS: [&str; 6] = ["form", "turn", "waits", "reply", "order", "state"];
 
+// The name of each file of `texts/` that is at fault as texts, and of each that is as picks. Beside it stands its line on
+// standard error.
+const TEXTS: [&str; 2] = ["text_too_long", "too_many_texts"];
+
+const PICKS: [&str; 3] = ["no_such_text", "blank", "too_many_picks"];
+
 // The parts of `files/`, the setup first. Beside them stands their text.
 const PARTS: [&str; 3] = ["files/setup.kcas", "files/first.kcas", "files/second.kcas"];
 
-// The exit number of a script with a fault.
+// The exit number of a script, of texts and of picks with a fault.
 const FAULT: u8 = 3;
 
 // The exit number of a text that is of no run.
@@ -105,9 +111,32 @@ fn main(rt: HostRuntime) -> io::Result<()> {
     let text = fs::read(&rt, "files/text.txt")?;
     let verdict = verdict_of(parts_are_as_expected(&rt, alloc, parts, &text)?);
     println!(rt; "files: {verdict}")?;
+    tell_of_texts(&rt, alloc)?;
     for hostile in &HOSTILE {
         let verdict = verdict_of(has_its_fault(&rt, alloc, hostile)?);
         println!(rt; "{}: {verdict}", hostile.name)?;
+    }
+    Ok(())
+}
+
+// Says whether the picked texts of `texts/` are written, and whether each fault there has its line.
+fn tell_of_texts(rt: &HostRuntime, alloc: Global) -> io::Result<()> {
+    let texts = fs::read(rt, "texts/texts.txt")?;
+    let picks = fs::read(rt, "texts/picks.txt")?;
+    let picked = fs::read(rt, "texts/picked.txt")?;
+    let verdict = verdict_of(are_picked(rt, alloc, &texts, &picks, &picked)?);
+    println!(rt; "texts: {verdict}")?;
+    for name in TEXTS {
+        let wrong = fs::read(rt, &format!(in alloc; "texts/{name}.txt")?)?;
+        let line = fs::read(rt, &format!(in alloc; "texts/{name}.line")?)?;
+        let verdict = verdict_of(refuses_with_its_line(rt, alloc, &wrong, &picks, &line)?);
+        println!(rt; "texts/{name}: {verdict}")?;
+    }
+    for name in PICKS {
+        let wrong = fs::read(rt, &format!(in alloc; "texts/{name}.txt")?)?;
+        let line = fs::read(rt, &format!(in alloc; "texts/{name}.line")?)?;
+        let verdict = verdict_of(refuses_with_its_line(rt, alloc, &texts, &wrong, &line)?);
+        println!(rt; "texts/{name}: {verdict}")?;
     }
     Ok(())
 }
@@ -138,7 +167,7 @@ fn is_legal<R: Threads + Wait + Sync>(
     text: &[u8],
 ) -> io::Result<bool> {
     let mut sink = sink(alloc)?;
-    let status = check(rt, alloc, bundle, text, &mut sink)?;
+    let status = on_two(rt, alloc, "check", bundle, text, &mut sink)?;
     Ok(status == Status::Done && sink.bytes() == b"legal\n".as_slice())
 }
 
@@ -151,24 +180,51 @@ fn fails_with_its_line<R: Threads + Wait + Sync>(
     line: &[u8],
 ) -> io::Result<bool> {
     let mut sink = sink(alloc)?;
-    let status = check(rt, alloc, bundle, text, &mut sink)?;
+    let status = on_two(rt, alloc, "check", bundle, text, &mut sink)?;
     Ok(tells(status, ILLEGAL, line) && sink.bytes().is_empty())
 }
 
-// What a check of the text against the bundle comes to.
-fn check<R: Threads + Wait + Sync>(
+// Whether of these texts just the picked ones are written.
+fn are_picked<R: Threads + Wait + Sync>(
     rt: &R,
     alloc: Global,
-    bundle: &[u8],
-    text: &[u8],
+    texts: &[u8],
+    picks: &[u8],
+    picked: &[u8],
+) -> io::Result<bool> {
+    let mut sink = sink(alloc)?;
+    let status = on_two(rt, alloc, "texts", texts, picks, &mut sink)?;
+    Ok(status == Status::Done && sink.bytes() == picked)
+}
+
+// Whether the texts or the picks are refused with this line, which ends with a newline, and nothing is written.
+fn refuses_with_its_line<R: Threads + Wait + Sync>(
+    rt: &R,
+    alloc: Global,
+    texts: &[u8],
+    picks: &[u8],
+    line: &[u8],
+) -> io::Result<bool> {
+    let mut sink = sink(alloc)?;
+    let status = on_two(rt, alloc, "texts", texts, picks, &mut sink)?;
+    Ok(tells(status, FAULT, line) && sink.bytes().is_empty())
+}
+
+// What a command on two files comes to.
+fn on_two<R: Threads + Wait + Sync>(
+    rt: &R,
+    alloc: Global,
+    command: &str,
+    first: &[u8],
+    second: &[u8],
     sink: &mut FrailSink,
 ) -> io::Result<Status> {
-    let mut words = words(alloc, "check")?;
-    words.push(String::from_str(alloc, "bundle")?)?;
-    words.push(String::from_str(alloc, "text")?)?;
+    let mut words = words(alloc, command)?;
+    words.push(String::from_str(alloc, "first")?)?;
+    words.push(String::from_str(alloc, "second")?)?;
     let mut files = Vec::new(alloc);
-    files.push((String::from_str(alloc, "bundle")?, bundle.to_vec(alloc)?))?;
-    files.push((String::from_str(alloc, "text")?, text.to_vec(alloc)?))?;
+    files.push((String::from_str(alloc, "first")?, first.to_vec(alloc)?))?;
+    files.push((String::from_str(alloc, "second")?, second.to_vec(alloc)?))?;
     let mut source = FrailSource::new(Vec::new(alloc), Vec::new(alloc));
     let mut shelf = MemShelf::new(files, Vec::new(alloc));
     let (status, _) = kcas_main(rt, alloc, &words, &mut source, &mut shelf, sink, &OpenGate);

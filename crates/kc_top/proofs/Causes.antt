@@ -5,7 +5,6 @@ use Rattle.kc_model.specs.Shelves.{FetchedUntil, FetchFails, FetchPasses, IsLong
 use Rattle.kc_model.specs.declared.outside.Failed.{Failed}
 use Rattle.kc_model.specs.declared.outside.ShelfError.{ShelfError}
 use Rattle.kc_script.specs.declared.parser.TheConstants.{MOST_BYTES}
-use Rattle.kc_check.specs.declared.check.TheConstants.{MOST_TEXT}
 use Rattle.kc_top.specs.Reading.{BothRefuse}
 use Rattle.kc_top.specs.Words.{command_of}
 use Rattle.kc_top.specs.declared.status.Status.TheVariants as status
@@ -35,16 +34,16 @@ module _ {F : Type 0} {told : F → Option (List (List ℕ × List ℕ))} {fault
   pub passes_longer : FetchedUntil told faults sure gives limit (FetchPasses told faults sure gives limit) f names f' → (name : List ℕ) × Contains names name × IsLonger (told f) name limit
   passes_longer u = (u.name, got_contained names u.count u.name u.next, subst (λ t. IsLonger t u.name limit) u.fetched.kept u.ends.longer)
 
--- of two files that a check names
-module _ {F : Type 0} {told : F → Option (List (List ℕ × List ℕ))} {faults : F → ℕ} {sure : F → Bool} {gives : F → List ℕ → ℕ → Result (List ℕ) ShelfError → F → Type 0} {bundle text : List ℕ} {f f' : F} where
-  pub both_rises : BothRefuse told faults sure gives bundle text f f' status.ReadFault → Rises (faults f) (faults f')
+-- of two files that a command names
+module _ {F : Type 0} {told : F → Option (List (List ℕ × List ℕ))} {faults : F → ℕ} {sure : F → Bool} {gives : F → List ℕ → ℕ → Result (List ℕ) ShelfError → F → Type 0} {limit : ℕ} {one other : List ℕ} {f f' : F} where
+  pub both_rises : BothRefuse told faults sure gives limit one other f f' status.ReadFault → Rises (faults f) (faults f')
   both_rises (inl h) = h.cause
   both_rises (inr h) = let came = h.2 in subst (λ (n : ℕ). Rises n (faults f')) came.faultless h.3.cause
 
-  pub both_lacking : BothRefuse told faults sure gives bundle text f f' status.ReadFault → sure f ≡ true → Lacks (told f) bundle ⊎ Lacks (told f) text
+  pub both_lacking : BothRefuse told faults sure gives limit one other f f' status.ReadFault → sure f ≡ true → Lacks (told f) one ⊎ Lacks (told f) other
   both_lacking (inl h) is = inl (h.lacks is)
-  both_lacking (inr h) is = let came = h.2 in inr (subst (λ t. Lacks t text) came.kept (h.3.lacks (came.same ∙ is)))
+  both_lacking (inr h) is = let came = h.2 in inr (subst (λ t. Lacks t other) came.kept (h.3.lacks (came.same ∙ is)))
 
-  pub both_longer : BothRefuse told faults sure gives bundle text f f' status.TooLong → IsLonger (told f) bundle MOST_BYTES ⊎ IsLonger (told f) text MOST_TEXT
+  pub both_longer : BothRefuse told faults sure gives limit one other f f' status.TooLong → IsLonger (told f) one MOST_BYTES ⊎ IsLonger (told f) other limit
   both_longer (inl h) = inl h.longer
-  both_longer (inr h) = let came = h.2 in inr (subst (λ t. IsLonger t text MOST_TEXT) came.kept h.3.longer)
+  both_longer (inr h) = let came = h.2 in inr (subst (λ t. IsLonger t other limit) came.kept h.3.longer)

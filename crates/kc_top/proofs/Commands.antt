@@ -12,7 +12,7 @@ use Rattle.kc_top.specs.declared.command_line.Origin.{Origin}
 use Rattle.kc_top.specs.declared.command_line.Origin.TheVariants as origin
 use Rattle.std.specs.Option.{option_map}
 use Rattle.kc_script_lines.specs.Words.{number}
-use Rattle.kc_top.specs.Words.{storm_at, command_of, are_names, is_check, is_name, is_word, option_words, origin_of}
+use Rattle.kc_top.specs.Words.{storm_at, command_of, are_names, is_name, is_on_two, is_word, option_words, origin_of}
 
 same_setup : (j k : ℕ) → Some (origin.Files j) ≡ Some (origin.Files k) → j ≡ k
 same_setup j k e = cc e
@@ -50,17 +50,25 @@ files_named words setup e =
 
 -- words that ask for a run say from where
 pub runs_from : (words : List (List ℕ)) (o : Origin) → command_of words ≡ Some (command.Run o) → origin_of words ≡ Some o
-runs_from words o e = by (is_check words) (origin_of words) e
+runs_from words o e = by (is_on_two words (codes "check")) (is_on_two words (codes "texts")) (origin_of words) e
   where
-    by : (b : Bool) (m : Option Origin) → (if b then Some command.Check else option_map command.Run m) ≡ Some (command.Run o) → m ≡ Some o
-    by true m h = absurd (cc h)
-    by false None h = absurd (cc h)
-    by false (Some p) h = cc h
+    by : (a b : Bool) (m : Option Origin) → (if a then Some command.Check else if b then Some command.Texts else option_map command.Run m) ≡ Some (command.Run o) → m ≡ Some o
+    by true b m h = absurd (cc h)
+    by false true m h = absurd (cc h)
+    by false false None h = absurd (cc h)
+    by false false (Some p) h = cc h
 
-is_asked : (b : Bool) (m : Option Origin) → (if b then Some command.Check else option_map command.Run m) ≡ Some command.Check → b ≡ true
-is_asked true m h = refl
-is_asked false None h = absurd (cc h)
-is_asked false (Some p) h = absurd (cc h)
+asks_check : (a b : Bool) (m : Option Origin) → (if a then Some command.Check else if b then Some command.Texts else option_map command.Run m) ≡ Some command.Check → a ≡ true
+asks_check true b m h = refl
+asks_check false true m h = absurd (cc h)
+asks_check false false None h = absurd (cc h)
+asks_check false false (Some p) h = absurd (cc h)
+
+asks_texts : (a b : Bool) (m : Option Origin) → (if a then Some command.Check else if b then Some command.Texts else option_map command.Run m) ≡ Some command.Texts → b ≡ true
+asks_texts true b m h = absurd (cc h)
+asks_texts false true m h = refl
+asks_texts false false None h = absurd (cc h)
+asks_texts false false (Some p) h = absurd (cc h)
 
 four : (n : ℕ) (asked names : Bool) → (asked && (n == 4) && names) ≡ true → n ≡ 4
 four n true true e = grind (arith, nat_tests)
@@ -70,11 +78,15 @@ four n false false e = grind (arith, nat_tests)
 
 -- a check has four words
 pub check_words : (words : List (List ℕ)) → command_of words ≡ Some command.Check → length words ≡ 4
-check_words words e = four (length words) (is_word words 1 (codes "check")) (list_all is_name (drop 2 words)) (is_asked (is_check words) (origin_of words) e)
+check_words words e = four (length words) (is_word words 1 (codes "check")) (list_all is_name (drop 2 words)) (asks_check (is_on_two words (codes "check")) (is_on_two words (codes "texts")) (origin_of words) e)
 
--- so its names stand among them
-pub check_named : (words : List (String Global)) (i : ℕ) → command_of (map string_bytes words) ≡ Some command.Check → i < 4 → i < length words
-check_named words i asked lt = let long = check_words (map string_bytes words) asked in let same = length-map words (string_bytes {Z = Global}) in omega (arith, long, same, lt)
+-- and so has a run on texts
+pub texts_words : (words : List (List ℕ)) → command_of words ≡ Some command.Texts → length words ≡ 4
+texts_words words e = four (length words) (is_word words 1 (codes "texts")) (list_all is_name (drop 2 words)) (asks_texts (is_on_two words (codes "check")) (is_on_two words (codes "texts")) (origin_of words) e)
+
+-- so the names stand among them
+pub among_four : (words : List (String Global)) (i : ℕ) → length (map string_bytes words) ≡ 4 → i < 4 → i < length words
+among_four words i long lt = let same = length-map words (string_bytes {Z = Global}) in omega (arith, long, same, lt)
 
 -- a word, where it stands
 pub word_at : (words : List (String Global)) (i : ℕ) (word : String Global) → i < length words → word ≡ get_or words i word → string_bytes word ≡ get_or (map string_bytes words) i []

@@ -9,14 +9,15 @@ use Rattle.kc_script.specs.Spells.{Spells}
 use Rattle.kc_script_bundle.specs.Script.{Script}
 use Rattle.kc_script.specs.declared.parser.TheConstants.{MOST_BYTES}
 use Rattle.kc_top.proofs.Causes.{both_rises, fails_rises, front_rises, one_command}
-use Rattle.kc_check.specs.declared.check.TheConstants.{MOST_TEXT}
 use Rattle.kc_check.specs.Faults.{IsLegal}
 use Rattle.kc_check.specs.declared.error.CheckWhy.{CheckWhy}
 use Rattle.kc_script.proofs.Agree.{spells_one}
+use Rattle.kc_script_lines.specs.declared.fault.Why.{Why}
+use Rattle.kc_text_files.specs.Files.{files_fault}
 use Rattle.kc_top.specs.Checking.{IsRejected}
 use Rattle.kc_top.specs.Complete.{AreGivenBoth, IsGiven, IsInOrder}
-use Rattle.kc_top.specs.Reading.{BothRefuse}
-use Rattle.kc_top.specs.Words.{bundle_name, command_of, text_name}
+use Rattle.kc_top.specs.Reading.{BothRefuse, FetchedBoth}
+use Rattle.kc_top.specs.Words.{command_of}
 use Rattle.kc_top.specs.Statuses.{Says, SaysOf}
 use Rattle.kc_top.specs.declared.command_line.Command.{Command}
 use Rattle.kc_top.specs.declared.command_line.Command.TheVariants as command
@@ -88,8 +89,6 @@ module _ {F : Type 0} {told : F → Option (List (List ℕ × List ℕ))} {fault
   pub none_passes : (all : List (List ℕ × List ℕ)) (files : List (List ℕ)) → told f ≡ Some all → HasEach (told f) names files → All (λ (bytes : List ℕ). length bytes ≤ limit) files → FetchedUntil told faults sure gives limit (FetchPasses told faults sure gives limit) f names f' → ⊥
   none_passes all files e has le u = got_within (told f) all limit names files u.count u.name e has le u.next (subst (λ t. IsLonger t u.name limit) u.fetched.kept u.ends.longer)
 
--- ---- each command
-
 has_of : (told : Option (List (List ℕ × List ℕ))) (all : List (List ℕ × List ℕ)) (name bytes : List ℕ) → told ≡ Some all → file_of all name ≡ Some bytes → Has told name bytes
 has_of None all name bytes e is = tt
 has_of (Some files) all name bytes e is = cc (e, is)
@@ -104,6 +103,28 @@ module _ {F : Type 0} {told : F → Option (List (List ℕ × List ℕ))} {fault
       let printed = one_has (told f) given.all text given.text r.text given.told (has_of (told f) given.all text given.text given.told given.has_text) has in
       let script = spells_one r.reads.bundle given.script r.script (subst (λ (x : List ℕ). Spells x given.script) parsed given.spells) r.reads.spells in
       r.refuted (subst (λ (x : Script). IsLegal x r.text) script (subst (λ (x : List ℕ). IsLegal given.script x) printed legal))
+
+module _ {F : Type 0} {told : F → Option (List (List ℕ × List ℕ))} {faults : F → ℕ} {sure : F → Bool} {gives : F → List ℕ → ℕ → Result (List ℕ) ShelfError → F → Type 0} {limit : ℕ} {f f' : F} {one_name other_name : List ℕ} where
+  -- neither of two files passes its limit where both are within it
+  neither_passes : (all : List (List ℕ × List ℕ)) (one other : List ℕ) → told f ≡ Some all → file_of all one_name ≡ Some one → file_of all other_name ≡ Some other → length one ≤ MOST_BYTES → length other ≤ limit → BothRefuse told faults sure gives limit one_name other_name f f' status.TooLong → ⊥
+  neither_passes all one other e has_one has_other within_one within_other (inl p) = not_longer (told f) all one_name one MOST_BYTES e (has_of (told f) all one_name one e has_one) within_one p.longer
+  neither_passes all one other e has_one has_other within_one within_other (inr p) = not_longer (told f) all other_name other limit e (has_of (told f) all other_name other e has_other) within_other (subst (λ t. IsLonger t other_name limit) p.2.kept p.3.longer)
+
+  -- what was fetched of them is what was told
+  both_told : (all : List (List ℕ × List ℕ)) (one other got_one got_other : List ℕ) → told f ≡ Some all → file_of all one_name ≡ Some one → file_of all other_name ≡ Some other → FetchedBoth told faults sure gives limit one_name other_name f got_one got_other f' → (one ≡ got_one) × (other ≡ got_other)
+  both_told all one other got_one got_other e has_one has_other both = (
+    one_has (told f) all one_name one got_one e (has_of (told f) all one_name one e has_one) both.first.has,
+    one_has (told f) all other_name other got_other e (has_of (told f) all other_name other e has_other) (subst (λ t. Has t other_name got_other) both.first.kept both.second.has),
+  )
+
+-- files that have no fault have none
+no_fault : (texts picks texts' picks' : List ℕ) (fault : ℕ × ℕ × Why) → texts ≡ texts' → picks ≡ picks' → files_fault texts picks ≡ None → files_fault texts' picks' ≡ Some fault → ⊥
+no_fault texts picks texts' picks' fault one other right wrong = differ (files_fault texts' picks') (subst (λ (x : List ℕ). files_fault texts' x ≡ None) other (subst (λ (x : List ℕ). files_fault x picks ≡ None) one right)) wrong
+  where
+    differ : (o : Option (ℕ × ℕ × Why)) → o ≡ None → o ≡ Some fault → ⊥
+    differ o none some = cc (none, some)
+
+-- ---- each command
 
 module _ {S F K : Type 0} (left : S → Option (List ℕ)) (source_faults : S → ℕ) (read_gives : S → List ℕ → Result ℕ Failed → List ℕ → S → Type 0)
     (files : F → Option (List (List ℕ × List ℕ))) (shelf_faults : F → ℕ) (sure : F → Bool) (fetch_gives : F → List ℕ → ℕ → Result (List ℕ) ShelfError → F → Type 0)
@@ -139,15 +160,22 @@ module _ {S F K : Type 0} (left : S → Option (List ℕ)) (source_faults : S �
   in_order command.Check status.Usage given source shelf sink h = h.ends.0
   in_order command.Check status.WriteFault given source shelf sink h = sink (front_fails h.ends.1)
   in_order command.Check status.ReadFault given source shelf sink h = shelf (both_rises h.ends.0)
-  in_order command.Check status.TooLong given source shelf sink h = longer h.ends.0
-    where
-      longer : BothRefuse files shelf_faults sure fetch_gives (bundle_name words) (text_name words) f f' status.TooLong → ⊥
-      longer (inl p) = not_longer (files f) given.all (bundle_name words) given.bundle MOST_BYTES given.told (has_of (files f) given.all (bundle_name words) given.bundle given.told given.has_bundle) given.bundle_within p.longer
-      longer (inr p) = not_longer (files f) given.all (text_name words) given.text MOST_TEXT given.told (has_of (files f) given.all (text_name words) given.text given.told given.has_text) given.text_within (subst (λ t. IsLonger t (text_name words) MOST_TEXT) p.2.kept p.3.longer)
+  in_order command.Check status.TooLong given source shelf sink h = neither_passes given.all given.bundle given.text given.told given.has_bundle given.has_text given.bundle_within given.text_within h.ends.0
   in_order command.Check (status.Script part line why) given source shelf sink h =
       let none = h.ends.0.1 in
-      let same = one_has (files f) given.all (bundle_name words) given.bundle none.bundle given.told (has_of (files f) given.all (bundle_name words) given.bundle given.told given.has_bundle) none.both.first.has in
-      none.refused.1 given.script (subst (λ (x : List ℕ). Spells x given.script) same given.spells)
+      let same = both_told given.all given.bundle given.text none.bundle none.text given.told given.has_bundle given.has_text none.both in
+      none.refused.1 given.script (subst (λ (x : List ℕ). Spells x given.script) same.0 given.spells)
+  in_order command.Texts status.Done given source shelf sink h = tt
+  in_order command.Texts status.NoMemory given source shelf sink h = tt
+  in_order command.Texts status.Usage given source shelf sink h = h.ends.0
+  in_order command.Texts (status.Illegal line why) given source shelf sink h = h.ends.0
+  in_order command.Texts status.WriteFault given source shelf sink h = sink (front_fails h.ends.shows)
+  in_order command.Texts status.ReadFault given source shelf sink h = shelf (both_rises h.ends.0)
+  in_order command.Texts status.TooLong given source shelf sink h = neither_passes given.all given.texts given.picks given.told given.has_texts given.has_picks given.texts_within given.picks_within h.ends.0
+  in_order command.Texts (status.Script part line why) given source shelf sink h =
+      let finds = h.ends.0 in
+      let same = both_told given.all given.texts given.picks finds.texts finds.picks given.told given.has_texts given.has_picks finds.both in
+      no_fault given.texts given.picks finds.texts finds.picks (part, line, why) same.0 same.1 given.right finds.wrong
 
   meant : (c : Command) (e : Status) → command_of words ≡ Some c → IsGiven words c (left s) (files f) → (Rises (source_faults s) (source_faults s') → ⊥) → (Rises (shelf_faults f) (shelf_faults f') → ⊥) → (Rises (sink_faults k) (sink_faults k') → ⊥)
       → (d : Command) × (command_of words ≡ Some d) × SaysOf left source_faults read_gives files shelf_faults sure fetch_gives written sink_faults write_gives words d s s' f f' k k' served e → IsInOrder c e

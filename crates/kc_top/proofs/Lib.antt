@@ -6,5 +6,6 @@ pub mod Complete
 pub mod Shown
 pub mod Commands
 pub mod Parts
+pub mod Picked
 pub mod Refusing
 pub mod Stormed

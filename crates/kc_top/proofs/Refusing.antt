@@ -10,13 +10,14 @@ use Rattle.kc_top.specs.declared.command_line.Command.{Command}
 use Rattle.kc_top.specs.declared.command_line.Command.TheVariants as command
 use Rattle.kc_top.specs.declared.command_line.Origin.{Origin}
 use Rattle.kc_top.specs.declared.command_line.Origin.TheVariants as origin
-use Rattle.kc_top.specs.Words.{bundle_name, command_of, text_name}
+use Rattle.kc_top.specs.Words.{bundle_name, command_of, picks_name, text_name, texts_name}
 use Rattle.kc_top.specs.declared.served.Served.{Served}
 use Rattle.kc_top.specs.declared.served.Served.TheVariants as serving
 use Rattle.kc_top.specs.declared.status.Status.{Status}
 use Rattle.kc_top.specs.declared.status.Status.TheVariants as status
 use Rattle.kc_top.proofs.Bundles.{runnable, runnable_parts}
 use Rattle.kc_top.proofs.Stormed.{storm_runnable}
+use Rattle.kc_top.specs.Picking.{PicksEnd}
 use Rattle.kc_top.specs.Reading.{Reads, Refuses}
 use Rattle.kc_top.specs.Runnable.{IsRunnable}
 use Rattle.kc_top.specs.Statuses.{CheckEnds, IsItsScript, RunSays, Says, SaysOf}
@@ -76,6 +77,7 @@ module _ {S F : Type 0} (left : S → Option (List ℕ)) (source_faults : S → 
       → Says left source_faults read_gives files shelf_faults sure fetch_gives written sink_faults write_gives words s s' f f' k k' served e
   says_of written sink_faults write_gives k k' served (command.Run origin) status.Usage asked h = absurd h
   says_of written sink_faults write_gives k k' served command.Check status.Usage asked h = absurd h.ends.0
+  says_of written sink_faults write_gives k k' served command.Texts status.Usage asked h = absurd h.ends.0
   says_of written sink_faults write_gives k k' served command status.Done asked h = (command, asked, h)
   says_of written sink_faults write_gives k k' served command status.WriteFault asked h = (command, asked, h)
   says_of written sink_faults write_gives k k' served command status.ReadFault asked h = (command, asked, h)
@@ -92,3 +94,12 @@ module _ {S F : Type 0} (left : S → Option (List ℕ)) (source_faults : S → 
       let first = subst (λ (x : List ℕ). CheckEnds written sink_faults write_gives files shelf_faults sure fetch_gives x text f f' k k' e) one ends in
       let both = subst (λ (x : List ℕ). CheckEnds written sink_faults write_gives files shelf_faults sure fetch_gives (bundle_name words) x f f' k k' e) other first in
       says_of written sink_faults write_gives k k' serving.Nothing command.Check e asked (record { ends = both; unread = same; nothing = refl })
+
+  -- and likewise what a run on texts ends with
+  pub texts_say : {K : Type 0} (written : K → Option (List ℕ)) (sink_faults : K → ℕ) (write_gives : K → List ℕ → Result ℕ Failed → K → Type 0) (k k' : K) (served : Served) (e : Status) (texts picks : List ℕ) → command_of words ≡ Some command.Texts → s' ≡ s
+      → texts ≡ texts_name words → picks ≡ picks_name words → PicksEnd files shelf_faults sure fetch_gives texts picks written sink_faults write_gives f f' k k' served e
+      → Says left source_faults read_gives files shelf_faults sure fetch_gives written sink_faults write_gives words s s' f f' k k' served e
+  texts_say written sink_faults write_gives k k' served e texts picks asked same one other ends =
+      let first = subst (λ (x : List ℕ). PicksEnd files shelf_faults sure fetch_gives x picks written sink_faults write_gives f f' k k' served e) one ends in
+      let both = subst (λ (x : List ℕ). PicksEnd files shelf_faults sure fetch_gives (texts_name words) x written sink_faults write_gives f f' k k' served e) other first in
+      says_of written sink_faults write_gives k k' served command.Texts e asked (record { ends = both; unread = same })

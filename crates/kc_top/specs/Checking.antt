@@ -1,6 +1,7 @@
 -- What a check of a text comes to.
 use Rattle.std.specs.Prelude.{◌≡◌, ◌⊎◌, ℕ, Bool, List, Option, Result}
 use Rattle.kc_check.specs.Faults.{Fails, IsLegal}
+use Rattle.kc_check.specs.declared.check.TheConstants.{MOST_TEXT}
 use Rattle.kc_check.specs.declared.error.CheckWhy.{CheckWhy}
 use Rattle.kc_model.specs.declared.outside.ShelfError.{ShelfError}
 use Rattle.kc_script.specs.Refused.{Refused}
@@ -16,14 +17,14 @@ module _ {F : Type 0} (files : F → Option (List (List ℕ × List ℕ))) (faul
   -- both files were read, the first spells this script, and the second is this text
   pub record ReadsText (f f' : F) (script : Script) (text : List ℕ) : Type 0 where
     pub bundle : List ℕ
-    pub both : FetchedBoth files faults sure gives bundle_name text_name f bundle text f'
+    pub both : FetchedBoth files faults sure gives MOST_TEXT bundle_name text_name f bundle text f'
     pub spells : Spells bundle script
 
   -- both were read, and the first spells no script
   pub record ReadsNoBundle (f f' : F) (line : ℕ) (why : Why) : Type 0 where
     pub bundle : List ℕ
     pub text : List ℕ
-    pub both : FetchedBoth files faults sure gives bundle_name text_name f bundle text f'
+    pub both : FetchedBoth files faults sure gives MOST_TEXT bundle_name text_name f bundle text f'
     pub refused : Refused bundle (error.Fault line why)
 
   -- the text is that of a run of the script
@@ -43,9 +44,9 @@ module _ {F : Type 0} (files : F → Option (List (List ℕ × List ℕ))) (faul
 
   -- why no text was accepted: a file was not read, the first spells no script, the text fails a test; or memory ran out, also behind both files
   abbrev pub CheckRefuses : F → F → Status → Type 0
-  CheckRefuses f f' status.ReadFault = BothRefuse files faults sure gives bundle_name text_name f f' status.ReadFault
-  CheckRefuses f f' status.TooLong = BothRefuse files faults sure gives bundle_name text_name f f' status.TooLong
+  CheckRefuses f f' status.ReadFault = BothRefuse files faults sure gives MOST_TEXT bundle_name text_name f f' status.ReadFault
+  CheckRefuses f f' status.TooLong = BothRefuse files faults sure gives MOST_TEXT bundle_name text_name f f' status.TooLong
   CheckRefuses f f' (status.Script part line why) = (part ≡ 0) × ReadsNoBundle f f' line why
   CheckRefuses f f' (status.Illegal line why) = IsRejected f f' line why
-  CheckRefuses f f' status.NoMemory = BothRefuse files faults sure gives bundle_name text_name f f' status.NoMemory ⊎ ((bundle text : List ℕ) × FetchedBoth files faults sure gives bundle_name text_name f bundle text f')
+  CheckRefuses f f' status.NoMemory = BothRefuse files faults sure gives MOST_TEXT bundle_name text_name f f' status.NoMemory ⊎ ((bundle text : List ℕ) × FetchedBoth files faults sure gives MOST_TEXT bundle_name text_name f bundle text f')
   CheckRefuses f f' other = ⊥

@@ -1,12 +1,13 @@
 -- Where a command can't but be done, or find no memory.
-use Rattle.std.specs.Prelude.{◌≡◌, ℕ, ◌≤◌, All, List, ◌∷◌, Option, Some, drop, length}
+use Rattle.std.specs.Prelude.{◌≡◌, ℕ, ◌≤◌, All, List, ◌∷◌, Option, Some, None, drop, length}
 use Rattle.kc_check.specs.declared.check.TheConstants.{MOST_TEXT}
 use Rattle.kc_model.specs.Shelves.{HasEach, file_of}
 use Rattle.kc_script.specs.Parts.{SpellsParts}
 use Rattle.kc_script.specs.Spells.{Spells}
 use Rattle.kc_script.specs.declared.parser.TheConstants.{MOST_BYTES}
 use Rattle.kc_script_bundle.specs.Script.{Script}
-use Rattle.kc_top.specs.Words.{bundle_name, text_name}
+use Rattle.kc_text_files.specs.Files.{files_fault}
+use Rattle.kc_top.specs.Words.{bundle_name, picks_name, text_name, texts_name}
 use Rattle.kc_top.specs.declared.command_line.Command.{Command}
 use Rattle.kc_top.specs.declared.command_line.Command.TheVariants as command
 use Rattle.kc_top.specs.declared.command_line.Origin.TheVariants as origin
@@ -52,9 +53,22 @@ pub record AreGivenBoth (files : Option (List (List ℕ × List ℕ))) (bundle_f
   pub text_within : length text ≤ MOST_TEXT
   pub spells : Spells bundle script
 
+-- the shelf tells two files of these names, each within the limit, and neither has a fault of a run on texts
+pub record AreGivenTexts (files : Option (List (List ℕ × List ℕ))) (texts_file picks_file : List ℕ) : Type 0 where
+  pub all : List (List ℕ × List ℕ)
+  pub texts : List ℕ
+  pub picks : List ℕ
+  pub told : files ≡ Some all
+  pub has_texts : file_of all texts_file ≡ Some texts
+  pub has_picks : file_of all picks_file ≡ Some picks
+  pub texts_within : length texts ≤ MOST_BYTES
+  pub picks_within : length picks ≤ MOST_BYTES
+  pub right : files_fault texts picks ≡ None
+
 -- what the command reads is in order; a storm reads nothing
 abbrev pub IsGiven : List (List ℕ) → Command → Option (List ℕ) → Option (List (List ℕ × List ℕ)) → Type 0
 IsGiven words (command.Run origin.Source) left files = IsGivenScript left
 IsGiven words (command.Run (origin.Files setup)) left files = AreGivenParts files (drop setup words)
 IsGiven words (command.Run (origin.Storm n)) left files = Unit {0}
 IsGiven words command.Check left files = AreGivenBoth files (bundle_name words) (text_name words)
+IsGiven words command.Texts left files = AreGivenTexts files (texts_name words) (picks_name words)

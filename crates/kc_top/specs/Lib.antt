@@ -4,6 +4,7 @@ pub mod Ran
 pub mod Words
 pub mod Reading
 pub mod Checking
+pub mod Picking
 pub mod Complete
 pub mod Statuses
 pub mod Numbers

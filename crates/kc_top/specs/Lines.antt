@@ -18,7 +18,7 @@ test_words test.State = codes "wrong state"
 -- nothing is written where the run is done
 abbrev pub status_line : Status → List ℕ
 status_line status.Done = []
-status_line status.Usage = codes "kcas: usage: kcas run, kcas files SETUP FILE.., kcas storm N, or kcas check BUNDLE TEXT"
+status_line status.Usage = codes "kcas: usage: kcas run, kcas files SETUP FILE.., kcas storm N, kcas check BUNDLE TEXT, or kcas texts TEXTS PICKS"
 status_line (status.Script part line why) = codes "kcas: part " ++ decimal part ++ codes " line " ++ decimal line ++ codes ": " ++ why_words why
 status_line status.ReadFault = codes "kcas: reading failed"
 status_line status.WriteFault = codes "kcas: writing failed"

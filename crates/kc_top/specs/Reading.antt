@@ -4,7 +4,6 @@ use Rattle.kc_model.specs.Outside.{CameWhole, CamePast, CameSome, CameFront}
 use Rattle.kc_model.specs.Shelves.{Fetched, FetchFails, FetchPasses, FetchStarves, FetchedUntil, FetchedPart, Has}
 use Rattle.kc_model.specs.declared.outside.Failed.{Failed}
 use Rattle.kc_model.specs.declared.outside.ShelfError.{ShelfError}
-use Rattle.kc_check.specs.declared.check.TheConstants.{MOST_TEXT}
 use Rattle.kc_script_bundle.specs.Script.{Script}
 use Rattle.kc_script_lines.specs.declared.fault.ScriptError.TheVariants as error
 use Rattle.kc_script.specs.declared.part_error.PartError.TheVariants as part_error
@@ -93,16 +92,16 @@ module _ {F : Type 0} (files : F → Option (List (List ℕ × List ℕ))) (faul
   FileRefuses limit f name f' status.NoMemory = FetchStarves files faults sure gives limit f name f'
   FileRefuses limit f name f' other = ⊥
 
-  -- a bundle and a text of these names were fetched one after the other, each within its own limit
-  pub record FetchedBoth (bundle_name text_name : List ℕ) (f : F) (bundle text : List ℕ) (f' : F) : Type 0 where
+  -- two files of these names were fetched one after the other: the first has the limit of a bundle, the second this one
+  pub record FetchedBoth (limit : ℕ) (first_name second_name : List ℕ) (f : F) (one other : List ℕ) (f' : F) : Type 0 where
     pub between : F
-    pub first : FetchedFile MOST_BYTES f bundle_name bundle between
-    pub second : FetchedFile MOST_TEXT between text_name text f'
+    pub first : FetchedFile MOST_BYTES f first_name one between
+    pub second : FetchedFile limit between second_name other f'
 
-  -- why they were not: the bundle was refused, or it came and the text was
-  abbrev pub BothRefuse : List ℕ → List ℕ → F → F → Status → Type 0
-  BothRefuse bundle_name text_name f f' status = FileRefuses MOST_BYTES f bundle_name f' status
-      ⊎ ((between : F) × (bundle : List ℕ) × FetchedFile MOST_BYTES f bundle_name bundle between × FileRefuses MOST_TEXT between text_name f' status)
+  -- why they were not: the first was refused, or it came and the second was
+  abbrev pub BothRefuse : (limit : ℕ) → List ℕ → List ℕ → F → F → Status → Type 0
+  BothRefuse limit first_name second_name f f' status = FileRefuses MOST_BYTES f first_name f' status
+      ⊎ ((between : F) × (one : List ℕ) × FetchedFile MOST_BYTES f first_name one between × FileRefuses limit between second_name f' status)
 
 -- ---- a script, by where it comes from
 

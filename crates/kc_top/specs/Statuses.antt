@@ -20,7 +20,8 @@ use Rattle.kc_top.specs.declared.status.Status.TheVariants as status
 use Rattle.kc_top.specs.Checking.{CheckRefuses, IsAccepted}
 use Rattle.kc_top.specs.Reading.{Reads, Refuses}
 use Rattle.kc_top.specs.Served.{IsServed}
-use Rattle.kc_top.specs.Words.{bundle_name, command_of, store_of, text_name}
+use Rattle.kc_top.specs.Picking.{PicksEnd}
+use Rattle.kc_top.specs.Words.{bundle_name, command_of, picks_name, store_of, text_name, texts_name}
 
 -- a storm's script is that of its number
 abbrev pub IsItsScript : Origin → Script → Type 0
@@ -102,10 +103,16 @@ module _ {S F K : Type 0} (left : S → Option (List ℕ)) (source_faults : S �
     pub unread : s' ≡ s
     pub nothing : served ≡ serving.Nothing
 
+  -- what a status says of texts of which some were to be picked: the source is as it was
+  pub record TextsSay (s s' : S) (f f' : F) (k k' : K) (served : Served) (status : Status) : Type 0 where
+    pub ends : PicksEnd files shelf_faults sure fetch_gives (texts_name words) (picks_name words) written sink_faults write_gives f f' k k' served status
+    pub unread : s' ≡ s
+
   -- what a status says of a command
   abbrev pub SaysOf : Command → S → S → F → F → K → K → Served → Status → Type 0
   SaysOf (command.Run origin) s s' f f' k k' served status = RunSays origin s s' f f' k k' served status
   SaysOf command.Check s s' f f' k k' served status = CheckSays s s' f f' k k' served status
+  SaysOf command.Texts s s' f f' k k' served status = TextsSay s s' f f' k k' served status
 
   -- What a status says of the words, of the source, the shelf and the sink before and behind the call, and of what was served.
   -- It is Usage exactly where the words are no command, and then all is as it was.

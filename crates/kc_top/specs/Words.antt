@@ -50,9 +50,9 @@ origin_of words =
     else if is_word words 1 (codes "files") && are_names (drop (2 + option_words words) words) then Some (origin.Files (2 + option_words words))
     else storm_at words (2 + option_words words)
 
--- a check of a text, of which just two names stand behind the command's
-abbrev pub is_check : List (List ℕ) → Bool
-is_check words = is_word words 1 (codes "check") && (length words == 4) && list_all is_name (drop 2 words)
+-- the command of this name, and just two names behind it
+abbrev pub is_on_two : List (List ℕ) → List ℕ → Bool
+is_on_two words name = is_word words 1 name && (length words == 4) && list_all is_name (drop 2 words)
 
 -- the file of the bundle, and that of the text, that the words of a check name
 abbrev pub bundle_name : List (List ℕ) → List ℕ
@@ -61,6 +61,16 @@ bundle_name words = slice_index_or words 2 []
 abbrev pub text_name : List (List ℕ) → List ℕ
 text_name words = slice_index_or words 3 []
 
+-- the file of the texts, and that of the picks, that a run on texts names
+abbrev pub texts_name : List (List ℕ) → List ℕ
+texts_name words = slice_index_or words 2 []
+
+abbrev pub picks_name : List (List ℕ) → List ℕ
+picks_name words = slice_index_or words 3 []
+
 -- what the words ask for; words that are no command ask for nothing
 abbrev pub command_of : List (List ℕ) → Option Command
-command_of words = if is_check words then Some command.Check else option_map command.Run (origin_of words)
+command_of words =
+    if is_on_two words (codes "check") then Some command.Check
+    else if is_on_two words (codes "texts") then Some command.Texts
+    else option_map command.Run (origin_of words)

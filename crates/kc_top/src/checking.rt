@@ -6,7 +6,7 @@ ghost use Rattle.kc_top.specs.Statuses.{CheckEnds};
 
 use crate::reading::fetch_both;
 use crate::status::Status;
-use kc_check::{CheckError, check_text};
+use kc_check::{CheckError, MOST_TEXT, check_text};
 use kc_model::{Failed, Shelf, Sink, write_all};
 use kc_script::parse;
 use kc_script_lines::ScriptError;
@@ -37,7 +37,7 @@ fn accept<F: Shelf>(alloc: Global, bundle: &str, text: &str, shelf: &mut F) -> R
     ensures accepted { IfOk result (λ _. IsAccepted F.files F.faults F.sure F.fetch_gives bundle.now text.now shelf.old shelf.new) }
     ensures refuses { IfErr result (CheckRefuses F.files F.faults F.sure F.fetch_gives bundle.now text.now shelf.old shelf.new) }
 {
-    let (script, printed) = fetch_both(alloc, bundle, text, shelf)?;
+    let (script, printed) = fetch_both(alloc, bundle, text, MOST_TEXT, shelf)?;
     match parse(alloc, &script) {
         Ok(parsed) => match check_text(alloc, &parsed, &printed) {
             Ok(()) => Ok(()),

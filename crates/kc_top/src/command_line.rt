@@ -3,7 +3,7 @@
 ghost use Rattle.std.specs.Prelude.{◌≡◌, ◌≤◌, ◌<◌, ◌+◌, ◌&&◌, ◌==◌, true, length, drop, map, codes};
 ghost use Rattle.std.specs.List.{list_all};
 ghost use Rattle.std.specs.String.{string_bytes};
-ghost use Rattle.kc_top.specs.Words.{are_names, command_of, is_check, is_name, is_word, option_words, origin_of, store_of, storm_at};
+ghost use Rattle.kc_top.specs.Words.{are_names, command_of, is_name, is_on_two, is_word, option_words, origin_of, store_of, storm_at};
 
 use kc_script_bundle::MOST_THREADS;
 use kc_script_lines::number_of;
@@ -16,6 +16,8 @@ pub enum Command {
     /// To say whether a text is that of a run of a bundle: the third word names the file of the bundle, the fourth that
     /// of the text.
     Check,
+    /// To write the picked ones of some texts: the third word names the file of the texts, the fourth that of the picks.
+    Texts,
 }
 
 /// Where a script to be run comes from.
@@ -39,14 +41,18 @@ pub enum StoreName {
 }
 
 /// What the words ask for, the program's name first. Behind it stands `run`, or `files` and the names of a setup and of 1
-/// to 16 files, or `storm` and a number, or `check` and the names of a bundle and of a text. Directly behind the name of
-/// a command that runs a script may stand one store option, as `--store V` or `--store=V`, where V is `lock` or `kcas`.
+/// to 16 files, or `storm` and a number, or `check` and the names of a bundle and of a text, or `texts` and the names of
+/// texts and of picks. Directly behind the name of a command that runs a script may stand one store option, as
+/// `--store V` or `--store=V`, where V is `lock` or `kcas`.
 /// No other word begins with `-`, and none is empty.
 pub fn command_of(words: &[String]) -> Option<Command>
     ensures { result ≡ command_of (map string_bytes words.now) }
 {
-    if is_check(words) {
+    if is_on_two(words, "check") {
         return Some(Command::Check);
+    }
+    if is_on_two(words, "texts") {
+        return Some(Command::Texts);
     }
     let origin = origin_of(words)?;
     Some(Command::Run(origin))
@@ -79,11 +85,11 @@ pub fn store_of(words: &[String]) -> StoreName
     }
 }
 
-// Whether they are `check`, and behind it stand two names.
-fn is_check(words: &[String]) -> bool
-    ensures { result ≡ is_check (map string_bytes words.now) }
+// Whether they are the command of this name, and behind it stand two names.
+fn is_on_two(words: &[String], name: &str) -> bool
+    ensures { result ≡ is_on_two (map string_bytes words.now) name.now }
 {
-    is_word(words, 1, "check") && words.len() == 4 && all_are_names(&words[2..])
+    is_word(words, 1, name) && words.len() == 4 && all_are_names(&words[2..])
 }
 
 // Whether they are `run`, and nothing stands behind its option.

@@ -24,13 +24,13 @@ ghost use Rattle.kc_top.specs.declared.status.Status.TheVariants as status;
 ghost use Rattle.kc_top.specs.Reading.{FilesSpell, SourceSpells};
 ghost use Rattle.kc_top.specs.Served.{IsPastBehindLooks, IsServed};
 ghost use Rattle.kc_top.specs.Statuses.{Says, Writes};
-ghost use Rattle.kc_top.specs.Words.{bundle_name, command_of, store_of, text_name};
+ghost use Rattle.kc_top.specs.Words.{bundle_name, command_of, picks_name, store_of, text_name, texts_name};
 
 use kc_model::{Shelf, Sink, Source};
 
 /// Why reading failed. The source's count of faults rose, or with file names the shelf's; and then a shelf that is sure
 /// lacks one of the names. Of files one is too long whose name is among the words: a bundle to be checked against, or
-/// else the text, each by its own limit.
+/// else the text, each by its own limit; and so the texts, or else the picks.
 pub fn reading_fails_for_a_cause<S: Source, F: Shelf, K: Sink>()
     ensures source { (words : List (List ℕ)) (s s' : S) (f f' : F) (k k' : K) (served : Serving) → command_of words ≡ Some (command.Run origin.Source)
         → Says S.left S.faults S.read_gives F.files F.faults F.sure F.fetch_gives K.written K.faults K.write_gives words s s' f f' k k' served status.ReadFault → Rises (S.faults s) (S.faults s') }
@@ -46,6 +46,12 @@ pub fn reading_fails_for_a_cause<S: Source, F: Shelf, K: Sink>()
         → Says S.left S.faults S.read_gives F.files F.faults F.sure F.fetch_gives K.written K.faults K.write_gives words s s' f f' k k' served status.ReadFault → F.sure f ≡ true → Lacks (F.files f) (bundle_name words) ⊎ Lacks (F.files f) (text_name words) }
     ensures either_longer { (words : List (List ℕ)) (s s' : S) (f f' : F) (k k' : K) (served : Serving) → command_of words ≡ Some command.Check
         → Says S.left S.faults S.read_gives F.files F.faults F.sure F.fetch_gives K.written K.faults K.write_gives words s s' f f' k k' served status.TooLong → IsLonger (F.files f) (bundle_name words) MOST_BYTES ⊎ IsLonger (F.files f) (text_name words) MOST_TEXT }
+    ensures unpicked { (words : List (List ℕ)) (s s' : S) (f f' : F) (k k' : K) (served : Serving) → command_of words ≡ Some command.Texts
+        → Says S.left S.faults S.read_gives F.files F.faults F.sure F.fetch_gives K.written K.faults K.write_gives words s s' f f' k k' served status.ReadFault → Rises (F.faults f) (F.faults f') }
+    ensures absent { (words : List (List ℕ)) (s s' : S) (f f' : F) (k k' : K) (served : Serving) → command_of words ≡ Some command.Texts
+        → Says S.left S.faults S.read_gives F.files F.faults F.sure F.fetch_gives K.written K.faults K.write_gives words s s' f f' k k' served status.ReadFault → F.sure f ≡ true → Lacks (F.files f) (texts_name words) ⊎ Lacks (F.files f) (picks_name words) }
+    ensures file_longer { (words : List (List ℕ)) (s s' : S) (f f' : F) (k k' : K) (served : Serving) → command_of words ≡ Some command.Texts
+        → Says S.left S.faults S.read_gives F.files F.faults F.sure F.fetch_gives K.written K.faults K.write_gives words s s' f f' k k' served status.TooLong → IsLonger (F.files f) (texts_name words) MOST_BYTES ⊎ IsLonger (F.files f) (picks_name words) MOST_BYTES }
 {}
 
 /// What a run of a script writes is the text of a legal history of it, as a check wants it.
@@ -56,9 +62,9 @@ pub fn what_is_written_is_legal<S: Source, F: Shelf, K: Sink>()
         → Says S.left S.faults S.read_gives F.files F.faults F.sure F.fetch_gives K.written K.faults K.write_gives words s s' f f' k k' served status.Done → (script : Script) × FilesSpell F.files F.faults F.sure F.fetch_gives (drop setup words) f f' script × Writes K.written K.faults K.write_gives (IsLegal script) k k' }
 {}
 
-/// Where the words are a command, what it reads is told, within its limits and spells a bundle, and no count of faults
-/// rose or stands at its last number, the command is done, or found no memory; and a check may find a text that is none of
-/// a run.
+/// Where the words are a command, what it reads is told, within its limits and spells a bundle, or for a run on texts has
+/// no fault, and no count of faults rose or stands at its last number, the command is done, or found no memory; and a
+/// check may find a text that is none of a run.
 pub fn what_is_in_order_is_done<S: Source, F: Shelf, K: Sink>()
     ensures { (words : List (List ℕ)) (s s' : S) (f f' : F) (k k' : K) (served : Serving) (command : Asked) (end : Ending) → command_of words ≡ Some command → IsGiven words command (S.left s) (F.files f)
         → (Rises (S.faults s) (S.faults s') → ⊥) → (Rises (F.faults f) (F.faults f') → ⊥) → (Rises (K.faults k) (K.faults k') → ⊥) → Says S.left S.faults S.read_gives F.files F.faults F.sure F.fetch_gives K.written K.faults K.write_gives words s s' f f' k k' served end → IsInOrder command end }

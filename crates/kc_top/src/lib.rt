@@ -1,9 +1,10 @@
-//! The top call: runs a script and writes its text, or checks a text.
+//! The top call: runs a script and writes its text, checks a text, or writes the picked ones of some texts.
 #![tactic(auto)]
 
 mod checking;
 mod command_line;
 mod laws;
+mod picking;
 mod reading;
 mod run;
 mod served;

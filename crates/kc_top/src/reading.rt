@@ -1,4 +1,4 @@
-//! From what a command reads to a bundle, and for a check to a text.
+//! From what a command reads to a bundle, or to the bytes of two files.
 
 ghost use Rattle.std.specs.Prelude.{◌≤◌, length, map, IfOk, IfErr};
 ghost use Rattle.std.specs.String.{string_bytes};
@@ -6,7 +6,6 @@ ghost use Rattle.kc_script_bundle.specs.Script.{script_of};
 ghost use Rattle.kc_top.specs.Reading.{BothRefuse, FetchedBoth, FetchedFile, FileRefuses, SourceSpells, SourceRefuses, FilesSpell, FilesRefuse};
 
 use crate::status::Status;
-use kc_check::MOST_TEXT;
 use kc_model::{ReadError, Shelf, ShelfError, Source, fetch_all, read_to_end};
 use kc_script::{MOST_BYTES, PartError, parse, parse_parts};
 use kc_script_bundle::Bundle;
@@ -55,19 +54,20 @@ pub fn from_files<F: Shelf>(
     }
 }
 
-/// The files of a bundle and of a text, one after the other, each within its own limit.
+/// Two files, one after the other: the first has the limit of a bundle, the second one of its own.
 pub fn fetch_both<F: Shelf>(
     alloc: Global,
-    bundle: &str,
-    text: &str,
+    first: &str,
+    second: &str,
+    limit: usize,
     shelf: &mut F,
 ) -> Result<(Vec<u8>, Vec<u8>), Status>
-    ensures both { IfOk result (λ r. FetchedBoth F.files F.faults F.sure F.fetch_gives bundle.now text.now shelf.old r.0.items r.1.items shelf.new) }
-    ensures refuse { IfErr result (BothRefuse F.files F.faults F.sure F.fetch_gives bundle.now text.now shelf.old shelf.new) }
+    ensures both { IfOk result (λ r. FetchedBoth F.files F.faults F.sure F.fetch_gives limit first.now second.now shelf.old r.0.items r.1.items shelf.new) }
+    ensures refuse { IfErr result (BothRefuse F.files F.faults F.sure F.fetch_gives limit first.now second.now shelf.old shelf.new) }
 {
-    let script = fetch_file(alloc, shelf, bundle, MOST_BYTES)?;
-    let printed = fetch_file(alloc, shelf, text, MOST_TEXT)?;
-    Ok((script, printed))
+    let one = fetch_file(alloc, shelf, first, MOST_BYTES)?;
+    let other = fetch_file(alloc, shelf, second, limit)?;
+    Ok((one, other))
 }
 
 // The file of this name, by one call.

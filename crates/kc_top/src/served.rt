@@ -3,10 +3,10 @@
 use kc_locked::LockPast;
 use kc_run::Past;
 
-/// What the store of a run's threads came to.
+/// What the store of a run's threads came to, or that of two callers on threads which read picked texts.
 #[derive(Drop)]
 pub enum Served {
-    /// No thread ran.
+    /// No thread ran, as where there is no pick.
     Nothing,
     /// The past of the store behind one lock.
     Lock(LockPast),

@@ -10,7 +10,7 @@ use kc_model::NoMemory;
 use kc_script_lines::Why;
 
 /// The most bytes that a line on standard error has: those of the line for words that are no command.
-pub const LONGEST_LINE: usize = 87;
+pub const LONGEST_LINE: usize = 111;
 
 /// The most bytes that the words for a test have.
 const LONGEST_TEST: usize = 23;
@@ -18,11 +18,12 @@ const LONGEST_TEST: usize = 23;
 /// How a run ended.
 #[derive(Clone, Copy, Debug, PartialEq, Eq)]
 pub enum Status {
-    /// The whole text was written.
+    /// All was written.
     Done,
     /// The words are no command.
     Usage,
-    /// The bytes are no bundle. The source is part 0; lines are numbered from 1, and line 0 is the bundle as a whole.
+    /// The bytes are no bundle, or no texts or picks. The source is part 0; lines are numbered from 1, and line 0 is the
+    /// bundle as a whole. Of a run on texts part 1 is the file of the texts, part 2 that of the picks.
     Script { part: u32, line: u32, why: Why },
     /// The source failed.
     ReadFault,
@@ -30,7 +31,7 @@ pub enum Status {
     WriteFault,
     /// Memory ran out.
     NoMemory,
-    /// More bytes came than a bundle, or a text to be checked, may have.
+    /// More bytes came than a bundle, a text to be checked, or a file of texts or picks may have.
     TooLong,
     /// The text is that of no run: the first test that it fails, and the line where it does, from 1.
     Illegal { line: u32, why: CheckWhy },
@@ -63,7 +64,7 @@ impl Status {
             Status::Done => {}
             Status::Usage => {
                 text.push_str(
-                    "kcas: usage: kcas run, kcas files SETUP FILE.., kcas storm N, or kcas check BUNDLE TEXT",
+                    "kcas: usage: kcas run, kcas files SETUP FILE.., kcas storm N, kcas check BUNDLE TEXT, or kcas texts TEXTS PICKS",
                 );
             }
             Status::Script { part, line, why } => {

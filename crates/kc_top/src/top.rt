@@ -9,6 +9,7 @@ ghost use Rattle.kc_top.specs.Statuses.{RunSays, Says};
 
 use crate::checking::check;
 use crate::command_line::{Command, Origin, command_of, store_of};
+use crate::picking::pick;
 use crate::reading::{from_files, from_source};
 use crate::run::perform;
 use crate::served::Served;
@@ -24,7 +25,8 @@ use std::thread::Threads;
 /// Runs the script that the words name, and writes its text to the sink. The words have the program's name first, and
 /// then a command: `run` reads the script from the source, `files SETUP FILE..` from the shelf, a file for each thread;
 /// `storm N` runs the storm of that number, and writes its summary in place of a text. `check BUNDLE TEXT` reads a bundle
-/// and a text from the shelf, and writes `legal` where the text is that of a run of the bundle.
+/// and a text from the shelf, and writes `legal` where the text is that of a run of the bundle. `texts TEXTS PICKS` reads
+/// texts and the numbers of picked ones, a line for each, and writes the picked texts.
 /// All is read before it is parsed. Each thread of the script runs in a thread of its own, behind the gate, on one
 /// store: the one that a store option directly behind the command names, `--store lock` or `--store kcas`, and else the
 /// lock-free one. A thread's command may wait for another's, and nothing is promised of when it ends.
@@ -45,6 +47,9 @@ pub fn kcas_main<S: Source, F: Shelf, K: Sink, G: Gate, R: Threads + Wait + Sync
         Some(Command::Check) => {
             let status = check(alloc, words[2].as_str(), words[3].as_str(), shelf, sink);
             (status, Served::Nothing)
+        }
+        Some(Command::Texts) => {
+            pick(rt, alloc, words[2].as_str(), words[3].as_str(), shelf, sink)
         }
     }
 }

@@ -205,7 +205,7 @@ fn one_long_file_is_too_long_though_another_is_not_there(rt: HostRuntime) -> Res
 
 #[test]
 fn words_that_are_no_command_are_usage(rt: HostRuntime) -> Result<(), Fail> {
-    let rows: [&[&str]; 27] = [
+    let rows: [&[&str]; 36] = [
         &[],
         &["run", "now"],
         &["run", ""],
@@ -232,6 +232,15 @@ fn words_that_are_no_command_are_usage(rt: HostRuntime) -> Result<(), Fail> {
         &["check", "--store=kcas", "S", "A"],
         &["check", "--store", "lock", "S", "A"],
         &["check", "S", "A", "--store=kcas"],
+        &["texts"],
+        &["texts", "S"],
+        &["texts", "S", "A", "A"],
+        &["texts", "S", ""],
+        &["texts", "-x", "A"],
+        &["texts", "--store=kcas", "S", "A"],
+        &["texts", "--store", "lock", "S", "A"],
+        &["texts", "--store", "kcas"],
+        &["texts", "S", "A", "--store=lock"],
         &["--help"],
     ];
     for words in rows {

@@ -12,6 +12,8 @@ mod grown;
 #[cfg(test)]
 mod limits;
 #[cfg(test)]
+mod picks;
+#[cfg(test)]
 mod runs;
 #[cfg(test)]
 mod storms;

@@ -522,7 +522,7 @@ fn each_status_has_its_line(rt: HostRuntime) {
         (Status::Done, ""),
         (
             Status::Usage,
-            "kcas: usage: kcas run, kcas files SETUP FILE.., kcas storm N, or kcas check BUNDLE TEXT",
+            "kcas: usage: kcas run, kcas files SETUP FILE.., kcas storm N, kcas check BUNDLE TEXT, or kcas texts TEXTS PICKS",
         ),
         (name_is_bad, "kcas: part 3 line 12: bad name"),
         (Status::ReadFault, "kcas: reading failed"),

@@ -1,5 +1,6 @@
 //! The program: `kcas run` reads a script from standard input, `kcas files SETUP FILE..` from files, and it writes the
-//! script's text to standard output. `kcas check BUNDLE TEXT` says whether a text is that of a run of a script.
+//! script's text to standard output. `kcas check BUNDLE TEXT` says whether a text is that of a run of a script;
+//! `kcas texts TEXTS PICKS` writes the picked ones of some texts.
 #![tactic(auto)]
 
 ghost use Rattle.std.specs.Prelude.{map};

@@ -39,7 +39,7 @@ fn each_status_has_its_line_and_its_exit_number(rt: HostRuntime) -> Result<(), F
         (Status::Done, "", 0u8),
         (
             Status::Usage,
-            "kcas: usage: kcas run, kcas files SETUP FILE.., kcas storm N, or kcas check BUNDLE TEXT\n",
+            "kcas: usage: kcas run, kcas files SETUP FILE.., kcas storm N, kcas check BUNDLE TEXT, or kcas texts TEXTS PICKS\n",
             2,
         ),
         (script, "kcas: part 0 line 2: bad number\n", 3),

@@ -39,3 +39,18 @@ pub returns-clause-either_longer : goal.returns-clause-either_longer
 returns-clause-either_longer g c = λ words s s' f f' k k' served asked h.
     let says = subst (λ (x : Command). SaysOf g.S.Source.left g.S.Source.faults g.S.Source.read_gives g.F.Shelf.files g.F.Shelf.faults g.F.Shelf.sure g.F.Shelf.fetch_gives g.K.Sink.written g.K.Sink.faults g.K.Sink.write_gives words x s s' f f' k k' served status.TooLong) (one_command words h.1 asked) h.2 in
     both_longer says.ends.0
+
+pub returns-clause-unpicked : goal.returns-clause-unpicked
+returns-clause-unpicked g c = λ words s s' f f' k k' served asked h.
+    let says = subst (λ (x : Command). SaysOf g.S.Source.left g.S.Source.faults g.S.Source.read_gives g.F.Shelf.files g.F.Shelf.faults g.F.Shelf.sure g.F.Shelf.fetch_gives g.K.Sink.written g.K.Sink.faults g.K.Sink.write_gives words x s s' f f' k k' served status.ReadFault) (one_command words h.1 asked) h.2 in
+    both_rises says.ends.0
+
+pub returns-clause-absent : goal.returns-clause-absent
+returns-clause-absent g c = λ words s s' f f' k k' served asked h.
+    let says = subst (λ (x : Command). SaysOf g.S.Source.left g.S.Source.faults g.S.Source.read_gives g.F.Shelf.files g.F.Shelf.faults g.F.Shelf.sure g.F.Shelf.fetch_gives g.K.Sink.written g.K.Sink.faults g.K.Sink.write_gives words x s s' f f' k k' served status.ReadFault) (one_command words h.1 asked) h.2 in
+    both_lacking says.ends.0
+
+pub returns-clause-file_longer : goal.returns-clause-file_longer
+returns-clause-file_longer g c = λ words s s' f f' k k' served asked h.
+    let says = subst (λ (x : Command). SaysOf g.S.Source.left g.S.Source.faults g.S.Source.read_gives g.F.Shelf.files g.F.Shelf.faults g.F.Shelf.sure g.F.Shelf.fetch_gives g.K.Sink.written g.K.Sink.faults g.K.Sink.write_gives words x s s' f f' k k' served status.TooLong) (one_command words h.1 asked) h.2 in
+    both_longer says.ends.0
