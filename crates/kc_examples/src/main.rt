@@ -7,6 +7,7 @@ use hostile::{HOSTILE, Hostile};
 use kc_model::{FrailSink, FrailSource, MemShelf};
 use kc_top::{OpenGate, Status, kcas_main};
 use std::alloc::Global;
+use std::rt::Files;
 use std::sync::Wait;
 use std::thread::Threads;
 use std::{fs, io};
@@ -120,7 +121,10 @@ fn main(rt: HostRuntime) -> io::Result<()> {
 }
 
 // Says whether the picked texts of `texts/` are written, and whether each fault there has its line.
-fn tell_of_texts(rt: &HostRuntime, alloc: Global) -> io::Result<()> {
+fn tell_of_texts<R: Alloc + Files + Print + Threads + Wait + Sync>(
+    rt: &R,
+    alloc: Global,
+) -> io::Result<()> {
     let texts = fs::read(rt, "texts/texts.txt")?;
     let picks = fs::read(rt, "texts/picks.txt")?;
     let picked = fs::read(rt, "texts/picked.txt")?;
