@@ -88,6 +88,9 @@ fn a_reader_beside_a_writer_never_goes_back(rt: HostRuntime) -> Result<(), Fail>
         move || rises(shared, b, 20_000),
     );
     assert!(rt; rising);
-    assert_eq!(rt; store.read(&mut a, Loc(0)).map(|seen| seen.value), Ok(2_000));
+    assert_eq!(rt;
+        store.read(&mut a, Loc(0)).map(|seen| seen.value),
+        Ok(2_000)
+    );
     Ok(())
 }
