@@ -13,6 +13,8 @@ CASES = {
     "eight": "eight reads and a put",
     "either": "an alternative that is given up, and another",
     "value": "one put, answered by value",
+    "get": "a look, as a transaction",
+    "read": "a read without a transaction",
     "hang": "a hang of one read and its leave",
     "open": "opening a store of 16 locations for 4 callers",
 }
@@ -22,7 +24,7 @@ for line in sys.stdin:
     kind, name, number = line.split()
     if kind == "ns":
         times[name].append(int(number) / 10)
-    else:
+    elif kind == "bytes":
         sizes[name] = int(number)
 
 print("| commit | least / median, ns |")
