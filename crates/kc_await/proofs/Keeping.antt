@@ -9,7 +9,7 @@ use Rattle.kc_store.specs.Commits.{AllTries, InVain, none as no_try, again as on
 use Rattle.kc_store.specs.Tries.{CommitsAfter, Tries}
 use Rattle.kc_store.specs.declared.verdict.Answered.{Answered}
 use Rattle.kc_store.specs.kc_table_moves.Views.{SeatView}
-use Rattle.kc_store.specs.kc_table_seats.Tasks.{Keeps}
+use Rattle.kc_store.specs.kc_table_laws.Tasks.{Keeps}
 use Rattle.kc_xt.specs.Meaning.{Meaning}
 use Rattle.kc_xt.specs.declared.attempts.Tried.{Tried}
 use Rattle.kc_xt.specs.declared.attempts.Tried.TheVariants as tried

@@ -5,7 +5,7 @@ use Rattle.std.proofs.lemmas.List.Elements.{All-nil, All-push}
 use Rattle.kc_await.proofs.Keeping.{waiting_keeps}
 use Rattle.kc_await.specs.Looks.{Adds, AddsBehindLooks, AddsLooks, IsLook}
 use Rattle.kc_await.specs.Waiting.{CommitsAtLast, Waiting, none, again, is_later}
-use Rattle.kc_store.specs.kc_machine_claims.Histories.{Placed}
+use Rattle.kc_store.specs.kc_machine_traces.Histories.{Placed}
 use Rattle.kc_model.specs.declared.footprint.Footprint.{Footprint}
 use Rattle.kc_store.proofs.Among.{grows_in}
 use Rattle.kc_store.proofs.Gaining.{all_from}
@@ -15,7 +15,7 @@ use Rattle.kc_store.specs.Verdicts.{verdict_of}
 use Rattle.kc_store.specs.declared.verdict.Answered.{Answered}
 use Rattle.kc_store.specs.declared.verdict.Answered.TheVariants as answered
 use Rattle.kc_store.specs.kc_table_moves.Views.{SeatView, knows}
-use Rattle.kc_store.specs.kc_table_seats.Tasks.{Keeps}
+use Rattle.kc_store.specs.kc_table_laws.Tasks.{Keeps}
 use Rattle.kc_xt.specs.Meaning.{Meaning}
 
 -- each commit that is Later adds a look, and the hang behind it nothing

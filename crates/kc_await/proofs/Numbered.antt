@@ -4,7 +4,7 @@ use Rattle.std.specs.Prelude.{All}
 use Rattle.kc_await.proofs.Rising.{numbers_rise}
 use Rattle.kc_await.specs.Looks.{numbers}
 use Rattle.kc_await.specs.Waiting.{CommitsAtLast}
-use Rattle.kc_store.specs.kc_machine_claims.Histories.{Placed}
+use Rattle.kc_store.specs.kc_machine_traces.Histories.{Placed}
 use Rattle.kc_model.specs.Rising.{IsRising}
 use Rattle.kc_model.specs.declared.footprint.Footprint.{Footprint}
 use Rattle.kc_store.proofs.Among.{in_filtered}

@@ -15,25 +15,25 @@ use Rattle.kc_store.specs.kc_machine.Works as work
 use Rattle.kc_store.specs.kc_machine.declared.hang.HangStep.{HangStep}
 use Rattle.kc_store.specs.kc_machine.declared.hang.HangStep.TheVariants as hang
 use Rattle.kc_store.specs.kc_machine.declared.seat.Seat.{Seat}
-use Rattle.kc_store.specs.kc_machine_claims.Histories.{History, Placed, inserted}
-use Rattle.kc_store.specs.kc_machine_claims.Traces.{is_success, trace}
+use Rattle.kc_store.specs.kc_machine_traces.Histories.{History, Placed, inserted}
+use Rattle.kc_store.specs.kc_machine_traces.Traces.{is_success, trace}
 use Rattle.kc_store.specs.kc_machine_commits.declared.commit.Commit.{Commit}
 use Rattle.kc_store.specs.kc_machine_commits.declared.commit.OwnStep.{OwnStep}
 use Rattle.kc_store.specs.kc_machine_commits.declared.commit.OwnStep.TheVariants as own
 use Rattle.kc_store.specs.kc_machine_commits.declared.commit.Stage.{Stage}
 use Rattle.kc_store.specs.kc_machine_commits.declared.commit.Stage.TheVariants as stage
-use Rattle.kc_store.specs.kc_machine_effects.Holds.{own_hold}
-use Rattle.kc_store.specs.kc_machine_effects.Holds.Hold.{NoHold, Proper}
-use Rattle.kc_store.specs.kc_machine_effects.Stands.{Stand, Waits, aids, hangs, owns, resting, stand, works}
-use Rattle.kc_store.proofs.kc_machine_histories.Begun.{entry_behind}
-use Rattle.kc_store.proofs.kc_machine_histories.Decisions.{moves_by_decision}
-use Rattle.kc_store.proofs.kc_machine_histories.Differ.{AreApart, SameCall, entries_apart}
-use Rattle.kc_store.proofs.kc_machine_histories.Insertions.{filter_last}
-use Rattle.kc_store.proofs.kc_machine_histories.Places.{begun_below, below, rises}
-use Rattle.kc_store.proofs.kc_machine_histories.Successes.{kept}
-use Rattle.kc_store.specs.kc_machine_histories.Decisions.{Decision, MovesByDecision}
-use Rattle.kc_store.specs.kc_machine_histories.Places.{began}
-use Rattle.kc_store.specs.kc_machine_pool.Owners.{fills}
+use Rattle.kc_store.specs.kc_machine_invariants.Holds.{own_hold}
+use Rattle.kc_store.specs.kc_machine_invariants.Holds.Hold.{NoHold, Proper}
+use Rattle.kc_store.specs.kc_machine_invariants.Stands.{Stand, Waits, aids, hangs, owns, resting, stand, works}
+use Rattle.kc_store.proofs.kc_machine_history.Begun.{entry_behind}
+use Rattle.kc_store.proofs.kc_machine_history.Decisions.{moves_by_decision}
+use Rattle.kc_store.proofs.kc_machine_history.Differ.{AreApart, SameCall, entries_apart}
+use Rattle.kc_store.proofs.kc_machine_history.Insertions.{filter_last}
+use Rattle.kc_store.proofs.kc_machine_history.Places.{begun_below, below, rises}
+use Rattle.kc_store.proofs.kc_machine_history.Successes.{kept}
+use Rattle.kc_store.specs.kc_machine_history.Decisions.{Decision, MovesByDecision}
+use Rattle.kc_store.specs.kc_machine_history.Places.{began}
+use Rattle.kc_store.specs.kc_machine_invariants.Owners.{fills}
 use Rattle.kc_store.specs.kc_machine_steps.declared.aid.AidStep.{AidStep}
 use Rattle.kc_store.specs.kc_machine_steps.declared.aid.AidStep.TheVariants as aid
 use Rattle.kc_store.specs.kc_machine_steps.declared.aid.Aided.{Aided}

@@ -7,7 +7,7 @@ use Rattle.kc_await.specs.Adds.{AddsLooksAlone, AddsLooksAndOne, IsLookOf, IsTol
 use Rattle.kc_await.specs.Looks.{numbers}
 use Rattle.kc_await.specs.Waiting.{CommitsAtLast, Waiting, none, again, is_later}
 use Rattle.kc_store.specs.kc_hang.Hangs.{Hangs}
-use Rattle.kc_store.specs.kc_machine_claims.Histories.{History, entries}
+use Rattle.kc_store.specs.kc_machine_traces.Histories.{History, entries}
 use Rattle.kc_model.specs.Footprint.{IsBelow}
 use Rattle.kc_model.specs.Rising.{IsRising}
 use Rattle.kc_model.specs.declared.footprint.Entry.{Entry}

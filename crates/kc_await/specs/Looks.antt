@@ -1,6 +1,6 @@
 -- What a commit that waits adds to its caller's own entries.
 use Rattle.std.specs.Prelude.{◌≡◌, ℕ, ◌++◌, [], ◌∷◌, List, All, map}
-use Rattle.kc_store.specs.kc_machine_claims.Histories.{Placed}
+use Rattle.kc_store.specs.kc_machine_traces.Histories.{Placed}
 use Rattle.kc_store.specs.kc_machine_words.declared.words.Mode.{Mode}
 use Rattle.kc_model.specs.declared.footprint.Footprint.{Footprint}
 use Rattle.kc_store.specs.Answers.{own_entries, placed_entry}

@@ -10,7 +10,7 @@ ghost use Rattle.kc_store.specs.Verdicts.{has_entry, verdict_of};
 ghost use Rattle.kc_store.specs.declared.values.Outcome.TheVariants as outcome;
 ghost use Rattle.kc_store.specs.declared.values.Wear.TheVariants as wear;
 ghost use Rattle.kc_store.specs.declared.verdict.Answered.TheVariants as answered;
-ghost use Rattle.kc_store.specs.kc_table_seats.Tasks.{Keeps};
+ghost use Rattle.kc_store.specs.kc_table_laws.Tasks.{Keeps};
 ghost use Rattle.kc_xt.specs.Meaning.{limited};
 
 use kc_model::Footprint;

@@ -17,8 +17,8 @@ use Rattle.kc_machine_steps.specs.declared.task.Task.TheVariants as task
 use Rattle.kc_model.specs.declared.footprint.Seen.{Seen}
 use Rattle.kc_model.specs.declared.footprint.TheConstants.{MOST}
 use Rattle.kc_table.specs.kc_table_moves.Views.{KnowsReads, SeatView, Starts, Stepped}
-use Rattle.kc_table_seats.proofs.Following.{does_first, does_further}
-use Rattle.kc_table_seats.specs.Tasks.{Does}
+use Rattle.kc_table_laws.proofs.Following.{does_first, does_further}
+use Rattle.kc_table_laws.specs.Tasks.{Does}
 
 -- ---- the beginning of a state's task
 

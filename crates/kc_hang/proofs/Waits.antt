@@ -9,7 +9,7 @@ use Rattle.kc_table.specs.kc_machine.Seats.{is_idle}
 use Rattle.kc_machine_steps.specs.declared.task.Task.TheVariants as task
 use Rattle.kc_model.specs.declared.footprint.Seen.{Seen}
 use Rattle.kc_table.specs.kc_table_moves.Views.{SeatView, Signalled}
-use Rattle.kc_table_seats.specs.Tasks.{Does}
+use Rattle.kc_table_laws.specs.Tasks.{Does}
 
 abbrev pub IsFree : SeatView → Type 0
 IsFree v = (is_idle v.seat.work ≡ true) × (v.seat.blocked ≡ false)

@@ -8,7 +8,7 @@ use Rattle.kc_machine_steps.specs.declared.task.Told.{Told}
 use Rattle.kc_machine_steps.specs.declared.task.Told.TheVariants as told
 use Rattle.kc_model.specs.declared.footprint.Seen.{Seen}
 use Rattle.kc_table.specs.kc_table_moves.Views.{SeatView, Signalled}
-use Rattle.kc_table_seats.specs.Tasks.{Does}
+use Rattle.kc_table_laws.specs.Tasks.{Does}
 
 -- since v the seat has done this task, and was told this
 pub record Ended (v : SeatView) (t : Task) (a : Told) (w : SeatView) : Type 0 where

@@ -4,7 +4,7 @@ ghost use Rattle.std.specs.Prelude.{◌≡◌, ◌≢◌, ◌<◌, ◌≤◌, []
 ghost use Rattle.kc_hang.specs.Hanging.{MayStep, Shows, is_under_way, state_at, state_told, stepping, task_of};
 ghost use Rattle.kc_table.specs.kc_machine.Schedules.{IsWellMadeTask};
 ghost use Rattle.kc_table.specs.kc_table_moves.Views.{SeatView, Stepped};
-ghost use Rattle.kc_table_seats.specs.Tasks.{Does};
+ghost use Rattle.kc_table_laws.specs.Tasks.{Does};
 
 use crate::hang_state::HangState;
 use arrayvec::ArrayVec;

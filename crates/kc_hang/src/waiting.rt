@@ -4,7 +4,7 @@ ghost use Rattle.std.specs.Prelude.{◌≡◌, ◌≢◌, ◌<◌, [], true, fal
 ghost use Rattle.kc_hang.specs.Hanging.{MayStart, Shows, is_under_way, task_of};
 ghost use Rattle.kc_hang.specs.Hangs.{Hangs};
 ghost use Rattle.kc_table.specs.kc_machine.Seats.{is_idle};
-ghost use Rattle.kc_table_seats.specs.Tasks.{Does};
+ghost use Rattle.kc_table_laws.specs.Tasks.{Does};
 
 use crate::hang::{Hang, step};
 use crate::hang_state::HangState;

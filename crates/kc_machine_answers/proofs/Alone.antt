@@ -1,26 +1,26 @@
 -- The steps of a seat that owns a descriptor, as the state that they make.
 use Rattle.std.proofs.Common.{◌≡◌, ◌<◌, ◌∙◌, ℕ, Bool, true, false, List, refl, sym, ap, if◌then◌else◌}
-use Rattle.kc_machine_resolving.specs.kc_machine_commits.declared.commit.Commit.{Commit}
-use Rattle.kc_machine_resolving.specs.kc_machine_commits.declared.commit.OwnStep.{OwnStep}
-use Rattle.kc_machine_resolving.specs.kc_machine_commits.declared.commit.Stage.{Stage}
-use Rattle.kc_machine_resolving.specs.kc_machine_commits.declared.commit.Stage.TheVariants.{Scan, Take, Own}
-use Rattle.kc_machine_resolving.specs.kc_machine_steps.declared.aid.Aided.{Aided}
-use Rattle.kc_machine_resolving.specs.kc_machine_steps.declared.line.Intent.{Intent}
-use Rattle.kc_machine_resolving.specs.kc_machine_words.declared.words.Handle.{Handle}
-use Rattle.kc_machine_resolving.specs.kc_machine_commits.declared.commit.OwnStep.TheVariants as own
-use Rattle.kc_machine_resolving.specs.kc_machine.declared.hang.HangStep.{HangStep}
-use Rattle.kc_machine_resolving.specs.kc_machine_steps.declared.task.Event.TheVariants.{Step}
-use Rattle.kc_machine_resolving.specs.kc_machine.declared.hang.HangStep.TheVariants as hang
-use Rattle.kc_machine_resolving.specs.kc_machine.Works.{Work}
-use Rattle.kc_machine_resolving.specs.kc_machine.Works as work
-use Rattle.kc_machine_resolving.specs.kc_machine.Machine.{State, put, touched, found_at, possible, event_of}
-use Rattle.kc_machine_resolving.specs.kc_machine.Seats.{access_of, answer_of}
-use Rattle.kc_machine_resolving.specs.kc_machine.declared.seat.Seat.{Seat}
-use Rattle.kc_machine_resolving.specs.kc_machine_effects.Stands.{Owns, stand, works, resting, commits, owns, hangs}
-use Rattle.kc_machine_resolving.specs.kc_machine_pool.Owners.{is_filling}
-use Rattle.kc_machine_resolving.specs.kc_machine_steps.Lines.{one_more}
-use Rattle.kc_machine_resolving.proofs.kc_machine_traces.Others.{event_in}
-use Rattle.kc_machine_resolving.proofs.kc_machine_traces.Outcomes.{owned}
+use Rattle.kc_machine_history.specs.kc_machine_commits.declared.commit.Commit.{Commit}
+use Rattle.kc_machine_history.specs.kc_machine_commits.declared.commit.OwnStep.{OwnStep}
+use Rattle.kc_machine_history.specs.kc_machine_commits.declared.commit.Stage.{Stage}
+use Rattle.kc_machine_history.specs.kc_machine_commits.declared.commit.Stage.TheVariants.{Scan, Take, Own}
+use Rattle.kc_machine_history.specs.kc_machine_steps.declared.aid.Aided.{Aided}
+use Rattle.kc_machine_history.specs.kc_machine_steps.declared.line.Intent.{Intent}
+use Rattle.kc_machine_history.specs.kc_machine_words.declared.words.Handle.{Handle}
+use Rattle.kc_machine_history.specs.kc_machine_commits.declared.commit.OwnStep.TheVariants as own
+use Rattle.kc_machine_history.specs.kc_machine.declared.hang.HangStep.{HangStep}
+use Rattle.kc_machine_history.specs.kc_machine_steps.declared.task.Event.TheVariants.{Step}
+use Rattle.kc_machine_history.specs.kc_machine.declared.hang.HangStep.TheVariants as hang
+use Rattle.kc_machine_history.specs.kc_machine.Works.{Work}
+use Rattle.kc_machine_history.specs.kc_machine.Works as work
+use Rattle.kc_machine_history.specs.kc_machine.Machine.{State, put, touched, found_at, possible, event_of}
+use Rattle.kc_machine_history.specs.kc_machine.Seats.{access_of, answer_of}
+use Rattle.kc_machine_history.specs.kc_machine.declared.seat.Seat.{Seat}
+use Rattle.kc_machine_history.specs.kc_machine_invariants.Stands.{Owns, stand, works, resting, commits, owns, hangs}
+use Rattle.kc_machine_history.specs.kc_machine_invariants.Owners.{is_filling}
+use Rattle.kc_machine_history.specs.kc_machine_steps.Lines.{one_more}
+use Rattle.kc_machine_history.proofs.kc_machine_traces.Others.{event_in}
+use Rattle.kc_machine_history.proofs.kc_machine_traces.Outcomes.{owned}
 use Rattle.kc_model.specs.declared.footprint.Seen.{Seen}
 
 -- the seat s with a commit that owns life h

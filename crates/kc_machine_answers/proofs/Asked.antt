@@ -5,41 +5,41 @@ use Rattle.std.specs.Option.{is_some}
 use Rattle.std.proofs.lemmas.List.{length-append, take-append-le}
 use Rattle.std.proofs.lemmas.List.Elements.{All-cons, All-contains, All-nil}
 use Rattle.std.proofs.Math.Seq.{take-append_seam}
-use Rattle.kc_machine_resolving.specs.kc_machine.Machine.{Opening, run, seat_of}
-use Rattle.kc_machine_resolving.specs.kc_machine.Schedules.{IsSchedule}
-use Rattle.kc_machine_resolving.specs.kc_machine.Seats.{is_idle}
+use Rattle.kc_machine_history.specs.kc_machine.Machine.{Opening, run, seat_of}
+use Rattle.kc_machine_history.specs.kc_machine.Schedules.{IsSchedule}
+use Rattle.kc_machine_history.specs.kc_machine.Seats.{is_idle}
 use Rattle.kc_machine_answers.proofs.Told.{intent_asked}
 use Rattle.kc_machine_answers.specs.Asked.{BeganAt, BeginsInAll, EntriesAreOfTheTask, EntriesWereAsked, InAllItIsLegal, WasAsked}
-use Rattle.kc_machine_resolving.proofs.kc_machine_claims.Follows.{trace_counts}
-use Rattle.kc_machine_resolving.specs.kc_machine_claims.Histories.{History, IsLegalWhereInstalled, Placed, ending, entries, footprint_of, inserted, installs}
-use Rattle.kc_machine_resolving.specs.kc_machine_claims.Traces.{Moment, first_store, swap_entry, trace}
-use Rattle.kc_machine_resolving.proofs.kc_machine_histories.Begun.{entry_behind}
-use Rattle.kc_machine_resolving.proofs.kc_machine_histories.Decisions.{history_moves}
-use Rattle.kc_machine_resolving.proofs.kc_machine_histories.Filters.{found}
-use Rattle.kc_machine_resolving.proofs.kc_machine_histories.Insertions.{inserted_contains}
-use Rattle.kc_machine_resolving.proofs.kc_machine_histories.Knew.{at_work}
-use Rattle.kc_machine_resolving.proofs.kc_machine_histories.Places.{below}
-use Rattle.kc_machine_resolving.proofs.kc_machine_histories.Successes.{Starts, Stays, kept, moves}
-use Rattle.kc_machine_resolving.specs.kc_machine_histories.Decisions.{Decision}
-use Rattle.kc_machine_resolving.specs.kc_machine_histories.Places.{began}
-use Rattle.kc_machine_resolving.proofs.Resolving.{resolved}
-use Rattle.kc_machine_resolving.specs.kc_machine_steps.Lines.{lines_of}
-use Rattle.kc_machine_resolving.specs.kc_machine_steps.declared.line.Intent.{Intent}
-use Rattle.kc_machine_resolving.specs.kc_machine_steps.declared.task.Event.{Event}
-use Rattle.kc_machine_resolving.specs.kc_machine_steps.declared.task.Event.TheVariants.{Begin}
-use Rattle.kc_machine_resolving.specs.kc_machine_steps.declared.task.Task.{Task}
-use Rattle.kc_machine_resolving.specs.kc_machine_steps.declared.task.Task.TheVariants as task
-use Rattle.kc_machine_resolving.proofs.kc_machine_traces.Answers.{answers_when_done}
-use Rattle.kc_machine_resolving.proofs.kc_machine_traces.Entries.{swap_caller}
-use Rattle.kc_machine_resolving.proofs.kc_machine_traces.Joins.{every, made_parts}
-use Rattle.kc_machine_resolving.proofs.kc_machine_traces.Moments.{begun_moment}
-use Rattle.kc_machine_resolving.proofs.kc_machine_traces.Onward.{IsIntentOf, Left}
-use Rattle.kc_machine_resolving.proofs.kc_machine_traces.Others.{history_kept, run_shape}
-use Rattle.kc_machine_resolving.specs.kc_machine_traces.Entries.{by}
-use Rattle.kc_machine_resolving.specs.kc_machine_traces.Outcomes.{IsEntryOf}
-use Rattle.kc_machine_resolving.specs.kc_machine_traces.Parts.{IsNoStep}
-use Rattle.kc_machine_resolving.specs.kc_machine_traces.Swaps.{SwapOf}
-use Rattle.kc_machine_resolving.specs.kc_machine_words.declared.words.Mode.TheVariants as mode
+use Rattle.kc_machine_history.proofs.kc_machine_traces.Follows.{trace_counts}
+use Rattle.kc_machine_history.specs.kc_machine_traces.Histories.{History, IsLegalWhereInstalled, Placed, ending, entries, footprint_of, inserted, installs}
+use Rattle.kc_machine_history.specs.kc_machine_traces.Traces.{Moment, first_store, swap_entry, trace}
+use Rattle.kc_machine_history.proofs.Begun.{entry_behind}
+use Rattle.kc_machine_history.proofs.Decisions.{history_moves}
+use Rattle.kc_machine_history.proofs.Filters.{found}
+use Rattle.kc_machine_history.proofs.Insertions.{inserted_contains}
+use Rattle.kc_machine_history.proofs.Knew.{at_work}
+use Rattle.kc_machine_history.proofs.Places.{below}
+use Rattle.kc_machine_history.proofs.Successes.{Starts, Stays, kept, moves}
+use Rattle.kc_machine_history.specs.Decisions.{Decision}
+use Rattle.kc_machine_history.specs.Places.{began}
+use Rattle.kc_machine_history.proofs.Resolving.{resolved}
+use Rattle.kc_machine_history.specs.kc_machine_steps.Lines.{lines_of}
+use Rattle.kc_machine_history.specs.kc_machine_steps.declared.line.Intent.{Intent}
+use Rattle.kc_machine_history.specs.kc_machine_steps.declared.task.Event.{Event}
+use Rattle.kc_machine_history.specs.kc_machine_steps.declared.task.Event.TheVariants.{Begin}
+use Rattle.kc_machine_history.specs.kc_machine_steps.declared.task.Task.{Task}
+use Rattle.kc_machine_history.specs.kc_machine_steps.declared.task.Task.TheVariants as task
+use Rattle.kc_machine_history.proofs.kc_machine_traces.Answers.{answers_when_done}
+use Rattle.kc_machine_history.proofs.kc_machine_traces.Entries.{swap_caller}
+use Rattle.kc_machine_history.proofs.kc_machine_traces.Joins.{every, made_parts}
+use Rattle.kc_machine_history.proofs.kc_machine_traces.Moments.{begun_moment}
+use Rattle.kc_machine_history.proofs.kc_machine_traces.Onward.{IsIntentOf, Left}
+use Rattle.kc_machine_history.proofs.kc_machine_traces.Others.{history_kept, run_shape}
+use Rattle.kc_machine_history.specs.kc_machine_traces.Entries.{by}
+use Rattle.kc_machine_history.specs.kc_machine_traces.Outcomes.{IsEntryOf}
+use Rattle.kc_machine_history.specs.kc_machine_traces.Parts.{IsNoStep}
+use Rattle.kc_machine_history.specs.kc_machine_traces.Swaps.{SwapOf}
+use Rattle.kc_machine_history.specs.kc_machine_words.declared.words.Mode.TheVariants as mode
 use Rattle.kc_model.proofs.Stores.{Contains-first, Contains-later}
 use Rattle.kc_model.specs.Legal.{IsLegal}
 use Rattle.kc_model.specs.Store.{Finds, Store, after}

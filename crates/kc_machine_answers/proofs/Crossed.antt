@@ -2,33 +2,33 @@
 use Rattle.std.proofs.Common.{arith, ◌≡◌, ◌<◌, ◌≤◌, ◌⊎◌, inl, inr, ◌∙◌, ◌++◌, ◌==◌, ℕ, Bool, true, false, List, [], ◌∷◌, length, take, refl, sym, ap, subst, if◌then◌else◌}
 use Rattle.std.proofs.lemmas.List.{length-append, take-append-le}
 use borrow.Author.Tests.{eqb-true, eqb-false}
-use Rattle.kc_machine_resolving.proofs.kc_machine.Functions.{put_here}
-use Rattle.kc_machine_resolving.specs.kc_machine.Machine.{State, Opening, event_of, seat_of, run}
-use Rattle.kc_machine_resolving.specs.kc_machine.Seats.{is_idle, begun, begun_idle}
+use Rattle.kc_machine_history.proofs.kc_machine.Functions.{put_here}
+use Rattle.kc_machine_history.specs.kc_machine.Machine.{State, Opening, event_of, seat_of, run}
+use Rattle.kc_machine_history.specs.kc_machine.Seats.{is_idle, begun, begun_idle}
 use Rattle.kc_machine_answers.proofs.Crossing.{PassCrosses, event_crosses}
 use Rattle.kc_machine_answers.proofs.Standing.{standing}
 use Rattle.kc_machine_answers.specs.Crosses.{IsCrossed, WasCrossed, CrossingPassesWereCrossed}
-use Rattle.kc_machine_resolving.specs.kc_machine_claims.Traces.{Moment}
-use Rattle.kc_machine_resolving.specs.kc_machine_effects.Holds.{NoHold, Proper, own_hold}
-use Rattle.kc_machine_resolving.specs.kc_machine_effects.Stands.{Turn, At, Meets, Ends, Leaves, Passing, NoPass, Over, stand}
-use Rattle.kc_machine_resolving.proofs.kc_machine_histories.Calls.{own_goes}
-use Rattle.kc_machine_resolving.proofs.kc_machine_histories.Passes.{HoldsLife, pass_holds, begun_fresh}
-use Rattle.kc_machine_resolving.proofs.kc_machine_histories.Successes.{Stays, Starts, moves}
-use Rattle.kc_machine_resolving.specs.kc_machine_histories.Decisions.{own_of}
-use Rattle.kc_machine_resolving.specs.kc_machine_histories.Places.{began, pass_of}
-use Rattle.kc_machine_resolving.proofs.kc_machine_pool.LifeLaws.{statuses_follow, held_started}
-use Rattle.kc_machine_resolving.specs.kc_machine_pool.Owners.{Follows, OwnsLife, is_filling}
-use Rattle.kc_machine_resolving.proofs.kc_machine_seats.FitSeats.{fit_always}
-use Rattle.kc_machine_resolving.proofs.kc_machine_seats.FormedSteps.{formed_always}
-use Rattle.kc_machine_resolving.specs.kc_machine_steps.Lines.{one_more}
+use Rattle.kc_machine_history.specs.kc_machine_traces.Traces.{Moment}
+use Rattle.kc_machine_history.specs.kc_machine_invariants.Holds.{NoHold, Proper, own_hold}
+use Rattle.kc_machine_history.specs.kc_machine_invariants.Stands.{Turn, At, Meets, Ends, Leaves, Passing, NoPass, Over, stand}
+use Rattle.kc_machine_history.proofs.Calls.{own_goes}
+use Rattle.kc_machine_history.proofs.Passes.{HoldsLife, pass_holds, begun_fresh}
+use Rattle.kc_machine_history.proofs.Successes.{Stays, Starts, moves}
+use Rattle.kc_machine_history.specs.Decisions.{own_of}
+use Rattle.kc_machine_history.specs.Places.{began, pass_of}
+use Rattle.kc_machine_history.proofs.kc_machine_invariants.LifeLaws.{statuses_follow, held_started}
+use Rattle.kc_machine_history.specs.kc_machine_invariants.Owners.{Follows, OwnsLife, is_filling}
+use Rattle.kc_machine_history.proofs.kc_machine_invariants.FitSeats.{fit_always}
+use Rattle.kc_machine_history.proofs.kc_machine_invariants.FormedSteps.{formed_always}
+use Rattle.kc_machine_history.specs.kc_machine_steps.Lines.{one_more}
 use Rattle.kc_model.specs.declared.footprint.Line.{Line}
-use Rattle.kc_machine_resolving.specs.kc_machine_steps.declared.task.Event.{Event}
-use Rattle.kc_machine_resolving.specs.kc_machine_steps.declared.task.Event.TheVariants.{Begin}
-use Rattle.kc_machine_resolving.proofs.kc_machine_traces.Joins.{run-append, every}
-use Rattle.kc_machine_resolving.proofs.kc_machine_traces.Moments.{begun_moment}
-use Rattle.kc_machine_resolving.proofs.kc_machine_traces.Others.{run_shape, event_in, event_else}
-use Rattle.kc_machine_resolving.specs.kc_machine_words.declared.words.Handle.{Handle}
-use Rattle.kc_machine_resolving.specs.kc_machine_words.declared.words.Mode.{Mode}
+use Rattle.kc_machine_history.specs.kc_machine_steps.declared.task.Event.{Event}
+use Rattle.kc_machine_history.specs.kc_machine_steps.declared.task.Event.TheVariants.{Begin}
+use Rattle.kc_machine_history.proofs.kc_machine_traces.Joins.{run-append, every}
+use Rattle.kc_machine_history.proofs.kc_machine_traces.Moments.{begun_moment}
+use Rattle.kc_machine_history.proofs.kc_machine_traces.Others.{run_shape, event_in, event_else}
+use Rattle.kc_machine_history.specs.kc_machine_words.declared.words.Handle.{Handle}
+use Rattle.kc_machine_history.specs.kc_machine_words.declared.words.Mode.{Mode}
 
 module _ (o : Opening) (es : List Event) (e : Event) where
   abbrev es' : List Event

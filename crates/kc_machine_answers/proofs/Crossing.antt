@@ -3,42 +3,42 @@ use Rattle.std.proofs.Common.{arith, ◌≡◌, ◌<◌, ◌⊎◌, inl, inr, �
 use Rattle.std.specs.Prelude.{nat_lt}
 use Rattle.std.proofs.lemmas.Bool.{ltb-true}
 use Rattle.kc_model.specs.declared.footprint.Line.{Line}
-use Rattle.kc_machine_resolving.specs.kc_machine_steps.declared.line.Pick.TheVariants.{Installed, Checked}
-use Rattle.kc_machine_resolving.specs.kc_machine_steps.declared.pass.AfterCheck.{AfterCheck}
-use Rattle.kc_machine_resolving.specs.kc_machine_steps.declared.pass.PassStep.{PassStep}
-use Rattle.kc_machine_resolving.specs.kc_machine_steps.declared.pass.PassStep.TheVariants.{Install, Check, CheckHold, CheckStatus, CheckFirst, CheckDrop, Decide, Release}
-use Rattle.kc_machine_resolving.specs.kc_machine_words.declared.words.Handle.{Handle}
-use Rattle.kc_machine_resolving.specs.kc_machine_words.declared.words.Mode.{Mode}
-use Rattle.kc_machine_resolving.specs.kc_machine_words.declared.words.Phase.{Phase}
-use Rattle.kc_machine_resolving.specs.kc_machine_words.declared.words.Phase.TheVariants.{Active, Succeeded, Failed, Crossed, Halted}
-use Rattle.kc_machine_resolving.specs.kc_machine_words.declared.words.Reference.{Reference}
-use Rattle.kc_machine_resolving.specs.kc_machine_words.declared.words.Status.{Status}
-use Rattle.kc_machine_resolving.specs.kc_machine_steps.declared.pass.AfterCheck.TheVariants as checked
-use Rattle.kc_machine_resolving.specs.kc_machine_steps.declared.aid.AidStep.TheVariants as aid
-use Rattle.kc_machine_resolving.proofs.kc_machine.Functions.{put_here}
-use Rattle.kc_machine_resolving.specs.kc_machine.Machine.{World, State, put, touched, found_at, possible, happened, event_of, seat_of}
-use Rattle.kc_machine_resolving.specs.kc_machine.Seats.{access_of, answer_of, begun, halted}
-use Rattle.kc_machine_resolving.specs.kc_machine.declared.seat.Seat.{Seat}
+use Rattle.kc_machine_history.specs.kc_machine_steps.declared.line.Pick.TheVariants.{Installed, Checked}
+use Rattle.kc_machine_history.specs.kc_machine_steps.declared.pass.AfterCheck.{AfterCheck}
+use Rattle.kc_machine_history.specs.kc_machine_steps.declared.pass.PassStep.{PassStep}
+use Rattle.kc_machine_history.specs.kc_machine_steps.declared.pass.PassStep.TheVariants.{Install, Check, CheckHold, CheckStatus, CheckFirst, CheckDrop, Decide, Release}
+use Rattle.kc_machine_history.specs.kc_machine_words.declared.words.Handle.{Handle}
+use Rattle.kc_machine_history.specs.kc_machine_words.declared.words.Mode.{Mode}
+use Rattle.kc_machine_history.specs.kc_machine_words.declared.words.Phase.{Phase}
+use Rattle.kc_machine_history.specs.kc_machine_words.declared.words.Phase.TheVariants.{Active, Succeeded, Failed, Crossed, Halted}
+use Rattle.kc_machine_history.specs.kc_machine_words.declared.words.Reference.{Reference}
+use Rattle.kc_machine_history.specs.kc_machine_words.declared.words.Status.{Status}
+use Rattle.kc_machine_history.specs.kc_machine_steps.declared.pass.AfterCheck.TheVariants as checked
+use Rattle.kc_machine_history.specs.kc_machine_steps.declared.aid.AidStep.TheVariants as aid
+use Rattle.kc_machine_history.proofs.kc_machine.Functions.{put_here}
+use Rattle.kc_machine_history.specs.kc_machine.Machine.{World, State, put, touched, found_at, possible, happened, event_of, seat_of}
+use Rattle.kc_machine_history.specs.kc_machine.Seats.{access_of, answer_of, begun, halted}
+use Rattle.kc_machine_history.specs.kc_machine.declared.seat.Seat.{Seat}
 use Rattle.kc_machine_answers.proofs.Standing.{Standing, keep, standing_effect}
 use Rattle.kc_machine_answers.specs.Crosses.{crosses, IsCrossed}
 use Rattle.kc_machine_answers.specs.Met.{PassStands}
-use Rattle.kc_machine_resolving.specs.kc_machine_commits.Halts.{halted_pass, halted_aid_pass}
-use Rattle.kc_machine_resolving.proofs.kc_machine_effects.HaltSteps.{halt_path}
-use Rattle.kc_machine_resolving.proofs.kc_machine_effects.Held.{Fits}
-use Rattle.kc_machine_resolving.proofs.kc_machine_effects.SeatSteps.{step_path, begin_path}
-use Rattle.kc_machine_resolving.specs.kc_machine_effects.Changes.{with_word, with_status, held_once_less}
-use Rattle.kc_machine_resolving.specs.kc_machine_effects.Effects
-use Rattle.kc_machine_resolving.specs.kc_machine_effects.Effects.{Path, stay, onward}
-use Rattle.kc_machine_resolving.specs.kc_machine_effects.Holds.{check_hold, held}
-use Rattle.kc_machine_resolving.specs.kc_machine_effects.Stands.{Stand, Turn, At, Meets, Ends, Leaves, Passing, NoPass, Over, stand, turn}
-use Rattle.kc_machine_resolving.proofs.kc_machine_passes.Owing.{released}
-use Rattle.kc_machine_resolving.proofs.kc_machine_pool.Lives.{fitting}
-use Rattle.kc_machine_resolving.proofs.kc_machine_pool.Published.{check_out}
-use Rattle.kc_machine_resolving.proofs.kc_machine_seats.FormedSteps.{FitsAndFormed}
-use Rattle.kc_machine_resolving.specs.kc_machine_steps.Lines.{next_line, after_line, resolved_version}
-use Rattle.kc_machine_resolving.specs.kc_machine_steps.Passes.{status, from_install, install_or_check, from_check, check_or_decide, from_release, release_or_finish, decided_as, check_drop_next, agrees_or_fails}
-use Rattle.kc_machine_resolving.specs.kc_machine_steps.declared.task.Event.{Event}
-use Rattle.kc_machine_resolving.specs.kc_machine_steps.declared.task.Event.TheVariants.{Begin, Step, Halt}
+use Rattle.kc_machine_history.specs.kc_machine_commits.Halts.{halted_pass, halted_aid_pass}
+use Rattle.kc_machine_history.proofs.kc_machine_invariants.HaltSteps.{halt_path}
+use Rattle.kc_machine_history.proofs.kc_machine_invariants.Held.{Fits}
+use Rattle.kc_machine_history.proofs.kc_machine_invariants.SeatSteps.{step_path, begin_path}
+use Rattle.kc_machine_history.specs.kc_machine_invariants.Changes.{with_word, with_status, held_once_less}
+use Rattle.kc_machine_history.specs.kc_machine_invariants.Effects
+use Rattle.kc_machine_history.specs.kc_machine_invariants.Effects.{Path, stay, onward}
+use Rattle.kc_machine_history.specs.kc_machine_invariants.Holds.{check_hold, held}
+use Rattle.kc_machine_history.specs.kc_machine_invariants.Stands.{Stand, Turn, At, Meets, Ends, Leaves, Passing, NoPass, Over, stand, turn}
+use Rattle.kc_machine_history.proofs.kc_machine_traces.Owing.{released}
+use Rattle.kc_machine_history.proofs.kc_machine_invariants.Lives.{fitting}
+use Rattle.kc_machine_history.proofs.kc_machine_invariants.Published.{check_out}
+use Rattle.kc_machine_history.proofs.kc_machine_invariants.FormedSteps.{FitsAndFormed}
+use Rattle.kc_machine_history.specs.kc_machine_steps.Lines.{next_line, after_line, resolved_version}
+use Rattle.kc_machine_history.specs.kc_machine_steps.Passes.{status, from_install, install_or_check, from_check, check_or_decide, from_release, release_or_finish, decided_as, check_drop_next, agrees_or_fails}
+use Rattle.kc_machine_history.specs.kc_machine_steps.declared.task.Event.{Event}
+use Rattle.kc_machine_history.specs.kc_machine_steps.declared.task.Event.TheVariants.{Begin, Step, Halt}
 
 -- what is known where it is: by G, or by the words
 module _ (G : Handle → Mode → List Line → ℕ → Type 0) where

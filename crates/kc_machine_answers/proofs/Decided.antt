@@ -1,54 +1,54 @@
 -- By which event a status becomes Crossed.
-use Rattle.kc_machine_resolving.specs.kc_machine_steps.Swaps.{swap_access_at}
-use Rattle.kc_machine_resolving.specs.kc_machine_steps.declared.swap.SwapStep.{SwapStep}
-use Rattle.kc_machine_resolving.specs.kc_machine_steps.declared.swap.SwapStep.TheVariants as swap
+use Rattle.kc_machine_history.specs.kc_machine_steps.Swaps.{swap_access_at}
+use Rattle.kc_machine_history.specs.kc_machine_steps.declared.swap.SwapStep.{SwapStep}
+use Rattle.kc_machine_history.specs.kc_machine_steps.declared.swap.SwapStep.TheVariants as swap
 use Rattle.std.proofs.Common.{◌≡◌, ◌<◌, ◌⊎◌, inl, inr, ◌∙◌, ℕ, Bool, true, false, List, Option, None, Some, refl, sym, ap, subst, if◌then◌else◌}
 use Rattle.std.specs.Prelude.{slice_get, nat_lt}
 use Rattle.std.proofs.lemmas.Bool.{ltb-true}
-use Rattle.kc_machine_resolving.specs.kc_machine_words.declared.access.Access.{Access}
-use Rattle.kc_machine_resolving.specs.kc_machine_words.declared.words.Handle.{Handle}
-use Rattle.kc_machine_resolving.specs.kc_machine_words.declared.words.Mode.{Mode}
-use Rattle.kc_machine_resolving.specs.kc_machine_words.declared.words.Phase.{Phase}
-use Rattle.kc_machine_resolving.specs.kc_machine_words.declared.words.Phase.TheVariants.{Active, Crossed}
-use Rattle.kc_machine_resolving.specs.kc_machine_words.declared.words.Reference.{Reference}
-use Rattle.kc_machine_resolving.specs.kc_machine_words.declared.words.Status.{Status}
+use Rattle.kc_machine_history.specs.kc_machine_words.declared.access.Access.{Access}
+use Rattle.kc_machine_history.specs.kc_machine_words.declared.words.Handle.{Handle}
+use Rattle.kc_machine_history.specs.kc_machine_words.declared.words.Mode.{Mode}
+use Rattle.kc_machine_history.specs.kc_machine_words.declared.words.Phase.{Phase}
+use Rattle.kc_machine_history.specs.kc_machine_words.declared.words.Phase.TheVariants.{Active, Crossed}
+use Rattle.kc_machine_history.specs.kc_machine_words.declared.words.Reference.{Reference}
+use Rattle.kc_machine_history.specs.kc_machine_words.declared.words.Status.{Status}
 use Rattle.kc_model.specs.declared.footprint.Loc.{Loc}
 use Rattle.kc_model.specs.declared.footprint.Seen.{Seen}
-use Rattle.kc_machine_resolving.specs.kc_machine_words.declared.access.Access.TheVariants as access
-use Rattle.kc_machine_resolving.specs.kc_machine_words.declared.access.Touch.TheVariants as touch
-use Rattle.kc_machine_resolving.specs.kc_machine_steps.declared.aid.AidStep.{AidStep}
+use Rattle.kc_machine_history.specs.kc_machine_words.declared.access.Access.TheVariants as access
+use Rattle.kc_machine_history.specs.kc_machine_words.declared.access.Touch.TheVariants as touch
+use Rattle.kc_machine_history.specs.kc_machine_steps.declared.aid.AidStep.{AidStep}
 use Rattle.kc_model.specs.declared.footprint.Line.{Line}
-use Rattle.kc_machine_resolving.specs.kc_machine_steps.declared.pass.PassStep.{PassStep}
-use Rattle.kc_machine_resolving.specs.kc_machine_steps.declared.pass.PassStep.TheVariants.{Install, Check, CheckHold, CheckStatus, CheckFirst, CheckDrop, Decide, Release}
-use Rattle.kc_machine_resolving.specs.kc_machine_steps.declared.aid.AidStep.TheVariants as aid
-use Rattle.kc_machine_resolving.specs.kc_machine_commits.declared.commit.Commit.{Commit}
-use Rattle.kc_machine_resolving.specs.kc_machine_commits.declared.commit.Stage.{Stage}
-use Rattle.kc_machine_resolving.specs.kc_machine_commits.declared.commit.Stage.TheVariants as stage
-use Rattle.kc_machine_resolving.specs.kc_machine_commits.declared.commit.OwnStep.{OwnStep}
-use Rattle.kc_machine_resolving.specs.kc_machine_commits.declared.commit.OwnStep.TheVariants as own
-use Rattle.kc_machine_resolving.specs.kc_machine_steps.declared.look.LookStep.{LookStep}
-use Rattle.kc_machine_resolving.specs.kc_machine_steps.declared.look.LookStep.TheVariants as look
-use Rattle.kc_machine_resolving.specs.kc_machine.declared.hang.HangStep.{HangStep}
-use Rattle.kc_machine_resolving.specs.kc_machine_commits.Commits.{own_access, stage_access, fill_first, fill_second, wake_access}
-use Rattle.kc_machine_resolving.specs.kc_machine_steps.Aids.{aid_access}
-use Rattle.kc_machine_resolving.specs.kc_machine_steps.Looks.{look_access}
-use Rattle.kc_machine_resolving.specs.kc_machine_steps.Passes.{status, pass_access, install_access, check_access, release_at}
-use Rattle.kc_machine_resolving.specs.kc_machine_steps.declared.task.Event.{Event}
-use Rattle.kc_machine_resolving.specs.kc_machine_steps.declared.task.Event.TheVariants.{Begin, Step, Halt}
-use Rattle.kc_machine_resolving.specs.kc_machine.declared.hang.HangStep.TheVariants as hang
-use Rattle.kc_machine_resolving.specs.kc_machine.declared.hang.LeaveStep.{LeaveStep}
-use Rattle.kc_machine_resolving.specs.kc_machine.declared.hang.LeaveStep.TheVariants as leave
-use Rattle.kc_machine_resolving.specs.kc_machine.Hangs.{hang_access_of, leave_access_at, clear_access, read_of}
-use Rattle.kc_machine_resolving.specs.kc_machine.Works.{Work}
-use Rattle.kc_machine_resolving.specs.kc_machine.Works as work
-use Rattle.kc_machine_resolving.proofs.kc_machine.Functions.{put_cases}
-use Rattle.kc_machine_resolving.specs.kc_machine.Machine.{World, State, put, put_some, touched, found_at, possible, happened, event_of, seat_of}
-use Rattle.kc_machine_resolving.specs.kc_machine.Seats.{access_of, work_access, answer_of}
-use Rattle.kc_machine_resolving.specs.kc_machine.Words.{status_is}
-use Rattle.kc_machine_resolving.specs.kc_machine.declared.seat.Seat.{Seat}
-use Rattle.kc_machine_resolving.proofs.kc_machine_effects.Tests.{status_active}
-use Rattle.kc_machine_resolving.specs.kc_machine_effects.Stands.{Passing, Over, At, stand}
-use Rattle.kc_machine_resolving.proofs.kc_machine_histories.Passes.{aid_pass, own_pass, stage_pass, work_pass, pass_is}
+use Rattle.kc_machine_history.specs.kc_machine_steps.declared.pass.PassStep.{PassStep}
+use Rattle.kc_machine_history.specs.kc_machine_steps.declared.pass.PassStep.TheVariants.{Install, Check, CheckHold, CheckStatus, CheckFirst, CheckDrop, Decide, Release}
+use Rattle.kc_machine_history.specs.kc_machine_steps.declared.aid.AidStep.TheVariants as aid
+use Rattle.kc_machine_history.specs.kc_machine_commits.declared.commit.Commit.{Commit}
+use Rattle.kc_machine_history.specs.kc_machine_commits.declared.commit.Stage.{Stage}
+use Rattle.kc_machine_history.specs.kc_machine_commits.declared.commit.Stage.TheVariants as stage
+use Rattle.kc_machine_history.specs.kc_machine_commits.declared.commit.OwnStep.{OwnStep}
+use Rattle.kc_machine_history.specs.kc_machine_commits.declared.commit.OwnStep.TheVariants as own
+use Rattle.kc_machine_history.specs.kc_machine_steps.declared.look.LookStep.{LookStep}
+use Rattle.kc_machine_history.specs.kc_machine_steps.declared.look.LookStep.TheVariants as look
+use Rattle.kc_machine_history.specs.kc_machine.declared.hang.HangStep.{HangStep}
+use Rattle.kc_machine_history.specs.kc_machine_commits.Commits.{own_access, stage_access, fill_first, fill_second, wake_access}
+use Rattle.kc_machine_history.specs.kc_machine_steps.Aids.{aid_access}
+use Rattle.kc_machine_history.specs.kc_machine_steps.Looks.{look_access}
+use Rattle.kc_machine_history.specs.kc_machine_steps.Passes.{status, pass_access, install_access, check_access, release_at}
+use Rattle.kc_machine_history.specs.kc_machine_steps.declared.task.Event.{Event}
+use Rattle.kc_machine_history.specs.kc_machine_steps.declared.task.Event.TheVariants.{Begin, Step, Halt}
+use Rattle.kc_machine_history.specs.kc_machine.declared.hang.HangStep.TheVariants as hang
+use Rattle.kc_machine_history.specs.kc_machine.declared.hang.LeaveStep.{LeaveStep}
+use Rattle.kc_machine_history.specs.kc_machine.declared.hang.LeaveStep.TheVariants as leave
+use Rattle.kc_machine_history.specs.kc_machine.Hangs.{hang_access_of, leave_access_at, clear_access, read_of}
+use Rattle.kc_machine_history.specs.kc_machine.Works.{Work}
+use Rattle.kc_machine_history.specs.kc_machine.Works as work
+use Rattle.kc_machine_history.proofs.kc_machine.Functions.{put_cases}
+use Rattle.kc_machine_history.specs.kc_machine.Machine.{World, State, put, put_some, touched, found_at, possible, happened, event_of, seat_of}
+use Rattle.kc_machine_history.specs.kc_machine.Seats.{access_of, work_access, answer_of}
+use Rattle.kc_machine_history.specs.kc_machine.Words.{status_is}
+use Rattle.kc_machine_history.specs.kc_machine.declared.seat.Seat.{Seat}
+use Rattle.kc_machine_history.proofs.kc_machine_invariants.Tests.{status_active}
+use Rattle.kc_machine_history.specs.kc_machine_invariants.Stands.{Passing, Over, At, stand}
+use Rattle.kc_machine_history.proofs.Passes.{aid_pass, own_pass, stage_pass, work_pass, pass_is}
 
 -- a status is stored Active, or changed by a pass that decides
 pub record ByPass (x : Passing) (d : ℕ) (old new : Status) : Type 0 where

@@ -1,69 +1,69 @@
 -- A task that is told Halted was halted.
-use Rattle.kc_machine_resolving.specs.kc_machine_words.declared.access.Found.TheVariants as found
+use Rattle.kc_machine_history.specs.kc_machine_words.declared.access.Found.TheVariants as found
 use Rattle.kc_model.specs.declared.word.Word.TheVariants.{Plain, Ref}
-use Rattle.kc_machine_resolving.specs.kc_machine_steps.Swaps.{onward_of as onward_of_swap, owed_next as swap_owed_next, exchange_next, may_swap, swap_next_at, swap_onward}
-use Rattle.kc_machine_resolving.specs.kc_machine_steps.declared.swap.SwapNext.{SwapNext}
-use Rattle.kc_machine_resolving.specs.kc_machine_steps.declared.swap.SwapNext.TheVariants as swapping
-use Rattle.kc_machine_resolving.specs.kc_machine_steps.declared.swap.SwapStep.{SwapStep}
-use Rattle.kc_machine_resolving.specs.kc_machine_steps.declared.swap.SwapStep.TheVariants as swap
+use Rattle.kc_machine_history.specs.kc_machine_steps.Swaps.{onward_of as onward_of_swap, owed_next as swap_owed_next, exchange_next, may_swap, swap_next_at, swap_onward}
+use Rattle.kc_machine_history.specs.kc_machine_steps.declared.swap.SwapNext.{SwapNext}
+use Rattle.kc_machine_history.specs.kc_machine_steps.declared.swap.SwapNext.TheVariants as swapping
+use Rattle.kc_machine_history.specs.kc_machine_steps.declared.swap.SwapStep.{SwapStep}
+use Rattle.kc_machine_history.specs.kc_machine_steps.declared.swap.SwapStep.TheVariants as swap
 use Rattle.std.proofs.Common.{◌≢◌, arith, ◌≡◌, ◌<◌, ◌⊎◌, inl, inr, ⊎_elim, ◌∙◌, ◌++◌, ◌==◌, ℕ, zero, suc, Bool, true, false, List, [], ◌∷◌, length, Option, None, Some, refl, sym, ap, subst, if◌then◌else◌, bit_and, ◌-◌, ◌&&◌}
 use Rattle.std.specs.Prelude.{slice_get}
 use borrow.Author.Tests.{eqb-true, eqb-false}
-use Rattle.kc_machine_resolving.specs.kc_machine_steps.declared.task.Task.{Task}
-use Rattle.kc_machine_resolving.specs.kc_machine_words.declared.access.Found.{Found}
-use Rattle.kc_machine_resolving.specs.kc_machine_words.declared.words.Handle.{Handle}
-use Rattle.kc_machine_resolving.specs.kc_machine_words.declared.words.Phase.{Phase}
-use Rattle.kc_machine_resolving.specs.kc_machine_words.declared.words.Phase.TheVariants.{Active, Succeeded, Failed, Crossed, Halted}
+use Rattle.kc_machine_history.specs.kc_machine_steps.declared.task.Task.{Task}
+use Rattle.kc_machine_history.specs.kc_machine_words.declared.access.Found.{Found}
+use Rattle.kc_machine_history.specs.kc_machine_words.declared.words.Handle.{Handle}
+use Rattle.kc_machine_history.specs.kc_machine_words.declared.words.Phase.{Phase}
+use Rattle.kc_machine_history.specs.kc_machine_words.declared.words.Phase.TheVariants.{Active, Succeeded, Failed, Crossed, Halted}
 use Rattle.kc_model.specs.declared.footprint.Seen.{Seen}
-use Rattle.kc_machine_resolving.specs.kc_machine_steps.declared.task.Task.TheVariants as task
-use Rattle.kc_machine_resolving.specs.kc_machine_steps.declared.task.Told.{Told}
-use Rattle.kc_machine_resolving.specs.kc_machine_steps.declared.task.Told.TheVariants as told
-use Rattle.kc_machine_resolving.specs.kc_machine_steps.declared.task.Onward.{Onward}
-use Rattle.kc_machine_resolving.specs.kc_machine_steps.declared.task.Onward.TheVariants as onward
-use Rattle.kc_machine_resolving.specs.kc_machine_steps.declared.look.Look.{Look}
-use Rattle.kc_machine_resolving.specs.kc_machine_steps.declared.look.LookNext.{LookNext}
-use Rattle.kc_machine_resolving.specs.kc_machine_steps.declared.task.Event.{Event}
-use Rattle.kc_machine_resolving.specs.kc_machine_steps.declared.task.Event.TheVariants.{Begin, Step, Halt}
-use Rattle.kc_machine_resolving.specs.kc_machine_steps.declared.look.LookNext.TheVariants as looking
-use Rattle.kc_machine_resolving.specs.kc_machine_commits.declared.commit.Commit.{Commit}
-use Rattle.kc_machine_resolving.specs.kc_machine_commits.declared.commit.OwnStep.{OwnStep}
-use Rattle.kc_machine_resolving.specs.kc_machine_commits.declared.commit.Stage.{Stage}
-use Rattle.kc_machine_resolving.specs.kc_machine_commits.declared.commit.Stage.TheVariants.{Scan, Take, Own}
-use Rattle.kc_machine_resolving.specs.kc_machine_commits.declared.commit.OwnStep.TheVariants as own
-use Rattle.kc_machine_resolving.specs.kc_machine_commits.Nexts.{Next}
-use Rattle.kc_machine_resolving.specs.kc_machine_steps.Lines.{after_line}
-use Rattle.kc_machine_resolving.specs.kc_machine_commits.Nexts as next
-use Rattle.kc_machine_resolving.specs.kc_machine.declared.hang.HangStep.{HangStep}
-use Rattle.kc_machine_resolving.specs.kc_machine_commits.Commits.{told_of, loaded, gone_on, onward_by, stage_next, commit_next, commit_onward, commit_after}
-use Rattle.kc_machine_resolving.specs.kc_machine_steps.Looks.{look_next, looks_on, told_by, look_tells, look_after}
-use Rattle.kc_machine_resolving.specs.kc_machine.declared.hang.HangStep.TheVariants as hang
-use Rattle.kc_machine_resolving.specs.kc_machine.declared.hang.HangNext.{HangNext}
-use Rattle.kc_machine_resolving.specs.kc_machine.declared.hang.HangNext.TheVariants as hanging_on
-use Rattle.kc_machine_resolving.specs.kc_machine.Hangs.{after_set, look_or_end, looked, look_goes_on, look_of, clear_or_changed, hang_next, onward_of, hang_onward, unblocks_or_tells, leave_onward}
-use Rattle.kc_machine_resolving.specs.kc_machine.Works.{Work}
-use Rattle.kc_machine_resolving.specs.kc_machine.Works as work
-use Rattle.kc_machine_resolving.proofs.kc_machine.Functions.{put_here}
-use Rattle.kc_machine_resolving.specs.kc_machine.Machine.{State, Opening, event_of, seat_of, run}
-use Rattle.kc_machine_resolving.specs.kc_machine.Seats.{is_idle, after, answer_by, answer_of, begun, begun_idle, working, hanging}
-use Rattle.kc_machine_resolving.specs.kc_machine.declared.seat.Seat.{Seat}
+use Rattle.kc_machine_history.specs.kc_machine_steps.declared.task.Task.TheVariants as task
+use Rattle.kc_machine_history.specs.kc_machine_steps.declared.task.Told.{Told}
+use Rattle.kc_machine_history.specs.kc_machine_steps.declared.task.Told.TheVariants as told
+use Rattle.kc_machine_history.specs.kc_machine_steps.declared.task.Onward.{Onward}
+use Rattle.kc_machine_history.specs.kc_machine_steps.declared.task.Onward.TheVariants as onward
+use Rattle.kc_machine_history.specs.kc_machine_steps.declared.look.Look.{Look}
+use Rattle.kc_machine_history.specs.kc_machine_steps.declared.look.LookNext.{LookNext}
+use Rattle.kc_machine_history.specs.kc_machine_steps.declared.task.Event.{Event}
+use Rattle.kc_machine_history.specs.kc_machine_steps.declared.task.Event.TheVariants.{Begin, Step, Halt}
+use Rattle.kc_machine_history.specs.kc_machine_steps.declared.look.LookNext.TheVariants as looking
+use Rattle.kc_machine_history.specs.kc_machine_commits.declared.commit.Commit.{Commit}
+use Rattle.kc_machine_history.specs.kc_machine_commits.declared.commit.OwnStep.{OwnStep}
+use Rattle.kc_machine_history.specs.kc_machine_commits.declared.commit.Stage.{Stage}
+use Rattle.kc_machine_history.specs.kc_machine_commits.declared.commit.Stage.TheVariants.{Scan, Take, Own}
+use Rattle.kc_machine_history.specs.kc_machine_commits.declared.commit.OwnStep.TheVariants as own
+use Rattle.kc_machine_history.specs.kc_machine_commits.Nexts.{Next}
+use Rattle.kc_machine_history.specs.kc_machine_steps.Lines.{after_line}
+use Rattle.kc_machine_history.specs.kc_machine_commits.Nexts as next
+use Rattle.kc_machine_history.specs.kc_machine.declared.hang.HangStep.{HangStep}
+use Rattle.kc_machine_history.specs.kc_machine_commits.Commits.{told_of, loaded, gone_on, onward_by, stage_next, commit_next, commit_onward, commit_after}
+use Rattle.kc_machine_history.specs.kc_machine_steps.Looks.{look_next, looks_on, told_by, look_tells, look_after}
+use Rattle.kc_machine_history.specs.kc_machine.declared.hang.HangStep.TheVariants as hang
+use Rattle.kc_machine_history.specs.kc_machine.declared.hang.HangNext.{HangNext}
+use Rattle.kc_machine_history.specs.kc_machine.declared.hang.HangNext.TheVariants as hanging_on
+use Rattle.kc_machine_history.specs.kc_machine.Hangs.{after_set, look_or_end, looked, look_goes_on, look_of, clear_or_changed, hang_next, onward_of, hang_onward, unblocks_or_tells, leave_onward}
+use Rattle.kc_machine_history.specs.kc_machine.Works.{Work}
+use Rattle.kc_machine_history.specs.kc_machine.Works as work
+use Rattle.kc_machine_history.proofs.kc_machine.Functions.{put_here}
+use Rattle.kc_machine_history.specs.kc_machine.Machine.{State, Opening, event_of, seat_of, run}
+use Rattle.kc_machine_history.specs.kc_machine.Seats.{is_idle, after, answer_by, answer_of, begun, begun_idle, working, hanging}
+use Rattle.kc_machine_history.specs.kc_machine.declared.seat.Seat.{Seat}
 use Rattle.kc_machine_answers.specs.Causes.{WasHalted, HaltsHaveACause, is_marked}
-use Rattle.kc_machine_resolving.specs.kc_machine_claims.Traces.{Moment}
-use Rattle.kc_machine_resolving.specs.kc_machine_effects.Holds.{own_hold}
-use Rattle.kc_machine_resolving.specs.kc_machine_effects.Stands.{Stand, Owns, stand, works, resting, commits}
-use Rattle.kc_machine_resolving.proofs.kc_machine_histories.Successes.{Stays, Starts, moves}
-use Rattle.kc_machine_resolving.specs.kc_machine_histories.Places.{began}
-use Rattle.kc_machine_resolving.proofs.kc_machine_passes.Always.{halted_owners}
-use Rattle.kc_machine_resolving.proofs.kc_machine_pool.LifeLaws.{phase_known}
-use Rattle.kc_machine_resolving.specs.kc_machine_pool.Owners.{phase_read}
-use Rattle.kc_machine_resolving.proofs.kc_machine_seats.FitSeats.{fit_always}
-use Rattle.kc_machine_resolving.proofs.kc_machine_seats.FormedSteps.{formed_always}
-use Rattle.kc_machine_resolving.proofs.kc_machine_seats.Searches.{scanned, taken}
-use Rattle.kc_machine_resolving.specs.kc_machine_seats.Fits.{StageFits, WorkFits}
-use Rattle.kc_machine_resolving.specs.kc_machine_seats.Formed.{StageIsFormed, WorkIsFormed}
-use Rattle.kc_machine_resolving.proofs.kc_machine_traces.Answers.{seat_cases}
-use Rattle.kc_machine_resolving.proofs.kc_machine_traces.Joins.{run-append, every}
-use Rattle.kc_machine_resolving.proofs.kc_machine_traces.Moments.{begun_moment}
-use Rattle.kc_machine_resolving.proofs.kc_machine_traces.Others.{run_shape, event_in, event_else}
+use Rattle.kc_machine_history.specs.kc_machine_traces.Traces.{Moment}
+use Rattle.kc_machine_history.specs.kc_machine_invariants.Holds.{own_hold}
+use Rattle.kc_machine_history.specs.kc_machine_invariants.Stands.{Stand, Owns, stand, works, resting, commits}
+use Rattle.kc_machine_history.proofs.Successes.{Stays, Starts, moves}
+use Rattle.kc_machine_history.specs.Places.{began}
+use Rattle.kc_machine_history.proofs.kc_machine_traces.Always.{halted_owners}
+use Rattle.kc_machine_history.proofs.kc_machine_invariants.LifeLaws.{phase_known}
+use Rattle.kc_machine_history.specs.kc_machine_invariants.Owners.{phase_read}
+use Rattle.kc_machine_history.proofs.kc_machine_invariants.FitSeats.{fit_always}
+use Rattle.kc_machine_history.proofs.kc_machine_invariants.FormedSteps.{formed_always}
+use Rattle.kc_machine_history.proofs.kc_machine_invariants.Searches.{scanned, taken}
+use Rattle.kc_machine_history.specs.kc_machine_invariants.Fits.{StageFits, WorkFits}
+use Rattle.kc_machine_history.specs.kc_machine_invariants.Formed.{StageIsFormed, WorkIsFormed}
+use Rattle.kc_machine_history.proofs.kc_machine_traces.Answers.{seat_cases}
+use Rattle.kc_machine_history.proofs.kc_machine_traces.Joins.{run-append, every}
+use Rattle.kc_machine_history.proofs.kc_machine_traces.Moments.{begun_moment}
+use Rattle.kc_machine_history.proofs.kc_machine_traces.Others.{run_shape, event_in, event_else}
 
 -- ---- a seat whose task was halted, or told so
 

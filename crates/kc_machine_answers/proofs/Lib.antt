@@ -1,3 +1,24 @@
+pub mod Lives
+pub mod Looking
+pub mod Knowing
+pub mod Going
+pub mod Hanging
+pub mod Stepping
+pub mod Turning
+pub mod Events
+pub mod Stood
+pub mod Bits
+pub mod Owns
+pub mod Hearing
+pub mod Wakes
+pub mod Covering
+pub mod Listening
+pub mod Always
+pub mod Blocked
+pub mod Silence
+pub mod Freed
+pub mod HungTold
+pub mod Hung
 pub mod Alone
 pub mod Puts
 pub mod Others
@@ -9,12 +30,7 @@ pub mod Crossed
 pub mod Decided
 pub mod Told
 pub mod Asked
-pub use Rattle.kc_machine_resolving.proofs.kc_machine as kc_machine
-pub use Rattle.kc_machine_resolving.proofs.kc_machine_claims as kc_machine_claims
-pub use Rattle.kc_machine_resolving.proofs.kc_machine_effects as kc_machine_effects
-pub use Rattle.kc_machine_resolving.proofs.kc_machine_histories as kc_machine_histories
-pub use Rattle.kc_machine_resolving.proofs.kc_machine_passes as kc_machine_passes
-pub use Rattle.kc_machine_resolving.proofs.kc_machine_pool as kc_machine_pool
-pub use Rattle.kc_machine_resolving.proofs.kc_machine_ranges as kc_machine_ranges
-pub use Rattle.kc_machine_resolving.proofs.kc_machine_seats as kc_machine_seats
-pub use Rattle.kc_machine_resolving.proofs.kc_machine_traces as kc_machine_traces
+pub use Rattle.kc_machine_history.proofs.kc_machine as kc_machine
+pub use Rattle.kc_machine_history.proofs as kc_machine_history
+pub use Rattle.kc_machine_history.proofs.kc_machine_invariants as kc_machine_invariants
+pub use Rattle.kc_machine_history.proofs.kc_machine_traces as kc_machine_traces

@@ -2,24 +2,24 @@
 use Rattle.std.proofs.Common.{arith, ◌≡◌, ◌≢◌, ◌<◌, ◌⊎◌, inl, inr, ⊎_elim, ◌∙◌, ◌==◌, ℕ, Bool, true, false, List, Some, refl, sym, ap, subst}
 use Rattle.std.specs.Prelude.{slice_get, nat_lt}
 use borrow.Author.Tests.{eqb-true, eqb-false, ltb-true, ltb-false}
-use Rattle.kc_machine_resolving.specs.kc_machine.Machine.{Opening, run}
-use Rattle.kc_machine_resolving.specs.kc_machine.Schedules.{IsSchedule}
+use Rattle.kc_machine_history.specs.kc_machine.Machine.{Opening, run}
+use Rattle.kc_machine_history.specs.kc_machine.Schedules.{IsSchedule}
 use Rattle.kc_machine_answers.proofs.Puts.{lower}
 use Rattle.kc_machine_answers.proofs.Standing.{standing, met_stands}
 use Rattle.kc_machine_answers.specs.Met.{PassStands, ChecksMeetOthers}
-use Rattle.kc_machine_resolving.proofs.kc_machine_effects.Tests.{some_line}
-use Rattle.kc_machine_resolving.specs.kc_machine_effects.Stands.{At, stand}
-use Rattle.kc_machine_resolving.proofs.kc_machine_passes.Always.{references_fit}
-use Rattle.kc_machine_resolving.proofs.kc_machine_passes.Owing.{named}
-use Rattle.kc_machine_resolving.proofs.kc_machine_passes.Targets.{course}
-use Rattle.kc_machine_resolving.proofs.kc_machine_passes.Words.{over_made}
-use Rattle.kc_machine_resolving.specs.kc_machine_passes.Lines.{IsInstalledLine}
-use Rattle.kc_machine_resolving.proofs.kc_machine_pool.Shapes.{goes_over}
-use Rattle.kc_machine_resolving.specs.kc_machine_steps.Lines.{is_installed}
+use Rattle.kc_machine_history.proofs.kc_machine_invariants.Tests.{some_line}
+use Rattle.kc_machine_history.specs.kc_machine_invariants.Stands.{At, stand}
+use Rattle.kc_machine_history.proofs.kc_machine_traces.Always.{references_fit}
+use Rattle.kc_machine_history.proofs.kc_machine_traces.Owing.{named}
+use Rattle.kc_machine_history.proofs.kc_machine_traces.Targets.{course}
+use Rattle.kc_machine_history.proofs.kc_machine_traces.PassWords.{over_made}
+use Rattle.kc_machine_history.specs.kc_machine_traces.Lines.{IsInstalledLine}
+use Rattle.kc_machine_history.proofs.kc_machine_invariants.Shapes.{goes_over}
+use Rattle.kc_machine_history.specs.kc_machine_steps.Lines.{is_installed}
 use Rattle.kc_model.specs.declared.footprint.Line.{Line}
-use Rattle.kc_machine_resolving.specs.kc_machine_steps.declared.pass.PassStep.TheVariants.{CheckStatus}
-use Rattle.kc_machine_resolving.specs.kc_machine_steps.declared.task.Event.{Event}
-use Rattle.kc_machine_resolving.specs.kc_machine_words.declared.words.Handle.{Handle}
+use Rattle.kc_machine_history.specs.kc_machine_steps.declared.pass.PassStep.TheVariants.{CheckStatus}
+use Rattle.kc_machine_history.specs.kc_machine_steps.declared.task.Event.{Event}
+use Rattle.kc_machine_history.specs.kc_machine_words.declared.words.Handle.{Handle}
 
 pub meet_others : (o : Opening) (es : List Event) → IsSchedule o es → ChecksMeetOthers (run o es)
 meet_others o es made j i h mode xs r l over act same =

@@ -6,47 +6,47 @@ use Rattle.std.proofs.lemmas.Option.{slice_get_past}
 use Rattle.std.proofs.lemmas.List.Elements.{All-contains}
 use Rattle.std.proofs.lemmas.Bool.{lt-ltb}
 use borrow.Author.Tests.{eq-eqb, ltb-true}
-use Rattle.kc_machine_resolving.specs.kc_machine_words.declared.access.Touch.TheVariants.{CompareExchange}
-use Rattle.kc_machine_resolving.specs.kc_machine_words.declared.words.Handle.{Handle}
-use Rattle.kc_machine_resolving.specs.kc_machine_words.declared.words.Mode.{Mode}
-use Rattle.kc_machine_resolving.specs.kc_machine_words.declared.words.Phase.TheVariants.{Active, Succeeded, Failed}
+use Rattle.kc_machine_history.specs.kc_machine_words.declared.access.Touch.TheVariants.{CompareExchange}
+use Rattle.kc_machine_history.specs.kc_machine_words.declared.words.Handle.{Handle}
+use Rattle.kc_machine_history.specs.kc_machine_words.declared.words.Mode.{Mode}
+use Rattle.kc_machine_history.specs.kc_machine_words.declared.words.Phase.TheVariants.{Active, Succeeded, Failed}
 use Rattle.kc_model.specs.Rising.{IsRising}
 use Rattle.kc_model.specs.declared.word.Word.{Word}
 use Rattle.kc_model.specs.declared.word.Word.TheVariants.{Plain}
-use Rattle.kc_machine_resolving.specs.kc_machine_words.declared.access.Found.TheVariants as found
-use Rattle.kc_machine_resolving.specs.kc_machine_steps.declared.aid.Aided.{Aided}
-use Rattle.kc_machine_resolving.specs.kc_machine_steps.declared.line.Intent.{Intent}
+use Rattle.kc_machine_history.specs.kc_machine_words.declared.access.Found.TheVariants as found
+use Rattle.kc_machine_history.specs.kc_machine_steps.declared.aid.Aided.{Aided}
+use Rattle.kc_machine_history.specs.kc_machine_steps.declared.line.Intent.{Intent}
 use Rattle.kc_model.specs.declared.footprint.Line.{Line}
 use Rattle.kc_model.specs.declared.footprint.TheConstants.{MOST}
-use Rattle.kc_machine_resolving.specs.kc_machine_steps.declared.line.Pick.TheVariants.{Installed, Checked}
-use Rattle.kc_machine_resolving.specs.kc_machine_steps.declared.pass.PassStep.TheVariants.{Install, Decide}
-use Rattle.kc_machine_resolving.specs.kc_machine_steps.declared.pass.PassNext.TheVariants as pass
-use Rattle.kc_machine_resolving.specs.kc_machine_commits.declared.commit.OwnStep.TheVariants as own
-use Rattle.kc_machine_resolving.proofs.kc_machine.Functions.{put_here, put_else}
-use Rattle.kc_machine_resolving.specs.kc_machine.Machine.{State, Opening, put, put_some, touched, found_at, possible, event_of, run, run_from}
-use Rattle.kc_machine_resolving.specs.kc_machine.Schedules.{IsSchedule}
-use Rattle.kc_machine_resolving.specs.kc_machine.Seats.{access_of, is_idle}
-use Rattle.kc_machine_resolving.specs.kc_machine.Words.{stored_word, stored_status}
-use Rattle.kc_machine_resolving.specs.kc_machine.declared.seat.Seat.{Seat}
+use Rattle.kc_machine_history.specs.kc_machine_steps.declared.line.Pick.TheVariants.{Installed, Checked}
+use Rattle.kc_machine_history.specs.kc_machine_steps.declared.pass.PassStep.TheVariants.{Install, Decide}
+use Rattle.kc_machine_history.specs.kc_machine_steps.declared.pass.PassNext.TheVariants as pass
+use Rattle.kc_machine_history.specs.kc_machine_commits.declared.commit.OwnStep.TheVariants as own
+use Rattle.kc_machine_history.proofs.kc_machine.Functions.{put_here, put_else}
+use Rattle.kc_machine_history.specs.kc_machine.Machine.{State, Opening, put, put_some, touched, found_at, possible, event_of, run, run_from}
+use Rattle.kc_machine_history.specs.kc_machine.Schedules.{IsSchedule}
+use Rattle.kc_machine_history.specs.kc_machine.Seats.{access_of, is_idle}
+use Rattle.kc_machine_history.specs.kc_machine.Words.{stored_word, stored_status}
+use Rattle.kc_machine_history.specs.kc_machine.declared.seat.Seat.{Seat}
 use Rattle.kc_machine_answers.proofs.Alone.{at_step, made, step_is, before_start}
-use Rattle.kc_machine_resolving.specs.kc_machine_claims.Claims.{PutsCostOneEach, PutsWhereItStands, steps, compares, comparing}
-use Rattle.kc_machine_resolving.specs.kc_machine_commits.Commits.{after_own_pass}
-use Rattle.kc_machine_resolving.specs.kc_machine_effects.Changes.{with_word, with_status}
-use Rattle.kc_machine_resolving.proofs.kc_machine_histories.Filters.{found as among}
-use Rattle.kc_machine_resolving.proofs.kc_machine_histories.Footprints.{later_above, rest_rises}
-use Rattle.kc_machine_resolving.proofs.kc_machine_histories.Growing.{puts_installed}
-use Rattle.kc_machine_resolving.proofs.kc_machine_pool.Filled.{is_there}
-use Rattle.kc_machine_resolving.proofs.kc_machine_ranges.Runs.{steps_possible}
-use Rattle.kc_machine_resolving.proofs.kc_machine_seats.MadeSteps.{intents_made}
-use Rattle.kc_machine_resolving.proofs.kc_machine_seats.Searches.{IsPicked, next_fits}
-use Rattle.kc_machine_resolving.specs.kc_machine_seats.Made.{IsWellMadeIntent, IsWellMadeLine, IntentIsMade, line_location}
-use Rattle.kc_machine_resolving.proofs.kc_machine_steps.Lines.{next_here, picked_yes}
-use Rattle.kc_machine_resolving.specs.kc_machine_steps.Lines.{has_put, is_installed, picked, next_among, next_line, after_line, word_of}
-use Rattle.kc_machine_resolving.specs.kc_machine_steps.Passes.{status, from_install, install_or_check, check_or_decide, install_access, install_found}
-use Rattle.kc_machine_resolving.specs.kc_machine_steps.declared.task.Event.{Event}
-use Rattle.kc_machine_resolving.specs.kc_machine_steps.declared.task.Event.TheVariants.{Step}
-use Rattle.kc_machine_resolving.proofs.kc_machine_traces.Joins.{run-append}
-use Rattle.kc_machine_resolving.proofs.kc_machine_traces.Others.{run_shape}
+use Rattle.kc_machine_history.specs.kc_machine_traces.Claims.{PutsCostOneEach, PutsWhereItStands, steps, compares, comparing}
+use Rattle.kc_machine_history.specs.kc_machine_commits.Commits.{after_own_pass}
+use Rattle.kc_machine_history.specs.kc_machine_invariants.Changes.{with_word, with_status}
+use Rattle.kc_machine_history.proofs.Filters.{found as among}
+use Rattle.kc_machine_history.proofs.Footprints.{later_above, rest_rises}
+use Rattle.kc_machine_history.proofs.Growing.{puts_installed}
+use Rattle.kc_machine_history.proofs.kc_machine_invariants.Filled.{is_there}
+use Rattle.kc_machine_history.proofs.kc_machine_traces.Runs.{steps_possible}
+use Rattle.kc_machine_history.proofs.kc_machine_invariants.MadeSteps.{intents_made}
+use Rattle.kc_machine_history.proofs.kc_machine_invariants.Searches.{IsPicked, next_fits}
+use Rattle.kc_machine_history.specs.kc_machine_invariants.Made.{IsWellMadeIntent, IsWellMadeLine, IntentIsMade, line_location}
+use Rattle.kc_machine_history.proofs.kc_machine_steps.Lines.{next_here, picked_yes}
+use Rattle.kc_machine_history.specs.kc_machine_steps.Lines.{has_put, is_installed, picked, next_among, next_line, after_line, word_of}
+use Rattle.kc_machine_history.specs.kc_machine_steps.Passes.{status, from_install, install_or_check, check_or_decide, install_access, install_found}
+use Rattle.kc_machine_history.specs.kc_machine_steps.declared.task.Event.{Event}
+use Rattle.kc_machine_history.specs.kc_machine_steps.declared.task.Event.TheVariants.{Step}
+use Rattle.kc_machine_history.proofs.kc_machine_traces.Joins.{run-append}
+use Rattle.kc_machine_history.proofs.kc_machine_traces.Others.{run_shape}
 
 -- ---- lines that rise are of different locations
 

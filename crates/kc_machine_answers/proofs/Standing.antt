@@ -2,44 +2,44 @@
 use Rattle.std.proofs.Common.{arith, ◌≡◌, ◌<◌, ◌≤◌, ◌⊎◌, inl, inr, ◌∙◌, ℕ, Bool, true, false, not, List, Option, None, Some, refl, sym, ap, subst}
 use Rattle.std.specs.Prelude.{slice_get}
 use Rattle.kc_model.specs.declared.footprint.Line.{Line}
-use Rattle.kc_machine_resolving.specs.kc_machine_steps.declared.line.Pick.TheVariants.{Installed, Checked}
-use Rattle.kc_machine_resolving.specs.kc_machine_steps.declared.pass.AfterCheck.{AfterCheck}
-use Rattle.kc_machine_resolving.specs.kc_machine_steps.declared.pass.PassStep.{PassStep}
-use Rattle.kc_machine_resolving.specs.kc_machine_steps.declared.pass.PassStep.TheVariants.{Install, Check, CheckHold, CheckStatus, CheckFirst, CheckDrop, Decide, Release}
-use Rattle.kc_machine_resolving.specs.kc_machine_words.declared.words.Handle.{Handle}
-use Rattle.kc_machine_resolving.specs.kc_machine_words.declared.words.Mode.{Mode}
-use Rattle.kc_machine_resolving.specs.kc_machine_words.declared.words.Phase.{Phase}
-use Rattle.kc_machine_resolving.specs.kc_machine_words.declared.words.Phase.TheVariants.{Active, Succeeded, Halted}
-use Rattle.kc_machine_resolving.specs.kc_machine_words.declared.words.Reference.{Reference}
-use Rattle.kc_machine_resolving.specs.kc_machine_words.declared.words.Status.{Status}
+use Rattle.kc_machine_history.specs.kc_machine_steps.declared.line.Pick.TheVariants.{Installed, Checked}
+use Rattle.kc_machine_history.specs.kc_machine_steps.declared.pass.AfterCheck.{AfterCheck}
+use Rattle.kc_machine_history.specs.kc_machine_steps.declared.pass.PassStep.{PassStep}
+use Rattle.kc_machine_history.specs.kc_machine_steps.declared.pass.PassStep.TheVariants.{Install, Check, CheckHold, CheckStatus, CheckFirst, CheckDrop, Decide, Release}
+use Rattle.kc_machine_history.specs.kc_machine_words.declared.words.Handle.{Handle}
+use Rattle.kc_machine_history.specs.kc_machine_words.declared.words.Mode.{Mode}
+use Rattle.kc_machine_history.specs.kc_machine_words.declared.words.Phase.{Phase}
+use Rattle.kc_machine_history.specs.kc_machine_words.declared.words.Phase.TheVariants.{Active, Succeeded, Halted}
+use Rattle.kc_machine_history.specs.kc_machine_words.declared.words.Reference.{Reference}
+use Rattle.kc_machine_history.specs.kc_machine_words.declared.words.Status.{Status}
 use Rattle.kc_model.specs.declared.word.Word.TheVariants.{Ref}
-use Rattle.kc_machine_resolving.specs.kc_machine_steps.declared.pass.AfterCheck.TheVariants as checked
-use Rattle.kc_machine_resolving.specs.kc_machine_steps.declared.aid.AidStep.TheVariants as aid
-use Rattle.kc_machine_resolving.specs.kc_machine_commits.declared.commit.OwnStep.TheVariants as own
-use Rattle.kc_machine_resolving.proofs.kc_machine.Functions.{put_cases}
-use Rattle.kc_machine_resolving.specs.kc_machine.Machine.{World, Opening, run, put}
+use Rattle.kc_machine_history.specs.kc_machine_steps.declared.pass.AfterCheck.TheVariants as checked
+use Rattle.kc_machine_history.specs.kc_machine_steps.declared.aid.AidStep.TheVariants as aid
+use Rattle.kc_machine_history.specs.kc_machine_commits.declared.commit.OwnStep.TheVariants as own
+use Rattle.kc_machine_history.proofs.kc_machine.Functions.{put_cases}
+use Rattle.kc_machine_history.specs.kc_machine.Machine.{World, Opening, run, put}
 use Rattle.kc_machine_answers.specs.Met.{StandsIfActive, StepStands, TurnStands, PassStands, MetReferencesStand}
-use Rattle.kc_machine_resolving.specs.kc_machine_commits.Halts.{halted_pass, halted_aid_pass}
-use Rattle.kc_machine_resolving.proofs.kc_machine_effects.Runs.{holds_after}
-use Rattle.kc_machine_resolving.proofs.kc_machine_effects.Tests.{some_line}
-use Rattle.kc_machine_resolving.specs.kc_machine_effects.Changes.{with_word, with_status, held_once_less}
-use Rattle.kc_machine_resolving.specs.kc_machine_effects.Effects
-use Rattle.kc_machine_resolving.specs.kc_machine_effects.Stands.{Stand, Owns, At, Meets, Ends, Leaves, Passing, NoPass, Over, stand, turn}
-use Rattle.kc_machine_resolving.proofs.kc_machine_passes.Always.{opened_facts}
-use Rattle.kc_machine_resolving.proofs.kc_machine_passes.Facts.{Facts, facts_effect}
-use Rattle.kc_machine_resolving.proofs.kc_machine_passes.Knowing.{PassKnows}
-use Rattle.kc_machine_resolving.proofs.kc_machine_passes.Moves.{Releases, in_pass, in_aid, word_later}
-use Rattle.kc_machine_resolving.proofs.kc_machine_passes.Owing.{released}
-use Rattle.kc_machine_resolving.specs.kc_machine_passes.Phases.{IsDecided, AidKnows}
-use Rattle.kc_machine_resolving.proofs.kc_machine_pool.Published.{Out}
-use Rattle.kc_machine_resolving.proofs.kc_machine_pool.Statuses.{Fills}
-use Rattle.kc_machine_resolving.specs.kc_machine_pool.Owners.{Follows}
-use Rattle.kc_machine_resolving.specs.kc_machine_pool.References.{met_by_pass}
-use Rattle.kc_machine_resolving.proofs.kc_machine_seats.Searches.{IsPicked, next_fits}
-use Rattle.kc_machine_resolving.specs.kc_machine_seats.Fits.{IsCheckedAt}
-use Rattle.kc_machine_resolving.specs.kc_machine_steps.Lines.{is_installed, next_line, after_line, word_of}
-use Rattle.kc_machine_resolving.specs.kc_machine_steps.Passes.{status, from_install, install_or_check, from_check, check_or_decide, from_release, release_or_finish, decided_as, check_drop_next}
-use Rattle.kc_machine_resolving.specs.kc_machine_steps.declared.task.Event.{Event}
+use Rattle.kc_machine_history.specs.kc_machine_commits.Halts.{halted_pass, halted_aid_pass}
+use Rattle.kc_machine_history.proofs.kc_machine_invariants.Runs.{holds_after}
+use Rattle.kc_machine_history.proofs.kc_machine_invariants.Tests.{some_line}
+use Rattle.kc_machine_history.specs.kc_machine_invariants.Changes.{with_word, with_status, held_once_less}
+use Rattle.kc_machine_history.specs.kc_machine_invariants.Effects
+use Rattle.kc_machine_history.specs.kc_machine_invariants.Stands.{Stand, Owns, At, Meets, Ends, Leaves, Passing, NoPass, Over, stand, turn}
+use Rattle.kc_machine_history.proofs.kc_machine_traces.Always.{opened_facts}
+use Rattle.kc_machine_history.proofs.kc_machine_traces.Facts.{Facts, facts_effect}
+use Rattle.kc_machine_history.proofs.kc_machine_traces.Knowing.{PassKnows}
+use Rattle.kc_machine_history.proofs.kc_machine_traces.Moves.{Releases, in_pass, in_aid, word_later}
+use Rattle.kc_machine_history.proofs.kc_machine_traces.Owing.{released}
+use Rattle.kc_machine_history.specs.kc_machine_traces.Phases.{IsDecided, AidKnows}
+use Rattle.kc_machine_history.proofs.kc_machine_invariants.Published.{Out}
+use Rattle.kc_machine_history.proofs.kc_machine_invariants.Statuses.{Fills}
+use Rattle.kc_machine_history.specs.kc_machine_invariants.Owners.{Follows}
+use Rattle.kc_machine_history.specs.kc_machine_invariants.References.{met_by_pass}
+use Rattle.kc_machine_history.proofs.kc_machine_invariants.Searches.{IsPicked, next_fits}
+use Rattle.kc_machine_history.specs.kc_machine_invariants.Fits.{IsCheckedAt}
+use Rattle.kc_machine_history.specs.kc_machine_steps.Lines.{is_installed, next_line, after_line, word_of}
+use Rattle.kc_machine_history.specs.kc_machine_steps.Passes.{status, from_install, install_or_check, from_check, check_or_decide, from_release, release_or_finish, decided_as, check_drop_next}
+use Rattle.kc_machine_history.specs.kc_machine_steps.declared.task.Event.{Event}
 
 -- ---- steps that have met nothing
 

@@ -1,22 +1,22 @@
 -- Who holds a descriptor by a stray hold remembers a reference to the life that it looked for, which was started.
 use Rattle.std.proofs.Common.{arith, ◌≡◌, ◌≤◌, inl, inr, ℕ, Bool, true, false, List, Some, refl, subst}
-use Rattle.kc_machine_resolving.specs.kc_machine_steps.declared.aid.AidStep.{AidStep}
-use Rattle.kc_machine_resolving.specs.kc_machine_steps.declared.pass.PassStep.{PassStep}
-use Rattle.kc_machine_resolving.specs.kc_machine_steps.declared.pass.PassStep.TheVariants.{Install, Check, CheckHold, CheckStatus, CheckFirst, CheckDrop, Decide, Release}
-use Rattle.kc_machine_resolving.specs.kc_machine_words.declared.words.Reference.{Reference}
-use Rattle.kc_machine_resolving.specs.kc_machine_steps.declared.aid.AidStep.TheVariants as aid
-use Rattle.kc_machine_resolving.specs.kc_machine_steps.declared.aid.AidNext.TheVariants as aiding
-use Rattle.kc_machine_resolving.specs.kc_machine_steps.declared.look.LookStep.{LookStep}
-use Rattle.kc_machine_resolving.specs.kc_machine_steps.declared.look.LookStep.TheVariants as look
-use Rattle.kc_machine_resolving.specs.kc_machine_steps.declared.look.LookNext.TheVariants as looking
-use Rattle.kc_machine_resolving.specs.kc_machine.Machine.{Opening, run}
+use Rattle.kc_machine_history.specs.kc_machine_steps.declared.aid.AidStep.{AidStep}
+use Rattle.kc_machine_history.specs.kc_machine_steps.declared.pass.PassStep.{PassStep}
+use Rattle.kc_machine_history.specs.kc_machine_steps.declared.pass.PassStep.TheVariants.{Install, Check, CheckHold, CheckStatus, CheckFirst, CheckDrop, Decide, Release}
+use Rattle.kc_machine_history.specs.kc_machine_words.declared.words.Reference.{Reference}
+use Rattle.kc_machine_history.specs.kc_machine_steps.declared.aid.AidStep.TheVariants as aid
+use Rattle.kc_machine_history.specs.kc_machine_steps.declared.aid.AidNext.TheVariants as aiding
+use Rattle.kc_machine_history.specs.kc_machine_steps.declared.look.LookStep.{LookStep}
+use Rattle.kc_machine_history.specs.kc_machine_steps.declared.look.LookStep.TheVariants as look
+use Rattle.kc_machine_history.specs.kc_machine_steps.declared.look.LookNext.TheVariants as looking
+use Rattle.kc_machine_history.specs.kc_machine.Machine.{Opening, run}
 use Rattle.kc_machine_answers.specs.Strays.{StraysAreLate}
-use Rattle.kc_machine_resolving.proofs.kc_machine_effects.PoolLaws.{strays_kept}
-use Rattle.kc_machine_resolving.specs.kc_machine_effects.Holds.{Stray, Strays, own_hold, dropping, step_hold, check_hold, aid_step_hold, aid_hold, look_step_hold, look_hold}
-use Rattle.kc_machine_resolving.specs.kc_machine_effects.Stands.{Stand, Own, NoOwn, Owns, Runs, Waits, At, Meets, Ends, Leaves, Passing, NoPass, Over, Aiding, NoAid, Aids, Passes, Looking, NoLook, Looks, stand, met_by_look_step}
-use Rattle.kc_machine_resolving.proofs.kc_machine_pool.LifeLaws.{remembered_published, statuses_behind}
-use Rattle.kc_machine_resolving.specs.kc_machine_pool.References.{Remembers, met_by_step, met_by_pass, met_by_aid, met_by_look}
-use Rattle.kc_machine_resolving.specs.kc_machine_steps.declared.task.Event.{Event}
+use Rattle.kc_machine_history.proofs.kc_machine_invariants.PoolLaws.{strays_kept}
+use Rattle.kc_machine_history.specs.kc_machine_invariants.Holds.{Stray, Strays, own_hold, dropping, step_hold, check_hold, aid_step_hold, aid_hold, look_step_hold, look_hold}
+use Rattle.kc_machine_history.specs.kc_machine_invariants.Stands.{Stand, Own, NoOwn, Owns, Runs, Waits, At, Meets, Ends, Leaves, Passing, NoPass, Over, Aiding, NoAid, Aids, Passes, Looking, NoLook, Looks, stand, met_by_look_step}
+use Rattle.kc_machine_history.proofs.kc_machine_invariants.LifeLaws.{remembered_published, statuses_behind}
+use Rattle.kc_machine_history.specs.kc_machine_invariants.References.{Remembers, met_by_step, met_by_pass, met_by_aid, met_by_look}
+use Rattle.kc_machine_history.specs.kc_machine_steps.declared.task.Event.{Event}
 
 -- a reference to generation g of descriptor d
 abbrev Names : ℕ → ℕ → Reference → Type 0

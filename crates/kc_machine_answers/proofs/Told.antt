@@ -1,77 +1,77 @@
 -- A commit that is told Crossed was crossed.
-use Rattle.kc_machine_resolving.specs.kc_machine_steps.Swaps.{ends_at_once, exchange_next, may_swap, onward_of as onward_of_swap, swap_next_at, swap_onward}
-use Rattle.kc_machine_resolving.specs.kc_machine_steps.declared.swap.SwapNext.TheVariants as swapping
-use Rattle.kc_machine_resolving.specs.kc_machine_steps.declared.swap.TheConstants.{MOST_SWAPS}
-use Rattle.kc_machine_resolving.specs.kc_machine_steps.declared.swap.SwapStep.{SwapStep}
-use Rattle.kc_machine_resolving.specs.kc_machine_steps.declared.swap.SwapStep.TheVariants as swap
+use Rattle.kc_machine_history.specs.kc_machine_steps.Swaps.{ends_at_once, exchange_next, may_swap, onward_of as onward_of_swap, swap_next_at, swap_onward}
+use Rattle.kc_machine_history.specs.kc_machine_steps.declared.swap.SwapNext.TheVariants as swapping
+use Rattle.kc_machine_history.specs.kc_machine_steps.declared.swap.TheConstants.{MOST_SWAPS}
+use Rattle.kc_machine_history.specs.kc_machine_steps.declared.swap.SwapStep.{SwapStep}
+use Rattle.kc_machine_history.specs.kc_machine_steps.declared.swap.SwapStep.TheVariants as swap
 use Rattle.std.proofs.Common.{arith, ◌≡◌, ◌<◌, ◌≤◌, ◌&&◌, length, ◌⊎◌, inl, inr, ◌∙◌, ◌++◌, ◌==◌, ℕ, Bool, true, false, List, [], ◌∷◌, take, Option, None, Some, refl, sym, ap, subst, if◌then◌else◌}
 use Rattle.std.specs.Prelude.{slice_get}
 use Rattle.std.proofs.Math.Seq.{take-length}
 use Rattle.std.proofs.lemmas.List.{take-append-le}
 use borrow.Author.Tests.{eqb-true, eqb-false, ltb-false}
-use Rattle.kc_machine_resolving.specs.kc_machine_steps.declared.line.Intent.{Intent}
+use Rattle.kc_machine_history.specs.kc_machine_steps.declared.line.Intent.{Intent}
 use Rattle.kc_model.specs.declared.footprint.Line.{Line}
-use Rattle.kc_machine_resolving.specs.kc_machine_steps.declared.look.LookNext.{LookNext}
-use Rattle.kc_machine_resolving.specs.kc_machine_steps.declared.pass.PassStep.TheVariants.{Decide}
-use Rattle.kc_machine_resolving.specs.kc_machine_words.declared.access.Found.{Found}
-use Rattle.kc_machine_resolving.specs.kc_machine_words.declared.words.Handle.{Handle}
-use Rattle.kc_machine_resolving.specs.kc_machine_words.declared.words.Mode.{Mode}
-use Rattle.kc_machine_resolving.specs.kc_machine_words.declared.words.Phase.{Phase}
-use Rattle.kc_machine_resolving.specs.kc_machine_words.declared.words.Phase.TheVariants.{Active, Succeeded, Failed, Crossed, Halted}
-use Rattle.kc_machine_resolving.specs.kc_machine_words.declared.words.Status.{Status}
+use Rattle.kc_machine_history.specs.kc_machine_steps.declared.look.LookNext.{LookNext}
+use Rattle.kc_machine_history.specs.kc_machine_steps.declared.pass.PassStep.TheVariants.{Decide}
+use Rattle.kc_machine_history.specs.kc_machine_words.declared.access.Found.{Found}
+use Rattle.kc_machine_history.specs.kc_machine_words.declared.words.Handle.{Handle}
+use Rattle.kc_machine_history.specs.kc_machine_words.declared.words.Mode.{Mode}
+use Rattle.kc_machine_history.specs.kc_machine_words.declared.words.Phase.{Phase}
+use Rattle.kc_machine_history.specs.kc_machine_words.declared.words.Phase.TheVariants.{Active, Succeeded, Failed, Crossed, Halted}
+use Rattle.kc_machine_history.specs.kc_machine_words.declared.words.Status.{Status}
 use Rattle.kc_model.specs.declared.footprint.Footprint.{Footprint}
 use Rattle.kc_model.specs.declared.footprint.Seen.{Seen}
 use Rattle.kc_model.specs.declared.word.Word.TheVariants.{Plain, Ref}
-use Rattle.kc_machine_resolving.specs.kc_machine_words.declared.access.Found.TheVariants as found
-use Rattle.kc_machine_resolving.specs.kc_machine_steps.declared.look.LookNext.TheVariants as looking
-use Rattle.kc_machine_resolving.specs.kc_machine_commits.declared.commit.Commit.{Commit}
-use Rattle.kc_machine_resolving.specs.kc_machine_commits.declared.commit.OwnStep.{OwnStep}
-use Rattle.kc_machine_resolving.specs.kc_machine_commits.declared.commit.Stage.{Stage}
-use Rattle.kc_machine_resolving.specs.kc_machine_commits.declared.commit.Stage.TheVariants.{Scan, Take, Own}
-use Rattle.kc_machine_resolving.specs.kc_machine_commits.declared.commit.OwnStep.TheVariants as own
-use Rattle.kc_machine_resolving.specs.kc_machine_steps.declared.task.Task.{Task}
-use Rattle.kc_machine_resolving.specs.kc_machine_steps.declared.task.Task.TheVariants as task
-use Rattle.kc_machine_resolving.specs.kc_machine_steps.declared.task.Told.TheVariants as told
-use Rattle.kc_machine_resolving.specs.kc_machine_steps.declared.task.Onward.{Onward}
-use Rattle.kc_machine_resolving.specs.kc_machine_steps.declared.task.Onward.TheVariants as onward
-use Rattle.kc_machine_resolving.specs.kc_machine.Hangs.{hang_onward, leave_onward}
-use Rattle.kc_machine_resolving.specs.kc_machine.Works.{Work}
-use Rattle.kc_machine_resolving.specs.kc_machine_commits.Commits.{intent_of, told_of, loaded, onward_by, stage_next, commit_onward}
-use Rattle.kc_machine_resolving.specs.kc_machine_commits.Halts.{unowned}
-use Rattle.kc_machine_resolving.specs.kc_machine_steps.Lines.{lines_of}
-use Rattle.kc_machine_resolving.specs.kc_machine_steps.Looks.{look_next, told_by, look_tells, halts_at_once}
-use Rattle.kc_machine_resolving.specs.kc_machine_steps.declared.task.Event.{Event}
-use Rattle.kc_machine_resolving.specs.kc_machine_steps.declared.task.Event.TheVariants.{Begin, Step, Halt}
-use Rattle.kc_machine_resolving.specs.kc_machine.Works as work
-use Rattle.kc_machine_resolving.proofs.kc_machine.Functions.{put_here}
-use Rattle.kc_machine_resolving.specs.kc_machine.Machine.{State, Opening, event_of, found_at, seat_of, run}
-use Rattle.kc_machine_resolving.specs.kc_machine.Schedules.{IsSchedule}
-use Rattle.kc_machine_resolving.specs.kc_machine.Seats.{access_of, work_access, is_idle, after, answer_by, answer_of, begun, begun_idle, working, hanging, halted, halted_by, ended}
-use Rattle.kc_machine_resolving.specs.kc_machine.declared.seat.Seat.{Seat}
+use Rattle.kc_machine_history.specs.kc_machine_words.declared.access.Found.TheVariants as found
+use Rattle.kc_machine_history.specs.kc_machine_steps.declared.look.LookNext.TheVariants as looking
+use Rattle.kc_machine_history.specs.kc_machine_commits.declared.commit.Commit.{Commit}
+use Rattle.kc_machine_history.specs.kc_machine_commits.declared.commit.OwnStep.{OwnStep}
+use Rattle.kc_machine_history.specs.kc_machine_commits.declared.commit.Stage.{Stage}
+use Rattle.kc_machine_history.specs.kc_machine_commits.declared.commit.Stage.TheVariants.{Scan, Take, Own}
+use Rattle.kc_machine_history.specs.kc_machine_commits.declared.commit.OwnStep.TheVariants as own
+use Rattle.kc_machine_history.specs.kc_machine_steps.declared.task.Task.{Task}
+use Rattle.kc_machine_history.specs.kc_machine_steps.declared.task.Task.TheVariants as task
+use Rattle.kc_machine_history.specs.kc_machine_steps.declared.task.Told.TheVariants as told
+use Rattle.kc_machine_history.specs.kc_machine_steps.declared.task.Onward.{Onward}
+use Rattle.kc_machine_history.specs.kc_machine_steps.declared.task.Onward.TheVariants as onward
+use Rattle.kc_machine_history.specs.kc_machine.Hangs.{hang_onward, leave_onward}
+use Rattle.kc_machine_history.specs.kc_machine.Works.{Work}
+use Rattle.kc_machine_history.specs.kc_machine_commits.Commits.{intent_of, told_of, loaded, onward_by, stage_next, commit_onward}
+use Rattle.kc_machine_history.specs.kc_machine_commits.Halts.{unowned}
+use Rattle.kc_machine_history.specs.kc_machine_steps.Lines.{lines_of}
+use Rattle.kc_machine_history.specs.kc_machine_steps.Looks.{look_next, told_by, look_tells, halts_at_once}
+use Rattle.kc_machine_history.specs.kc_machine_steps.declared.task.Event.{Event}
+use Rattle.kc_machine_history.specs.kc_machine_steps.declared.task.Event.TheVariants.{Begin, Step, Halt}
+use Rattle.kc_machine_history.specs.kc_machine.Works as work
+use Rattle.kc_machine_history.proofs.kc_machine.Functions.{put_here}
+use Rattle.kc_machine_history.specs.kc_machine.Machine.{State, Opening, event_of, found_at, seat_of, run}
+use Rattle.kc_machine_history.specs.kc_machine.Schedules.{IsSchedule}
+use Rattle.kc_machine_history.specs.kc_machine.Seats.{access_of, work_access, is_idle, after, answer_by, answer_of, begun, begun_idle, working, hanging, halted, halted_by, ended}
+use Rattle.kc_machine_history.specs.kc_machine.declared.seat.Seat.{Seat}
 use Rattle.kc_machine_answers.proofs.Crossed.{before, seats_on, longer, there, moment_on, crossing_were_crossed}
 use Rattle.kc_machine_answers.proofs.Decided.{Decides, status_came}
 use Rattle.kc_machine_answers.proofs.Halts.{IsOther, same_told, hang_silent, leave_silent, swap_mute}
 use Rattle.kc_machine_answers.specs.Crosses.{IsCrossed, CrossedSince, CrossesHaveACause}
 use Rattle.kc_machine_answers.specs.SwapCrosses.{SwapIsCrossed, SwapCrossedSince, SwapCrossesHaveACause}
-use Rattle.kc_machine_resolving.specs.kc_machine_claims.Traces.{Moment, trace}
-use Rattle.kc_machine_resolving.specs.kc_machine_effects.Holds.{Proper, own_hold}
-use Rattle.kc_machine_resolving.specs.kc_machine_effects.Stands.{Stand, At, Own as Owning, NoOwn, Owns, Runs, Waits, stand, works, resting, commits}
-use Rattle.kc_machine_resolving.proofs.kc_machine_histories.Knew.{at_work}
-use Rattle.kc_machine_resolving.proofs.kc_machine_histories.Successes.{Stays, Starts, moves, kept}
-use Rattle.kc_machine_resolving.specs.kc_machine_histories.Decisions.{own_of}
-use Rattle.kc_machine_resolving.specs.kc_machine_histories.Places.{began}
-use Rattle.kc_machine_resolving.proofs.kc_machine_passes.Words.{over_owners}
-use Rattle.kc_machine_resolving.proofs.kc_machine_pool.LifeLaws.{phase_known, owners_differ}
-use Rattle.kc_machine_resolving.specs.kc_machine_pool.Filled.{task as task_of}
-use Rattle.kc_machine_resolving.specs.kc_machine_pool.Owners.{OwnsLife, is_filling, phase_read}
-use Rattle.kc_machine_resolving.proofs.kc_machine_seats.Searches.{scanned, taken}
-use Rattle.kc_machine_resolving.proofs.kc_machine_traces.Answers.{seat_cases, answers_when_done}
-use Rattle.kc_machine_resolving.proofs.kc_machine_traces.Moments.{begun_moment}
-use Rattle.kc_machine_resolving.proofs.kc_machine_traces.Joins.{run-append, every, made_parts}
-use Rattle.kc_machine_resolving.proofs.kc_machine_traces.Onward.{IsIntentOf, Left}
-use Rattle.kc_machine_resolving.specs.kc_machine_traces.Swaps.{swap_at}
-use Rattle.kc_machine_resolving.proofs.kc_machine_traces.Others.{run_shape, event_in, event_else}
-use Rattle.kc_machine_resolving.specs.kc_machine_traces.Entries.{by, by as entries_by, own_intent}
+use Rattle.kc_machine_history.specs.kc_machine_traces.Traces.{Moment, trace}
+use Rattle.kc_machine_history.specs.kc_machine_invariants.Holds.{Proper, own_hold}
+use Rattle.kc_machine_history.specs.kc_machine_invariants.Stands.{Stand, At, Own as Owning, NoOwn, Owns, Runs, Waits, stand, works, resting, commits}
+use Rattle.kc_machine_history.proofs.Knew.{at_work}
+use Rattle.kc_machine_history.proofs.Successes.{Stays, Starts, moves, kept}
+use Rattle.kc_machine_history.specs.Decisions.{own_of}
+use Rattle.kc_machine_history.specs.Places.{began}
+use Rattle.kc_machine_history.proofs.kc_machine_traces.PassWords.{over_owners}
+use Rattle.kc_machine_history.proofs.kc_machine_invariants.LifeLaws.{phase_known, owners_differ}
+use Rattle.kc_machine_history.specs.kc_machine_invariants.Filled.{task as task_of}
+use Rattle.kc_machine_history.specs.kc_machine_invariants.Owners.{OwnsLife, is_filling, phase_read}
+use Rattle.kc_machine_history.proofs.kc_machine_invariants.Searches.{scanned, taken}
+use Rattle.kc_machine_history.proofs.kc_machine_traces.Answers.{seat_cases, answers_when_done}
+use Rattle.kc_machine_history.proofs.kc_machine_traces.Moments.{begun_moment}
+use Rattle.kc_machine_history.proofs.kc_machine_traces.Joins.{run-append, every, made_parts}
+use Rattle.kc_machine_history.proofs.kc_machine_traces.Onward.{IsIntentOf, Left}
+use Rattle.kc_machine_history.specs.kc_machine_traces.Swaps.{swap_at}
+use Rattle.kc_machine_history.proofs.kc_machine_traces.Others.{run_shape, event_in, event_else}
+use Rattle.kc_machine_history.specs.kc_machine_traces.Entries.{by, by as entries_by, own_intent}
 
 -- ---- what a seat is to do is what it was asked
 

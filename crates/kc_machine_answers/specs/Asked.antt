@@ -1,16 +1,16 @@
 -- Of which tasks the entries of a history are.
 use Rattle.std.specs.Prelude.{◌≡◌, ◌<◌, ◌≤◌, ℕ, All, Contains, List, Some, length, slice_get, take, true}
-use Rattle.kc_machine_resolving.specs.kc_machine.Machine.{Opening, run}
-use Rattle.kc_machine_resolving.specs.kc_machine.Seats.{is_idle}
-use Rattle.kc_machine_resolving.specs.kc_machine_claims.Histories.{IsLegalHistory, Placed}
-use Rattle.kc_machine_resolving.specs.kc_machine_claims.Traces.{first_store, trace}
-use Rattle.kc_machine_resolving.specs.kc_machine_histories.Places.{began}
-use Rattle.kc_machine_resolving.specs.kc_machine_steps.declared.task.Event.{Event}
-use Rattle.kc_machine_resolving.specs.kc_machine_steps.declared.task.Event.TheVariants.{Begin, Halt, Step}
-use Rattle.kc_machine_resolving.specs.kc_machine_steps.declared.task.Task.{Task}
-use Rattle.kc_machine_resolving.specs.kc_machine_steps.declared.task.Task.TheVariants as task
-use Rattle.kc_machine_resolving.specs.kc_machine_traces.Outcomes.{IsEntryOf}
-use Rattle.kc_machine_resolving.specs.kc_machine_words.declared.words.Mode.TheVariants as mode
+use Rattle.kc_machine_history.specs.kc_machine.Machine.{Opening, run}
+use Rattle.kc_machine_history.specs.kc_machine.Seats.{is_idle}
+use Rattle.kc_machine_history.specs.kc_machine_traces.Histories.{IsLegalHistory, Placed}
+use Rattle.kc_machine_history.specs.kc_machine_traces.Traces.{first_store, trace}
+use Rattle.kc_machine_history.specs.Places.{began}
+use Rattle.kc_machine_history.specs.kc_machine_steps.declared.task.Event.{Event}
+use Rattle.kc_machine_history.specs.kc_machine_steps.declared.task.Event.TheVariants.{Begin, Halt, Step}
+use Rattle.kc_machine_history.specs.kc_machine_steps.declared.task.Task.{Task}
+use Rattle.kc_machine_history.specs.kc_machine_steps.declared.task.Task.TheVariants as task
+use Rattle.kc_machine_history.specs.kc_machine_traces.Outcomes.{IsEntryOf}
+use Rattle.kc_machine_history.specs.kc_machine_words.declared.words.Mode.TheVariants as mode
 
 -- event i of the schedule is the beginning of this task by seat k, which was idle
 pub record BeganAt (es : List Event) (o : Opening) (k : ℕ) (t : Task) (i : ℕ) : Type 0 where

@@ -1,12 +1,12 @@
 -- Why a seat was told what it was told.
 use Rattle.std.specs.Prelude.{◌≡◌, ◌<◌, ◌≤◌, ℕ, List, Bool, false, Some, slice_get}
-use Rattle.kc_machine_resolving.specs.kc_machine_steps.declared.task.Told.TheVariants as told
-use Rattle.kc_machine_resolving.specs.kc_machine.Machine.{Opening, run}
-use Rattle.kc_machine_resolving.specs.kc_machine.Works.{Work}
-use Rattle.kc_machine_resolving.specs.kc_machine.Works as work
-use Rattle.kc_machine_resolving.specs.kc_machine_histories.Places.{began}
-use Rattle.kc_machine_resolving.specs.kc_machine_steps.declared.task.Event.{Event}
-use Rattle.kc_machine_resolving.specs.kc_machine_steps.declared.task.Event.TheVariants.{Halt}
+use Rattle.kc_machine_history.specs.kc_machine_steps.declared.task.Told.TheVariants as told
+use Rattle.kc_machine_history.specs.kc_machine.Machine.{Opening, run}
+use Rattle.kc_machine_history.specs.kc_machine.Works.{Work}
+use Rattle.kc_machine_history.specs.kc_machine.Works as work
+use Rattle.kc_machine_history.specs.Places.{began}
+use Rattle.kc_machine_history.specs.kc_machine_steps.declared.task.Event.{Event}
+use Rattle.kc_machine_history.specs.kc_machine_steps.declared.task.Event.TheVariants.{Halt}
 
 -- the task that runs has the mark of a halt
 abbrev pub is_marked : Work → Bool

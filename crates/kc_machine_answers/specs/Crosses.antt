@@ -1,28 +1,28 @@
 -- What a pass that is to decide Crossed has met.
 use Rattle.std.specs.Prelude.{◌≡◌, ◌<◌, ◌≤◌, ℕ, List, Option, None, Some, false, length, slice_get, take}
 use Rattle.kc_model.specs.declared.footprint.Line.{Line}
-use Rattle.kc_machine_resolving.specs.kc_machine_steps.declared.pass.AfterCheck.{AfterCheck}
-use Rattle.kc_machine_resolving.specs.kc_machine_steps.declared.pass.PassStep.{PassStep}
-use Rattle.kc_machine_resolving.specs.kc_machine_steps.declared.pass.PassStep.TheVariants.{CheckDrop, Decide}
-use Rattle.kc_machine_resolving.specs.kc_machine_words.declared.words.Handle.{Handle}
-use Rattle.kc_machine_resolving.specs.kc_machine_words.declared.words.Mode.{Mode}
-use Rattle.kc_machine_resolving.specs.kc_machine_words.declared.words.Phase.{Phase}
-use Rattle.kc_machine_resolving.specs.kc_machine_words.declared.words.Phase.TheVariants.{Active, Crossed}
-use Rattle.kc_machine_resolving.specs.kc_machine_words.declared.words.Reference.{Reference}
+use Rattle.kc_machine_history.specs.kc_machine_steps.declared.pass.AfterCheck.{AfterCheck}
+use Rattle.kc_machine_history.specs.kc_machine_steps.declared.pass.PassStep.{PassStep}
+use Rattle.kc_machine_history.specs.kc_machine_steps.declared.pass.PassStep.TheVariants.{CheckDrop, Decide}
+use Rattle.kc_machine_history.specs.kc_machine_words.declared.words.Handle.{Handle}
+use Rattle.kc_machine_history.specs.kc_machine_words.declared.words.Mode.{Mode}
+use Rattle.kc_machine_history.specs.kc_machine_words.declared.words.Phase.{Phase}
+use Rattle.kc_machine_history.specs.kc_machine_words.declared.words.Phase.TheVariants.{Active, Crossed}
+use Rattle.kc_machine_history.specs.kc_machine_words.declared.words.Reference.{Reference}
 use Rattle.kc_model.specs.declared.footprint.Footprint.{Footprint}
 use Rattle.kc_model.specs.declared.word.Word.TheVariants.{Ref}
-use Rattle.kc_machine_resolving.specs.kc_machine_steps.declared.pass.AfterCheck.TheVariants as checked
-use Rattle.kc_machine_resolving.specs.kc_machine_steps.declared.task.Task.TheVariants as task
-use Rattle.kc_machine_resolving.specs.kc_machine_steps.declared.task.Told.TheVariants as told
-use Rattle.kc_machine_resolving.specs.kc_machine.Machine.{World, Opening, run}
-use Rattle.kc_machine_resolving.specs.kc_machine_claims.Traces.{trace}
-use Rattle.kc_machine_resolving.specs.kc_machine_effects.Stands.{At, Over}
-use Rattle.kc_machine_resolving.specs.kc_machine_histories.Decisions.{own_of}
-use Rattle.kc_machine_resolving.specs.kc_machine_histories.Places.{began, pass_of}
-use Rattle.kc_machine_resolving.specs.kc_machine_pool.Owners.{OwnsLife, is_filling}
-use Rattle.kc_machine_resolving.specs.kc_machine_steps.Lines.{is_installed, lines_of}
-use Rattle.kc_machine_resolving.specs.kc_machine_steps.Passes.{status}
-use Rattle.kc_machine_resolving.specs.kc_machine_steps.declared.task.Event.{Event}
+use Rattle.kc_machine_history.specs.kc_machine_steps.declared.pass.AfterCheck.TheVariants as checked
+use Rattle.kc_machine_history.specs.kc_machine_steps.declared.task.Task.TheVariants as task
+use Rattle.kc_machine_history.specs.kc_machine_steps.declared.task.Told.TheVariants as told
+use Rattle.kc_machine_history.specs.kc_machine.Machine.{World, Opening, run}
+use Rattle.kc_machine_history.specs.kc_machine_traces.Traces.{trace}
+use Rattle.kc_machine_history.specs.kc_machine_invariants.Stands.{At, Over}
+use Rattle.kc_machine_history.specs.Decisions.{own_of}
+use Rattle.kc_machine_history.specs.Places.{began, pass_of}
+use Rattle.kc_machine_history.specs.kc_machine_invariants.Owners.{OwnsLife, is_filling}
+use Rattle.kc_machine_history.specs.kc_machine_steps.Lines.{is_installed, lines_of}
+use Rattle.kc_machine_history.specs.kc_machine_steps.Passes.{status}
+use Rattle.kc_machine_history.specs.kc_machine_steps.declared.task.Event.{Event}
 
 -- line i is a comparison, and its location's word refers to a life that is Active
 pub record IsCrossed (w : World) (m : Mode) (xs : List Line) (i : ℕ) : Type 0 where

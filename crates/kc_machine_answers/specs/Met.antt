@@ -1,16 +1,16 @@
 -- What a check has met.
 use Rattle.std.specs.Prelude.{◌≡◌, ◌≢◌, ◌<◌, ℕ, List, Some, slice_get}
-use Rattle.kc_machine_resolving.specs.kc_machine.Machine.{World, State}
-use Rattle.kc_machine_resolving.specs.kc_machine_effects.Stands.{Turn, At, Passing, NoPass, Over, stand}
-use Rattle.kc_machine_resolving.specs.kc_machine_seats.Fits.{IsCheckedAt}
-use Rattle.kc_machine_resolving.specs.kc_machine_steps.Passes.{status}
+use Rattle.kc_machine_history.specs.kc_machine.Machine.{World, State}
+use Rattle.kc_machine_history.specs.kc_machine_invariants.Stands.{Turn, At, Passing, NoPass, Over, stand}
+use Rattle.kc_machine_history.specs.kc_machine_invariants.Fits.{IsCheckedAt}
+use Rattle.kc_machine_history.specs.kc_machine_steps.Passes.{status}
 use Rattle.kc_model.specs.declared.footprint.Line.{Line}
-use Rattle.kc_machine_resolving.specs.kc_machine_steps.declared.pass.PassStep.{PassStep}
-use Rattle.kc_machine_resolving.specs.kc_machine_steps.declared.pass.PassStep.TheVariants.{Check, CheckHold, CheckStatus, CheckFirst, CheckDrop}
-use Rattle.kc_machine_resolving.specs.kc_machine_words.declared.words.Handle.{Handle}
-use Rattle.kc_machine_resolving.specs.kc_machine_words.declared.words.Mode.{Mode}
-use Rattle.kc_machine_resolving.specs.kc_machine_words.declared.words.Phase.TheVariants.{Active}
-use Rattle.kc_machine_resolving.specs.kc_machine_words.declared.words.Reference.{Reference}
+use Rattle.kc_machine_history.specs.kc_machine_steps.declared.pass.PassStep.{PassStep}
+use Rattle.kc_machine_history.specs.kc_machine_steps.declared.pass.PassStep.TheVariants.{Check, CheckHold, CheckStatus, CheckFirst, CheckDrop}
+use Rattle.kc_machine_history.specs.kc_machine_words.declared.words.Handle.{Handle}
+use Rattle.kc_machine_history.specs.kc_machine_words.declared.words.Mode.{Mode}
+use Rattle.kc_machine_history.specs.kc_machine_words.declared.words.Phase.TheVariants.{Active}
+use Rattle.kc_machine_history.specs.kc_machine_words.declared.words.Reference.{Reference}
 use Rattle.kc_model.specs.declared.word.Word.TheVariants.{Ref}
 
 -- while its life is Active, r stands in the word of location l

@@ -1,8 +1,8 @@
 -- Stray holds.
 use Rattle.std.specs.Prelude.{◌<◌, ℕ}
-use Rattle.kc_machine_resolving.specs.kc_machine.Machine.{State}
-use Rattle.kc_machine_resolving.specs.kc_machine_effects.Holds.{Strays}
-use Rattle.kc_machine_resolving.specs.kc_machine_effects.Stands.{stand}
+use Rattle.kc_machine_history.specs.kc_machine.Machine.{State}
+use Rattle.kc_machine_history.specs.kc_machine_invariants.Holds.{Strays}
+use Rattle.kc_machine_history.specs.kc_machine_invariants.Stands.{stand}
 
 -- a hold that looked for a generation and found another found a later one
 abbrev pub StraysAreLate : State → Type 0

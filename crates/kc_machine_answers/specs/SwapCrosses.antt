@@ -1,12 +1,12 @@
 -- Why a swap is told Crossed.
 use Rattle.std.specs.Prelude.{◌≡◌, ◌<◌, ◌≤◌, ◌⊎◌, ℕ, List, Some, length, take}
-use Rattle.kc_machine_resolving.specs.kc_machine.Machine.{State, Opening, run}
-use Rattle.kc_machine_resolving.specs.kc_machine_claims.Traces.{trace}
-use Rattle.kc_machine_resolving.specs.kc_machine_histories.Places.{began}
-use Rattle.kc_machine_resolving.specs.kc_machine_steps.declared.swap.TheConstants.{MOST_SWAPS}
-use Rattle.kc_machine_resolving.specs.kc_machine_steps.declared.task.Event.{Event}
-use Rattle.kc_machine_resolving.specs.kc_machine_steps.declared.task.Task.TheVariants as task
-use Rattle.kc_machine_resolving.specs.kc_machine_steps.declared.task.Told.TheVariants as told
+use Rattle.kc_machine_history.specs.kc_machine.Machine.{State, Opening, run}
+use Rattle.kc_machine_history.specs.kc_machine_traces.Traces.{trace}
+use Rattle.kc_machine_history.specs.Places.{began}
+use Rattle.kc_machine_history.specs.kc_machine_steps.declared.swap.TheConstants.{MOST_SWAPS}
+use Rattle.kc_machine_history.specs.kc_machine_steps.declared.task.Event.{Event}
+use Rattle.kc_machine_history.specs.kc_machine_steps.declared.task.Task.TheVariants as task
+use Rattle.kc_machine_history.specs.kc_machine_steps.declared.task.Told.TheVariants as told
 use Rattle.kc_model.specs.declared.footprint.Seen.{Seen}
 use Rattle.kc_model.specs.declared.word.Word.TheVariants.{Ref}
 

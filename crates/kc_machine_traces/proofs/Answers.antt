@@ -2,26 +2,26 @@
 use Rattle.std.proofs.Common.{◌≡◌, ℕ, ◌<◌, ◌==◌, ◌&&◌, Bool, true, false, not, List, [], ◌∷◌, ◌++◌, length, Option, None, Some, refl, sym, ap, ◌∙◌, subst, if◌then◌else◌, arith}
 use Rattle.std.specs.Prelude.{nat_lt}
 use borrow.Author.Tests.{eqb-true, eqb-false}
-use Rattle.kc_machine_pool.specs.kc_machine_steps.declared.task.Task.{Task}
-use Rattle.kc_machine_pool.specs.kc_machine_words.declared.access.Found.{Found}
-use Rattle.kc_machine_pool.specs.kc_machine_steps.declared.task.Task.TheVariants as task
-use Rattle.kc_machine_pool.specs.kc_machine_steps.declared.task.Onward.{Onward}
-use Rattle.kc_machine_pool.specs.kc_machine_steps.declared.task.Onward.TheVariants as onward
-use Rattle.kc_machine_pool.specs.kc_machine.Hangs.{hang_onward, leave_onward}
-use Rattle.kc_machine_pool.specs.kc_machine_steps.Swaps.{swap_onward, ends_at_once}
-use Rattle.kc_machine_pool.specs.kc_machine.Works.{Work}
-use Rattle.kc_machine_pool.specs.kc_machine_commits.Commits.{commit_onward}
-use Rattle.kc_machine_pool.specs.kc_machine_commits.Halts.{unowned}
-use Rattle.kc_machine_pool.specs.kc_machine_steps.Looks.{look_tells, halts_at_once}
-use Rattle.kc_machine_pool.specs.kc_machine_steps.declared.task.Event.{Event}
-use Rattle.kc_machine_pool.specs.kc_machine_steps.declared.task.Event.TheVariants.{Begin, Step, Halt}
-use Rattle.kc_machine_pool.specs.kc_machine.Works as work
-use Rattle.kc_machine_pool.proofs.kc_machine.Functions.{put_here, put_else}
-use Rattle.kc_machine_pool.specs.kc_machine.Machine.{State, Opening, put, found_at, touched, possible, happened, event_of, seat_of, run}
-use Rattle.kc_machine_pool.specs.kc_machine.Seats.{access_of, answer_of, answer_by, after, is_idle, begun, begun_idle, working, hanging, halted, halted_by, ended}
-use Rattle.kc_machine_pool.specs.kc_machine.declared.seat.Seat.{Seat}
-use Rattle.kc_machine_claims.proofs.Follows.{trace_runs, trace_counts}
-use Rattle.kc_machine_claims.specs.Traces.{Moment, Shadow, Trace, begins, with_task, shadow_after, now, traced, trace_from, trace, opened_trace}
+use Rattle.kc_machine_invariants.specs.kc_machine_steps.declared.task.Task.{Task}
+use Rattle.kc_machine_invariants.specs.kc_machine_words.declared.access.Found.{Found}
+use Rattle.kc_machine_invariants.specs.kc_machine_steps.declared.task.Task.TheVariants as task
+use Rattle.kc_machine_invariants.specs.kc_machine_steps.declared.task.Onward.{Onward}
+use Rattle.kc_machine_invariants.specs.kc_machine_steps.declared.task.Onward.TheVariants as onward
+use Rattle.kc_machine_invariants.specs.kc_machine.Hangs.{hang_onward, leave_onward}
+use Rattle.kc_machine_invariants.specs.kc_machine_steps.Swaps.{swap_onward, ends_at_once}
+use Rattle.kc_machine_invariants.specs.kc_machine.Works.{Work}
+use Rattle.kc_machine_invariants.specs.kc_machine_commits.Commits.{commit_onward}
+use Rattle.kc_machine_invariants.specs.kc_machine_commits.Halts.{unowned}
+use Rattle.kc_machine_invariants.specs.kc_machine_steps.Looks.{look_tells, halts_at_once}
+use Rattle.kc_machine_invariants.specs.kc_machine_steps.declared.task.Event.{Event}
+use Rattle.kc_machine_invariants.specs.kc_machine_steps.declared.task.Event.TheVariants.{Begin, Step, Halt}
+use Rattle.kc_machine_invariants.specs.kc_machine.Works as work
+use Rattle.kc_machine_invariants.proofs.kc_machine.Functions.{put_here, put_else}
+use Rattle.kc_machine_invariants.specs.kc_machine.Machine.{State, Opening, put, found_at, touched, possible, happened, event_of, seat_of, run}
+use Rattle.kc_machine_invariants.specs.kc_machine.Seats.{access_of, answer_of, answer_by, after, is_idle, begun, begun_idle, working, hanging, halted, halted_by, ended}
+use Rattle.kc_machine_invariants.specs.kc_machine.declared.seat.Seat.{Seat}
+use Rattle.kc_machine_traces.proofs.Follows.{trace_runs, trace_counts}
+use Rattle.kc_machine_traces.specs.Traces.{Moment, Shadow, Trace, begins, with_task, shadow_after, now, traced, trace_from, trace, opened_trace}
 use Rattle.kc_machine_traces.proofs.Joins.{trace-append}
 use Rattle.kc_machine_traces.proofs.Others.{run_shape, event_in, event_else}
 use Rattle.kc_machine_traces.specs.Moments.{AnswersWhenDone, BeginsNothing}

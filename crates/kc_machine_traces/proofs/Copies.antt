@@ -1,38 +1,38 @@
 -- What an aid has loaded of the owner word is what stands there, as long as it holds the descriptor.
 use Rattle.std.proofs.Common.{◌≡◌, ℕ, zero, suc, ◌<◌, ◌≤◌, ◌⊎◌, ◌∙◌, ⊎_elim, inl, inr, refl, sym, ap, subst, arith, ◌==◌, Bool, true, false, if◌then◌else◌, length, List, [], ◌∷◌, ◌++◌, Some}
-use Rattle.kc_machine_pool.specs.kc_machine_words.declared.words.First.{First}
-use Rattle.kc_machine_pool.specs.kc_machine_words.declared.words.Reference.{Reference}
-use Rattle.kc_machine_pool.specs.kc_machine_words.declared.access.Found.TheVariants as found
-use Rattle.kc_machine_pool.specs.kc_machine_steps.declared.aid.AidStep.{AidStep}
-use Rattle.kc_machine_pool.specs.kc_machine_steps.declared.aid.Aided.{Aided}
-use Rattle.kc_machine_pool.specs.kc_machine_steps.declared.aid.AidStep.TheVariants as aid
-use Rattle.kc_machine_pool.specs.kc_machine_steps.declared.aid.AidNext.TheVariants as aiding
-use Rattle.kc_machine_pool.specs.kc_machine_commits.declared.commit.OwnStep.TheVariants as own
-use Rattle.kc_machine_pool.proofs.kc_machine.Functions.{put_cases}
-use Rattle.kc_machine_pool.specs.kc_machine.Machine.{World, Opening, put, run, opened}
-use Rattle.kc_machine_pool.specs.kc_machine_commits.Halts.{halted_aid, halted_aid_pass}
-use Rattle.kc_machine_pool.specs.kc_machine_effects.Holds.{Proper, aid_hold}
-use Rattle.kc_machine_pool.specs.kc_machine_effects.Stands.{Stand, Owns, Aiding, NoAid, Aids, Passes, stand}
-use Rattle.kc_machine_pool.specs.kc_machine_steps.Aids.{copy_line}
-use Rattle.kc_machine_pool.specs.kc_machine_steps.Lines.{joined}
-use Rattle.kc_machine_pool.specs.kc_machine_steps.declared.pass.PassStep.{PassStep}
-use Rattle.kc_machine_pool.specs.kc_machine_steps.declared.pass.PassStep.TheVariants.{Install, Check, CheckHold, CheckStatus, CheckFirst, CheckDrop, Decide, Release}
-use Rattle.kc_machine_pool.specs.kc_machine_steps.declared.task.Event.{Event}
+use Rattle.kc_machine_invariants.specs.kc_machine_words.declared.words.First.{First}
+use Rattle.kc_machine_invariants.specs.kc_machine_words.declared.words.Reference.{Reference}
+use Rattle.kc_machine_invariants.specs.kc_machine_words.declared.access.Found.TheVariants as found
+use Rattle.kc_machine_invariants.specs.kc_machine_steps.declared.aid.AidStep.{AidStep}
+use Rattle.kc_machine_invariants.specs.kc_machine_steps.declared.aid.Aided.{Aided}
+use Rattle.kc_machine_invariants.specs.kc_machine_steps.declared.aid.AidStep.TheVariants as aid
+use Rattle.kc_machine_invariants.specs.kc_machine_steps.declared.aid.AidNext.TheVariants as aiding
+use Rattle.kc_machine_invariants.specs.kc_machine_commits.declared.commit.OwnStep.TheVariants as own
+use Rattle.kc_machine_invariants.proofs.kc_machine.Functions.{put_cases}
+use Rattle.kc_machine_invariants.specs.kc_machine.Machine.{World, Opening, put, run, opened}
+use Rattle.kc_machine_invariants.specs.kc_machine_commits.Halts.{halted_aid, halted_aid_pass}
+use Rattle.kc_machine_invariants.specs.Holds.{Proper, aid_hold}
+use Rattle.kc_machine_invariants.specs.Stands.{Stand, Owns, Aiding, NoAid, Aids, Passes, stand}
+use Rattle.kc_machine_invariants.specs.kc_machine_steps.Aids.{copy_line}
+use Rattle.kc_machine_invariants.specs.kc_machine_steps.Lines.{joined}
+use Rattle.kc_machine_invariants.specs.kc_machine_steps.declared.pass.PassStep.{PassStep}
+use Rattle.kc_machine_invariants.specs.kc_machine_steps.declared.pass.PassStep.TheVariants.{Install, Check, CheckHold, CheckStatus, CheckFirst, CheckDrop, Decide, Release}
+use Rattle.kc_machine_invariants.specs.kc_machine_steps.declared.task.Event.{Event}
 use Rattle.std.proofs.lemmas.List.{length-append}
-use Rattle.kc_machine_pool.proofs.kc_machine_effects.Held.{Fits}
-use Rattle.kc_machine_pool.proofs.kc_machine_effects.Runs.{holds_after}
-use Rattle.kc_machine_pool.specs.kc_machine_effects.Changes.{with_owner, with_first, with_second}
-use Rattle.kc_machine_pool.specs.kc_machine_effects.Effects
-use Rattle.kc_machine_pool.specs.kc_machine_effects.Effects.{Effect}
-use Rattle.kc_machine_pool.proofs.LifeLaws.{opened_lives}
-use Rattle.kc_machine_pool.proofs.Lives.{Lives, fitting, lives_effect}
-use Rattle.kc_machine_pool.proofs.Shapes.{Shape, is_aiding}
-use Rattle.kc_machine_pool.proofs.Statuses.{Fills}
-use Rattle.kc_machine_pool.specs.Filled.{owner_word}
-use Rattle.kc_machine_pool.specs.Owners.{Follows}
-use Rattle.kc_machine_pool.specs.References.{met_by_aid}
-use Rattle.kc_machine_pool.specs.Started.{listed, line_of_words}
-use Rattle.kc_machine_pool.specs.kc_machine_steps.Lines.{first_of, second_of}
+use Rattle.kc_machine_invariants.proofs.Held.{Fits}
+use Rattle.kc_machine_invariants.proofs.Runs.{holds_after}
+use Rattle.kc_machine_invariants.specs.Changes.{with_owner, with_first, with_second}
+use Rattle.kc_machine_invariants.specs.Effects
+use Rattle.kc_machine_invariants.specs.Effects.{Effect}
+use Rattle.kc_machine_invariants.proofs.LifeLaws.{opened_lives}
+use Rattle.kc_machine_invariants.proofs.Lives.{Lives, fitting, lives_effect}
+use Rattle.kc_machine_invariants.proofs.Shapes.{Shape, is_aiding}
+use Rattle.kc_machine_invariants.proofs.Statuses.{Fills}
+use Rattle.kc_machine_invariants.specs.Filled.{owner_word}
+use Rattle.kc_machine_invariants.specs.Owners.{Follows}
+use Rattle.kc_machine_invariants.specs.References.{met_by_aid}
+use Rattle.kc_machine_invariants.specs.Started.{listed, line_of_words}
+use Rattle.kc_machine_invariants.specs.kc_machine_steps.Lines.{first_of, second_of}
 use Rattle.kc_model.specs.declared.footprint.Line.{Line}
 use Rattle.kc_model.specs.declared.footprint.TheConstants.{MOST}
 use Rattle.kc_machine_traces.proofs.Whole.{Bound, bound_own, bound_whole}
@@ -173,7 +173,7 @@ pub record Copies (n m : ℕ) (w : World) (at : ℕ → Stand) : Type 0 where
 
 -- what an aid holds was started
 held_out : (w : World) (x : Aiding) (d g : ℕ) → ((r : Reference) → met_by_aid x ≡ Some r → r.handle.generation ≤ (w.status r.handle.descriptor).generation) → aid_hold x ≡ Proper d g → g ≤ (w.status d).generation
-held_out w x d g f q = Rattle.kc_machine_pool.proofs.Published.aid_out w x d g q f
+held_out w x d g f q = Rattle.kc_machine_invariants.proofs.Published.aid_out w x d g q f
 
 pub copies_effect : (n m k : ℕ) → k < n → (w w' : World) (at : ℕ → Stand) (s' : Stand) → Effect k w (at k) w' s' → Copies n m w at → Copies n m w' (put at k s')
 copies_effect n m k l w w' at s' e p = record {

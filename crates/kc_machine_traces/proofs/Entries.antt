@@ -3,43 +3,43 @@ use Rattle.std.proofs.Common.{length, suc, None, ◌≡◌, ◌≢◌, ℕ, ◌<
 use Rattle.std.specs.Prelude.{slice_get, nat_lt}
 use Rattle.std.proofs.lemmas.List.Elements.{All-nil, All-head, All-tail, All-cons}
 use borrow.Author.Tests.{ltb-true, ne_eqb}
-use Rattle.kc_machine_pool.specs.kc_machine_steps.declared.aid.AidStep.{AidStep}
-use Rattle.kc_machine_pool.specs.kc_machine_steps.declared.aid.Aided.{Aided}
-use Rattle.kc_machine_pool.specs.kc_machine_steps.declared.line.Intent.{Intent}
+use Rattle.kc_machine_invariants.specs.kc_machine_steps.declared.aid.AidStep.{AidStep}
+use Rattle.kc_machine_invariants.specs.kc_machine_steps.declared.aid.Aided.{Aided}
+use Rattle.kc_machine_invariants.specs.kc_machine_steps.declared.line.Intent.{Intent}
 use Rattle.kc_model.specs.declared.footprint.Line.{Line}
-use Rattle.kc_machine_pool.specs.kc_machine_words.declared.words.Handle.{Handle}
-use Rattle.kc_machine_pool.specs.kc_machine_words.declared.words.Owner.{Owner}
-use Rattle.kc_machine_pool.specs.kc_machine_words.declared.words.Phase.{Phase}
-use Rattle.kc_machine_pool.specs.kc_machine_words.declared.words.Phase.TheVariants.{Active, Succeeded, Failed, Crossed, Halted}
-use Rattle.kc_machine_pool.specs.kc_machine_words.declared.words.Reference.{Reference}
+use Rattle.kc_machine_invariants.specs.kc_machine_words.declared.words.Handle.{Handle}
+use Rattle.kc_machine_invariants.specs.kc_machine_words.declared.words.Owner.{Owner}
+use Rattle.kc_machine_invariants.specs.kc_machine_words.declared.words.Phase.{Phase}
+use Rattle.kc_machine_invariants.specs.kc_machine_words.declared.words.Phase.TheVariants.{Active, Succeeded, Failed, Crossed, Halted}
+use Rattle.kc_machine_invariants.specs.kc_machine_words.declared.words.Reference.{Reference}
 use Rattle.kc_model.specs.declared.footprint.Seen.{Seen}
-use Rattle.kc_machine_pool.specs.kc_machine_steps.declared.aid.AidStep.TheVariants as aid
-use Rattle.kc_machine_pool.specs.kc_machine_commits.declared.commit.Commit.{Commit}
-use Rattle.kc_machine_pool.specs.kc_machine_commits.declared.commit.Stage.{Stage}
-use Rattle.kc_machine_pool.specs.kc_machine_commits.declared.commit.Stage.TheVariants as stage
-use Rattle.kc_machine_pool.specs.kc_machine_commits.declared.commit.OwnStep.{OwnStep}
-use Rattle.kc_machine_pool.specs.kc_machine_commits.declared.commit.OwnStep.TheVariants as own
-use Rattle.kc_machine_pool.specs.kc_machine.Words.{phase_is}
-use Rattle.kc_machine_pool.specs.kc_machine.Works.{Work}
-use Rattle.kc_machine_pool.specs.kc_machine_steps.declared.task.Event.{Event}
-use Rattle.kc_machine_pool.specs.kc_machine.Works as work
-use Rattle.kc_machine_pool.specs.kc_machine.declared.hang.HangStep.{HangStep}
-use Rattle.kc_machine_pool.specs.kc_machine.declared.hang.HangStep.TheVariants as hang
-use Rattle.kc_machine_pool.proofs.kc_machine.Functions.{both, put_here}
-use Rattle.kc_machine_pool.specs.kc_machine.Machine.{World, State, Opening, event_of, seat_of, run}
-use Rattle.kc_machine_pool.specs.kc_machine.Seats.{is_idle}
-use Rattle.kc_machine_pool.specs.kc_machine.declared.seat.Seat.{Seat}
-use Rattle.kc_machine_claims.proofs.Follows.{trace_runs}
-use Rattle.kc_machine_claims.specs.Histories.{History, Placed, inserted}
-use Rattle.kc_machine_claims.specs.Traces.{Trace, is_success, decides, caller_for, number_for, entry_for, history_after, history_by_swap, place_or, trace, now}
-use Rattle.kc_machine_pool.specs.kc_machine_effects.Holds.{Proper, own_hold}
-use Rattle.kc_machine_pool.specs.kc_machine_effects.Stands.{Stand, Own, NoOwn, Owns, Runs, Waits, Passing, NoPass, Over, Aiding, stand, works, resting, commits, owns, aids, hangs}
-use Rattle.kc_machine_pool.proofs.LifeLaws.{active_owned}
-use Rattle.kc_machine_pool.specs.Filled.{owner_word, OwnerIsFilled, FirstsAreFilled, SecondsAreFilled}
-use Rattle.kc_machine_pool.specs.Owners.{Undecided, is_filling}
-use Rattle.kc_machine_pool.specs.Started.{listed, line_of_words}
-use Rattle.kc_machine_pool.proofs.kc_machine_seats.SeatedSteps.{seats_stay}
-use Rattle.kc_machine_pool.specs.kc_machine_steps.Lines.{joined, first_of, second_of}
+use Rattle.kc_machine_invariants.specs.kc_machine_steps.declared.aid.AidStep.TheVariants as aid
+use Rattle.kc_machine_invariants.specs.kc_machine_commits.declared.commit.Commit.{Commit}
+use Rattle.kc_machine_invariants.specs.kc_machine_commits.declared.commit.Stage.{Stage}
+use Rattle.kc_machine_invariants.specs.kc_machine_commits.declared.commit.Stage.TheVariants as stage
+use Rattle.kc_machine_invariants.specs.kc_machine_commits.declared.commit.OwnStep.{OwnStep}
+use Rattle.kc_machine_invariants.specs.kc_machine_commits.declared.commit.OwnStep.TheVariants as own
+use Rattle.kc_machine_invariants.specs.kc_machine.Words.{phase_is}
+use Rattle.kc_machine_invariants.specs.kc_machine.Works.{Work}
+use Rattle.kc_machine_invariants.specs.kc_machine_steps.declared.task.Event.{Event}
+use Rattle.kc_machine_invariants.specs.kc_machine.Works as work
+use Rattle.kc_machine_invariants.specs.kc_machine.declared.hang.HangStep.{HangStep}
+use Rattle.kc_machine_invariants.specs.kc_machine.declared.hang.HangStep.TheVariants as hang
+use Rattle.kc_machine_invariants.proofs.kc_machine.Functions.{both, put_here}
+use Rattle.kc_machine_invariants.specs.kc_machine.Machine.{World, State, Opening, event_of, seat_of, run}
+use Rattle.kc_machine_invariants.specs.kc_machine.Seats.{is_idle}
+use Rattle.kc_machine_invariants.specs.kc_machine.declared.seat.Seat.{Seat}
+use Rattle.kc_machine_traces.proofs.Follows.{trace_runs}
+use Rattle.kc_machine_traces.specs.Histories.{History, Placed, inserted}
+use Rattle.kc_machine_traces.specs.Traces.{Trace, is_success, decides, caller_for, number_for, entry_for, history_after, history_by_swap, place_or, trace, now}
+use Rattle.kc_machine_invariants.specs.Holds.{Proper, own_hold}
+use Rattle.kc_machine_invariants.specs.Stands.{Stand, Own, NoOwn, Owns, Runs, Waits, Passing, NoPass, Over, Aiding, stand, works, resting, commits, owns, aids, hangs}
+use Rattle.kc_machine_invariants.proofs.LifeLaws.{active_owned}
+use Rattle.kc_machine_invariants.specs.Filled.{owner_word, OwnerIsFilled, FirstsAreFilled, SecondsAreFilled}
+use Rattle.kc_machine_invariants.specs.Owners.{Undecided, is_filling}
+use Rattle.kc_machine_invariants.specs.Started.{listed, line_of_words}
+use Rattle.kc_machine_invariants.proofs.SeatedSteps.{seats_stay}
+use Rattle.kc_machine_invariants.specs.kc_machine_steps.Lines.{joined, first_of, second_of}
 use Rattle.kc_machine_traces.proofs.Copies.{copies_after, passes_whole}
 use Rattle.kc_machine_traces.proofs.Joins.{run-append, trace-append, every}
 use Rattle.kc_machine_traces.proofs.Others.{run_shape, event_out, undecided, others_leave}
@@ -49,8 +49,8 @@ use Rattle.kc_machine_traces.specs.Entries.{by, AreOfCallers, own_intent}
 use Rattle.kc_machine_traces.specs.Parts.{NoneOf}
 use Rattle.kc_machine_traces.specs.Swaps.{SwapOf, swapped}
 use Rattle.kc_machine_traces.proofs.Swapping.{swap_cases, swap_enters, swap_passless}
-use Rattle.kc_machine_pool.specs.kc_machine_steps.declared.swap.SwapStep.TheVariants as swap
-use Rattle.kc_machine_pool.specs.kc_machine_words.declared.words.Mode.{Mode}
+use Rattle.kc_machine_invariants.specs.kc_machine_steps.declared.swap.SwapStep.TheVariants as swap
+use Rattle.kc_machine_invariants.specs.kc_machine_words.declared.words.Mode.{Mode}
 
 -- ---- insertions
 

@@ -1,10 +1,10 @@
 -- Runs and traces of schedules in parts.
 use Rattle.std.proofs.Common.{◌≡◌, ◌++◌, List, [], ◌∷◌, All, refl, sym, subst, append_assoc, append-nil}
 use Rattle.std.proofs.lemmas.List.Elements.{All-nil, All-head, All-tail, All-cons}
-use Rattle.kc_machine_pool.specs.kc_machine.Machine.{State, Opening, event_of, run_from, run, opened}
-use Rattle.kc_machine_pool.specs.kc_machine.Schedules.{BeginsWellMade, IsSchedule}
-use Rattle.kc_machine_claims.specs.Traces.{Trace, traced, trace_from, trace, opened_trace, IsHonestFrom, IsHonest, first_store}
-use Rattle.kc_machine_pool.specs.kc_machine_steps.declared.task.Event.{Event}
+use Rattle.kc_machine_invariants.specs.kc_machine.Machine.{State, Opening, event_of, run_from, run, opened}
+use Rattle.kc_machine_invariants.specs.kc_machine.Schedules.{BeginsWellMade, IsSchedule}
+use Rattle.kc_machine_traces.specs.Traces.{Trace, traced, trace_from, trace, opened_trace, IsHonestFrom, IsHonest, first_store}
+use Rattle.kc_machine_invariants.specs.kc_machine_steps.declared.task.Event.{Event}
 use Rattle.kc_machine_traces.specs.Parts.{GoesOnHonestly}
 use Rattle.kc_model.specs.Store.{Store}
 

@@ -7,11 +7,11 @@ use Rattle.kc_model.specs.declared.footprint.Put.{Put}
 use Rattle.kc_model.specs.declared.footprint.Seen.{Seen}
 use Rattle.kc_model.specs.declared.plain_store.Cell.{Cell}
 use Rattle.std.proofs.Math.Seq.{take-append_seam}
-use Rattle.kc_machine_pool.specs.kc_machine.Machine.{Opening}
-use Rattle.kc_machine_claims.specs.Claims.{HistoriesGrow}
-use Rattle.kc_machine_claims.specs.Histories.{History, Placed, ending, IsKnown, putting, IsFront, Grows}
-use Rattle.kc_machine_claims.specs.Traces.{trace, first_store}
-use Rattle.kc_machine_pool.specs.kc_machine_steps.declared.task.Event.{Event}
+use Rattle.kc_machine_invariants.specs.kc_machine.Machine.{Opening}
+use Rattle.kc_machine_traces.specs.Claims.{HistoriesGrow}
+use Rattle.kc_machine_traces.specs.Histories.{History, Placed, ending, IsKnown, putting, IsFront, Grows}
+use Rattle.kc_machine_traces.specs.Traces.{trace, first_store}
+use Rattle.kc_machine_invariants.specs.kc_machine_steps.declared.task.Event.{Event}
 
 -- what a history makes of one cell
 abbrev pub puts_in : ℕ → Placed → Option Put

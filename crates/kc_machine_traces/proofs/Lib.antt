@@ -1,3 +1,6 @@
+pub mod Follows
+pub mod ByHand
+pub mod ByPlace
 pub mod Joins
 pub mod Swapping
 pub mod Others
@@ -12,9 +15,25 @@ pub mod Numbers
 pub mod Statuses
 pub mod Onward
 pub mod Outcomes
-pub use Rattle.kc_machine_pool.proofs.kc_machine as kc_machine
-pub use Rattle.kc_machine_claims.proofs as kc_machine_claims
-pub use Rattle.kc_machine_pool.proofs.kc_machine_effects as kc_machine_effects
-pub use Rattle.kc_machine_pool.proofs as kc_machine_pool
-pub use Rattle.kc_machine_pool.proofs.kc_machine_seats as kc_machine_seats
-pub use Rattle.kc_machine_pool.proofs.kc_machine_steps as kc_machine_steps
+pub mod Targets
+pub mod PassWords
+pub mod Lives
+pub mod Gone
+pub mod Owing
+pub mod Moves
+pub mod Knowing
+pub mod Installing
+pub mod Halting
+pub mod Holders
+pub mod Facts
+pub mod Always
+pub mod Room
+pub mod Words
+pub mod Steps
+pub mod Accesses
+pub mod Bits
+pub mod Callers
+pub mod Runs
+pub use Rattle.kc_machine_invariants.proofs.kc_machine as kc_machine
+pub use Rattle.kc_machine_invariants.proofs as kc_machine_invariants
+pub use Rattle.kc_machine_invariants.proofs.kc_machine_steps as kc_machine_steps

@@ -3,15 +3,15 @@ use Rattle.std.proofs.Common.{ℕ, ◌≤◌, ◌++◌, Bool, true, false, List,
 use Rattle.std.proofs.Math.Seq.{take-append_seam}
 use Rattle.std.proofs.lemmas.List.{take-append-le}
 use Rattle.std.proofs.lemmas.List.{length-append}
-use Rattle.kc_machine_pool.proofs.kc_machine.Functions.{put_cases}
-use Rattle.kc_machine_pool.specs.kc_machine.Machine.{Opening, seat_of}
-use Rattle.kc_machine_pool.specs.kc_machine.declared.seat.Seat.{Seat}
-use Rattle.kc_machine_claims.proofs.Follows.{trace_counts}
-use Rattle.kc_machine_claims.specs.Claims.{history_at}
-use Rattle.kc_machine_claims.specs.Traces.{Moment, Shadow, Trace, begins, listens, place_after, blocking_after, with_task, shadow_after, now, trace}
-use Rattle.kc_machine_pool.specs.kc_machine_effects.Stands.{stand}
-use Rattle.kc_machine_pool.specs.kc_machine_steps.declared.task.Event.{Event}
-use Rattle.kc_machine_pool.specs.kc_machine_steps.declared.task.Task.{Task}
+use Rattle.kc_machine_invariants.proofs.kc_machine.Functions.{put_cases}
+use Rattle.kc_machine_invariants.specs.kc_machine.Machine.{Opening, seat_of}
+use Rattle.kc_machine_invariants.specs.kc_machine.declared.seat.Seat.{Seat}
+use Rattle.kc_machine_traces.proofs.Follows.{trace_counts}
+use Rattle.kc_machine_traces.specs.Claims.{history_at}
+use Rattle.kc_machine_traces.specs.Traces.{Moment, Shadow, Trace, begins, listens, place_after, blocking_after, with_task, shadow_after, now, trace}
+use Rattle.kc_machine_invariants.specs.Stands.{stand}
+use Rattle.kc_machine_invariants.specs.kc_machine_steps.declared.task.Event.{Event}
+use Rattle.kc_machine_invariants.specs.kc_machine_steps.declared.task.Task.{Task}
 use Rattle.kc_machine_traces.proofs.Joins.{trace-append, every}
 use Rattle.kc_machine_traces.specs.Moments.{IsMomentOf}
 

@@ -3,26 +3,26 @@ use Rattle.std.proofs.Common.{◌≡◌, ◌≤◌, ◌==◌, ◌+◌, ℕ, Bool
 use Rattle.std.specs.Prelude.{nat_lt}
 use Rattle.std.proofs.lemmas.List.Elements.{All-nil}
 use borrow.Author.Tests.{eqb-true, eqb-false}
-use Rattle.kc_machine_pool.specs.kc_machine_steps.declared.task.Task.{Task}
-use Rattle.kc_machine_pool.specs.kc_machine_words.declared.access.Found.{Found}
-use Rattle.kc_machine_pool.specs.kc_machine_steps.declared.task.Task.TheVariants as task
-use Rattle.kc_machine_pool.specs.kc_machine_steps.declared.task.Onward.{Onward}
-use Rattle.kc_machine_pool.specs.kc_machine_steps.declared.task.Onward.TheVariants as onward
-use Rattle.kc_machine_pool.specs.kc_machine.Hangs.{hang_onward, leave_onward}
-use Rattle.kc_machine_pool.specs.kc_machine_steps.Swaps.{swap_onward, ends_at_once}
-use Rattle.kc_machine_pool.specs.kc_machine.Works.{Work}
-use Rattle.kc_machine_pool.specs.kc_machine_commits.Commits.{commit_onward}
-use Rattle.kc_machine_pool.specs.kc_machine_commits.Halts.{unowned}
-use Rattle.kc_machine_pool.specs.kc_machine_steps.Lines.{one_more}
-use Rattle.kc_machine_pool.specs.kc_machine_steps.Looks.{look_tells, halts_at_once}
-use Rattle.kc_machine_pool.specs.kc_machine_steps.declared.task.Event.{Event}
-use Rattle.kc_machine_pool.specs.kc_machine_steps.declared.task.Event.TheVariants.{Begin, Step, Halt}
-use Rattle.kc_machine_pool.specs.kc_machine.Works as work
-use Rattle.kc_machine_pool.specs.kc_machine.Machine.{State, Opening, event_of, seat_of, run}
-use Rattle.kc_machine_pool.specs.kc_machine.Seats.{answer_of, answer_by, after, is_idle, begun, begun_idle, working, hanging, halted, halted_by, ended}
-use Rattle.kc_machine_pool.specs.kc_machine.declared.seat.Seat.{Seat}
-use Rattle.kc_machine_claims.specs.Histories.{Placed}
-use Rattle.kc_machine_claims.specs.Traces.{trace}
+use Rattle.kc_machine_invariants.specs.kc_machine_steps.declared.task.Task.{Task}
+use Rattle.kc_machine_invariants.specs.kc_machine_words.declared.access.Found.{Found}
+use Rattle.kc_machine_invariants.specs.kc_machine_steps.declared.task.Task.TheVariants as task
+use Rattle.kc_machine_invariants.specs.kc_machine_steps.declared.task.Onward.{Onward}
+use Rattle.kc_machine_invariants.specs.kc_machine_steps.declared.task.Onward.TheVariants as onward
+use Rattle.kc_machine_invariants.specs.kc_machine.Hangs.{hang_onward, leave_onward}
+use Rattle.kc_machine_invariants.specs.kc_machine_steps.Swaps.{swap_onward, ends_at_once}
+use Rattle.kc_machine_invariants.specs.kc_machine.Works.{Work}
+use Rattle.kc_machine_invariants.specs.kc_machine_commits.Commits.{commit_onward}
+use Rattle.kc_machine_invariants.specs.kc_machine_commits.Halts.{unowned}
+use Rattle.kc_machine_invariants.specs.kc_machine_steps.Lines.{one_more}
+use Rattle.kc_machine_invariants.specs.kc_machine_steps.Looks.{look_tells, halts_at_once}
+use Rattle.kc_machine_invariants.specs.kc_machine_steps.declared.task.Event.{Event}
+use Rattle.kc_machine_invariants.specs.kc_machine_steps.declared.task.Event.TheVariants.{Begin, Step, Halt}
+use Rattle.kc_machine_invariants.specs.kc_machine.Works as work
+use Rattle.kc_machine_invariants.specs.kc_machine.Machine.{State, Opening, event_of, seat_of, run}
+use Rattle.kc_machine_invariants.specs.kc_machine.Seats.{answer_of, answer_by, after, is_idle, begun, begun_idle, working, hanging, halted, halted_by, ended}
+use Rattle.kc_machine_invariants.specs.kc_machine.declared.seat.Seat.{Seat}
+use Rattle.kc_machine_traces.specs.Histories.{Placed}
+use Rattle.kc_machine_traces.specs.Traces.{trace}
 use Rattle.kc_machine_traces.proofs.Answers.{moved, seat_cases}
 use Rattle.kc_machine_traces.proofs.Entries.{all_inserted, history_grows, swap_number}
 use Rattle.kc_machine_traces.proofs.Joins.{run-append, every}

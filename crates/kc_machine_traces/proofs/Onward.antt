@@ -1,64 +1,64 @@
 -- What a task has left in the history as its seat goes on: of the words that stand after its step.
 use Rattle.std.proofs.Common.{◌≡◌, ℕ, ◌+◌, ◌-◌, ◌&&◌, ◌==◌, Bool, true, false, not, List, Option, None, Some, refl, sym, subst, if◌then◌else◌}
 use Rattle.std.specs.Prelude.{nat_lt, slice_get, bit_and}
-use Rattle.kc_machine_pool.specs.kc_machine_words.declared.access.Found.{Found}
-use Rattle.kc_machine_pool.specs.kc_machine_words.declared.words.Handle.{Handle}
-use Rattle.kc_machine_pool.specs.kc_machine_words.declared.words.Phase.{Phase}
-use Rattle.kc_machine_pool.specs.kc_machine_words.declared.words.Phase.TheVariants.{Active, Succeeded, Failed, Crossed, Halted}
-use Rattle.kc_machine_pool.specs.kc_machine_words.declared.words.Reference.{Reference}
+use Rattle.kc_machine_invariants.specs.kc_machine_words.declared.access.Found.{Found}
+use Rattle.kc_machine_invariants.specs.kc_machine_words.declared.words.Handle.{Handle}
+use Rattle.kc_machine_invariants.specs.kc_machine_words.declared.words.Phase.{Phase}
+use Rattle.kc_machine_invariants.specs.kc_machine_words.declared.words.Phase.TheVariants.{Active, Succeeded, Failed, Crossed, Halted}
+use Rattle.kc_machine_invariants.specs.kc_machine_words.declared.words.Reference.{Reference}
 use Rattle.kc_model.specs.declared.footprint.Seen.{Seen}
-use Rattle.kc_machine_pool.specs.kc_machine_words.declared.access.Found.TheVariants as found
-use Rattle.kc_machine_pool.specs.kc_machine_steps.declared.task.Task.{Task}
-use Rattle.kc_machine_pool.specs.kc_machine_steps.declared.task.Task.TheVariants as task
-use Rattle.kc_machine_pool.specs.kc_machine_steps.declared.task.Told.{Told}
-use Rattle.kc_machine_pool.specs.kc_machine_steps.declared.task.Told.TheVariants as told
-use Rattle.kc_machine_pool.specs.kc_machine_steps.declared.look.LookNext.{LookNext}
-use Rattle.kc_machine_pool.specs.kc_machine_steps.declared.look.LookNext.TheVariants as looking
-use Rattle.kc_machine_pool.specs.kc_machine_steps.declared.line.Intent.{Intent}
-use Rattle.kc_machine_pool.specs.kc_machine_steps.declared.pass.PassNext.{PassNext}
-use Rattle.kc_machine_pool.specs.kc_machine_steps.declared.pass.PassNext.TheVariants as pass
-use Rattle.kc_machine_pool.specs.kc_machine_steps.declared.aid.AidNext.{AidNext}
-use Rattle.kc_machine_pool.specs.kc_machine_steps.declared.aid.AidStep.{AidStep}
-use Rattle.kc_machine_pool.specs.kc_machine_steps.declared.aid.AidNext.TheVariants as aiding
-use Rattle.kc_machine_pool.specs.kc_machine_commits.declared.commit.Commit.{Commit}
-use Rattle.kc_machine_pool.specs.kc_machine_commits.declared.commit.Stage.{Stage}
-use Rattle.kc_machine_pool.specs.kc_machine_commits.declared.commit.Stage.TheVariants as stage
-use Rattle.kc_machine_pool.specs.kc_machine_commits.declared.commit.OwnStep.{OwnStep}
-use Rattle.kc_machine_pool.specs.kc_machine_commits.declared.commit.OwnStep.TheVariants as own
-use Rattle.kc_machine_pool.specs.kc_machine_commits.Nexts.{Next}
-use Rattle.kc_machine_pool.specs.kc_machine_commits.Nexts as next
-use Rattle.kc_machine_pool.specs.kc_machine.declared.hang.HangStep.{HangStep}
-use Rattle.kc_machine_pool.specs.kc_machine_commits.Commits.{scan_next, take_next, after_scan, after_own_pass, aid_or_back, wake_next, told_of, stage_next, loaded, gone_on, onward_by}
-use Rattle.kc_machine_pool.specs.kc_machine_commits.Halts.{unowned, halted_aid, aid_or_decide, halted_own, halted_at}
-use Rattle.kc_machine_pool.specs.kc_machine_steps.Aids.{aid_next}
-use Rattle.kc_machine_pool.specs.kc_machine_steps.Lines.{one_more, after_line, lines_of}
-use Rattle.kc_machine_pool.specs.kc_machine_steps.Looks.{look_next, look_after, told_by, halts_at_once}
-use Rattle.kc_machine_pool.specs.kc_machine_steps.Passes.{pass_next}
-use Rattle.kc_machine_pool.specs.kc_machine.declared.hang.HangStep.TheVariants as hang
-use Rattle.kc_machine_pool.specs.kc_machine.declared.hang.HangNext.{HangNext}
-use Rattle.kc_machine_pool.specs.kc_machine.declared.hang.HangNext.TheVariants as hanging
-use Rattle.kc_machine_pool.specs.kc_machine.Hangs.{hang_next, hangs_on, onward_of, look_of, look_goes_on, looked, look_or_end, clear_or_changed, unblocks_or_tells, leave_after, next_read}
-use Rattle.kc_machine_pool.specs.kc_machine.Waits.{Hang, Leave}
-use Rattle.kc_machine_pool.specs.kc_machine_steps.Swaps.{may_swap, owed_next, swap_next_at, swaps_on, ends_at_once}
-use Rattle.kc_machine_pool.specs.kc_machine_steps.Swaps.{onward_of as onward_of_swap}
-use Rattle.kc_machine_pool.specs.kc_machine_steps.declared.swap.Swap.{Swap}
-use Rattle.kc_machine_pool.specs.kc_machine_steps.declared.swap.SwapNext.{SwapNext}
-use Rattle.kc_machine_pool.specs.kc_machine_steps.declared.swap.SwapNext.TheVariants as swapping
-use Rattle.kc_machine_pool.specs.kc_machine_steps.declared.swap.SwapStep.{SwapStep}
-use Rattle.kc_machine_pool.specs.kc_machine_steps.declared.swap.SwapStep.TheVariants as swap
-use Rattle.kc_machine_pool.specs.kc_machine_effects.Stands.{Swaps}
+use Rattle.kc_machine_invariants.specs.kc_machine_words.declared.access.Found.TheVariants as found
+use Rattle.kc_machine_invariants.specs.kc_machine_steps.declared.task.Task.{Task}
+use Rattle.kc_machine_invariants.specs.kc_machine_steps.declared.task.Task.TheVariants as task
+use Rattle.kc_machine_invariants.specs.kc_machine_steps.declared.task.Told.{Told}
+use Rattle.kc_machine_invariants.specs.kc_machine_steps.declared.task.Told.TheVariants as told
+use Rattle.kc_machine_invariants.specs.kc_machine_steps.declared.look.LookNext.{LookNext}
+use Rattle.kc_machine_invariants.specs.kc_machine_steps.declared.look.LookNext.TheVariants as looking
+use Rattle.kc_machine_invariants.specs.kc_machine_steps.declared.line.Intent.{Intent}
+use Rattle.kc_machine_invariants.specs.kc_machine_steps.declared.pass.PassNext.{PassNext}
+use Rattle.kc_machine_invariants.specs.kc_machine_steps.declared.pass.PassNext.TheVariants as pass
+use Rattle.kc_machine_invariants.specs.kc_machine_steps.declared.aid.AidNext.{AidNext}
+use Rattle.kc_machine_invariants.specs.kc_machine_steps.declared.aid.AidStep.{AidStep}
+use Rattle.kc_machine_invariants.specs.kc_machine_steps.declared.aid.AidNext.TheVariants as aiding
+use Rattle.kc_machine_invariants.specs.kc_machine_commits.declared.commit.Commit.{Commit}
+use Rattle.kc_machine_invariants.specs.kc_machine_commits.declared.commit.Stage.{Stage}
+use Rattle.kc_machine_invariants.specs.kc_machine_commits.declared.commit.Stage.TheVariants as stage
+use Rattle.kc_machine_invariants.specs.kc_machine_commits.declared.commit.OwnStep.{OwnStep}
+use Rattle.kc_machine_invariants.specs.kc_machine_commits.declared.commit.OwnStep.TheVariants as own
+use Rattle.kc_machine_invariants.specs.kc_machine_commits.Nexts.{Next}
+use Rattle.kc_machine_invariants.specs.kc_machine_commits.Nexts as next
+use Rattle.kc_machine_invariants.specs.kc_machine.declared.hang.HangStep.{HangStep}
+use Rattle.kc_machine_invariants.specs.kc_machine_commits.Commits.{scan_next, take_next, after_scan, after_own_pass, aid_or_back, wake_next, told_of, stage_next, loaded, gone_on, onward_by}
+use Rattle.kc_machine_invariants.specs.kc_machine_commits.Halts.{unowned, halted_aid, aid_or_decide, halted_own, halted_at}
+use Rattle.kc_machine_invariants.specs.kc_machine_steps.Aids.{aid_next}
+use Rattle.kc_machine_invariants.specs.kc_machine_steps.Lines.{one_more, after_line, lines_of}
+use Rattle.kc_machine_invariants.specs.kc_machine_steps.Looks.{look_next, look_after, told_by, halts_at_once}
+use Rattle.kc_machine_invariants.specs.kc_machine_steps.Passes.{pass_next}
+use Rattle.kc_machine_invariants.specs.kc_machine.declared.hang.HangStep.TheVariants as hang
+use Rattle.kc_machine_invariants.specs.kc_machine.declared.hang.HangNext.{HangNext}
+use Rattle.kc_machine_invariants.specs.kc_machine.declared.hang.HangNext.TheVariants as hanging
+use Rattle.kc_machine_invariants.specs.kc_machine.Hangs.{hang_next, hangs_on, onward_of, look_of, look_goes_on, looked, look_or_end, clear_or_changed, unblocks_or_tells, leave_after, next_read}
+use Rattle.kc_machine_invariants.specs.kc_machine.Waits.{Hang, Leave}
+use Rattle.kc_machine_invariants.specs.kc_machine_steps.Swaps.{may_swap, owed_next, swap_next_at, swaps_on, ends_at_once}
+use Rattle.kc_machine_invariants.specs.kc_machine_steps.Swaps.{onward_of as onward_of_swap}
+use Rattle.kc_machine_invariants.specs.kc_machine_steps.declared.swap.Swap.{Swap}
+use Rattle.kc_machine_invariants.specs.kc_machine_steps.declared.swap.SwapNext.{SwapNext}
+use Rattle.kc_machine_invariants.specs.kc_machine_steps.declared.swap.SwapNext.TheVariants as swapping
+use Rattle.kc_machine_invariants.specs.kc_machine_steps.declared.swap.SwapStep.{SwapStep}
+use Rattle.kc_machine_invariants.specs.kc_machine_steps.declared.swap.SwapStep.TheVariants as swap
+use Rattle.kc_machine_invariants.specs.Stands.{Swaps}
 use Rattle.kc_machine_traces.proofs.Swapping.{swap_of}
 use Rattle.kc_machine_traces.specs.Swaps.{takes}
 use Rattle.kc_model.specs.declared.word.Word.TheVariants.{Plain, Ref}
-use Rattle.kc_machine_pool.specs.kc_machine.Works.{Work}
-use Rattle.kc_machine_pool.specs.kc_machine.Works as work
-use Rattle.kc_machine_pool.specs.kc_machine.Machine.{World}
-use Rattle.kc_machine_pool.specs.kc_machine.Seats.{answer_of, answer_by, after, is_idle, begun_idle, working, hanging, halted, halted_by, ended}
-use Rattle.kc_machine_pool.specs.kc_machine.declared.seat.Seat.{Seat}
-use Rattle.kc_machine_claims.specs.Histories.{History}
-use Rattle.kc_machine_claims.specs.Traces.{is_success}
-use Rattle.kc_machine_pool.proofs.Statuses.{fill_fills, owed_started, finish_started, wake_started}
-use Rattle.kc_machine_pool.specs.Owners.{fills}
+use Rattle.kc_machine_invariants.specs.kc_machine.Works.{Work}
+use Rattle.kc_machine_invariants.specs.kc_machine.Works as work
+use Rattle.kc_machine_invariants.specs.kc_machine.Machine.{World}
+use Rattle.kc_machine_invariants.specs.kc_machine.Seats.{answer_of, answer_by, after, is_idle, begun_idle, working, hanging, halted, halted_by, ended}
+use Rattle.kc_machine_invariants.specs.kc_machine.declared.seat.Seat.{Seat}
+use Rattle.kc_machine_traces.specs.Histories.{History}
+use Rattle.kc_machine_traces.specs.Traces.{is_success}
+use Rattle.kc_machine_invariants.proofs.Statuses.{fill_fills, owed_started, finish_started, wake_started}
+use Rattle.kc_machine_invariants.specs.Owners.{fills}
 use Rattle.kc_machine_traces.specs.Outcomes.{GainsTheCall, GainsAsTold}
 
 -- of the task u of seat k, at its call n

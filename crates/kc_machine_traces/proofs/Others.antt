@@ -3,21 +3,21 @@ use Rattle.std.proofs.Common.{◌≡◌, ◌≢◌, ℕ, ◌<◌, ◌&&◌, ◌+
 use Rattle.std.specs.Prelude.{nat_lt}
 use Rattle.std.proofs.lemmas.Bool.Decides.{nat_tests}
 use Rattle.std.proofs.lemmas.List.Elements.{All-head, All-tail}
-use Rattle.kc_machine_pool.proofs.kc_machine.Functions.{put_here, put_else}
-use Rattle.kc_machine_pool.specs.kc_machine.Machine.{World, State, Opening, put, with_seat, possible, found_at, touched, stepped, happened, event_of, seat_of, run_from, run, opened, pool_size}
-use Rattle.kc_machine_pool.specs.kc_machine.Seats.{access_of, answer_of, begun, halted}
-use Rattle.kc_machine_pool.specs.kc_machine.Words.{phase_is}
-use Rattle.kc_machine_pool.specs.kc_machine.declared.seat.Seat.{Seat}
-use Rattle.kc_machine_claims.specs.Traces.{Moment, Trace, is_success, history_after, traced, trace_from, trace, now}
-use Rattle.kc_machine_pool.specs.kc_machine_effects.Stands.{Stand, Passing, NoPass, Over, stand}
-use Rattle.kc_machine_pool.specs.kc_machine_steps.declared.task.Event.{Event}
-use Rattle.kc_machine_pool.specs.kc_machine_steps.declared.task.Event.TheVariants.{Begin, Step, Halt}
+use Rattle.kc_machine_invariants.proofs.kc_machine.Functions.{put_here, put_else}
+use Rattle.kc_machine_invariants.specs.kc_machine.Machine.{World, State, Opening, put, with_seat, possible, found_at, touched, stepped, happened, event_of, seat_of, run_from, run, opened, pool_size}
+use Rattle.kc_machine_invariants.specs.kc_machine.Seats.{access_of, answer_of, begun, halted}
+use Rattle.kc_machine_invariants.specs.kc_machine.Words.{phase_is}
+use Rattle.kc_machine_invariants.specs.kc_machine.declared.seat.Seat.{Seat}
+use Rattle.kc_machine_traces.specs.Traces.{Moment, Trace, is_success, history_after, traced, trace_from, trace, now}
+use Rattle.kc_machine_invariants.specs.Stands.{Stand, Passing, NoPass, Over, stand}
+use Rattle.kc_machine_invariants.specs.kc_machine_steps.declared.task.Event.{Event}
+use Rattle.kc_machine_invariants.specs.kc_machine_steps.declared.task.Event.TheVariants.{Begin, Step, Halt}
 use Rattle.kc_machine_traces.proofs.Joins.{run-append, trace-append}
 use Rattle.kc_machine_traces.proofs.Swapping.{enters_none, takes_no_other}
 use Rattle.kc_machine_traces.specs.Swaps.{takes}
 use Rattle.kc_machine_traces.specs.Parts.{NoneOf, IsNoStep}
-use Rattle.kc_machine_pool.specs.kc_machine_words.declared.words.Phase.{Phase}
-use Rattle.kc_machine_pool.specs.kc_machine_words.declared.words.Phase.TheVariants.{Active, Succeeded, Failed, Crossed, Halted}
+use Rattle.kc_machine_invariants.specs.kc_machine_words.declared.words.Phase.{Phase}
+use Rattle.kc_machine_invariants.specs.kc_machine_words.declared.words.Phase.TheVariants.{Active, Succeeded, Failed, Crossed, Halted}
 
 -- ---- the shape stays
 

@@ -3,54 +3,54 @@ use Rattle.std.proofs.Common.{Some, ◌≡◌, ◌≢◌, ℕ, ◌<◌, ◌⊎�
 use Rattle.std.specs.Prelude.{nat_lt}
 use Rattle.std.proofs.lemmas.List.Elements.{All-nil, All-cons}
 use borrow.Author.Tests.{eqb-true, eqb-false, eq-eqb}
-use Rattle.kc_machine_pool.specs.kc_machine_steps.declared.aid.AidStep.{AidStep}
-use Rattle.kc_machine_pool.specs.kc_machine_steps.declared.aid.Aided.{Aided}
-use Rattle.kc_machine_pool.specs.kc_machine_steps.declared.line.Intent.{Intent}
-use Rattle.kc_machine_pool.specs.kc_machine_words.declared.words.Handle.{Handle}
-use Rattle.kc_machine_pool.specs.kc_machine_words.declared.words.Phase.{Phase}
-use Rattle.kc_machine_pool.specs.kc_machine_words.declared.words.Phase.TheVariants.{Active}
-use Rattle.kc_machine_pool.specs.kc_machine_words.declared.words.Reference.{Reference}
-use Rattle.kc_machine_pool.specs.kc_machine_words.declared.words.Status.{Status}
-use Rattle.kc_machine_pool.specs.kc_machine_steps.declared.aid.AidStep.TheVariants as aid
-use Rattle.kc_machine_pool.specs.kc_machine_commits.declared.commit.Commit.{Commit}
-use Rattle.kc_machine_pool.specs.kc_machine_commits.declared.commit.Stage.{Stage}
-use Rattle.kc_machine_pool.specs.kc_machine_commits.declared.commit.Stage.TheVariants as stage
-use Rattle.kc_machine_pool.specs.kc_machine_commits.declared.commit.OwnStep.{OwnStep}
-use Rattle.kc_machine_pool.specs.kc_machine_commits.declared.commit.OwnStep.TheVariants as own
-use Rattle.kc_machine_pool.specs.kc_machine_steps.declared.task.Task.{Task}
-use Rattle.kc_machine_pool.specs.kc_machine_steps.declared.task.Task.TheVariants as task
-use Rattle.kc_machine_pool.specs.kc_machine.Words.{phase_is}
-use Rattle.kc_machine_pool.specs.kc_machine.declared.hang.HangStep.{HangStep}
-use Rattle.kc_machine_pool.specs.kc_machine_steps.Lines.{lines_of}
-use Rattle.kc_machine_pool.specs.kc_machine_steps.Passes.{status}
+use Rattle.kc_machine_invariants.specs.kc_machine_steps.declared.aid.AidStep.{AidStep}
+use Rattle.kc_machine_invariants.specs.kc_machine_steps.declared.aid.Aided.{Aided}
+use Rattle.kc_machine_invariants.specs.kc_machine_steps.declared.line.Intent.{Intent}
+use Rattle.kc_machine_invariants.specs.kc_machine_words.declared.words.Handle.{Handle}
+use Rattle.kc_machine_invariants.specs.kc_machine_words.declared.words.Phase.{Phase}
+use Rattle.kc_machine_invariants.specs.kc_machine_words.declared.words.Phase.TheVariants.{Active}
+use Rattle.kc_machine_invariants.specs.kc_machine_words.declared.words.Reference.{Reference}
+use Rattle.kc_machine_invariants.specs.kc_machine_words.declared.words.Status.{Status}
+use Rattle.kc_machine_invariants.specs.kc_machine_steps.declared.aid.AidStep.TheVariants as aid
+use Rattle.kc_machine_invariants.specs.kc_machine_commits.declared.commit.Commit.{Commit}
+use Rattle.kc_machine_invariants.specs.kc_machine_commits.declared.commit.Stage.{Stage}
+use Rattle.kc_machine_invariants.specs.kc_machine_commits.declared.commit.Stage.TheVariants as stage
+use Rattle.kc_machine_invariants.specs.kc_machine_commits.declared.commit.OwnStep.{OwnStep}
+use Rattle.kc_machine_invariants.specs.kc_machine_commits.declared.commit.OwnStep.TheVariants as own
+use Rattle.kc_machine_invariants.specs.kc_machine_steps.declared.task.Task.{Task}
+use Rattle.kc_machine_invariants.specs.kc_machine_steps.declared.task.Task.TheVariants as task
+use Rattle.kc_machine_invariants.specs.kc_machine.Words.{phase_is}
+use Rattle.kc_machine_invariants.specs.kc_machine.declared.hang.HangStep.{HangStep}
+use Rattle.kc_machine_invariants.specs.kc_machine_steps.Lines.{lines_of}
+use Rattle.kc_machine_invariants.specs.kc_machine_steps.Passes.{status}
 use Rattle.kc_model.specs.declared.footprint.Line.{Line}
-use Rattle.kc_machine_pool.specs.kc_machine_steps.declared.task.Event.{Event}
-use Rattle.kc_machine_pool.specs.kc_machine_steps.declared.task.Event.TheVariants.{Begin, Step, Halt}
+use Rattle.kc_machine_invariants.specs.kc_machine_steps.declared.task.Event.{Event}
+use Rattle.kc_machine_invariants.specs.kc_machine_steps.declared.task.Event.TheVariants.{Begin, Step, Halt}
 use Rattle.kc_model.specs.declared.footprint.Seen.{Seen}
-use Rattle.kc_machine_pool.specs.kc_machine.declared.hang.HangStep.TheVariants as hang
-use Rattle.kc_machine_pool.specs.kc_machine.Works.{Work}
-use Rattle.kc_machine_pool.specs.kc_machine_commits.Commits.{stage_access}
-use Rattle.kc_machine_pool.specs.kc_machine.Works as work
-use Rattle.kc_machine_pool.proofs.kc_machine.Functions.{put_here}
-use Rattle.kc_machine_pool.specs.kc_machine.Machine.{World, State, Opening, put, found_at, touched, possible, happened, stepped, event_of, seat_of, run}
-use Rattle.kc_machine_pool.specs.kc_machine.Seats.{access_of, answer_of, begun, begun_idle, halted, is_idle, work_access}
-use Rattle.kc_machine_pool.specs.kc_machine.declared.seat.Seat.{Seat}
-use Rattle.kc_machine_claims.specs.Histories.{History, Placed, inserted, footprint_of}
-use Rattle.kc_machine_claims.specs.Traces.{is_success, decides, entry_for, history_after, place_or, trace, now}
-use Rattle.kc_machine_pool.specs.kc_machine_effects.Holds.{Proper, own_hold}
-use Rattle.kc_machine_pool.specs.kc_machine_effects.Stands.{Stand, Own, NoOwn, Waits, Passing, NoPass, Over, stand, works, resting, commits, owns, aids, hangs}
-use Rattle.kc_machine_pool.proofs.LifeLaws.{owners_differ, phase_known}
-use Rattle.kc_machine_pool.specs.Owners.{fills, is_filling, phase_read}
+use Rattle.kc_machine_invariants.specs.kc_machine.declared.hang.HangStep.TheVariants as hang
+use Rattle.kc_machine_invariants.specs.kc_machine.Works.{Work}
+use Rattle.kc_machine_invariants.specs.kc_machine_commits.Commits.{stage_access}
+use Rattle.kc_machine_invariants.specs.kc_machine.Works as work
+use Rattle.kc_machine_invariants.proofs.kc_machine.Functions.{put_here}
+use Rattle.kc_machine_invariants.specs.kc_machine.Machine.{World, State, Opening, put, found_at, touched, possible, happened, stepped, event_of, seat_of, run}
+use Rattle.kc_machine_invariants.specs.kc_machine.Seats.{access_of, answer_of, begun, begun_idle, halted, is_idle, work_access}
+use Rattle.kc_machine_invariants.specs.kc_machine.declared.seat.Seat.{Seat}
+use Rattle.kc_machine_traces.specs.Histories.{History, Placed, inserted, footprint_of}
+use Rattle.kc_machine_traces.specs.Traces.{is_success, decides, entry_for, history_after, place_or, trace, now}
+use Rattle.kc_machine_invariants.specs.Holds.{Proper, own_hold}
+use Rattle.kc_machine_invariants.specs.Stands.{Stand, Own, NoOwn, Waits, Passing, NoPass, Over, stand, works, resting, commits, owns, aids, hangs}
+use Rattle.kc_machine_invariants.proofs.LifeLaws.{owners_differ, phase_known}
+use Rattle.kc_machine_invariants.specs.Owners.{fills, is_filling, phase_read}
 use Rattle.kc_machine_traces.proofs.Answers.{head_of}
 use Rattle.kc_machine_traces.proofs.Entries.{Entered, Enters, enters, history_by, by_inserted, by_no_swap, idle_keeps, swapper, swap_enters_it}
 use Rattle.kc_machine_traces.proofs.Joins.{run-append}
 use Rattle.kc_machine_traces.proofs.Swapping.{swap_of, stand_swap, takes_place, takes_true}
 use Rattle.kc_machine_traces.specs.Swaps.{SwapOf, swap_at, swapped, takes}
-use Rattle.kc_machine_pool.proofs.kc_machine_seats.SeatedSteps.{seats_stay}
-use Rattle.kc_machine_claims.specs.Traces.{swap_entry}
-use Rattle.kc_machine_pool.specs.kc_machine_steps.Lines as lines
-use Rattle.kc_machine_pool.specs.kc_machine_steps.declared.swap.SwapStep.{SwapStep}
-use Rattle.kc_machine_pool.specs.kc_machine_steps.declared.swap.SwapStep.TheVariants as swap
+use Rattle.kc_machine_invariants.proofs.SeatedSteps.{seats_stay}
+use Rattle.kc_machine_traces.specs.Traces.{swap_entry}
+use Rattle.kc_machine_invariants.specs.kc_machine_steps.Lines as lines
+use Rattle.kc_machine_invariants.specs.kc_machine_steps.declared.swap.SwapStep.{SwapStep}
+use Rattle.kc_machine_invariants.specs.kc_machine_steps.declared.swap.SwapStep.TheVariants as swap
 use Rattle.kc_machine_traces.proofs.Onward.{SwapLeft, IsIntentOf, IfDone, succeeded, StageLeft, StageKnows, Left, SeatLeft, Knows, answer_left, halted_left, begun_left, ended_left}
 use Rattle.kc_machine_traces.proofs.Others.{run_shape, event_in, event_else, history_kept}
 use Rattle.kc_machine_traces.proofs.Statuses.{Moves, Starts, Decides, IsOver, step_moves}

@@ -2,47 +2,47 @@
 use Rattle.std.proofs.Common.{◌≡◌, ℕ, ◌⊎◌, Bool, true, false, List, Option, None, Some, inl, inr, refl, sym, ap, ◌∙◌, if◌then◌else◌}
 use Rattle.std.specs.Prelude.{slice_get}
 use Rattle.kc_model.specs.declared.footprint.Line.{Line}
-use Rattle.kc_machine_pool.specs.kc_machine_steps.declared.look.LookStep.{LookStep}
-use Rattle.kc_machine_pool.specs.kc_machine_words.declared.words.Handle.{Handle}
-use Rattle.kc_machine_pool.specs.kc_machine_words.declared.words.Phase.TheVariants.{Active}
-use Rattle.kc_machine_pool.specs.kc_machine_words.declared.words.Reference.{Reference}
-use Rattle.kc_machine_pool.specs.kc_machine_words.declared.words.Status.{Status}
+use Rattle.kc_machine_invariants.specs.kc_machine_steps.declared.look.LookStep.{LookStep}
+use Rattle.kc_machine_invariants.specs.kc_machine_words.declared.words.Handle.{Handle}
+use Rattle.kc_machine_invariants.specs.kc_machine_words.declared.words.Phase.TheVariants.{Active}
+use Rattle.kc_machine_invariants.specs.kc_machine_words.declared.words.Reference.{Reference}
+use Rattle.kc_machine_invariants.specs.kc_machine_words.declared.words.Status.{Status}
 use Rattle.kc_model.specs.declared.footprint.Loc.{Loc}
 use Rattle.kc_model.specs.declared.footprint.Seen.{Seen}
-use Rattle.kc_machine_pool.specs.kc_machine_steps.declared.look.LookStep.TheVariants as look
-use Rattle.kc_machine_pool.specs.kc_machine_steps.declared.aid.AidStep.{AidStep}
-use Rattle.kc_machine_pool.specs.kc_machine_steps.declared.aid.Aided.{Aided}
-use Rattle.kc_machine_pool.specs.kc_machine_steps.declared.pass.PassStep.{PassStep}
-use Rattle.kc_machine_pool.specs.kc_machine_steps.declared.pass.PassStep.TheVariants.{Install, Check, CheckHold, CheckStatus, CheckFirst, CheckDrop, Decide, Release}
-use Rattle.kc_machine_pool.specs.kc_machine_steps.declared.aid.AidStep.TheVariants as aid
-use Rattle.kc_machine_pool.specs.kc_machine_commits.declared.commit.Commit.{Commit}
-use Rattle.kc_machine_pool.specs.kc_machine_commits.declared.commit.Stage.{Stage}
-use Rattle.kc_machine_pool.specs.kc_machine_commits.declared.commit.Stage.TheVariants as stage
-use Rattle.kc_machine_pool.specs.kc_machine_commits.declared.commit.OwnStep.{OwnStep}
-use Rattle.kc_machine_pool.specs.kc_machine_commits.declared.commit.OwnStep.TheVariants as own
-use Rattle.kc_machine_pool.specs.kc_machine.declared.hang.HangStep.{HangStep}
-use Rattle.kc_machine_pool.specs.kc_machine.declared.hang.HangStep.TheVariants as hang
-use Rattle.kc_machine_pool.specs.kc_machine.declared.hang.LeaveStep.{LeaveStep}
-use Rattle.kc_machine_pool.specs.kc_machine.declared.hang.LeaveStep.TheVariants as leave
-use Rattle.kc_machine_pool.specs.kc_machine_steps.Swaps.{swap_access_at}
-use Rattle.kc_machine_pool.specs.kc_machine_steps.declared.swap.SwapStep.{SwapStep}
-use Rattle.kc_machine_pool.specs.kc_machine_steps.declared.swap.SwapStep.TheVariants as swap
-use Rattle.kc_machine_pool.specs.kc_machine.Works.{Work}
-use Rattle.kc_machine_pool.specs.kc_machine.Works as work
-use Rattle.kc_machine_pool.proofs.kc_machine.Functions.{put_cases}
-use Rattle.kc_machine_pool.specs.kc_machine.Hangs.{hang_access_of, leave_access_at, clear_access, read_of}
-use Rattle.kc_machine_pool.specs.kc_machine.Machine.{World, put_some, touched}
-use Rattle.kc_machine_pool.specs.kc_machine.Seats.{work_access, access_of}
-use Rattle.kc_machine_pool.specs.kc_machine.Words.{status_is}
-use Rattle.kc_machine_pool.specs.kc_machine.declared.seat.Seat.{Seat}
-use Rattle.kc_machine_pool.specs.kc_machine_commits.Commits.{own_access, stage_access, fill_first, fill_second, wake_access}
-use Rattle.kc_machine_pool.proofs.kc_machine_effects.Tests.{status_active}
-use Rattle.kc_machine_pool.specs.kc_machine_effects.Holds.{Proper, own_hold}
-use Rattle.kc_machine_pool.specs.kc_machine_effects.Stands.{Stand, Waits, Passing, NoPass, Over, stand, resting, works, commits, owns, aids}
-use Rattle.kc_machine_pool.specs.Owners.{is_filling}
-use Rattle.kc_machine_pool.specs.kc_machine_steps.Aids.{aid_access}
-use Rattle.kc_machine_pool.specs.kc_machine_steps.Looks.{look_access}
-use Rattle.kc_machine_pool.specs.kc_machine_steps.Passes.{pass_access, install_access, check_access, release_at, status}
+use Rattle.kc_machine_invariants.specs.kc_machine_steps.declared.look.LookStep.TheVariants as look
+use Rattle.kc_machine_invariants.specs.kc_machine_steps.declared.aid.AidStep.{AidStep}
+use Rattle.kc_machine_invariants.specs.kc_machine_steps.declared.aid.Aided.{Aided}
+use Rattle.kc_machine_invariants.specs.kc_machine_steps.declared.pass.PassStep.{PassStep}
+use Rattle.kc_machine_invariants.specs.kc_machine_steps.declared.pass.PassStep.TheVariants.{Install, Check, CheckHold, CheckStatus, CheckFirst, CheckDrop, Decide, Release}
+use Rattle.kc_machine_invariants.specs.kc_machine_steps.declared.aid.AidStep.TheVariants as aid
+use Rattle.kc_machine_invariants.specs.kc_machine_commits.declared.commit.Commit.{Commit}
+use Rattle.kc_machine_invariants.specs.kc_machine_commits.declared.commit.Stage.{Stage}
+use Rattle.kc_machine_invariants.specs.kc_machine_commits.declared.commit.Stage.TheVariants as stage
+use Rattle.kc_machine_invariants.specs.kc_machine_commits.declared.commit.OwnStep.{OwnStep}
+use Rattle.kc_machine_invariants.specs.kc_machine_commits.declared.commit.OwnStep.TheVariants as own
+use Rattle.kc_machine_invariants.specs.kc_machine.declared.hang.HangStep.{HangStep}
+use Rattle.kc_machine_invariants.specs.kc_machine.declared.hang.HangStep.TheVariants as hang
+use Rattle.kc_machine_invariants.specs.kc_machine.declared.hang.LeaveStep.{LeaveStep}
+use Rattle.kc_machine_invariants.specs.kc_machine.declared.hang.LeaveStep.TheVariants as leave
+use Rattle.kc_machine_invariants.specs.kc_machine_steps.Swaps.{swap_access_at}
+use Rattle.kc_machine_invariants.specs.kc_machine_steps.declared.swap.SwapStep.{SwapStep}
+use Rattle.kc_machine_invariants.specs.kc_machine_steps.declared.swap.SwapStep.TheVariants as swap
+use Rattle.kc_machine_invariants.specs.kc_machine.Works.{Work}
+use Rattle.kc_machine_invariants.specs.kc_machine.Works as work
+use Rattle.kc_machine_invariants.proofs.kc_machine.Functions.{put_cases}
+use Rattle.kc_machine_invariants.specs.kc_machine.Hangs.{hang_access_of, leave_access_at, clear_access, read_of}
+use Rattle.kc_machine_invariants.specs.kc_machine.Machine.{World, put_some, touched}
+use Rattle.kc_machine_invariants.specs.kc_machine.Seats.{work_access, access_of}
+use Rattle.kc_machine_invariants.specs.kc_machine.Words.{status_is}
+use Rattle.kc_machine_invariants.specs.kc_machine.declared.seat.Seat.{Seat}
+use Rattle.kc_machine_invariants.specs.kc_machine_commits.Commits.{own_access, stage_access, fill_first, fill_second, wake_access}
+use Rattle.kc_machine_invariants.proofs.Tests.{status_active}
+use Rattle.kc_machine_invariants.specs.Holds.{Proper, own_hold}
+use Rattle.kc_machine_invariants.specs.Stands.{Stand, Waits, Passing, NoPass, Over, stand, resting, works, commits, owns, aids}
+use Rattle.kc_machine_invariants.specs.Owners.{is_filling}
+use Rattle.kc_machine_invariants.specs.kc_machine_steps.Aids.{aid_access}
+use Rattle.kc_machine_invariants.specs.kc_machine_steps.Looks.{look_access}
+use Rattle.kc_machine_invariants.specs.kc_machine_steps.Passes.{pass_access, install_access, check_access, release_at, status}
 
 -- the pass is over descriptor d
 abbrev pub IsOver : Passing → ℕ → Type 0

@@ -1,22 +1,22 @@
 -- The caller and the call of a stand are its seat's.
 use Rattle.std.proofs.Common.{◌≡◌, refl}
-use Rattle.kc_machine_pool.specs.kc_machine_steps.declared.aid.AidStep.{AidStep}
-use Rattle.kc_machine_pool.specs.kc_machine_steps.declared.aid.Aided.{Aided}
-use Rattle.kc_machine_pool.specs.kc_machine_words.declared.words.Handle.{Handle}
-use Rattle.kc_machine_pool.specs.kc_machine_words.declared.words.Reference.{Reference}
-use Rattle.kc_machine_pool.specs.kc_machine_steps.declared.aid.AidStep.TheVariants as aid
-use Rattle.kc_machine_pool.specs.kc_machine_commits.declared.commit.Commit.{Commit}
-use Rattle.kc_machine_pool.specs.kc_machine_commits.declared.commit.OwnStep.{OwnStep}
-use Rattle.kc_machine_pool.specs.kc_machine_commits.declared.commit.Stage.{Stage}
-use Rattle.kc_machine_pool.specs.kc_machine_commits.declared.commit.Stage.TheVariants.{Scan, Take, Own}
-use Rattle.kc_machine_pool.specs.kc_machine_commits.declared.commit.OwnStep.TheVariants as own
-use Rattle.kc_machine_pool.specs.kc_machine.Works.{Work}
-use Rattle.kc_machine_pool.specs.kc_machine.Works as work
-use Rattle.kc_machine_pool.specs.kc_machine.Waits.{Hang}
-use Rattle.kc_machine_pool.specs.kc_machine.declared.hang.HangStep.{HangStep}
-use Rattle.kc_machine_pool.specs.kc_machine.declared.hang.HangStep.TheVariants as hang
-use Rattle.kc_machine_pool.specs.kc_machine.declared.seat.Seat.{Seat}
-use Rattle.kc_machine_pool.specs.kc_machine_effects.Stands.{Stand, Waits, stand, works, resting, commits, owns, aids, hangs}
+use Rattle.kc_machine_invariants.specs.kc_machine_steps.declared.aid.AidStep.{AidStep}
+use Rattle.kc_machine_invariants.specs.kc_machine_steps.declared.aid.Aided.{Aided}
+use Rattle.kc_machine_invariants.specs.kc_machine_words.declared.words.Handle.{Handle}
+use Rattle.kc_machine_invariants.specs.kc_machine_words.declared.words.Reference.{Reference}
+use Rattle.kc_machine_invariants.specs.kc_machine_steps.declared.aid.AidStep.TheVariants as aid
+use Rattle.kc_machine_invariants.specs.kc_machine_commits.declared.commit.Commit.{Commit}
+use Rattle.kc_machine_invariants.specs.kc_machine_commits.declared.commit.OwnStep.{OwnStep}
+use Rattle.kc_machine_invariants.specs.kc_machine_commits.declared.commit.Stage.{Stage}
+use Rattle.kc_machine_invariants.specs.kc_machine_commits.declared.commit.Stage.TheVariants.{Scan, Take, Own}
+use Rattle.kc_machine_invariants.specs.kc_machine_commits.declared.commit.OwnStep.TheVariants as own
+use Rattle.kc_machine_invariants.specs.kc_machine.Works.{Work}
+use Rattle.kc_machine_invariants.specs.kc_machine.Works as work
+use Rattle.kc_machine_invariants.specs.kc_machine.Waits.{Hang}
+use Rattle.kc_machine_invariants.specs.kc_machine.declared.hang.HangStep.{HangStep}
+use Rattle.kc_machine_invariants.specs.kc_machine.declared.hang.HangStep.TheVariants as hang
+use Rattle.kc_machine_invariants.specs.kc_machine.declared.seat.Seat.{Seat}
+use Rattle.kc_machine_invariants.specs.Stands.{Stand, Waits, stand, works, resting, commits, owns, aids, hangs}
 
 abbrev SameCall : Stand → Stand → Type 0
 SameCall t s = (t.caller ≡ s.caller) × (t.calls ≡ s.calls)

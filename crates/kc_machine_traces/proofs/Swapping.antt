@@ -3,33 +3,33 @@ use Rattle.std.proofs.Common.{◌≡◌, ◌<◌, ℕ, Bool, true, false, refl, 
 use Rattle.std.proofs.lemmas.Bool.{ltb-true}
 use Rattle.std.specs.Prelude.{nat_lt}
 use borrow.Author.Tests.{eq-eqb}
-use Rattle.kc_machine_pool.proofs.kc_machine.Functions.{put_here}
-use Rattle.kc_machine_pool.specs.kc_machine.Machine.{State, event_of, happened, possible, put, seat_of, found_at, touched, stepped}
-use Rattle.kc_machine_pool.specs.kc_machine.Seats.{access_of, work_access, answer_of, answer_by, begun, begun_idle, halted, halted_by, is_idle}
-use Rattle.kc_machine_pool.specs.kc_machine.Words.{word_is}
-use Rattle.kc_machine_pool.specs.kc_machine.Works as work
-use Rattle.kc_machine_pool.specs.kc_machine.Works.{Work}
-use Rattle.kc_machine_pool.specs.kc_machine.declared.hang.HangStep.{HangStep}
-use Rattle.kc_machine_pool.specs.kc_machine.declared.hang.HangStep.TheVariants as hang
-use Rattle.kc_machine_pool.specs.kc_machine.declared.seat.Seat.{Seat}
-use Rattle.kc_machine_claims.specs.Histories.{History, Placed, inserted}
-use Rattle.kc_machine_claims.specs.Traces.{history_by_swap, swap_entry}
-use Rattle.kc_machine_pool.proofs.kc_machine_effects.Left.{commit_unswapped}
-use Rattle.kc_machine_pool.proofs.kc_machine_effects.Tests.{plain_same}
-use Rattle.kc_machine_pool.specs.kc_machine_effects.Changes.{with_word}
-use Rattle.kc_machine_pool.specs.kc_machine_effects.Stands.{Swapping, NoSwap, Swaps, NoPass, NoOwn, stand, works, resting, hangs}
-use Rattle.kc_machine_pool.specs.kc_machine_steps.Lines.{one_more}
-use Rattle.kc_machine_pool.specs.kc_machine_steps.Swaps.{may_swap, seen_word, word_after}
-use Rattle.kc_machine_pool.specs.kc_machine_steps.declared.swap.SwapStep.{SwapStep}
-use Rattle.kc_machine_pool.specs.kc_machine_steps.declared.swap.SwapStep.TheVariants as swap
-use Rattle.kc_machine_pool.specs.kc_machine_steps.declared.swap.TheConstants.{MOST_SWAPS}
-use Rattle.kc_machine_pool.specs.kc_machine_steps.declared.task.Event.{Event}
-use Rattle.kc_machine_pool.specs.kc_machine_steps.declared.task.Event.TheVariants.{Begin, Step, Halt}
-use Rattle.kc_machine_pool.specs.kc_machine_steps.declared.task.Task.{Task}
+use Rattle.kc_machine_invariants.proofs.kc_machine.Functions.{put_here}
+use Rattle.kc_machine_invariants.specs.kc_machine.Machine.{State, event_of, happened, possible, put, seat_of, found_at, touched, stepped}
+use Rattle.kc_machine_invariants.specs.kc_machine.Seats.{access_of, work_access, answer_of, answer_by, begun, begun_idle, halted, halted_by, is_idle}
+use Rattle.kc_machine_invariants.specs.kc_machine.Words.{word_is}
+use Rattle.kc_machine_invariants.specs.kc_machine.Works as work
+use Rattle.kc_machine_invariants.specs.kc_machine.Works.{Work}
+use Rattle.kc_machine_invariants.specs.kc_machine.declared.hang.HangStep.{HangStep}
+use Rattle.kc_machine_invariants.specs.kc_machine.declared.hang.HangStep.TheVariants as hang
+use Rattle.kc_machine_invariants.specs.kc_machine.declared.seat.Seat.{Seat}
+use Rattle.kc_machine_traces.specs.Histories.{History, Placed, inserted}
+use Rattle.kc_machine_traces.specs.Traces.{history_by_swap, swap_entry}
+use Rattle.kc_machine_invariants.proofs.Left.{commit_unswapped}
+use Rattle.kc_machine_invariants.proofs.Tests.{plain_same}
+use Rattle.kc_machine_invariants.specs.Changes.{with_word}
+use Rattle.kc_machine_invariants.specs.Stands.{Swapping, NoSwap, Swaps, NoPass, NoOwn, stand, works, resting, hangs}
+use Rattle.kc_machine_invariants.specs.kc_machine_steps.Lines.{one_more}
+use Rattle.kc_machine_invariants.specs.kc_machine_steps.Swaps.{may_swap, seen_word, word_after}
+use Rattle.kc_machine_invariants.specs.kc_machine_steps.declared.swap.SwapStep.{SwapStep}
+use Rattle.kc_machine_invariants.specs.kc_machine_steps.declared.swap.SwapStep.TheVariants as swap
+use Rattle.kc_machine_invariants.specs.kc_machine_steps.declared.swap.TheConstants.{MOST_SWAPS}
+use Rattle.kc_machine_invariants.specs.kc_machine_steps.declared.task.Event.{Event}
+use Rattle.kc_machine_invariants.specs.kc_machine_steps.declared.task.Event.TheVariants.{Begin, Step, Halt}
+use Rattle.kc_machine_invariants.specs.kc_machine_steps.declared.task.Task.{Task}
 use Rattle.kc_machine_traces.specs.Parts.{IsNoStep}
 use Rattle.kc_machine_traces.specs.Swaps.{SwapOf, swap_at, swapped, takes}
-use Rattle.kc_machine_pool.specs.kc_machine_words.declared.access.Found.TheVariants as found
-use Rattle.kc_machine_pool.specs.kc_machine_words.declared.words.Mode.TheVariants.{All}
+use Rattle.kc_machine_invariants.specs.kc_machine_words.declared.access.Found.TheVariants as found
+use Rattle.kc_machine_invariants.specs.kc_machine_words.declared.words.Mode.TheVariants.{All}
 use Rattle.kc_model.specs.declared.footprint.Seen.{Seen}
 use Rattle.kc_model.specs.declared.word.Word.{Word}
 use Rattle.kc_model.specs.declared.word.Word.TheVariants.{Plain, Ref}

@@ -2,22 +2,22 @@
 use Rattle.std.proofs.Common.{◌≡◌, ℕ, ◌<◌, ◌≤◌, arith, subst, ◌==◌, Bool, true, false, if◌then◌else◌, length, [], ◌∷◌, ◌++◌, Some}
 use Rattle.std.proofs.lemmas.List.{length-append}
 use borrow.Author.Tests.{ltb-false}
-use Rattle.kc_machine_pool.specs.kc_machine_words.declared.words.First.{First}
-use Rattle.kc_machine_pool.specs.kc_machine_words.declared.words.Second.{Second}
-use Rattle.kc_machine_pool.specs.kc_machine_words.declared.access.Found.TheVariants as found
-use Rattle.kc_machine_pool.specs.kc_machine_steps.declared.aid.AidStep.{AidStep}
-use Rattle.kc_machine_pool.specs.kc_machine_steps.declared.aid.Aided.{Aided}
-use Rattle.kc_machine_pool.specs.kc_machine_steps.declared.aid.AidStep.TheVariants as aid
-use Rattle.kc_machine_pool.specs.kc_machine_steps.declared.aid.AidNext.TheVariants as aiding
-use Rattle.kc_machine_pool.specs.kc_machine.Machine.{World}
-use Rattle.kc_machine_pool.specs.kc_machine_commits.Halts.{halted_aid, halted_aid_pass}
-use Rattle.kc_machine_pool.specs.kc_machine_effects.Effects
-use Rattle.kc_machine_pool.specs.kc_machine_effects.Effects.{Effect}
-use Rattle.kc_machine_pool.specs.kc_machine_effects.Stands.{Stand, Aiding, NoAid, Aids, Passes}
-use Rattle.kc_machine_pool.specs.kc_machine_steps.Aids.{copy_line}
-use Rattle.kc_machine_pool.specs.kc_machine_steps.Lines.{joined}
-use Rattle.kc_machine_pool.specs.kc_machine_steps.declared.pass.PassStep.{PassStep}
-use Rattle.kc_machine_pool.specs.kc_machine_steps.declared.pass.PassStep.TheVariants.{Install, Check, CheckHold, CheckStatus, CheckFirst, CheckDrop, Decide, Release}
+use Rattle.kc_machine_invariants.specs.kc_machine_words.declared.words.First.{First}
+use Rattle.kc_machine_invariants.specs.kc_machine_words.declared.words.Second.{Second}
+use Rattle.kc_machine_invariants.specs.kc_machine_words.declared.access.Found.TheVariants as found
+use Rattle.kc_machine_invariants.specs.kc_machine_steps.declared.aid.AidStep.{AidStep}
+use Rattle.kc_machine_invariants.specs.kc_machine_steps.declared.aid.Aided.{Aided}
+use Rattle.kc_machine_invariants.specs.kc_machine_steps.declared.aid.AidStep.TheVariants as aid
+use Rattle.kc_machine_invariants.specs.kc_machine_steps.declared.aid.AidNext.TheVariants as aiding
+use Rattle.kc_machine_invariants.specs.kc_machine.Machine.{World}
+use Rattle.kc_machine_invariants.specs.kc_machine_commits.Halts.{halted_aid, halted_aid_pass}
+use Rattle.kc_machine_invariants.specs.Effects
+use Rattle.kc_machine_invariants.specs.Effects.{Effect}
+use Rattle.kc_machine_invariants.specs.Stands.{Stand, Aiding, NoAid, Aids, Passes}
+use Rattle.kc_machine_invariants.specs.kc_machine_steps.Aids.{copy_line}
+use Rattle.kc_machine_invariants.specs.kc_machine_steps.Lines.{joined}
+use Rattle.kc_machine_invariants.specs.kc_machine_steps.declared.pass.PassStep.{PassStep}
+use Rattle.kc_machine_invariants.specs.kc_machine_steps.declared.pass.PassStep.TheVariants.{Install, Check, CheckHold, CheckStatus, CheckFirst, CheckDrop, Decide, Release}
 use Rattle.kc_machine_traces.specs.Copies.{IsWhole}
 use Rattle.kc_model.specs.declared.footprint.TheConstants.{MOST}
 

@@ -1,17 +1,17 @@
 -- What an aid has loaded of the descriptor that it aids.
 use Rattle.std.specs.Prelude.{◌≡◌, ◌<◌, ℕ, length}
-use Rattle.kc_machine_pool.specs.kc_machine_steps.Lines.{joined}
-use Rattle.kc_machine_pool.specs.kc_machine_steps.declared.aid.AidStep.{AidStep}
-use Rattle.kc_machine_pool.specs.kc_machine_steps.declared.aid.Aided.{Aided}
-use Rattle.kc_machine_pool.specs.kc_machine_words.declared.words.First.{First}
-use Rattle.kc_machine_pool.specs.kc_machine_words.declared.words.Owner.{Owner}
-use Rattle.kc_machine_pool.specs.kc_machine_words.declared.words.Reference.{Reference}
-use Rattle.kc_machine_pool.specs.kc_machine_words.declared.words.Second.{Second}
-use Rattle.kc_machine_pool.specs.kc_machine_steps.declared.aid.AidStep.TheVariants as aid
-use Rattle.kc_machine_pool.specs.kc_machine_steps.declared.aid.AidNext.TheVariants as aiding
-use Rattle.kc_machine_pool.specs.kc_machine.Machine.{World, State}
-use Rattle.kc_machine_pool.specs.kc_machine_effects.Stands.{Aiding, NoAid, Aids, Passes, stand}
-use Rattle.kc_machine_pool.specs.Started.{listed}
+use Rattle.kc_machine_invariants.specs.kc_machine_steps.Lines.{joined}
+use Rattle.kc_machine_invariants.specs.kc_machine_steps.declared.aid.AidStep.{AidStep}
+use Rattle.kc_machine_invariants.specs.kc_machine_steps.declared.aid.Aided.{Aided}
+use Rattle.kc_machine_invariants.specs.kc_machine_words.declared.words.First.{First}
+use Rattle.kc_machine_invariants.specs.kc_machine_words.declared.words.Owner.{Owner}
+use Rattle.kc_machine_invariants.specs.kc_machine_words.declared.words.Reference.{Reference}
+use Rattle.kc_machine_invariants.specs.kc_machine_words.declared.words.Second.{Second}
+use Rattle.kc_machine_invariants.specs.kc_machine_steps.declared.aid.AidStep.TheVariants as aid
+use Rattle.kc_machine_invariants.specs.kc_machine_steps.declared.aid.AidNext.TheVariants as aiding
+use Rattle.kc_machine_invariants.specs.kc_machine.Machine.{World, State}
+use Rattle.kc_machine_invariants.specs.Stands.{Aiding, NoAid, Aids, Passes, stand}
+use Rattle.kc_machine_invariants.specs.Started.{listed}
 
 -- the owner word of a descriptor, and its first lines
 pub record HasLoaded (o : Owner) (f : ℕ → First) (s : ℕ → Second) (c : Aided) : Type 0 where

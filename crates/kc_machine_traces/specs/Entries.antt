@@ -1,10 +1,10 @@
 -- The entries of one caller.
 use Rattle.std.specs.Prelude.{ℕ, ◌<◌, ◌≤◌, ◌==◌, All, Option, None, Some}
 use Rattle.std.specs.List.{filter}
-use Rattle.kc_machine_pool.specs.kc_machine.Machine.{State}
-use Rattle.kc_machine_claims.specs.Histories.{History}
-use Rattle.kc_machine_pool.specs.kc_machine_effects.Stands.{Own, NoOwn, Owns, Runs, Waits}
-use Rattle.kc_machine_pool.specs.kc_machine_steps.declared.line.Intent.{Intent}
+use Rattle.kc_machine_invariants.specs.kc_machine.Machine.{State}
+use Rattle.kc_machine_traces.specs.Histories.{History}
+use Rattle.kc_machine_invariants.specs.Stands.{Own, NoOwn, Owns, Runs, Waits}
+use Rattle.kc_machine_invariants.specs.kc_machine_steps.declared.line.Intent.{Intent}
 
 -- those of caller k, in order
 abbrev pub by : ℕ → History → History

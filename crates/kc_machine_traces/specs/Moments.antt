@@ -1,14 +1,14 @@
 -- What is kept beside a seat: moments, tasks, and when it has an answer.
 use Rattle.std.specs.Prelude.{◌≡◌, ◌≢◌, ◌≤◌, ℕ, List, [], ◌∷◌, true, false, Option, None, length}
 use Rattle.std.specs.Option.{is_some}
-use Rattle.kc_machine_pool.specs.kc_machine.Machine.{Opening}
-use Rattle.kc_machine_pool.specs.kc_machine.Seats.{is_idle}
-use Rattle.kc_machine_pool.specs.kc_machine.declared.seat.Seat.{Seat}
-use Rattle.kc_machine_claims.specs.Claims.{history_at}
-use Rattle.kc_machine_claims.specs.Traces.{Moment}
-use Rattle.kc_machine_pool.specs.kc_machine_steps.declared.task.Event.{Event}
-use Rattle.kc_machine_pool.specs.kc_machine_steps.declared.task.Event.TheVariants.{Begin, Step, Halt}
-use Rattle.kc_machine_pool.specs.kc_machine_steps.declared.task.Task.{Task}
+use Rattle.kc_machine_invariants.specs.kc_machine.Machine.{Opening}
+use Rattle.kc_machine_invariants.specs.kc_machine.Seats.{is_idle}
+use Rattle.kc_machine_invariants.specs.kc_machine.declared.seat.Seat.{Seat}
+use Rattle.kc_machine_traces.specs.Claims.{history_at}
+use Rattle.kc_machine_traces.specs.Traces.{Moment}
+use Rattle.kc_machine_invariants.specs.kc_machine_steps.declared.task.Event.{Event}
+use Rattle.kc_machine_invariants.specs.kc_machine_steps.declared.task.Event.TheVariants.{Begin, Step, Halt}
+use Rattle.kc_machine_invariants.specs.kc_machine_steps.declared.task.Task.{Task}
 
 -- the history at its clock, which the schedule has reached
 pub record IsMomentOf (o : Opening) (es : List Event) (m : Moment) : Type 0 where

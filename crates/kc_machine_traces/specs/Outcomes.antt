@@ -1,13 +1,13 @@
 -- What a task leaves in the history.
 use Rattle.std.specs.Prelude.{◌≡◌, ℕ, ◌++◌, ◌∷◌, Option, None, Some}
-use Rattle.kc_machine_pool.specs.kc_machine_steps.declared.task.Task.{Task}
-use Rattle.kc_machine_pool.specs.kc_machine_steps.declared.task.Task.TheVariants as task
-use Rattle.kc_machine_pool.specs.kc_machine_steps.declared.task.Told.{Told}
-use Rattle.kc_machine_pool.specs.kc_machine_steps.declared.task.Told.TheVariants as told
-use Rattle.kc_machine_claims.specs.Histories.{History, Placed, footprint_of}
-use Rattle.kc_machine_claims.specs.Traces.{swap_entry}
-use Rattle.kc_machine_pool.specs.kc_machine_words.declared.words.Mode.TheVariants.{All}
-use Rattle.kc_machine_pool.specs.kc_machine_steps.Lines.{lines_of}
+use Rattle.kc_machine_invariants.specs.kc_machine_steps.declared.task.Task.{Task}
+use Rattle.kc_machine_invariants.specs.kc_machine_steps.declared.task.Task.TheVariants as task
+use Rattle.kc_machine_invariants.specs.kc_machine_steps.declared.task.Told.{Told}
+use Rattle.kc_machine_invariants.specs.kc_machine_steps.declared.task.Told.TheVariants as told
+use Rattle.kc_machine_traces.specs.Histories.{History, Placed, footprint_of}
+use Rattle.kc_machine_traces.specs.Traces.{swap_entry}
+use Rattle.kc_machine_invariants.specs.kc_machine_words.declared.words.Mode.TheVariants.{All}
+use Rattle.kc_machine_invariants.specs.kc_machine_steps.Lines.{lines_of}
 
 -- of call n of caller k, with the mode of the commit and the footprint of its lines; of a swap, in mode All
 abbrev pub IsEntryOf : (k n : ℕ) → Task → Placed → Type 0

@@ -1,9 +1,9 @@
 -- Schedules in parts: what one seat does in them, and what else.
 use Rattle.std.specs.Prelude.{◌≢◌, ℕ, List, [], ◌∷◌}
-use Rattle.kc_machine_pool.specs.kc_machine.Machine.{Opening, seat_of}
-use Rattle.kc_machine_claims.specs.Traces.{trace, first_store, IsHonestFrom}
-use Rattle.kc_machine_pool.specs.kc_machine_steps.declared.task.Event.{Event}
-use Rattle.kc_machine_pool.specs.kc_machine_steps.declared.task.Event.TheVariants.{Begin, Step, Halt}
+use Rattle.kc_machine_invariants.specs.kc_machine.Machine.{Opening, seat_of}
+use Rattle.kc_machine_traces.specs.Traces.{trace, first_store, IsHonestFrom}
+use Rattle.kc_machine_invariants.specs.kc_machine_steps.declared.task.Event.{Event}
+use Rattle.kc_machine_invariants.specs.kc_machine_steps.declared.task.Event.TheVariants.{Begin, Step, Halt}
 
 -- no event is of seat k
 abbrev pub NoneOf : ℕ → List Event → Type 0

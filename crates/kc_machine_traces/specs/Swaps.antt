@@ -1,21 +1,21 @@
 -- The event by which a seat swaps a location's word.
 use Rattle.std.specs.Prelude.{◌≡◌, ◌<◌, ℕ, Bool, true, false}
-use Rattle.kc_machine_pool.specs.kc_machine.Machine.{State, event_of, put, seat_of}
-use Rattle.kc_machine_pool.specs.kc_machine.Works as work
-use Rattle.kc_machine_pool.specs.kc_machine.Works.{Work}
-use Rattle.kc_machine_pool.specs.kc_machine.declared.seat.Seat.{Seat}
-use Rattle.kc_machine_claims.specs.Histories.{Placed}
-use Rattle.kc_machine_claims.specs.Traces.{swap_entry}
-use Rattle.kc_machine_pool.specs.kc_machine_effects.Changes.{with_word}
-use Rattle.kc_machine_pool.specs.kc_machine_effects.Stands.{Swapping, Swaps}
-use Rattle.kc_machine_pool.specs.kc_machine_steps.Lines.{one_more}
-use Rattle.kc_machine_pool.specs.kc_machine_steps.Swaps.{seen_word, word_after}
-use Rattle.kc_machine_pool.specs.kc_machine_steps.declared.swap.SwapStep.{SwapStep}
-use Rattle.kc_machine_pool.specs.kc_machine_steps.declared.swap.SwapStep.TheVariants as swap
-use Rattle.kc_machine_pool.specs.kc_machine_steps.declared.swap.TheConstants.{MOST_SWAPS}
-use Rattle.kc_machine_pool.specs.kc_machine_steps.declared.task.Event.{Event}
-use Rattle.kc_machine_pool.specs.kc_machine_steps.declared.task.Event.TheVariants.{Step}
-use Rattle.kc_machine_pool.specs.kc_machine_words.declared.words.Mode.TheVariants.{All}
+use Rattle.kc_machine_invariants.specs.kc_machine.Machine.{State, event_of, put, seat_of}
+use Rattle.kc_machine_invariants.specs.kc_machine.Works as work
+use Rattle.kc_machine_invariants.specs.kc_machine.Works.{Work}
+use Rattle.kc_machine_invariants.specs.kc_machine.declared.seat.Seat.{Seat}
+use Rattle.kc_machine_traces.specs.Histories.{Placed}
+use Rattle.kc_machine_traces.specs.Traces.{swap_entry}
+use Rattle.kc_machine_invariants.specs.Changes.{with_word}
+use Rattle.kc_machine_invariants.specs.Stands.{Swapping, Swaps}
+use Rattle.kc_machine_invariants.specs.kc_machine_steps.Lines.{one_more}
+use Rattle.kc_machine_invariants.specs.kc_machine_steps.Swaps.{seen_word, word_after}
+use Rattle.kc_machine_invariants.specs.kc_machine_steps.declared.swap.SwapStep.{SwapStep}
+use Rattle.kc_machine_invariants.specs.kc_machine_steps.declared.swap.SwapStep.TheVariants as swap
+use Rattle.kc_machine_invariants.specs.kc_machine_steps.declared.swap.TheConstants.{MOST_SWAPS}
+use Rattle.kc_machine_invariants.specs.kc_machine_steps.declared.task.Event.{Event}
+use Rattle.kc_machine_invariants.specs.kc_machine_steps.declared.task.Event.TheVariants.{Step}
+use Rattle.kc_machine_invariants.specs.kc_machine_words.declared.words.Mode.TheVariants.{All}
 use Rattle.kc_model.specs.declared.footprint.Seen.{Seen}
 
 abbrev pub swap_at : Seen → ℕ → SwapStep → Work

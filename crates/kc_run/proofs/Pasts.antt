@@ -5,8 +5,8 @@ use Rattle.std.proofs.lemmas.List.{get_or-map, length-map}
 use Rattle.std.proofs.lemmas.List.Elements.{All-head, All-map, All-tail, All-weaker}
 use Rattle.std.proofs.lemmas.List.Sorted.{IsPermutation-refl}
 use Rattle.kc_history.specs.Callers.{IsBelowCallers, IsLegalFrom, of_caller}
-use Rattle.kc_machine_claims.specs.Histories.{History, Placed, ending, entries}
-use Rattle.kc_machine_claims.specs.Traces.{first_store}
+use Rattle.kc_machine_traces.specs.Histories.{History, Placed, ending, entries}
+use Rattle.kc_machine_traces.specs.Traces.{first_store}
 use Rattle.kc_machine_traces.specs.Entries.{by}
 use Rattle.kc_model.specs.Footprint.{IsBelow, put_at}
 use Rattle.kc_model.specs.Legal.{IsLegal}

@@ -2,7 +2,7 @@
 use Rattle.std.specs.Prelude.{◌≡◌, ℕ, ◌+◌, ◌<◌, List, map}
 use Rattle.std.specs.Global.{Vec}
 use Rattle.kc_await.specs.Waiting.{CommitsAtLast}
-use Rattle.kc_machine_claims.specs.Histories.{entries}
+use Rattle.kc_machine_traces.specs.Histories.{entries}
 use Rattle.kc_model.specs.declared.footprint.Entry.{Entry}
 use Rattle.kc_model.specs.declared.footprint.Footprint.{Footprint}
 use Rattle.kc_run.specs.Jobs.{AllMayRun}

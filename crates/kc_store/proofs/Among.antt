@@ -3,8 +3,8 @@ use Rattle.std.proofs.Common.{◌≡◌, ◌<◌, Bool, true, false, ℕ, ◌⊎
 use Rattle.std.specs.Prelude.{Contains}
 use Rattle.std.specs.List.{filter}
 use Rattle.std.proofs.lemmas.List.Elements.{Contains-append_cases, Contains-push_cases}
-use Rattle.kc_hang.specs.kc_machine_claims.Claims.{HasPut}
-use Rattle.kc_hang.specs.kc_machine_claims.Histories.{Grows, History, IsAmong, none, here, later, Placed, RisesByPlace}
+use Rattle.kc_hang.specs.kc_machine_traces.Claims.{HasPut}
+use Rattle.kc_hang.specs.kc_machine_traces.Histories.{Grows, History, IsAmong, none, here, later, Placed, RisesByPlace}
 use Rattle.kc_model.proofs.Stores.{Contains-first, Contains-later}
 use Rattle.kc_model.specs.Rising.{IsRising, IsRisingAbove}
 use Rattle.kc_model.specs.declared.footprint.Seen.{Seen}

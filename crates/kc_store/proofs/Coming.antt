@@ -15,10 +15,10 @@ use Rattle.kc_store.specs.Tries.{Comes, Did, WasTold}
 use Rattle.kc_store.specs.Works.{EndsOrIsLeft, StaysWorn, is_told_worn}
 use Rattle.kc_store.specs.declared.budget.Budget.{Budget}
 use Rattle.kc_hang.specs.kc_table_moves.Views.{SeatView, opening_at_seat}
-use Rattle.kc_hang.proofs.kc_table_seats.Causing.{worn_task}
-use Rattle.kc_hang.proofs.kc_table_seats.Wearing.{stays_undecided}
-use Rattle.kc_hang.specs.kc_table_seats.Tasks.{Does}
-use Rattle.kc_hang.specs.kc_table_seats.Told.{IsUndecided, IsWornOut}
+use Rattle.kc_hang.proofs.kc_table_laws.Causing.{worn_task}
+use Rattle.kc_hang.proofs.kc_table_laws.Wearing.{stays_undecided}
+use Rattle.kc_hang.specs.kc_table_laws.Tasks.{Does}
+use Rattle.kc_hang.specs.kc_table_laws.Told.{IsUndecided, IsWornOut}
 
 module _ (start v : SeatView) (t : Task) (a : Told) (w : SeatView) where
   pub come_gains : Comes start v t a w → GainsAsTold v.number t (Some a) (own_entries v) (own_entries w)

@@ -4,8 +4,8 @@ use Rattle.std.specs.Option.{option_map}
 use Rattle.std.specs.Prelude.{Contains}
 use Rattle.kc_hang.specs.kc_machine.Machine.{pool_size}
 use Rattle.kc_hang.specs.kc_machine.Schedules.{IsWellMadeTask}
-use Rattle.kc_hang.specs.kc_machine_claims.Histories.{History, Placed, ending}
-use Rattle.kc_hang.specs.kc_machine_claims.Traces.{first_store}
+use Rattle.kc_hang.specs.kc_machine_traces.Histories.{History, Placed, ending}
+use Rattle.kc_hang.specs.kc_machine_traces.Traces.{first_store}
 use Rattle.kc_machine_steps.specs.declared.task.Task.TheVariants as task
 use Rattle.kc_machine_steps.specs.declared.task.Task.{Task}
 use Rattle.kc_machine_steps.specs.declared.task.Told.TheVariants as told
@@ -23,7 +23,7 @@ use Rattle.kc_model.specs.declared.reply.Reply.{Reply}
 use Rattle.kc_store.proofs.Doing.{did_keeps}
 use Rattle.kc_store.proofs.Ending.{runs, tried_starts}
 use Rattle.kc_store.proofs.Gaining.{gains}
-use Rattle.kc_hang.proofs.kc_table_seats.Keeping.{success_known}
+use Rattle.kc_hang.proofs.kc_table_laws.Keeping.{success_known}
 use Rattle.kc_store.proofs.Seeing.{keeps_then}
 use Rattle.kc_store.specs.Alone.{EndsAlone}
 use Rattle.kc_store.specs.Answers.{Gains, own_entries, placed_entry}
@@ -33,10 +33,10 @@ use Rattle.kc_store.specs.declared.verdict.Answered.{Answered}
 use Rattle.kc_store.specs.declared.verdict.Answered.TheVariants as answered
 use Rattle.kc_hang.specs.kc_table_moves.Origins.{opening_of}
 use Rattle.kc_hang.specs.kc_table_moves.Views.{SeatView, TableView, knows, opening_at_seat}
-use Rattle.kc_hang.proofs.kc_table_seats.Running.{does_ran}
-use Rattle.kc_hang.specs.kc_table_seats.Tasks.{Does, Keeps}
-use Rattle.kc_table_sole.proofs.Knowing.{own_before, own_behind}
-use Rattle.kc_table_sole.specs.Sole.{HasNoLife, IsSole, Rests, standing}
+use Rattle.kc_hang.proofs.kc_table_laws.Running.{does_ran}
+use Rattle.kc_hang.specs.kc_table_laws.Tasks.{Does, Keeps}
+use Rattle.kc_table_laws.proofs.Knowing.{own_before, own_behind}
+use Rattle.kc_table_laws.specs.Sole.{HasNoLife, IsSole, Rests, standing}
 use Rattle.kc_xt.specs.Commit.{Came, answer_of, run_on}
 use Rattle.kc_xt.specs.Meaning.{CanMake, Makes, Meaning, Outcome, Touch, replied, retried, too_large}
 use Rattle.kc_xt.specs.declared.attempts.Tried.{Tried}

@@ -15,7 +15,7 @@ use Rattle.kc_store.specs.Tries.{InstallsAtOnce, WasTold, once, again, behind_sw
 use Rattle.kc_store.specs.Works.{Advances, AllCommitted, AllInstalled, EndsOrIsLeft, IsFrom, is_told_committing, is_told_swapping}
 use Rattle.kc_store.specs.declared.budget.Budget.{Budget}
 use Rattle.kc_hang.specs.kc_table_moves.Views.{SeatView}
-use Rattle.kc_hang.proofs.kc_table_seats.Causing.{crossed_so}
+use Rattle.kc_hang.proofs.kc_table_laws.Causing.{crossed_so}
 use Rattle.kc_hang.specs.kc_table_views.Tasks.{put_of}
 
 pub installed_once : (f : Footprint) (a : Told) (v : SeatView) (b : Budget) (w : SeatView) → is_idle v.seat.work ≡ true → EndsOrIsLeft (task.Commit f Light) v b a w → is_told_committing (Some a) ≡ true → is_crossed a ≡ false → AllInstalled f a v b w

@@ -4,8 +4,8 @@ use Rattle.std.proofs.lemmas.List.Elements.{All-push}
 use Rattle.kc_hang.specs.kc_machine.Machine.{Opening}
 use Rattle.kc_hang.specs.kc_machine.Schedules.{BeginsWellMade}
 use Rattle.kc_hang.specs.kc_machine.Seats.{halted, is_idle}
-use Rattle.kc_hang.specs.kc_machine_claims.Histories.{Grows, IsKnown, ending}
-use Rattle.kc_hang.specs.kc_machine_claims.Traces.{first_store}
+use Rattle.kc_hang.specs.kc_machine_traces.Histories.{Grows, IsKnown, ending}
+use Rattle.kc_hang.specs.kc_machine_traces.Traces.{first_store}
 use Rattle.kc_machine_steps.specs.declared.task.Event.{Event}
 use Rattle.kc_machine_steps.specs.declared.task.Event.TheVariants.{Begin, Halt}
 use Rattle.kc_machine_steps.specs.declared.task.Task.{Task}
@@ -21,9 +21,9 @@ use Rattle.kc_store.specs.Tries.{Did}
 use Rattle.kc_store.specs.Works.{MayRun, Runs}
 use Rattle.kc_hang.specs.kc_table_moves.Origins.{opening_of}
 use Rattle.kc_hang.specs.kc_table_moves.Views.{SeatView, Stepped, knows, opening_at_seat}
-use Rattle.kc_hang.proofs.kc_table_seats.Following.{does_further}
-use Rattle.kc_hang.proofs.kc_table_seats.Keeping.{own_known}
-use Rattle.kc_hang.specs.kc_table_seats.Tasks.{Does, Keeps}
+use Rattle.kc_hang.proofs.kc_table_laws.Following.{does_further}
+use Rattle.kc_hang.proofs.kc_table_laws.Keeping.{own_known}
+use Rattle.kc_hang.specs.kc_table_laws.Tasks.{Does, Keeps}
 use Rattle.kc_hang.proofs.kc_table_views.Knowing.{grows_on, known_on, versions_on}
 use Rattle.kc_hang.proofs.kc_table_views.Pendings.{nothing_push, waits_seat, waits_no_step}
 use Rattle.kc_hang.specs.kc_table_views.Known.{IsMeant, known}

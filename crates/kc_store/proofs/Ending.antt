@@ -26,12 +26,12 @@ use Rattle.kc_store.specs.Steps.{steps_made}
 use Rattle.kc_store.specs.Works.{Ends, LooksAt, MayRun, Runs, Stands, commits, is_told_committing, is_told_looking, is_told_swapping, looks, swaps}
 use Rattle.kc_store.specs.declared.budget.Budget.{Budget}
 use Rattle.kc_hang.specs.kc_table_moves.Views.{SeatView, Starts, Stepped, opening_at_seat, Ran}
-use Rattle.kc_hang.proofs.kc_table_seats.Halting.{halt_sends}
-use Rattle.kc_hang.proofs.kc_table_seats.Keeping.{looks_saw}
-use Rattle.kc_hang.proofs.kc_table_seats.Running.{does_ran}
-use Rattle.kc_hang.proofs.kc_table_seats.Stopping.{free_ran, halted_ends}
-use Rattle.kc_hang.specs.kc_table_seats.Halts.{is_halted, may_halt, steps_left, was_halted}
-use Rattle.kc_hang.specs.kc_table_seats.Tasks.{Does}
+use Rattle.kc_hang.proofs.kc_table_laws.Halting.{halt_sends}
+use Rattle.kc_hang.proofs.kc_table_laws.Keeping.{looks_saw}
+use Rattle.kc_hang.proofs.kc_table_laws.Running.{does_ran}
+use Rattle.kc_hang.proofs.kc_table_laws.Stopping.{free_ran, halted_ends}
+use Rattle.kc_hang.specs.kc_table_laws.Halts.{is_halted, may_halt, steps_left, was_halted}
+use Rattle.kc_hang.specs.kc_table_laws.Tasks.{Does}
 use Rattle.kc_xt.specs.Peeks.{IsLook}
 use Rattle.kc_xt.specs.declared.peek.PeekBusy.{PeekBusy}
 

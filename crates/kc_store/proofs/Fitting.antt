@@ -3,14 +3,14 @@ use Rattle.std.proofs.Common.{◌≡◌, ◌≤◌, ◌<◌, Bool, true, false, 
 use Rattle.std.specs.Prelude.{nat_lt}
 use Rattle.std.proofs.lemmas.Bool.Decides.{nat_tests}
 use Rattle.kc_hang.specs.kc_machine.Machine.{Opening, World, run}
-use Rattle.kc_hang.specs.kc_machine_claims.Claims.{history_at, stands_for}
-use Rattle.kc_hang.specs.kc_machine_claims.Histories.{IsKnown, none, ending, putting}
-use Rattle.kc_hang.specs.kc_machine_claims.Traces.{first_store}
-use Rattle.kc_hang.proofs.kc_machine_histories.Growing.{stood_since}
-use Rattle.kc_hang.proofs.kc_machine_ranges.Runs.{words_in}
-use Rattle.kc_hang.specs.kc_machine_ranges.Ranges.{WordIn, WorldIn}
-use Rattle.kc_hang.proofs.kc_machine_resolving.Growing.{along, fronts_made}
-use Rattle.kc_hang.proofs.kc_machine_resolving.Resolving.{words_resolve}
+use Rattle.kc_hang.specs.kc_machine_traces.Claims.{history_at, stands_for}
+use Rattle.kc_hang.specs.kc_machine_traces.Histories.{IsKnown, none, ending, putting}
+use Rattle.kc_hang.specs.kc_machine_traces.Traces.{first_store}
+use Rattle.kc_hang.proofs.kc_machine_history.Growing.{stood_since}
+use Rattle.kc_hang.proofs.kc_machine_traces.Runs.{words_in}
+use Rattle.kc_hang.specs.kc_machine_traces.Ranges.{WordIn, WorldIn}
+use Rattle.kc_hang.proofs.kc_machine_history.Untouched.{along, fronts_made}
+use Rattle.kc_hang.proofs.kc_machine_history.Resolving.{words_resolve}
 use Rattle.kc_machine_steps.specs.Lines.{next_version, resolved_version, succeeds}
 use Rattle.kc_machine_steps.specs.declared.task.Event.{Event}
 use Rattle.kc_machine_words.specs.declared.words.First.{First}

@@ -3,10 +3,10 @@ use Rattle.std.proofs.Common.{◌≡◌, ◌==◌, ◌<◌, ◌≤◌, true, ℕ
 use Rattle.std.specs.Prelude.{All, Contains, IfSome, slice_get}
 use Rattle.std.proofs.lemmas.List.Elements.{Contains-append_right, Contains-get_or}
 use Rattle.kc_hang.specs.kc_machine.Seats.{is_idle}
-use Rattle.kc_hang.specs.kc_machine_claims.Claims.{HasPut}
-use Rattle.kc_hang.specs.kc_machine_claims.Histories.{History, Placed, RisesByPlace}
-use Rattle.kc_hang.proofs.kc_machine_histories.Filters.{found, got}
-use Rattle.kc_hang.proofs.kc_machine_histories.Places.{rises}
+use Rattle.kc_hang.specs.kc_machine_traces.Claims.{HasPut}
+use Rattle.kc_hang.specs.kc_machine_traces.Histories.{History, Placed, RisesByPlace}
+use Rattle.kc_hang.proofs.kc_machine_history.Filters.{found, got}
+use Rattle.kc_hang.proofs.kc_machine_history.Places.{rises}
 use Rattle.kc_machine_steps.specs.declared.task.Task.{Task}
 use Rattle.kc_machine_steps.specs.declared.task.Task.TheVariants as task
 use Rattle.kc_machine_steps.specs.declared.task.Told.TheVariants as told
@@ -23,8 +23,8 @@ use Rattle.kc_store.proofs.Among.{filtered_in, grows_in, in_filtered, place_befo
 use Rattle.kc_store.specs.Answers.{Gains, GainsNothing, WasOvertaken, own_entries, placed_entry}
 use Rattle.kc_hang.specs.kc_table_moves.Origins.{opening_of}
 use Rattle.kc_hang.specs.kc_table_moves.Views.{SeatView, knows, opening_at_seat}
-use Rattle.kc_hang.proofs.kc_table_seats.Keeping.{own_known}
-use Rattle.kc_hang.specs.kc_table_seats.Tasks.{Does, Keeps}
+use Rattle.kc_hang.proofs.kc_table_laws.Keeping.{own_known}
+use Rattle.kc_hang.specs.kc_table_laws.Tasks.{Does, Keeps}
 use Rattle.kc_hang.proofs.kc_table_views.Knowing.{whole}
 use Rattle.kc_hang.specs.kc_table_views.Known.{IsMeant, IsWhole, known}
 use Rattle.kc_hang.specs.kc_table_views.Tasks.{FailureTaught, SuccessTaught}

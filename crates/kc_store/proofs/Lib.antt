@@ -27,5 +27,5 @@ pub mod LoneTold
 pub mod Concluding
 pub mod Within
 mod Swapping
-pub use Rattle.kc_hang.proofs.kc_machine_histories as kc_machine_histories
+pub use Rattle.kc_hang.proofs.kc_machine_history as kc_machine_history
 pub use Rattle.kc_hang.proofs.kc_machine_traces as kc_machine_traces

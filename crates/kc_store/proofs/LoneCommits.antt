@@ -3,9 +3,9 @@ use Rattle.std.proofs.Common.{Bool, Some, ap, arith, false, inl, inr, length, no
 use Rattle.std.proofs.Math.Seq.{take-length}
 use Rattle.kc_hang.specs.kc_machine.Schedules.{IsWellMadeTask}
 use Rattle.kc_hang.specs.kc_machine.Seats.{is_idle}
-use Rattle.kc_hang.specs.kc_machine_alone.Stretches.{stretch}
-use Rattle.kc_hang.specs.kc_machine_claims.Histories.{IsKnown, ending}
-use Rattle.kc_hang.specs.kc_machine_claims.Traces.{first_store}
+use Rattle.kc_hang.specs.kc_machine_progress.Stretches.{stretch}
+use Rattle.kc_hang.specs.kc_machine_traces.Histories.{IsKnown, ending}
+use Rattle.kc_hang.specs.kc_machine_traces.Traces.{first_store}
 use Rattle.kc_machine_steps.specs.declared.task.Task.TheVariants as task
 use Rattle.kc_machine_steps.specs.declared.task.Told.TheVariants as told
 use Rattle.kc_machine_words.specs.declared.words.Mode.TheVariants.{All}
@@ -18,8 +18,8 @@ use Rattle.kc_store.proofs.LoneLooking.{steps_counted}
 use Rattle.kc_store.specs.Lone.{CommitsAlone, is_worn}
 use Rattle.kc_store.specs.Steps.{steps_made}
 use Rattle.kc_hang.specs.kc_table_moves.Views.{SeatView, Stepped, knows, opening_at_seat, Ran, begun_at, further}
-use Rattle.kc_table_sole.proofs.Ending.{ends_soon, ends_within, made_or_worn}
-use Rattle.kc_table_sole.specs.Sole.{HasNoLife, IsMadeOrWorn, IsSole, Rests, count, standing}
+use Rattle.kc_table_laws.proofs.Ending.{ends_soon, ends_within, made_or_worn}
+use Rattle.kc_table_laws.specs.Sole.{HasNoLife, IsMadeOrWorn, IsSole, Rests, count, standing}
 
 pub ran_on : (v u w : SeatView) (f : Footprint) → Ran v (task.Commit f All) u → is_idle u.seat.work ≡ false → Stepped u w → Ran v (task.Commit f All) w
 ran_on v u w f r busy s = record { steps = further u w r.steps busy s; shown = s.began }

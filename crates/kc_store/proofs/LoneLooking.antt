@@ -19,8 +19,8 @@ use Rattle.kc_store.specs.LoneLooks.{SoleGives}
 use Rattle.kc_store.specs.Steps.{steps_made}
 use Rattle.kc_store.specs.declared.sole_peek.SolePeek.{SolePeek}
 use Rattle.kc_hang.specs.kc_table_moves.Views.{SeatView, seen_at, Ran, StepsTo, further, here}
-use Rattle.kc_table_sole.proofs.Telling.{tells}
-use Rattle.kc_table_sole.specs.Sole.{IsSole, TellsWhatStands, count, standing}
+use Rattle.kc_table_laws.proofs.Telling.{tells}
+use Rattle.kc_table_laws.specs.Sole.{IsSole, TellsWhatStands, count, standing}
 use Rattle.kc_xt.proofs.Rooms.{length-with_looks}
 use Rattle.kc_xt.specs.Commit.{Looked, LooksIn}
 use Rattle.kc_xt.specs.Lines.{look, seens, with_looks}

@@ -1,7 +1,7 @@
 -- What the only caller is told, in entries.
 use Rattle.std.proofs.Common.{◌≡◌, ◌<◌, ◌≤◌, ◌||◌, Bool, ℕ, sym, ap, ◌∙◌, subst}
 use Rattle.kc_hang.specs.kc_machine.Machine.{pool_size}
-use Rattle.kc_hang.specs.kc_machine_claims.Histories.{entries}
+use Rattle.kc_hang.specs.kc_machine_traces.Histories.{entries}
 use Rattle.kc_hang.specs.kc_machine_traces.Entries.{by}
 use Rattle.kc_machine_words.specs.declared.words.TheConstants.{LAST_GENERATION}
 use Rattle.kc_model.specs.Footprint.{IsBelow}
@@ -18,8 +18,8 @@ use Rattle.kc_store.specs.declared.verdict.Answered.{Answered}
 use Rattle.kc_store.specs.declared.verdict.Answered.TheVariants as answered
 use Rattle.kc_store.specs.Works.{StaysWorn}
 use Rattle.kc_hang.specs.kc_table_moves.Views.{SeatView, TableView}
-use Rattle.kc_hang.specs.kc_table_seats.Tasks.{Keeps}
-use Rattle.kc_table_sole.specs.Sole.{Rests}
+use Rattle.kc_hang.specs.kc_table_laws.Tasks.{Keeps}
+use Rattle.kc_table_laws.specs.Sole.{Rests}
 use Rattle.kc_xt.specs.Meaning.{Meaning}
 
 leaves : (before now : Bool) (v w : SeatView) → Keeps v w → Rests v w → Leaves (caller_view before v) (caller_view now w)

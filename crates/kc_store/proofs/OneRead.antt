@@ -2,8 +2,8 @@
 use Rattle.std.proofs.Common.{◌≡◌, ◌≤◌, Bool, ℕ, ◌+◌, take, refl, sym, ap, ◌∙◌, subst}
 use Rattle.std.specs.Prelude.{Err, Ok, Result}
 use Rattle.std.proofs.lemmas.List.{take-map}
-use Rattle.kc_hang.specs.kc_machine_claims.Histories.{Placed, ending, made}
-use Rattle.kc_hang.specs.kc_machine_claims.Traces.{first_store}
+use Rattle.kc_hang.specs.kc_machine_traces.Histories.{Placed, ending, made}
+use Rattle.kc_hang.specs.kc_machine_traces.Traces.{first_store}
 use Rattle.kc_hang.specs.kc_table_moves.Views.{SeatView, knows, opening_at_seat}
 use Rattle.kc_machine_steps.specs.declared.task.Told.TheVariants as told
 use Rattle.kc_model.specs.declared.footprint.Loc.{Loc}
@@ -21,7 +21,7 @@ use Rattle.kc_store.specs.Tries.{Sees, look_of}
 use Rattle.kc_store.specs.Views.{caller_view}
 use Rattle.kc_store.specs.Works.{IsFrom, LooksAt, StaysWorn, told_by}
 use Rattle.kc_store.specs.declared.budget.Budget.{Budget}
-use Rattle.kc_hang.specs.kc_table_seats.Tasks.{Keeps}
+use Rattle.kc_hang.specs.kc_table_laws.Tasks.{Keeps}
 use Rattle.kc_xt.specs.declared.peek.PeekBusy.{PeekBusy}
 
 pub stood : (worn : Bool) (v w : SeatView) (l : ℕ) (r : Seen) → Sees v v l (Ok r) w → Stood l (caller_view worn v) r (caller_view worn w)

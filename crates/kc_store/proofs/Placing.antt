@@ -1,7 +1,7 @@
 -- An entry finds its reads at its place.
 use Rattle.std.proofs.Common.{◌≡◌, ℕ, zero, suc, List, [], ◌∷◌, ◌++◌, Some, sym, subst, take}
 use Rattle.std.specs.Prelude.{slice_get}
-use Rattle.kc_hang.specs.kc_machine_claims.Histories.{History, IsLegalHistory, Placed, ending}
+use Rattle.kc_hang.specs.kc_machine_traces.Histories.{History, IsLegalHistory, Placed, ending}
 use Rattle.kc_model.specs.Legal.{IsLegal}
 use Rattle.kc_model.specs.Store.{Store, Finds, after}
 use Rattle.kc_model.specs.declared.footprint.Entry.{Entry}

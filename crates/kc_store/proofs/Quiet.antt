@@ -9,11 +9,11 @@ use Rattle.kc_hang.specs.kc_machine.Works as work
 use Rattle.kc_hang.specs.kc_machine.declared.hang.HangStep.{HangStep}
 use Rattle.kc_hang.specs.kc_machine.declared.hang.HangStep.TheVariants as hang
 use Rattle.kc_hang.specs.kc_machine.declared.seat.Seat.{Seat}
-use Rattle.kc_hang.specs.kc_machine_effects.Holds.{own_hold}
-use Rattle.kc_hang.specs.kc_machine_effects.Holds.Hold.{Proper}
-use Rattle.kc_hang.specs.kc_machine_effects.Stands.{hangs, resting, stand, works}
-use Rattle.kc_hang.proofs.kc_machine_histories.Decisions.{moves_by_decision}
-use Rattle.kc_hang.specs.kc_machine_histories.Decisions.{MovesByDecision}
+use Rattle.kc_hang.specs.kc_machine_invariants.Holds.{own_hold}
+use Rattle.kc_hang.specs.kc_machine_invariants.Holds.Hold.{Proper}
+use Rattle.kc_hang.specs.kc_machine_invariants.Stands.{hangs, resting, stand, works}
+use Rattle.kc_hang.proofs.kc_machine_history.Decisions.{moves_by_decision}
+use Rattle.kc_hang.specs.kc_machine_history.Decisions.{MovesByDecision}
 use Rattle.kc_machine_steps.specs.declared.task.Event.{Event}
 use Rattle.kc_machine_steps.specs.declared.task.Event.TheVariants.{Step}
 use Rattle.kc_machine_steps.specs.declared.task.Task.TheVariants as task

@@ -2,8 +2,8 @@
 use Rattle.std.proofs.Common.{◌≡◌, ◌==◌, ◌||◌, ◌⊎◌, inl, inr, Bool, true, false, ℕ, cond, List, [], ◌∷◌, ◌++◌, refl, sym, ap, ◌∙◌, subst}
 use Rattle.std.specs.Prelude.{Contains}
 use Rattle.std.proofs.lemmas.List.{map-append}
-use Rattle.kc_hang.specs.kc_machine_claims.Histories.{History, IsAmong, Placed, entries}
-use Rattle.kc_hang.specs.kc_machine_claims.Histories.{none as none_among, here as here_among, later as later_among}
+use Rattle.kc_hang.specs.kc_machine_traces.Histories.{History, IsAmong, Placed, entries}
+use Rattle.kc_hang.specs.kc_machine_traces.Histories.{none as none_among, here as here_among, later as later_among}
 use Rattle.kc_hang.specs.kc_machine_traces.Entries.{by}
 use Rattle.kc_model.proofs.Stores.{Contains-first, Contains-later}
 use Rattle.kc_model.specs.Footprint.{IsBelow}
@@ -26,7 +26,7 @@ use Rattle.kc_store.specs.declared.verdict.Answered.TheVariants as answered
 use Rattle.kc_store.specs.declared.verdict.Verdict.{Verdict}
 use Rattle.kc_store.specs.declared.verdict.Verdict.TheVariants as verdict
 use Rattle.kc_hang.specs.kc_table_moves.Views.{SeatView, knows}
-use Rattle.kc_hang.specs.kc_table_seats.Tasks.{Keeps}
+use Rattle.kc_hang.specs.kc_table_laws.Tasks.{Keeps}
 use Rattle.kc_xt.specs.Meaning.{Meaning}
 
 -- ---- lists of entries

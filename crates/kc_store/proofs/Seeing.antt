@@ -1,10 +1,10 @@
 -- The looks of a try: what they know, and that nothing known before put from what they saw.
 use Rattle.std.proofs.Common.{◌≡◌, ℕ, ◌⊎◌, inl, inr, List, [], ◌∷◌, refl, sym, ap, ◌∙◌, arith, subst}
 use Rattle.std.specs.Prelude.{Contains, Result, Ok, Err}
-use Rattle.kc_hang.specs.kc_machine_claims.Claims.{HasPut}
-use Rattle.kc_hang.specs.kc_machine_claims.Histories.{IsKnown}
-use Rattle.kc_hang.specs.kc_machine_claims.Traces.{first_store}
-use Rattle.kc_hang.proofs.kc_machine_histories.Insertions.{grows_on, grows_same}
+use Rattle.kc_hang.specs.kc_machine_traces.Claims.{HasPut}
+use Rattle.kc_hang.specs.kc_machine_traces.Histories.{IsKnown}
+use Rattle.kc_hang.specs.kc_machine_traces.Traces.{first_store}
+use Rattle.kc_hang.proofs.kc_machine_history.Insertions.{grows_on, grows_same}
 use Rattle.kc_machine_steps.specs.declared.task.Task.{Task}
 use Rattle.kc_machine_steps.specs.declared.task.Told.{Told}
 use Rattle.kc_machine_steps.specs.declared.task.Told.TheVariants as told
@@ -17,8 +17,8 @@ use Rattle.kc_store.specs.Tries.{Comes, Sees, look_of}
 use Rattle.kc_store.specs.Works.{EndsOrIsLeft}
 use Rattle.kc_store.specs.declared.budget.Budget.{Budget}
 use Rattle.kc_hang.specs.kc_table_moves.Views.{SeatView, knows, opening_at_seat}
-use Rattle.kc_hang.proofs.kc_table_seats.Keeping.{looks_saw, put_past}
-use Rattle.kc_hang.specs.kc_table_seats.Tasks.{Does, Keeps, Saw}
+use Rattle.kc_hang.proofs.kc_table_laws.Keeping.{looks_saw, put_past}
+use Rattle.kc_hang.specs.kc_table_laws.Tasks.{Does, Keeps, Saw}
 use Rattle.kc_xt.specs.Peeks.{Looks}
 use Rattle.kc_xt.specs.declared.peek.PeekBusy.{PeekBusy}
 

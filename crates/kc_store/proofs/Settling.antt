@@ -3,9 +3,9 @@ use Rattle.std.proofs.Common.{◌≡◌, ◌≢◌, ◌<◌, ◌≤◌, ◌⊎�
 use Rattle.std.specs.Prelude.{Contains, Err, slice_get}
 use borrow.Author.Tests.{eqb-true}
 use Rattle.kc_hang.specs.kc_machine.Seats.{is_idle}
-use Rattle.kc_hang.specs.kc_machine_claims.Claims.{HasPut}
-use Rattle.kc_hang.specs.kc_machine_claims.Histories.{IsKnown}
-use Rattle.kc_hang.specs.kc_machine_claims.Traces.{first_store}
+use Rattle.kc_hang.specs.kc_machine_traces.Claims.{HasPut}
+use Rattle.kc_hang.specs.kc_machine_traces.Histories.{IsKnown}
+use Rattle.kc_hang.specs.kc_machine_traces.Traces.{first_store}
 use Rattle.kc_machine_steps.specs.declared.task.Task.{Task}
 use Rattle.kc_machine_steps.specs.declared.task.Task.TheVariants as task
 use Rattle.kc_machine_steps.specs.declared.task.Told.{Told}
@@ -30,16 +30,16 @@ use Rattle.kc_store.specs.declared.verdict.Fate.{Fate}
 use Rattle.kc_store.specs.declared.verdict.Fate.TheVariants as fate
 use Rattle.kc_store.specs.Works.{AllLooked, IsFrom, StaysWorn, is_told_committing, is_told_worn}
 use Rattle.kc_store.specs.declared.budget.Budget.{Budget}
-use Rattle.kc_hang.specs.kc_table_seats.Told.{IsWornOut}
+use Rattle.kc_hang.specs.kc_table_laws.Told.{IsWornOut}
 use Rattle.kc_store.specs.declared.verdict.Answered.{Answered}
 use Rattle.kc_store.specs.declared.verdict.Answered.TheVariants as answered
 use Rattle.kc_store.specs.declared.verdict.Verdict.{Verdict}
 use Rattle.kc_store.specs.declared.verdict.Verdict.TheVariants as verdict
 use Rattle.kc_hang.specs.kc_table_moves.Views.{SeatView, TableView, knows, opening_at_seat}
-use Rattle.kc_hang.proofs.kc_table_seats.Causing.{worn_found}
-use Rattle.kc_hang.proofs.kc_table_seats.Keeping.{failure_known, success_known, swap_failure_known, swap_success_known}
+use Rattle.kc_hang.proofs.kc_table_laws.Causing.{worn_found}
+use Rattle.kc_hang.proofs.kc_table_laws.Keeping.{failure_known, success_known, swap_failure_known, swap_success_known}
 use Rattle.kc_hang.specs.kc_table_views.Tasks.{FailureTaught, SuccessTaught}
-use Rattle.kc_hang.specs.kc_table_seats.Tasks.{Does, Keeps}
+use Rattle.kc_hang.specs.kc_table_laws.Tasks.{Does, Keeps}
 use Rattle.kc_xt.specs.Commit.{Came, Looked, LooksIn, PutsWhereDone, tried_of}
 use Rattle.kc_xt.specs.Meaning.{Meaning}
 use Rattle.kc_xt.specs.Peeks.{Looks}

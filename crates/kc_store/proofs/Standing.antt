@@ -42,7 +42,7 @@ use Rattle.kc_model.specs.declared.word.Word.TheVariants.{Plain, Ref}
 use Rattle.kc_store.proofs.Counting.{no_more_halted, no_more_step, no_more_steps, no_more_then}
 use Rattle.kc_store.specs.Works.{Stands, is_told_committing, is_told_swapping, stands_in}
 use Rattle.kc_hang.specs.kc_table_moves.Views.{SeatView, Stepped, StepsTo, here, further, Ran, begun_at}
-use Rattle.kc_hang.specs.kc_table_seats.Halts.{may_halt}
+use Rattle.kc_hang.specs.kc_table_laws.Halts.{may_halt}
 
 -- from s to s' the task goes on, or has ended
 pub record GoesOn (t : Task) (s s' : Seat) : Type 0 where

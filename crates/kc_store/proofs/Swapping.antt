@@ -2,9 +2,9 @@
 use Rattle.std.proofs.Common.{◌≡◌, ◌⊎◌, inl, inr, Bool, true, false, Option, None, Some, ℕ, List, [], ◌∷◌, refl, sym, ap, ◌∙◌, subst}
 use Rattle.std.specs.Option.{is_some}
 use Rattle.kc_hang.specs.kc_machine.Schedules.{IsWellMadeTask}
-use Rattle.kc_hang.specs.kc_machine_claims.Histories.{footprint_of}
-use Rattle.kc_hang.specs.kc_machine_claims.Traces.{swap_line}
-use Rattle.kc_hang.proofs.kc_machine_histories.Footprints.{lines_say}
+use Rattle.kc_hang.specs.kc_machine_traces.Histories.{footprint_of}
+use Rattle.kc_hang.specs.kc_machine_traces.Traces.{swap_line}
+use Rattle.kc_hang.proofs.kc_machine_history.Footprints.{lines_say}
 use Rattle.kc_machine_steps.specs.Lines.{lines_of}
 use Rattle.kc_machine_steps.specs.declared.task.Task.TheVariants as task
 use Rattle.kc_model.proofs.Stores.{Contains-first}
@@ -16,7 +16,7 @@ use Rattle.kc_model.specs.declared.footprint.Seen.{Seen}
 use Rattle.kc_store.specs.Tries.{InstallsAtOnce, is_one_put}
 use Rattle.kc_store.specs.Works.{is_one_put_line}
 use Rattle.kc_hang.specs.kc_table_moves.Views.{SeatView, opening_at_seat}
-use Rattle.kc_hang.specs.kc_table_seats.Told.{IsWornOut}
+use Rattle.kc_hang.specs.kc_table_laws.Told.{IsWornOut}
 use Rattle.kc_hang.specs.kc_table_views.Tasks.{put_of}
 
 module _ (f : Footprint) (xs : List Line) (r : Seen) (after : ℕ) (w : IsWellMade f) (lines : lines_of f ≡ xs) (one : xs ≡ swap_line r after ∷ []) where

@@ -30,9 +30,9 @@ use Rattle.kc_store.specs.Rests.{Rests}
 use Rattle.kc_store.specs.Views.{caller_view}
 use Rattle.kc_store.specs.Works.{StaysWorn}
 use Rattle.kc_hang.specs.kc_table_moves.Views.{Learns, SeatView, Stepped}
-use Rattle.kc_hang.proofs.kc_table_seats.Causing.{worn_load, worn_step, worn_task}
-use Rattle.kc_hang.proofs.kc_table_seats.Keeping.{loads_keep, steps_keep}
-use Rattle.kc_hang.specs.kc_table_seats.Tasks.{Keeps}
+use Rattle.kc_hang.proofs.kc_table_laws.Causing.{worn_load, worn_step, worn_task}
+use Rattle.kc_hang.proofs.kc_table_laws.Keeping.{loads_keep, steps_keep}
+use Rattle.kc_hang.specs.kc_table_laws.Tasks.{Keeps}
 
 pub all_below : (n : ℕ) (f : Footprint) → IsBelow n f → All (λ (r : Seen). r.loc.0 < n) f.reads.items
 all_below n f below = λ k d lt. below (get_or f.reads.items k d) (Contains-get_or f.reads.items k d lt)

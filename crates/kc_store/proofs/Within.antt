@@ -5,14 +5,14 @@ use Rattle.std.specs.List.{filter_map}
 use Rattle.std.proofs.lemmas.List.Elements.{All-cons, All-contains, All-head, All-map, All-nil, All-tail, Contains-get_or}
 use Rattle.kc_hang.specs.kc_machine.Machine.{Opening, run, seat_of}
 use Rattle.kc_hang.specs.kc_machine.Schedules.{IsSchedule}
-use Rattle.kc_hang.specs.kc_machine_claims.Histories.{History, Placed, footprint_of, inserted, put_of_line}
-use Rattle.kc_hang.specs.kc_machine_claims.Traces.{swap_line, trace}
+use Rattle.kc_hang.specs.kc_machine_traces.Histories.{History, Placed, footprint_of, inserted, put_of_line}
+use Rattle.kc_hang.specs.kc_machine_traces.Traces.{swap_line, trace}
 use Rattle.kc_hang.proofs.kc_machine_traces.Others.{run_shape}
 use Rattle.kc_hang.specs.kc_machine_traces.Swaps.{SwapOf}
-use Rattle.kc_hang.proofs.kc_machine_histories.Decisions.{history_moves}
-use Rattle.kc_hang.proofs.kc_machine_histories.Insertions.{inserted_contains}
-use Rattle.kc_hang.specs.kc_machine_histories.Decisions.{Decision}
-use Rattle.kc_hang.proofs.kc_machine_resolving.Lines.{made_lines}
+use Rattle.kc_hang.proofs.kc_machine_history.Decisions.{history_moves}
+use Rattle.kc_hang.proofs.kc_machine_history.Insertions.{inserted_contains}
+use Rattle.kc_hang.specs.kc_machine_history.Decisions.{Decision}
+use Rattle.kc_hang.proofs.kc_machine_history.Lines.{made_lines}
 use Rattle.kc_model.specs.declared.footprint.Line.{Line}
 use Rattle.kc_machine_steps.specs.declared.task.Event.{Event}
 use Rattle.kc_hang.proofs.kc_machine_traces.Joins.{every, made_parts}

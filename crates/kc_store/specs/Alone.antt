@@ -4,7 +4,7 @@ use Rattle.kc_model.specs.Footprint.{IsBelow}
 use Rattle.kc_model.specs.Store.{Store, after}
 use Rattle.kc_model.specs.declared.footprint.Footprint.{Footprint}
 use Rattle.kc_model.specs.declared.reply.Reply.{Reply}
-use Rattle.kc_hang.specs.kc_machine_claims.Histories.{made}
+use Rattle.kc_hang.specs.kc_machine_traces.Histories.{made}
 use Rattle.kc_store.specs.Answers.{Gains}
 use Rattle.kc_store.specs.Knows.{AddsNone, AddsOne}
 use Rattle.kc_store.specs.Views.{CallerView, opening}
@@ -14,7 +14,7 @@ use Rattle.kc_store.specs.declared.values.Wear.TheVariants as wear
 use Rattle.kc_store.specs.declared.verdict.Answered.{Answered}
 use Rattle.kc_store.specs.declared.verdict.Answered.TheVariants as answered
 use Rattle.kc_hang.specs.kc_table_moves.Views.{SeatView}
-use Rattle.kc_table_sole.specs.Sole.{HasNoLife, Rests, standing}
+use Rattle.kc_table_laws.specs.Sole.{HasNoLife, Rests, standing}
 use Rattle.kc_xt.specs.Commit.{IsWorn, run_on}
 use Rattle.kc_xt.specs.Meaning.{CanMake, Makes, Meaning, Run, given_up, replied, retried, too_large}
 

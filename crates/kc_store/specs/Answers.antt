@@ -1,6 +1,6 @@
 -- What a try answers, and by what.
 use Rattle.std.specs.Prelude.{◌≡◌, ◌≢◌, ℕ, ◌+◌, ◌++◌, [], ◌∷◌, List, Contains}
-use Rattle.kc_hang.specs.kc_machine_claims.Histories.{Placed}
+use Rattle.kc_hang.specs.kc_machine_traces.Histories.{Placed}
 use Rattle.kc_hang.specs.kc_machine_traces.Entries.{by}
 use Rattle.kc_machine_words.specs.declared.words.Mode.{Mode}
 use Rattle.kc_model.specs.Footprint.{Puts, Reads}
@@ -12,7 +12,7 @@ use Rattle.kc_store.specs.Steps.{IsSpent}
 use Rattle.kc_store.specs.declared.verdict.Verdict.{Verdict}
 use Rattle.kc_store.specs.declared.verdict.Verdict.TheVariants as verdict
 use Rattle.kc_hang.specs.kc_table_moves.Views.{SeatView, knows, opening_at_seat}
-use Rattle.kc_hang.specs.kc_table_seats.Told.{IsWornOut}
+use Rattle.kc_hang.specs.kc_table_laws.Told.{IsWornOut}
 use Rattle.kc_hang.specs.kc_table_views.Tasks.{SuccessTaught}
 use Rattle.kc_xt.specs.Commit.{Answers, Waits, Wears}
 use Rattle.kc_xt.specs.Meaning.{Meaning}

@@ -1,7 +1,7 @@
 -- The parts of a transaction by the only caller: its looks, and its commit.
 use Rattle.std.specs.Prelude.{◌≡◌, ◌≢◌, ℕ, ◌+◌, ◌≤◌, Bool, true, false, Option, Some, length}
 use Rattle.kc_hang.specs.kc_machine.Seats.{is_idle}
-use Rattle.kc_hang.specs.kc_machine_alone.Stretches.{stretch}
+use Rattle.kc_hang.specs.kc_machine_progress.Stretches.{stretch}
 use Rattle.kc_machine_steps.specs.declared.task.Task.TheVariants as task
 use Rattle.kc_machine_steps.specs.declared.task.Told.{Told}
 use Rattle.kc_machine_steps.specs.declared.task.Told.TheVariants as told
@@ -12,8 +12,8 @@ use Rattle.kc_model.specs.declared.footprint.Seen.{Seen}
 use Rattle.kc_model.specs.declared.footprint.TheConstants.{MOST}
 use Rattle.kc_store.specs.Steps.{steps_made}
 use Rattle.kc_hang.specs.kc_table_moves.Views.{SeatView, Ran}
-use Rattle.kc_hang.specs.kc_table_seats.Tasks.{Keeps}
-use Rattle.kc_table_sole.specs.Sole.{HasNoLife, Rests, standing}
+use Rattle.kc_hang.specs.kc_table_laws.Tasks.{Keeps}
+use Rattle.kc_table_laws.specs.Sole.{HasNoLife, Rests, standing}
 use Rattle.kc_xt.specs.Lines.{look}
 use Rattle.kc_xt.specs.declared.attempts.Tried.{Tried}
 use Rattle.kc_xt.specs.declared.attempts.Tried.TheVariants as tried

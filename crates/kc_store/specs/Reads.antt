@@ -1,6 +1,6 @@
 -- What a read of one location answers.
 use Rattle.std.specs.Prelude.{◌≡◌, ℕ, ◌≤◌, Result, Ok, Err, take}
-use Rattle.kc_hang.specs.kc_machine_claims.Histories.{cell_of, made}
+use Rattle.kc_hang.specs.kc_machine_traces.Histories.{cell_of, made}
 use Rattle.kc_model.specs.declared.footprint.Seen.{Seen}
 use Rattle.kc_store.specs.Answers.{IsBusy}
 use Rattle.kc_store.specs.Views.{CallerView, opening}

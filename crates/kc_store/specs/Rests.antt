@@ -2,7 +2,7 @@
 use Rattle.std.specs.Prelude.{◌≡◌, Bool, true, false}
 use Rattle.kc_hang.specs.kc_machine.Seats.{is_idle}
 use Rattle.kc_hang.specs.kc_table_moves.Views.{SeatView, opening_at_seat}
-use Rattle.kc_hang.specs.kc_table_seats.Told.{IsWornOut}
+use Rattle.kc_hang.specs.kc_table_laws.Told.{IsWornOut}
 
 -- no task runs, and it isn't blocked
 pub record Rests (v : SeatView) : Type 0 where

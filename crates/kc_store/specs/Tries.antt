@@ -10,8 +10,8 @@ use Rattle.kc_model.specs.declared.footprint.Footprint.{Footprint}
 use Rattle.kc_model.specs.declared.footprint.Seen.{Seen}
 use Rattle.kc_store.specs.Steps.{HasSteps, IsSpent}
 use Rattle.kc_hang.specs.kc_table_moves.Views.{SeatView, opening_at_seat}
-use Rattle.kc_hang.specs.kc_table_seats.Tasks.{Does}
-use Rattle.kc_hang.specs.kc_table_seats.Told.{IsWornOut}
+use Rattle.kc_hang.specs.kc_table_laws.Tasks.{Does}
+use Rattle.kc_hang.specs.kc_table_laws.Told.{IsWornOut}
 use Rattle.kc_hang.specs.kc_table_views.Tasks.{put_of}
 use Rattle.kc_xt.specs.Commit.{Came, Looked}
 use Rattle.kc_xt.specs.Meaning.{Meaning}

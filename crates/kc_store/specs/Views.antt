@@ -2,8 +2,8 @@
 use Rattle.std.specs.Prelude.{ℕ, zero, suc, ◌*◌, Bool, false, List, [], ◌∷◌}
 use Rattle.kc_hang.specs.kc_machine.Machine.{pool_size}
 use Rattle.kc_hang.specs.kc_machine.Seats.{fresh}
-use Rattle.kc_hang.specs.kc_machine_claims.Histories.{ending, entries}
-use Rattle.kc_hang.specs.kc_machine_claims.Traces.{first_store}
+use Rattle.kc_hang.specs.kc_machine_traces.Histories.{ending, entries}
+use Rattle.kc_hang.specs.kc_machine_traces.Traces.{first_store}
 use Rattle.kc_model.specs.Store.{Store}
 use Rattle.kc_model.specs.declared.footprint.Entry.{Entry}
 use Rattle.kc_store.specs.Answers.{own_entries}

@@ -1,6 +1,6 @@
 -- Entries of a store of n locations.
 use Rattle.std.specs.Prelude.{ℕ, ◌<◌}
-use Rattle.kc_hang.specs.kc_machine_claims.Histories.{Placed}
+use Rattle.kc_hang.specs.kc_machine_traces.Histories.{Placed}
 use Rattle.kc_model.specs.Footprint.{IsBelow, Puts}
 use Rattle.kc_model.specs.declared.footprint.Put.{Put}
 

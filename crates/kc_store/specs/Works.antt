@@ -15,8 +15,8 @@ use Rattle.kc_store.specs.Steps.{busy_bound, steps_made}
 use Rattle.kc_store.specs.Tries.{Commits, Did, Installs, Sees, is_crossed, look_of}
 use Rattle.kc_store.specs.declared.budget.Budget.{Budget}
 use Rattle.kc_hang.specs.kc_table_moves.Views.{SeatView, opening_at_seat}
-use Rattle.kc_hang.specs.kc_table_seats.Tasks.{Does}
-use Rattle.kc_hang.specs.kc_table_seats.Told.{IsWornOut}
+use Rattle.kc_hang.specs.kc_table_laws.Tasks.{Does}
+use Rattle.kc_hang.specs.kc_table_laws.Told.{IsWornOut}
 use Rattle.kc_xt.specs.Commit.{Looked}
 use Rattle.kc_xt.specs.Meaning.{Meaning}
 use Rattle.kc_xt.specs.declared.attempts.Tried.{Tried}

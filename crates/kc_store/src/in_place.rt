@@ -1,7 +1,7 @@
 //! One try whose reply stays where it lies.
 
 ghost use Rattle.std.specs.Prelude.{◌≡◌, ◌≤◌, true};
-ghost use Rattle.kc_hang.specs.kc_table_seats.Tasks.{Keeps};
+ghost use Rattle.kc_hang.specs.kc_table_laws.Tasks.{Keeps};
 ghost use Rattle.kc_model.specs.Footprint.{IsBelow};
 ghost use Rattle.kc_store.specs.Answers.{Settles};
 ghost use Rattle.kc_store.specs.Knows.{IsTold, NotesWear, Remembers};

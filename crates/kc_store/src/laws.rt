@@ -8,7 +8,7 @@ ghost use Rattle.kc_model.specs.Legal.{IsLegal};
 ghost use Rattle.kc_model.specs.Store.{Store as Cells};
 ghost use Rattle.kc_model.specs.declared.footprint.Entry.{Entry};
 ghost use Rattle.kc_model.specs.declared.reply.Answer.{Answer};
-ghost use Rattle.kc_hang.specs.kc_machine_claims.Histories.{History, IsLegalHistory, Placed, ending};
+ghost use Rattle.kc_hang.specs.kc_machine_traces.Histories.{History, IsLegalHistory, Placed, ending};
 ghost use Rattle.kc_xt.specs.Commit.{Answers, IsWorn, Waits, Wears, answer_of, run_on};
 ghost use Rattle.kc_xt.specs.Meaning.{Meaning, retried};
 ghost use Rattle.kc_store.specs.Knows.{OnlyLearns, Remembers};

@@ -1,7 +1,7 @@
 //! Reads of one location without a transaction.
 
 ghost use Rattle.std.specs.Prelude.{◌≡◌, ◌<◌};
-ghost use Rattle.kc_hang.specs.kc_table_seats.Tasks.{Keeps};
+ghost use Rattle.kc_hang.specs.kc_table_laws.Tasks.{Keeps};
 ghost use Rattle.kc_store.specs.Knows.{OnlyLearns};
 ghost use Rattle.kc_store.specs.Reads.{IsRead};
 

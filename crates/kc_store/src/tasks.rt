@@ -10,13 +10,13 @@ ghost use Rattle.kc_machine_steps.specs.declared.task.Told.TheVariants as told;
 ghost use Rattle.kc_machine_words.specs.declared.words.Mode.TheVariants as mode;
 ghost use Rattle.kc_hang.specs.kc_machine.Schedules.{IsWellMadeTask};
 ghost use Rattle.kc_hang.specs.kc_machine.Seats.{is_idle};
-ghost use Rattle.kc_hang.specs.kc_machine_claims.Traces.{swap_line};
+ghost use Rattle.kc_hang.specs.kc_machine_traces.Traces.{swap_line};
 ghost use Rattle.kc_hang.specs.kc_table_moves.Views.{KnowsReads, SeatView, opening_at_seat};
-ghost use Rattle.kc_hang.specs.kc_table_seats.Halts.{is_halted, may_halt, was_halted};
+ghost use Rattle.kc_hang.specs.kc_table_laws.Halts.{is_halted, may_halt, was_halted};
 ghost use Rattle.kc_store.specs.Steps.{steps_made};
 ghost use Rattle.kc_store.specs.Tries.{is_crossed};
 ghost use Rattle.kc_store.specs.Works.{AllCommitted, AllInstalled, EndsOrIsLeft, MayRun, Runs, is_one_put_line, is_told_committing, is_told_swapping, is_told_worn};
-ghost use Rattle.kc_hang.specs.kc_table_seats.Told.{IsWornOut};
+ghost use Rattle.kc_hang.specs.kc_table_laws.Told.{IsWornOut};
 
 use crate::budget::Budget;
 use kc_machine_steps::Told;

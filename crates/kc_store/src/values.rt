@@ -1,7 +1,7 @@
 //! Answers that own their footprint.
 
 ghost use Rattle.std.specs.Prelude.{◌≡◌, ◌≤◌, true};
-ghost use Rattle.kc_hang.specs.kc_table_seats.Tasks.{Keeps};
+ghost use Rattle.kc_hang.specs.kc_table_laws.Tasks.{Keeps};
 ghost use Rattle.kc_store.specs.Knows.{CommitsSo, NotesWear, Remembers, TriesSo};
 ghost use Rattle.kc_store.specs.Values.{CommitsTo, IsOutcome, IsTry, TriesTo, answered_in, verdict_in};
 ghost use Rattle.kc_store.specs.Verdicts.{stays_worn, verdict_of};

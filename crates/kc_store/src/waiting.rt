@@ -8,7 +8,7 @@ ghost use Rattle.kc_model.specs.Footprint.{IsBelow};
 ghost use Rattle.kc_store.specs.HangingView.{hang_of};
 ghost use Rattle.kc_store.specs.Knows.{OnlyLearns};
 ghost use Rattle.kc_hang.specs.kc_table_moves.Views.{SeatView, Signalled, Stepped};
-ghost use Rattle.kc_hang.specs.kc_table_seats.Tasks.{Does};
+ghost use Rattle.kc_hang.specs.kc_table_laws.Tasks.{Does};
 
 use crate::store::{Caller, Store};
 use arrayvec::ArrayVec;

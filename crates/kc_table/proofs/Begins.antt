@@ -9,9 +9,9 @@ use Rattle.kc_machine.specs.Machine.{Opening, run}
 use Rattle.kc_machine.specs.Schedules.{BeginsWellMade, IsWellMadeTask}
 use Rattle.kc_machine.specs.Seats.{begun, halted, is_idle, own_of}
 use Rattle.kc_machine.specs.declared.seat.Seat.{Seat}
-use Rattle.kc_table_straight.specs.kc_machine_claims.Histories.{Grows}
-use Rattle.kc_table_straight.specs.kc_machine_claims.Traces.{first_store, BeginsHonestly}
-use Rattle.kc_table_straight.specs.kc_machine_seats.Seated.{SeatsStay}
+use Rattle.kc_table_straight.specs.kc_machine_traces.Histories.{Grows}
+use Rattle.kc_table_straight.specs.kc_machine_traces.Traces.{first_store, BeginsHonestly}
+use Rattle.kc_table_straight.specs.kc_machine_invariants.Seated.{SeatsStay}
 use Rattle.kc_machine_steps.specs.declared.task.Event.{Event}
 use Rattle.kc_machine_steps.specs.declared.task.Event.TheVariants.{Begin, Halt}
 use Rattle.kc_machine_steps.specs.declared.task.Task.{Task}

@@ -9,8 +9,8 @@ use Rattle.atomic_table.specs.Table as table
 use Rattle.kc_machine.specs.Machine.{Opening}
 use Rattle.kc_machine.specs.Seats.{own_of}
 use Rattle.kc_machine.specs.declared.seat.Seat.{Seat}
-use Rattle.kc_table_straight.specs.kc_machine_claims.Histories.{ending}
-use Rattle.kc_table_straight.specs.kc_machine_claims.Traces.{first_store}
+use Rattle.kc_table_straight.specs.kc_machine_traces.Histories.{ending}
+use Rattle.kc_table_straight.specs.kc_machine_traces.Traces.{first_store}
 use Rattle.kc_machine_steps.specs.declared.task.Event.{Event}
 use Rattle.kc_table_straight.proofs.kc_machine_traces.Others.{others_leave}
 use Rattle.kc_model.specs.Word.{IsPackable, packed, unpacked}

@@ -6,8 +6,6 @@ pub mod Read
 pub mod Closing
 mod Wholes
 mod Swapping
-pub use Rattle.kc_table_straight.proofs.kc_machine_histories as kc_machine_histories
-pub use Rattle.kc_table_straight.proofs.kc_machine_ranges as kc_machine_ranges
-pub use Rattle.kc_table_straight.proofs.kc_machine_resolving as kc_machine_resolving
+pub use Rattle.kc_table_straight.proofs.kc_machine_history as kc_machine_history
 pub use Rattle.kc_table_straight.proofs.kc_machine_traces as kc_machine_traces
 pub use Rattle.kc_table_straight.proofs.kc_table_views as kc_table_views

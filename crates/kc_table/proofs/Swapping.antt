@@ -14,8 +14,8 @@ use Rattle.kc_machine_words.specs.declared.access.Bits.TheVariants as bits
 use Rattle.kc_machine_words.specs.declared.access.Found.TheVariants as found
 use Rattle.kc_machine_words.specs.declared.access.Touch.{Touch}
 use Rattle.kc_machine_words.specs.declared.access.Touch.TheVariants.{CompareExchange, Load}
-use Rattle.kc_table_straight.specs.kc_machine_ranges.Bits.{ValueFits, ValuesFit}
-use Rattle.kc_table_straight.specs.kc_machine_ranges.Ranges.{TouchIn}
+use Rattle.kc_table_straight.specs.kc_machine_traces.Bits.{ValueFits, ValuesFit}
+use Rattle.kc_table_straight.specs.kc_machine_traces.Ranges.{TouchIn}
 use Rattle.kc_model.specs.Word.{IsPackable, packed}
 use Rattle.kc_model.specs.declared.footprint.Seen.{Seen}
 use Rattle.kc_model.specs.declared.word.Word.{Word}

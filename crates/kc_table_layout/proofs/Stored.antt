@@ -7,7 +7,7 @@ use Rattle.kc_machine_words.specs.declared.access.Access.{Access}
 use Rattle.kc_machine_words.specs.declared.access.Access.TheVariants as access
 use Rattle.kc_machine.proofs.Functions.{both}
 use Rattle.kc_machine.specs.Machine.{World, State, touched, possible, room}
-use Rattle.kc_machine_ranges.specs.Bits.{AccessFits}
+use Rattle.kc_machine_traces.specs.Bits.{AccessFits}
 use Rattle.kc_table_layout.proofs.Places.{places_differ, inside}
 use Rattle.kc_table_layout.proofs.Touches.{touched_else}
 use Rattle.kc_table_layout.specs.Cells.{Cell, IsThere, base_of, place, bits, cell_of, CellFits, HasRoom, Stores}

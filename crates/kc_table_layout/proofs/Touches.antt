@@ -20,8 +20,8 @@ use Rattle.kc_machine_words.specs.declared.access.Access.TheVariants as access
 use Rattle.kc_machine.proofs.Functions.{put_here, put_else, both}
 use Rattle.kc_machine.specs.Machine.{World, put, put_some, put_line, touched, room}
 use Rattle.kc_machine.specs.Words.{word_is, phase_is, status_is, stored_word, stored_status, stored_owner, stored_first, stored_second, gripped, bits_after}
-use Rattle.kc_machine_ranges.specs.Bits.{GripFits, AccessFits}
-use Rattle.kc_machine_ranges.specs.Ranges.{TouchIn}
+use Rattle.kc_machine_traces.specs.Bits.{GripFits, AccessFits}
+use Rattle.kc_machine_traces.specs.Ranges.{TouchIn}
 use Rattle.kc_machine_words.specs.Packing.{ControlFits, control_bits, StatusFits, status_bits, OwnerFits, owner_bits, FirstFits, first_bits, SecondFits, second_bits}
 use Rattle.kc_table_layout.proofs.Places.{places_differ}
 use Rattle.kc_table_layout.specs.Cells.{Cell, IsThere, base_of, place, signal_bit, cell_of, bits, CellFits, HasRoom, AllFit}

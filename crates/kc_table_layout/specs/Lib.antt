@@ -1,10 +1,6 @@
 pub mod Cells
 pub mod Changes
 pub mod Opened
-pub use Rattle.kc_machine_ranges.specs.kc_machine_claims as kc_machine_claims
-pub use Rattle.kc_machine_ranges.specs.kc_machine_commits as kc_machine_commits
-pub use Rattle.kc_machine_ranges.specs.kc_machine_effects as kc_machine_effects
-pub use Rattle.kc_machine_ranges.specs.kc_machine_pool as kc_machine_pool
-pub use Rattle.kc_machine_ranges.specs as kc_machine_ranges
-pub use Rattle.kc_machine_ranges.specs.kc_machine_seats as kc_machine_seats
-pub use Rattle.kc_machine_ranges.specs.kc_machine_traces as kc_machine_traces
+pub use Rattle.kc_machine_traces.specs as kc_machine_traces
+pub use Rattle.kc_machine_traces.specs.kc_machine_commits as kc_machine_commits
+pub use Rattle.kc_machine_traces.specs.kc_machine_invariants as kc_machine_invariants

@@ -5,8 +5,8 @@ ghost use Rattle.kc_table_layout.specs.declared.place.TheConstants.{LAST_BASE};
 ghost use Rattle.kc_machine_words.specs.Packing.{OwnerFits, FirstFits, SecondFits, StatusFits};
 ghost use Rattle.kc_model.specs.Word.{IsPackable};
 ghost use Rattle.kc_machine.specs.Machine.{World, found_at};
-ghost use Rattle.kc_machine_ranges.specs.Ranges.{TouchIn};
-ghost use Rattle.kc_machine_ranges.specs.Bits.{AccessFits, GripFits, ValuesFit};
+ghost use Rattle.kc_machine_traces.specs.Ranges.{TouchIn};
+ghost use Rattle.kc_machine_traces.specs.Bits.{AccessFits, GripFits, ValuesFit};
 ghost use Rattle.kc_table_layout.specs.Changes.{word_change, grip_change, status_change, owner_change, first_change, second_change, bits_change, aim_of};
 ghost use Rattle.kc_table_layout.specs.Cells.{CellFits, cell_of, bits};
 

@@ -3,7 +3,7 @@
 ghost use Rattle.std.specs.Prelude.{◌≡◌, ◌≢◌, ◌≤◌, ◌<◌, ℕ};
 ghost use Rattle.kc_machine.specs.Machine.{World, touched};
 ghost use Rattle.kc_machine_words.specs.declared.access.Access.{Access};
-ghost use Rattle.kc_machine_ranges.specs.Bits.{AccessFits};
+ghost use Rattle.kc_machine_traces.specs.Bits.{AccessFits};
 ghost use Rattle.kc_table_layout.specs.Cells.{AllFit, Cell, CellFits, HasRoom, IsThere, base_of, bits, cell_of, place, size_of};
 ghost use Rattle.kc_table_layout.specs.Changes.{changed, change_of};
 

@@ -11,11 +11,11 @@ use Rattle.kc_machine.specs.Machine.{World, Opening, run, touched, possible, fou
 use Rattle.kc_machine.specs.Schedules.{BeginsWellMade}
 use Rattle.kc_machine.specs.Seats.{access_of, answer_of, is_idle}
 use Rattle.kc_machine.specs.declared.seat.Seat.{Seat}
-use Rattle.kc_table_layout.specs.kc_machine_claims.Traces.{trace, first_store}
-use Rattle.kc_table_layout.proofs.kc_machine_ranges.Bits.{access_fits}
-use Rattle.kc_table_layout.proofs.kc_machine_ranges.Runs.{steps_possible}
-use Rattle.kc_table_layout.specs.kc_machine_ranges.Bits.{AccessFits, ValuesFit}
-use Rattle.kc_table_layout.specs.kc_machine_ranges.Ranges.{AccessIn}
+use Rattle.kc_table_layout.specs.kc_machine_traces.Traces.{trace, first_store}
+use Rattle.kc_table_layout.proofs.kc_machine_traces.Bits.{access_fits}
+use Rattle.kc_table_layout.proofs.kc_machine_traces.Runs.{steps_possible}
+use Rattle.kc_table_layout.specs.kc_machine_traces.Bits.{AccessFits, ValuesFit}
+use Rattle.kc_table_layout.specs.kc_machine_traces.Ranges.{AccessIn}
 use Rattle.kc_machine_steps.specs.declared.task.Event.{Event}
 use Rattle.kc_machine_steps.specs.declared.task.Event.TheVariants.{Step}
 use Rattle.kc_table_layout.proofs.kc_machine_traces.Joins.{made_joined, honest_joined}

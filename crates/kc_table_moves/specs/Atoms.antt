@@ -13,7 +13,7 @@ use Rattle.kc_machine.specs.declared.seat.Seat.{Seat}
 use Rattle.kc_table_layout.specs.kc_machine_commits.declared.commit.OwnStep.TheVariants as own
 use Rattle.kc_table_layout.specs.kc_machine_commits.declared.commit.Stage.{Stage}
 use Rattle.kc_table_layout.specs.kc_machine_commits.declared.commit.Stage.TheVariants.{Scan, Take, Own}
-use Rattle.kc_table_layout.specs.kc_machine_ranges.Bits.{ValuesFit}
+use Rattle.kc_table_layout.specs.kc_machine_traces.Bits.{ValuesFit}
 use Rattle.kc_model.specs.declared.word.Word.{Word}
 use Rattle.kc_model.specs.declared.word.Word.TheVariants.{Plain, Ref}
 use Rattle.kc_table_layout.specs.Cells.{CellFits, base_of, bits, cell_of, place, size_of}

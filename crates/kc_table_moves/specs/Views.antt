@@ -5,8 +5,8 @@ use Rattle.atomic_table.specs.Seated.{TableId}
 use Rattle.kc_machine.specs.Machine.{Opening, run, pool_size}
 use Rattle.kc_machine.specs.Seats.{begun, fresh, is_idle, own_of}
 use Rattle.kc_machine.specs.declared.seat.Seat.{Seat}
-use Rattle.kc_table_layout.specs.kc_machine_claims.Histories.{History, Grows, ending}
-use Rattle.kc_table_layout.specs.kc_machine_claims.Traces.{first_store, BeginsHonestly}
+use Rattle.kc_table_layout.specs.kc_machine_traces.Histories.{History, Grows, ending}
+use Rattle.kc_table_layout.specs.kc_machine_traces.Traces.{first_store, BeginsHonestly}
 use Rattle.kc_machine_steps.specs.declared.task.Event.{Event}
 use Rattle.kc_machine_steps.specs.declared.task.Event.TheVariants.{Begin}
 use Rattle.kc_machine_steps.specs.declared.task.Task.{Task}

@@ -1,8 +1,6 @@
 pub mod Links
 pub mod Alike
-pub use Rattle.kc_table_moves.proofs.kc_machine_histories as kc_machine_histories
-pub use Rattle.kc_table_moves.proofs.kc_machine_ranges as kc_machine_ranges
-pub use Rattle.kc_table_moves.proofs.kc_machine_resolving as kc_machine_resolving
-pub use Rattle.kc_table_moves.proofs.kc_machine_seats as kc_machine_seats
+pub use Rattle.kc_table_moves.proofs.kc_machine_history as kc_machine_history
 pub use Rattle.kc_table_moves.proofs.kc_machine_traces as kc_machine_traces
+pub use Rattle.kc_table_moves.proofs.kc_machine_invariants as kc_machine_invariants
 pub use Rattle.kc_table_moves.proofs.kc_table_views as kc_table_views

@@ -35,7 +35,7 @@ use Rattle.kc_machine.specs.Points.{first_point, seat_at}
 use Rattle.kc_machine.specs.Seats.{access_of, answer_of}
 use Rattle.kc_machine.specs.declared.seat.Seat.{Seat}
 use Rattle.kc_table_moves.specs.kc_machine_commits.Commits.{after_own_pass, fill_first, fill_second, finished, intent_of, owed_next, wake_or_drop, wake_or_signal}
-use Rattle.kc_table_moves.specs.kc_machine_ranges.Bits.{AccessFits, ValuesFit}
+use Rattle.kc_table_moves.specs.kc_machine_traces.Bits.{AccessFits, ValuesFit}
 use Rattle.kc_table_layout.specs.Cells.{CellFits, bits, cell_of}
 use Rattle.kc_table_moves.proofs.Allowed.{ready_access}
 use Rattle.kc_table_moves.specs.Rule.{Ready}

@@ -14,9 +14,9 @@ use Rattle.kc_machine_steps.specs.declared.task.Task.TheVariants as task
 use Rattle.kc_machine_steps.specs.declared.task.Told.TheVariants as told
 use Rattle.kc_machine.specs.Schedules.{IsWellMadeTask}
 use Rattle.kc_machine.specs.Seats.{begun, is_idle}
-use Rattle.kc_table_seats.proofs.Following.{does_first, does_further}
-use Rattle.kc_table_seats.proofs.Keeping.{steps_keep, loads_keep, looks_saw}
-use Rattle.kc_table_seats.specs.Tasks.{Does, Keeps, KnowsRead}
+use Rattle.kc_table_laws.proofs.Following.{does_first, does_further}
+use Rattle.kc_table_laws.proofs.Keeping.{steps_keep, loads_keep, looks_saw}
+use Rattle.kc_table_laws.specs.Tasks.{Does, Keeps, KnowsRead}
 use Rattle.kc_table_moves.specs.Views.{TableView, SeatView, Learns, Starts, Stepped, KnowsReads, AreAll, count_from}
 
 one_kept : (v w : SeatView) (r : Seen) → Keeps v w → KnowsRead v r → KnowsRead w r

@@ -1,7 +1,7 @@
 //! Eight seats on four threads, whose commits contend for two locations.
 
 ghost use Rattle.std.specs.Prelude.{◌≡◌, ◌<◌, All, IfSome};
-ghost use Rattle.kc_table_seats.specs.Tasks.{IsSameSeat};
+ghost use Rattle.kc_table_laws.specs.Tasks.{IsSameSeat};
 
 use crate::tests::{look, look_both, run};
 use kc_machine_steps::Told;

@@ -1,7 +1,7 @@
 //! Owners that stopped or were halted after each number of steps.
 
 ghost use Rattle.std.specs.Prelude.{◌≡◌, All};
-ghost use Rattle.kc_table_seats.specs.Tasks.{IsSameSeat, KnowsRead};
+ghost use Rattle.kc_table_laws.specs.Tasks.{IsSameSeat, KnowsRead};
 
 use crate::tests::{begin, look_both, open_two, steps, together};
 use kc_machine_steps::Told;

@@ -1,7 +1,7 @@
 //! Swaps in one call.
 
 ghost use Rattle.std.specs.Prelude.{◌≡◌};
-ghost use Rattle.kc_table_seats.specs.Tasks.{IsSameSeat, KnowsRead};
+ghost use Rattle.kc_table_laws.specs.Tasks.{IsSameSeat, KnowsRead};
 
 use crate::tests::{begin, hang, look, look_both, open_two, see, steps};
 use kc_machine_steps::Told;

@@ -2,7 +2,7 @@ ghost use Rattle.std.specs.Prelude.{◌≡◌, ◌<◌, ◌≤◌, [], false, Al
 ghost use Rattle.kc_model.specs.Footprint.{Reads};
 ghost use Rattle.kc_model.specs.declared.footprint.Seen.{Seen};
 ghost use Rattle.kc_model.specs.declared.footprint.TheConstants.{MOST};
-ghost use Rattle.kc_table_seats.specs.Tasks.{IsSameSeat, KnowsRead};
+ghost use Rattle.kc_table_laws.specs.Tasks.{IsSameSeat, KnowsRead};
 ghost use Rattle.kc_table_moves.specs.Views.{AreAll};
 
 use arrayvec::ArrayVec;

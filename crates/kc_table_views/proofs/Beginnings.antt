@@ -1,28 +1,28 @@
 -- What a seat begins says the task; and a task that was halted before its first step gives way to the next.
 use Rattle.std.proofs.Common.{◌≡◌, Bool, true, false, ℕ, List, [], ◌∷◌, None, refl, sym, ap, ◌∙◌, if◌then◌else◌}
-use Rattle.kc_machine_looks.specs.kc_machine_steps.Looks.{halts_at_once}
-use Rattle.kc_machine_looks.specs.kc_machine_steps.Swaps.{ends_at_once}
-use Rattle.kc_machine_looks.specs.kc_machine_steps.declared.swap.SwapStep.TheVariants as swap
-use Rattle.kc_machine_looks.specs.kc_machine_words.declared.words.Mode.{Mode}
-use Rattle.kc_machine_looks.specs.kc_machine_words.declared.words.Mode.TheVariants.{All}
+use Rattle.kc_machine_answers.specs.kc_machine_steps.Looks.{halts_at_once}
+use Rattle.kc_machine_answers.specs.kc_machine_steps.Swaps.{ends_at_once}
+use Rattle.kc_machine_answers.specs.kc_machine_steps.declared.swap.SwapStep.TheVariants as swap
+use Rattle.kc_machine_answers.specs.kc_machine_words.declared.words.Mode.{Mode}
+use Rattle.kc_machine_answers.specs.kc_machine_words.declared.words.Mode.TheVariants.{All}
 use Rattle.kc_model.specs.declared.footprint.Loc.{Loc}
 use Rattle.kc_model.specs.declared.footprint.Seen.{Seen}
-use Rattle.kc_machine_looks.specs.kc_machine_steps.declared.look.LookStep.TheVariants as look
-use Rattle.kc_machine_looks.specs.kc_machine_commits.Halts.{unowned}
-use Rattle.kc_machine_looks.specs.kc_machine_steps.Lines.{lines_of}
+use Rattle.kc_machine_answers.specs.kc_machine_steps.declared.look.LookStep.TheVariants as look
+use Rattle.kc_machine_answers.specs.kc_machine_commits.Halts.{unowned}
+use Rattle.kc_machine_answers.specs.kc_machine_steps.Lines.{lines_of}
 use Rattle.kc_model.specs.declared.footprint.Line.{Line}
-use Rattle.kc_machine_looks.specs.kc_machine_steps.declared.task.Task.{Task}
-use Rattle.kc_machine_looks.specs.kc_machine_steps.declared.task.Task.TheVariants as task
-use Rattle.kc_machine_looks.specs.kc_machine.Works.{Work}
-use Rattle.kc_machine_looks.specs.kc_machine_steps.declared.task.Event.{Event}
-use Rattle.kc_machine_looks.specs.kc_machine_steps.declared.task.Event.TheVariants.{Begin, Step, Halt}
-use Rattle.kc_machine_looks.specs.kc_machine.Works as work
-use Rattle.kc_machine_looks.specs.kc_machine.Schedules.{IsWellMadeTask}
-use Rattle.kc_machine_looks.specs.kc_machine.Seats.{begun, begun_idle, halted, halted_by, is_idle, working, committing, hanging, leaving}
-use Rattle.kc_machine_looks.specs.kc_machine.declared.seat.Seat.{Seat}
-use Rattle.kc_machine_looks.specs.kc_machine_claims.Histories.{footprint_of}
-use Rattle.kc_machine_looks.proofs.kc_machine_histories.Footprints.{lines_say}
-use Rattle.kc_machine_looks.specs.kc_machine_traces.Moments.{BeginsNothing}
+use Rattle.kc_machine_answers.specs.kc_machine_steps.declared.task.Task.{Task}
+use Rattle.kc_machine_answers.specs.kc_machine_steps.declared.task.Task.TheVariants as task
+use Rattle.kc_machine_answers.specs.kc_machine.Works.{Work}
+use Rattle.kc_machine_answers.specs.kc_machine_steps.declared.task.Event.{Event}
+use Rattle.kc_machine_answers.specs.kc_machine_steps.declared.task.Event.TheVariants.{Begin, Step, Halt}
+use Rattle.kc_machine_answers.specs.kc_machine.Works as work
+use Rattle.kc_machine_answers.specs.kc_machine.Schedules.{IsWellMadeTask}
+use Rattle.kc_machine_answers.specs.kc_machine.Seats.{begun, begun_idle, halted, halted_by, is_idle, working, committing, hanging, leaving}
+use Rattle.kc_machine_answers.specs.kc_machine.declared.seat.Seat.{Seat}
+use Rattle.kc_machine_answers.specs.kc_machine_traces.Histories.{footprint_of}
+use Rattle.kc_machine_answers.proofs.kc_machine_history.Footprints.{lines_say}
+use Rattle.kc_machine_answers.specs.kc_machine_traces.Moments.{BeginsNothing}
 use Rattle.kc_table_views.specs.Pending.{AllWait, applied}
 
 -- all of a seat but its work and what it was told

@@ -2,37 +2,37 @@
 use Rattle.std.proofs.Common.{◌≡◌, ◌<◌, ◌≤◌, ℕ, List, [], ◌∷◌, ◌++◌, Bool, true, false, length, refl, sym, ap, ◌∙◌, subst, ⊎_elim, append_assoc, append-nil, arith}
 use Rattle.std.specs.Option.{is_some}
 use Rattle.std.proofs.Math.Seq.{take-append_seam}
-use Rattle.kc_machine_looks.specs.kc_machine_steps.declared.task.Event.{Event}
-use Rattle.kc_machine_looks.specs.kc_machine_steps.declared.task.Event.TheVariants.{Begin, Step, Halt}
+use Rattle.kc_machine_answers.specs.kc_machine_steps.declared.task.Event.{Event}
+use Rattle.kc_machine_answers.specs.kc_machine_steps.declared.task.Event.TheVariants.{Begin, Step, Halt}
 use Rattle.kc_model.specs.declared.footprint.Seen.{Seen}
-use Rattle.kc_machine_looks.specs.kc_machine_steps.declared.task.Task.TheVariants as task
-use Rattle.kc_machine_looks.specs.kc_machine.Works.{Work}
-use Rattle.kc_machine_looks.specs.kc_machine_commits.declared.commit.Commit.{Commit}
-use Rattle.kc_machine_looks.specs.kc_machine_commits.declared.commit.Stage.{Stage}
-use Rattle.kc_machine_looks.specs.kc_machine_commits.declared.commit.Stage.TheVariants.{Scan, Take, Own}
-use Rattle.kc_machine_looks.specs.kc_machine.Works as work
-use Rattle.kc_machine_looks.specs.kc_machine.Seats.{is_idle, halted, own_of, own_of_stage, own_of_work}
-use Rattle.kc_machine_looks.specs.kc_machine.declared.hang.HangStep.{HangStep}
-use Rattle.kc_machine_looks.specs.kc_machine.declared.seat.Seat.{Seat}
-use Rattle.kc_machine_looks.specs.kc_machine.declared.hang.HangStep.TheVariants as hang
-use Rattle.kc_machine_looks.specs.kc_machine.Machine.{Opening, run, pool_size}
-use Rattle.kc_machine_looks.specs.kc_machine_claims.Claims.{OwesRelease, stands_for}
-use Rattle.kc_machine_looks.specs.kc_machine_claims.Histories.{Grows, IsKnown, IsLegalHistory, ending}
-use Rattle.kc_machine_looks.specs.kc_machine_claims.Traces.{trace, first_store, BeginsHonestly}
-use Rattle.kc_machine_looks.specs.kc_machine_effects.Holds.{own_hold}
-use Rattle.kc_machine_looks.specs.kc_machine_effects.Holds.Hold.{Proper}
-use Rattle.kc_machine_looks.specs.kc_machine_effects.Stands.{stand, works, resting, commits, hangs}
-use Rattle.kc_machine_looks.proofs.kc_machine_histories.Differ.{entries_differ}
-use Rattle.kc_machine_honest.proofs.Legal.{legal}
-use Rattle.kc_machine_looks.proofs.kc_machine_passes.Always.{references_held}
-use Rattle.kc_machine_looks.proofs.kc_machine_resolving.Growing.{grow}
-use Rattle.kc_machine_looks.proofs.kc_machine_resolving.Resolving.{words_resolve}
-use Rattle.kc_machine_looks.proofs.kc_machine_traces.Entries.{history_grows, by_inserted, entries_of_callers, swapper}
-use Rattle.kc_machine_looks.proofs.kc_machine_traces.Known.{known_stays, versions_rise}
-use Rattle.kc_machine_looks.proofs.kc_machine_traces.Others.{others_leave, run_shape}
-use Rattle.kc_machine_looks.specs.kc_machine_traces.Entries.{by}
-use Rattle.kc_machine_looks.specs.kc_machine_traces.Parts.{NoneOf}
-use Rattle.kc_machine_looks.specs.kc_machine_words.declared.words.Handle.{Handle}
+use Rattle.kc_machine_answers.specs.kc_machine_steps.declared.task.Task.TheVariants as task
+use Rattle.kc_machine_answers.specs.kc_machine.Works.{Work}
+use Rattle.kc_machine_answers.specs.kc_machine_commits.declared.commit.Commit.{Commit}
+use Rattle.kc_machine_answers.specs.kc_machine_commits.declared.commit.Stage.{Stage}
+use Rattle.kc_machine_answers.specs.kc_machine_commits.declared.commit.Stage.TheVariants.{Scan, Take, Own}
+use Rattle.kc_machine_answers.specs.kc_machine.Works as work
+use Rattle.kc_machine_answers.specs.kc_machine.Seats.{is_idle, halted, own_of, own_of_stage, own_of_work}
+use Rattle.kc_machine_answers.specs.kc_machine.declared.hang.HangStep.{HangStep}
+use Rattle.kc_machine_answers.specs.kc_machine.declared.seat.Seat.{Seat}
+use Rattle.kc_machine_answers.specs.kc_machine.declared.hang.HangStep.TheVariants as hang
+use Rattle.kc_machine_answers.specs.kc_machine.Machine.{Opening, run, pool_size}
+use Rattle.kc_machine_answers.specs.kc_machine_traces.Claims.{OwesRelease, stands_for}
+use Rattle.kc_machine_answers.specs.kc_machine_traces.Histories.{Grows, IsKnown, IsLegalHistory, ending}
+use Rattle.kc_machine_answers.specs.kc_machine_traces.Traces.{trace, first_store, BeginsHonestly}
+use Rattle.kc_machine_answers.specs.kc_machine_invariants.Holds.{own_hold}
+use Rattle.kc_machine_answers.specs.kc_machine_invariants.Holds.Hold.{Proper}
+use Rattle.kc_machine_answers.specs.kc_machine_invariants.Stands.{stand, works, resting, commits, hangs}
+use Rattle.kc_machine_answers.proofs.kc_machine_history.Differ.{entries_differ}
+use Rattle.kc_machine_history.proofs.Legal.{legal}
+use Rattle.kc_machine_answers.proofs.kc_machine_traces.Always.{references_held}
+use Rattle.kc_machine_answers.proofs.kc_machine_history.Untouched.{grow}
+use Rattle.kc_machine_answers.proofs.kc_machine_history.Resolving.{words_resolve}
+use Rattle.kc_machine_answers.proofs.kc_machine_traces.Entries.{history_grows, by_inserted, entries_of_callers, swapper}
+use Rattle.kc_machine_answers.proofs.kc_machine_traces.Known.{known_stays, versions_rise}
+use Rattle.kc_machine_answers.proofs.kc_machine_traces.Others.{others_leave, run_shape}
+use Rattle.kc_machine_answers.specs.kc_machine_traces.Entries.{by}
+use Rattle.kc_machine_answers.specs.kc_machine_traces.Parts.{NoneOf}
+use Rattle.kc_machine_answers.specs.kc_machine_words.declared.words.Handle.{Handle}
 use Rattle.kc_model.specs.declared.word.Word.{Word}
 use Rattle.kc_model.specs.declared.word.Word.TheVariants.{Plain, Ref}
 use Rattle.kc_table_views.specs.Known.{known, IsMeant, GoesOn, KnowsAPart, IsWhole, OwnsNone}

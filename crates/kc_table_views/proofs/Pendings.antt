@@ -1,19 +1,19 @@
 -- Beginnings and halts of a seat between its steps.
 use Rattle.std.proofs.Common.{◌≡◌, ◌≢◌, ◌<◌, ℕ, List, [], ◌∷◌, ◌++◌, All, refl, sym, ap, ◌∙◌, subst, arith}
 use Rattle.std.proofs.lemmas.List.Elements.{All-cons, All-head, All-tail}
-use Rattle.kc_machine_looks.proofs.kc_machine.Functions.{put_here}
-use Rattle.kc_machine_looks.specs.kc_machine.Machine.{State, Opening, put, event_of, run_from, run}
-use Rattle.kc_machine_looks.specs.kc_machine.Seats.{begun, halted}
-use Rattle.kc_machine_looks.specs.kc_machine.declared.seat.Seat.{Seat}
-use Rattle.kc_machine_looks.specs.kc_machine_claims.Histories.{History}
-use Rattle.kc_machine_looks.specs.kc_machine_claims.Traces.{Trace, traced, BeginsHonestly, IsHonestFrom}
-use Rattle.kc_machine_looks.specs.kc_machine_steps.declared.task.Event.{Event}
-use Rattle.kc_machine_looks.specs.kc_machine_steps.declared.task.Event.TheVariants.{Begin, Step, Halt}
-use Rattle.kc_machine_looks.proofs.kc_machine_traces.Joins.{run-append}
-use Rattle.kc_machine_looks.proofs.kc_machine_traces.Others.{run_shape, event_in, words_stay, history_stays, words_kept}
-use Rattle.kc_machine_looks.proofs.kc_machine_traces.Swapping.{takes_no_other}
-use Rattle.kc_machine_looks.specs.kc_machine_traces.Moments.{BeginsNothing}
-use Rattle.kc_machine_looks.specs.kc_machine_traces.Parts.{NoneOf, IsNoStep}
+use Rattle.kc_machine_answers.proofs.kc_machine.Functions.{put_here}
+use Rattle.kc_machine_answers.specs.kc_machine.Machine.{State, Opening, put, event_of, run_from, run}
+use Rattle.kc_machine_answers.specs.kc_machine.Seats.{begun, halted}
+use Rattle.kc_machine_answers.specs.kc_machine.declared.seat.Seat.{Seat}
+use Rattle.kc_machine_answers.specs.kc_machine_traces.Histories.{History}
+use Rattle.kc_machine_answers.specs.kc_machine_traces.Traces.{Trace, traced, BeginsHonestly, IsHonestFrom}
+use Rattle.kc_machine_answers.specs.kc_machine_steps.declared.task.Event.{Event}
+use Rattle.kc_machine_answers.specs.kc_machine_steps.declared.task.Event.TheVariants.{Begin, Step, Halt}
+use Rattle.kc_machine_answers.proofs.kc_machine_traces.Joins.{run-append}
+use Rattle.kc_machine_answers.proofs.kc_machine_traces.Others.{run_shape, event_in, words_stay, history_stays, words_kept}
+use Rattle.kc_machine_answers.proofs.kc_machine_traces.Swapping.{takes_no_other}
+use Rattle.kc_machine_answers.specs.kc_machine_traces.Moments.{BeginsNothing}
+use Rattle.kc_machine_answers.specs.kc_machine_traces.Parts.{NoneOf, IsNoStep}
 use Rattle.kc_model.specs.Store.{Store}
 use Rattle.kc_table_views.specs.Pending.{AllWait, moved_by, applied, HonestAt}
 

@@ -1,13 +1,13 @@
 -- What pends says its task.
 use Rattle.std.proofs.Common.{◌≡◌, true, false, ℕ, List, [], ◌∷◌, ◌++◌, All, sym, ap, ◌∙◌, subst}
 use Rattle.std.proofs.lemmas.List.Elements.{All-head, All-tail}
-use Rattle.kc_machine_looks.specs.kc_machine.Machine.{Opening, run}
-use Rattle.kc_machine_looks.specs.kc_machine.Schedules.{BeginsWellMade, IsWellMadeTask}
-use Rattle.kc_machine_looks.specs.kc_machine.Seats.{begun, is_idle}
-use Rattle.kc_machine_looks.specs.kc_machine.declared.seat.Seat.{Seat}
-use Rattle.kc_machine_looks.specs.kc_machine_steps.declared.task.Event.{Event}
-use Rattle.kc_machine_looks.specs.kc_machine_steps.declared.task.Event.TheVariants.{Begin}
-use Rattle.kc_machine_looks.specs.kc_machine_steps.declared.task.Task.{Task}
+use Rattle.kc_machine_answers.specs.kc_machine.Machine.{Opening, run}
+use Rattle.kc_machine_answers.specs.kc_machine.Schedules.{BeginsWellMade, IsWellMadeTask}
+use Rattle.kc_machine_answers.specs.kc_machine.Seats.{begun, is_idle}
+use Rattle.kc_machine_answers.specs.kc_machine.declared.seat.Seat.{Seat}
+use Rattle.kc_machine_answers.specs.kc_machine_steps.declared.task.Event.{Event}
+use Rattle.kc_machine_answers.specs.kc_machine_steps.declared.task.Event.TheVariants.{Begin}
+use Rattle.kc_machine_answers.specs.kc_machine_steps.declared.task.Task.{Task}
 use Rattle.kc_table_views.proofs.Beginnings.{begun_says}
 use Rattle.kc_table_views.proofs.Pendings.{applied-append, waits_back}
 use Rattle.kc_table_views.specs.Pending.{AllWait, applied, BeginsOne, Pends}

@@ -1,26 +1,26 @@
 -- What a seat learns by its tasks.
 use Rattle.std.proofs.Common.{◌≡◌, ◌<◌, ◌≤◌, ℕ, List, Some, true, All, length, subst}
-use Rattle.kc_machine_looks.specs.kc_machine_steps.declared.task.Event.{Event}
-use Rattle.kc_machine_looks.specs.kc_machine_steps.declared.task.Task.{Task}
-use Rattle.kc_machine_looks.specs.kc_machine_words.declared.words.Mode.{Mode}
-use Rattle.kc_machine_looks.specs.kc_machine_words.declared.words.Mode.TheVariants as mode
+use Rattle.kc_machine_answers.specs.kc_machine_steps.declared.task.Event.{Event}
+use Rattle.kc_machine_answers.specs.kc_machine_steps.declared.task.Task.{Task}
+use Rattle.kc_machine_answers.specs.kc_machine_words.declared.words.Mode.{Mode}
+use Rattle.kc_machine_answers.specs.kc_machine_words.declared.words.Mode.TheVariants as mode
 use Rattle.kc_model.specs.declared.footprint.Footprint.{Footprint}
 use Rattle.kc_model.specs.declared.footprint.Loc.{Loc}
 use Rattle.kc_model.specs.declared.footprint.Seen.{Seen}
-use Rattle.kc_machine_looks.specs.kc_machine_steps.declared.task.Task.TheVariants as task
-use Rattle.kc_machine_looks.specs.kc_machine_steps.declared.task.Told.TheVariants as told
-use Rattle.kc_machine_looks.specs.kc_machine.Machine.{Opening, run}
-use Rattle.kc_machine_looks.specs.kc_machine.Seats.{is_idle}
-use Rattle.kc_machine_looks.specs.kc_machine_claims.Claims.{HasPut}
-use Rattle.kc_machine_looks.specs.kc_machine_claims.Histories.{Placed, ending}
-use Rattle.kc_machine_looks.specs.kc_machine_claims.Traces.{Moment, trace, first_store}
-use Rattle.kc_machine_looks.proofs.kc_machine_histories.Successes.{successes_have_entries, swaps_have_entries}
-use Rattle.kc_machine_honest.proofs.Put.{causes, swap_causes}
-use Rattle.kc_machine_looks.proofs.Stood.{answers_promised}
-use Rattle.kc_machine_looks.proofs.kc_machine_traces.Answers.{task_stands}
-use Rattle.kc_machine_looks.proofs.kc_machine_traces.Outcomes.{gains_as_told}
-use Rattle.kc_machine_looks.specs.kc_machine_traces.Entries.{by}
-use Rattle.kc_machine_looks.specs.kc_machine_traces.Outcomes.{GainsAsTold}
+use Rattle.kc_machine_answers.specs.kc_machine_steps.declared.task.Task.TheVariants as task
+use Rattle.kc_machine_answers.specs.kc_machine_steps.declared.task.Told.TheVariants as told
+use Rattle.kc_machine_answers.specs.kc_machine.Machine.{Opening, run}
+use Rattle.kc_machine_answers.specs.kc_machine.Seats.{is_idle}
+use Rattle.kc_machine_answers.specs.kc_machine_traces.Claims.{HasPut}
+use Rattle.kc_machine_answers.specs.kc_machine_traces.Histories.{Placed, ending}
+use Rattle.kc_machine_answers.specs.kc_machine_traces.Traces.{Moment, trace, first_store}
+use Rattle.kc_machine_answers.proofs.kc_machine_history.Successes.{successes_have_entries, swaps_have_entries}
+use Rattle.kc_machine_history.proofs.Put.{causes, swap_causes}
+use Rattle.kc_machine_answers.proofs.Stood.{answers_promised}
+use Rattle.kc_machine_answers.proofs.kc_machine_traces.Answers.{task_stands}
+use Rattle.kc_machine_answers.proofs.kc_machine_traces.Outcomes.{gains_as_told}
+use Rattle.kc_machine_answers.specs.kc_machine_traces.Entries.{by}
+use Rattle.kc_machine_answers.specs.kc_machine_traces.Outcomes.{GainsAsTold}
 use Rattle.kc_table_views.specs.Known.{known}
 use Rattle.kc_table_views.specs.Tasks.{ran, Runs, LookTaught, FailureTaught, SuccessTaught, put_of}
 

@@ -1,14 +1,14 @@
 -- What a seat knows: the history of the schedule as it stood after the seat's last step.
 use Rattle.std.specs.Prelude.{◌≡◌, ℕ, ◌<◌, ◌++◌, List, All, false}
 use Rattle.std.specs.Option.{is_some}
-use Rattle.kc_machine_looks.specs.kc_machine.Machine.{Opening, run}
-use Rattle.kc_machine_looks.specs.kc_machine.Schedules.{IsSchedule}
-use Rattle.kc_machine_looks.specs.kc_machine.Seats.{own_of}
-use Rattle.kc_machine_looks.specs.kc_machine_claims.Histories.{History, Grows, EntriesDiffer, IsLegalHistory}
-use Rattle.kc_machine_looks.specs.kc_machine_claims.Traces.{trace, first_store, IsHonest}
-use Rattle.kc_machine_looks.specs.kc_machine_steps.declared.task.Event.{Event}
-use Rattle.kc_machine_looks.specs.kc_machine_traces.Entries.{by}
-use Rattle.kc_machine_looks.specs.kc_machine_traces.Parts.{NoneOf}
+use Rattle.kc_machine_answers.specs.kc_machine.Machine.{Opening, run}
+use Rattle.kc_machine_answers.specs.kc_machine.Schedules.{IsSchedule}
+use Rattle.kc_machine_answers.specs.kc_machine.Seats.{own_of}
+use Rattle.kc_machine_answers.specs.kc_machine_traces.Histories.{History, Grows, EntriesDiffer, IsLegalHistory}
+use Rattle.kc_machine_answers.specs.kc_machine_traces.Traces.{trace, first_store, IsHonest}
+use Rattle.kc_machine_answers.specs.kc_machine_steps.declared.task.Event.{Event}
+use Rattle.kc_machine_answers.specs.kc_machine_traces.Entries.{by}
+use Rattle.kc_machine_answers.specs.kc_machine_traces.Parts.{NoneOf}
 
 abbrev pub known : Opening → List Event → History
 known o past = (trace o past).history

@@ -1,15 +1,15 @@
 -- What a seat has begun and halted since its last step. No word shows it yet.
 use Rattle.std.specs.Prelude.{◌≡◌, ℕ, List, [], ◌∷◌, ◌++◌, All, Bool, true, false}
-use Rattle.kc_machine_looks.specs.kc_machine.Machine.{Opening, run}
-use Rattle.kc_machine_looks.specs.kc_machine.Schedules.{BeginsWellMade}
-use Rattle.kc_machine_looks.specs.kc_machine.Seats.{begun, halted, is_idle}
-use Rattle.kc_machine_looks.specs.kc_machine.declared.seat.Seat.{Seat}
-use Rattle.kc_machine_looks.specs.kc_machine_claims.Histories.{History}
-use Rattle.kc_machine_looks.specs.kc_machine_claims.Traces.{trace, first_store, BeginsHonestly}
-use Rattle.kc_machine_looks.specs.kc_machine_steps.declared.task.Event.{Event}
-use Rattle.kc_machine_looks.specs.kc_machine_steps.declared.task.Event.TheVariants.{Begin, Step, Halt}
-use Rattle.kc_machine_looks.specs.kc_machine_steps.declared.task.Task.{Task}
-use Rattle.kc_machine_looks.specs.kc_machine_traces.Moments.{BeginsNothing}
+use Rattle.kc_machine_answers.specs.kc_machine.Machine.{Opening, run}
+use Rattle.kc_machine_answers.specs.kc_machine.Schedules.{BeginsWellMade}
+use Rattle.kc_machine_answers.specs.kc_machine.Seats.{begun, halted, is_idle}
+use Rattle.kc_machine_answers.specs.kc_machine.declared.seat.Seat.{Seat}
+use Rattle.kc_machine_answers.specs.kc_machine_traces.Histories.{History}
+use Rattle.kc_machine_answers.specs.kc_machine_traces.Traces.{trace, first_store, BeginsHonestly}
+use Rattle.kc_machine_answers.specs.kc_machine_steps.declared.task.Event.{Event}
+use Rattle.kc_machine_answers.specs.kc_machine_steps.declared.task.Event.TheVariants.{Begin, Step, Halt}
+use Rattle.kc_machine_answers.specs.kc_machine_steps.declared.task.Task.{Task}
+use Rattle.kc_machine_answers.specs.kc_machine_traces.Moments.{BeginsNothing}
 use Rattle.kc_model.specs.Store.{Store}
 
 -- beginnings and halts of seat k

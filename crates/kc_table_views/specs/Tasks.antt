@@ -1,15 +1,15 @@
 -- What a seat that has run a task knows by it.
 use Rattle.std.specs.Prelude.{◌≡◌, ℕ, ◌<◌, ◌≤◌, List, [], ◌∷◌, ◌++◌, true, false, Some, All, Contains, slice_get}
-use Rattle.kc_machine_looks.specs.kc_machine.Machine.{Opening, run}
-use Rattle.kc_machine_looks.specs.kc_machine.Seats.{is_idle, begun}
-use Rattle.kc_machine_looks.specs.kc_machine_claims.Claims.{HasPut}
-use Rattle.kc_machine_looks.specs.kc_machine_claims.Histories.{History, Placed, IsKnown, ending, footprint_of}
-use Rattle.kc_machine_looks.specs.kc_machine_claims.Traces.{first_store, swap_line}
-use Rattle.kc_machine_looks.specs.kc_machine_steps.declared.task.Event.{Event}
-use Rattle.kc_machine_looks.specs.kc_machine_steps.declared.task.Event.TheVariants.{Begin}
-use Rattle.kc_machine_looks.specs.kc_machine_steps.declared.task.Task.{Task}
-use Rattle.kc_machine_looks.specs.kc_machine_traces.Moments.{BeginsNothing}
-use Rattle.kc_machine_looks.specs.kc_machine_words.declared.words.Mode.{Mode}
+use Rattle.kc_machine_answers.specs.kc_machine.Machine.{Opening, run}
+use Rattle.kc_machine_answers.specs.kc_machine.Seats.{is_idle, begun}
+use Rattle.kc_machine_answers.specs.kc_machine_traces.Claims.{HasPut}
+use Rattle.kc_machine_answers.specs.kc_machine_traces.Histories.{History, Placed, IsKnown, ending, footprint_of}
+use Rattle.kc_machine_answers.specs.kc_machine_traces.Traces.{first_store, swap_line}
+use Rattle.kc_machine_answers.specs.kc_machine_steps.declared.task.Event.{Event}
+use Rattle.kc_machine_answers.specs.kc_machine_steps.declared.task.Event.TheVariants.{Begin}
+use Rattle.kc_machine_answers.specs.kc_machine_steps.declared.task.Task.{Task}
+use Rattle.kc_machine_answers.specs.kc_machine_traces.Moments.{BeginsNothing}
+use Rattle.kc_machine_answers.specs.kc_machine_words.declared.words.Mode.{Mode}
 use Rattle.kc_model.specs.declared.footprint.Footprint.{Footprint}
 use Rattle.kc_model.specs.declared.footprint.Loc.{Loc}
 use Rattle.kc_model.specs.declared.footprint.Seen.{Seen}

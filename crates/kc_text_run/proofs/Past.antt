@@ -8,7 +8,7 @@ use Rattle.kc_run.proofs.Pasts.{below_callers, legal_from_values}
 use Rattle.kc_run.specs.Kcas.{history_in, values_at, values_in, values_of}
 use Rattle.kc_store.specs.Backs.{AreAllCallers}
 use Rattle.kc_store.specs.Views.{CallerView, PastView, StoreView, caller_view}
-use Rattle.kc_store.specs.kc_machine_claims.Histories.{History, Placed, entries}
+use Rattle.kc_store.specs.kc_machine_traces.Histories.{History, Placed, entries}
 use Rattle.kc_store.specs.kc_machine_traces.Entries.{by}
 use Rattle.kc_store.specs.kc_table_moves.Origins.{opening_of}
 use Rattle.kc_store.specs.kc_table_moves.Views.{IsPart, IsPast}

@@ -3,7 +3,7 @@ use Rattle.kc_hang.proofs.Waits.{hangs_at_once, hangs_signalled}
 use Rattle.kc_hang.specs.Hanging.{Shows, task_of}
 use Rattle.kc_hang.specs.HangView.{HangView}
 use Rattle.kc_hang.specs.declared.hang_state.HangState.TheVariants.{Hung, Leaving}
-use Rattle.kc_table_seats.specs.Tasks.{Does}
+use Rattle.kc_table_laws.specs.Tasks.{Does}
 use Rattle.kc_hang.proofs.waiting.wait_for_a_change.Goals as goal
 
 pub returns-in-Hung-clause-hangs : goal.returns-in-Hung-clause-hangs

@@ -6,8 +6,8 @@ use Rattle.kc_store.proofs.Counting.{step_counts}
 use Rattle.kc_store.proofs.Ending.{busy_is, few_reads, idle_is}
 use Rattle.kc_store.proofs.LoneCommits.{commits_alone, ran_on, soon}
 use Rattle.kc_store.specs.Lone.{is_worn}
-use Rattle.kc_hang.proofs.kc_table_seats.Running.{ran_same}
-use Rattle.kc_table_sole.specs.Sole.{IsSole}
+use Rattle.kc_hang.proofs.kc_table_laws.Running.{ran_same}
+use Rattle.kc_table_laws.specs.Sole.{IsSole}
 use Rattle.kc_store.proofs.alone.commit_alone.Goals as goal
 
 pub commit-requires-clause-made : goal.commit-requires-clause-made

@@ -1,5 +1,5 @@
 use Rattle.std.proofs.Common.{◌+◌, ◌-◌}
-use Rattle.kc_hang.specs.kc_machine_alone.Stretches.{stretch}
+use Rattle.kc_hang.specs.kc_machine_progress.Stretches.{stretch}
 use Rattle.kc_machine_steps.specs.declared.task.Task.TheVariants as task
 use Rattle.kc_machine_words.specs.declared.words.Mode.TheVariants as mode
 use Rattle.kc_model.specs.declared.footprint.TheConstants.{MOST}

@@ -3,7 +3,7 @@ use Rattle.kc_machine_steps.specs.declared.task.Task.TheVariants as task
 use Rattle.kc_machine_steps.specs.declared.task.Told.TheVariants as told
 use Rattle.kc_store.proofs.Ending.{ends_late, ends_straight, free, is_look, look_of_ends, looking_told, may_be_halted, runs}
 use Rattle.kc_store.specs.Works.{is_told_looking, told_by}
-use Rattle.kc_hang.proofs.kc_table_seats.Running.{ran_same}
+use Rattle.kc_hang.proofs.kc_table_laws.Running.{ran_same}
 use Rattle.kc_store.proofs.looks.look_at.Goals as goal
 
 pub returns-then-not-has_steps-clause-looks : goal.returns-then-not-has_steps-clause-looks

@@ -2,7 +2,7 @@ use Rattle.std.proofs.Common.{◌≡◌, ◌∙◌, true, false, ap, refl, sym}
 use Rattle.kc_machine_steps.specs.declared.task.Task.TheVariants as task
 use Rattle.kc_store.proofs.Ending.{is_look, runs}
 use Rattle.kc_store.proofs.LoneLooking.{ends_at_once, looks_alone}
-use Rattle.kc_table_sole.specs.Sole.{IsSole}
+use Rattle.kc_table_laws.specs.Sole.{IsSole}
 use Rattle.kc_store.proofs.sole_peek.look_alone.Goals as goal
 
 pub unreachable-requires : goal.unreachable-requires

@@ -1,7 +1,7 @@
 use Rattle.std.proofs.Common.{◌≡◌, ◌∙◌, true, false, sym, subst}
 use Rattle.kc_hang.specs.kc_machine.Seats.{is_idle}
-use Rattle.kc_hang.specs.kc_machine_claims.Histories.{IsKnown}
-use Rattle.kc_hang.specs.kc_machine_claims.Traces.{first_store}
+use Rattle.kc_hang.specs.kc_machine_traces.Histories.{IsKnown}
+use Rattle.kc_hang.specs.kc_machine_traces.Traces.{first_store}
 use Rattle.kc_machine_steps.specs.declared.task.Task.TheVariants as task
 use Rattle.kc_model.specs.Footprint.{IsBelow}
 use Rattle.kc_store.proofs.Crossed.{committed_crossed, committed_installed, committed_swapped}
@@ -10,7 +10,7 @@ use Rattle.kc_store.proofs.Seeing.{ended_keeps}
 use Rattle.kc_store.proofs.Swapping.{at_once, is_put, made_swap}
 use Rattle.kc_store.specs.Works.{AllInstalled}
 use Rattle.kc_hang.specs.kc_table_moves.Views.{SeatView, knows, opening_at_seat}
-use Rattle.kc_hang.specs.kc_table_seats.Told.{IsWornOut}
+use Rattle.kc_hang.specs.kc_table_laws.Told.{IsWornOut}
 use Rattle.kc_store.proofs.tasks.commit.Goals as goal
 use Rattle.kc_store.proofs.tasks.commit.Goals.{in-Some+else-not-is_crossed, in_default}
 

@@ -3,7 +3,7 @@ use Rattle.kc_hang.specs.kc_machine.Seats.{is_idle}
 use Rattle.kc_machine_steps.specs.declared.task.Task.TheVariants as task
 use Rattle.kc_store.proofs.Ending.{busy_is, committing_told, ends_late, ends_straight, few_reads, free, idle_is, may_be_halted, runs}
 use Rattle.kc_store.specs.Works.{is_told_committing}
-use Rattle.kc_hang.proofs.kc_table_seats.Running.{ran_same}
+use Rattle.kc_hang.proofs.kc_table_laws.Running.{ran_same}
 use Rattle.kc_store.proofs.tasks.commit_in.Goals as goal
 
 pub commit-requires-clause-made : goal.commit-requires-clause-made

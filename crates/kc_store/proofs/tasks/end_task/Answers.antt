@@ -4,7 +4,7 @@ use Rattle.kc_store.proofs.Doing.{may_run_halted, runs_may}
 use Rattle.kc_store.proofs.Ending.{busy_is, halt_marks}
 use Rattle.kc_store.specs.Works.{MayRun}
 use Rattle.kc_hang.specs.kc_table_moves.Views.{SeatView}
-use Rattle.kc_hang.specs.kc_table_seats.Halts.{is_halted}
+use Rattle.kc_hang.specs.kc_table_laws.Halts.{is_halted}
 use Rattle.kc_store.proofs.tasks.end_task.Goals as goal
 
 pub step_to_the_end-requires-clause-halted : goal.step_to_the_end-requires-clause-halted

@@ -4,7 +4,7 @@ use Rattle.kc_store.proofs.Counting.{step_counts}
 use Rattle.kc_store.proofs.Doing.{runs_further}
 use Rattle.kc_store.proofs.Ending.{busy_is}
 use Rattle.kc_store.proofs.Standing.{kind_kept}
-use Rattle.kc_hang.proofs.kc_table_seats.Stopping.{free_on}
+use Rattle.kc_hang.proofs.kc_table_laws.Stopping.{free_on}
 use Rattle.kc_store.proofs.tasks.step_on.Goals as goal
 
 pub steps-preserved : goal.steps-preserved

@@ -5,7 +5,7 @@ use Rattle.kc_machine_steps.specs.declared.task.Told.TheVariants as told
 use Rattle.kc_store.specs.Steps.{steps_made}
 use Rattle.kc_store.specs.Works.{Runs}
 use Rattle.kc_hang.specs.kc_table_moves.Views.{SeatView}
-use Rattle.kc_hang.specs.kc_table_seats.Halts.{may_halt, was_halted}
+use Rattle.kc_hang.specs.kc_table_laws.Halts.{may_halt, was_halted}
 use Rattle.kc_store.proofs.tasks.step_on.Given as goal
 
 abbrev pub invariant-steps : goal.invariant-steps

@@ -5,7 +5,7 @@ use Rattle.kc_store.proofs.Ending.{left_to_the_end}
 use Rattle.kc_store.specs.Steps.{steps_made}
 use Rattle.kc_store.specs.Works.{MayRun}
 use Rattle.kc_hang.specs.kc_table_moves.Views.{SeatView}
-use Rattle.kc_hang.specs.kc_table_seats.Halts.{is_halted}
+use Rattle.kc_hang.specs.kc_table_laws.Halts.{is_halted}
 use Rattle.kc_store.proofs.tasks.step_to_the_end.Given as goal
 
 abbrev pub invariant-steps : goal.invariant-steps

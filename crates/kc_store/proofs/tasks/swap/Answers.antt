@@ -4,7 +4,7 @@ use Rattle.kc_machine_steps.specs.declared.task.Task.TheVariants as task
 use Rattle.kc_store.proofs.Ending.{busy_is, ends_late, ends_straight, free, idle_is, may_be_halted, runs, swapping_told}
 use Rattle.kc_store.proofs.Standing.{told_commits}
 use Rattle.kc_store.specs.Works.{is_told_swapping}
-use Rattle.kc_hang.proofs.kc_table_seats.Running.{ran_same}
+use Rattle.kc_hang.proofs.kc_table_laws.Running.{ran_same}
 use Rattle.kc_store.proofs.tasks.swap.Goals as goal
 
 pub end_task-requires-clause-table : goal.end_task-requires-clause-table

@@ -5,7 +5,7 @@ use Rattle.kc_store.specs.HangingView.{HangingView}
 use Rattle.kc_store.specs.Knows.{OnlyLearns}
 use Rattle.kc_store.specs.Views.{caller_view}
 use Rattle.kc_hang.specs.kc_table_moves.Views.{Signalled}
-use Rattle.kc_hang.proofs.kc_table_seats.Causing.{worn_load}
+use Rattle.kc_hang.proofs.kc_table_laws.Causing.{worn_load}
 use Rattle.kc_store.proofs.waiting.park.Goals as goal
 
 pub park-requires : goal.park-requires

@@ -1,5 +1,5 @@
 use Rattle.std.proofs.Common.{sym, subst}
-use Rattle.kc_table_layout.specs.kc_machine_ranges.Bits.{AccessFits}
+use Rattle.kc_table_layout.specs.kc_machine_traces.Bits.{AccessFits}
 use Rattle.kc_table_layout.specs.declared.change.Change.TheVariants as change
 use Rattle.kc_table_moves.proofs.Allowed.{arm, within_table, ready_access}
 use Rattle.kc_table_moves.proofs.touch.touch.Goals as goal
@@ -7,7 +7,7 @@ use Rattle.kc_table_moves.proofs.touch.touch.Goals as goal
 pub aim_at-aim-requires-clause-fits : goal.aim_at-aim-requires-clause-fits
 aim_at-aim-requires-clause-fits g c =
     let s = c.requires.seat in
-    subst AccessFits (sym s.0) ((ready_access c.args.token.now.me g.B.Now.began g.B.Now.now s.2 s.1).1 (subst Rattle.kc_table_layout.specs.kc_machine_ranges.Bits.ValuesFit s.0 c.ranged.ensures))
+    subst AccessFits (sym s.0) ((ready_access c.args.token.now.me g.B.Now.began g.B.Now.now s.2 s.1).1 (subst Rattle.kc_table_layout.specs.kc_machine_traces.Bits.ValuesFit s.0 c.ranged.ensures))
 
 pub load-requires : goal.load-requires
 load-requires g c =

@@ -1,6 +1,6 @@
 use Rattle.std.proofs.Common.{◌≡◌, false, All}
 use Rattle.kc_machine_steps.specs.declared.task.Task.TheVariants as task
-use Rattle.kc_table_seats.specs.Tasks.{Does, KnowsRead}
+use Rattle.kc_table_laws.specs.Tasks.{Does, KnowsRead}
 use Rattle.kc_table_tests.proofs.tests.look.Given as goal
 
 abbrev pub invariant-loop : goal.invariant-loop

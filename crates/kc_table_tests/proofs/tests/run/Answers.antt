@@ -1,6 +1,6 @@
 use Rattle.kc_machine_steps.specs.declared.task.Task.TheVariants as task
 use Rattle.kc_table_tests.proofs.Trying.{commit_known, commit_made}
-use Rattle.kc_table_seats.proofs.Running.{ran_same}
+use Rattle.kc_table_laws.proofs.Running.{ran_same}
 use Rattle.kc_table_tests.proofs.tests.run.Goals as goal
 
 pub commit-requires-clause-made : goal.commit-requires-clause-made

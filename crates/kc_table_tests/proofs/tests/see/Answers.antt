@@ -1,5 +1,5 @@
 use Rattle.kc_machine_steps.specs.declared.task.Task.TheVariants as task
-use Rattle.kc_table_seats.proofs.Running.{ran_same}
+use Rattle.kc_table_laws.proofs.Running.{ran_same}
 use Rattle.kc_table_tests.proofs.tests.see.Goals as goal
 
 pub returns : goal.returns

@@ -1,5 +1,5 @@
 use Rattle.std.proofs.Common.{◌≡◌, All}
-use Rattle.kc_table_seats.specs.Tasks.{IsSameSeat, KnowsRead}
+use Rattle.kc_table_laws.specs.Tasks.{IsSameSeat, KnowsRead}
 use Rattle.kc_table_tests.proofs.tests.steps.Given as goal
 
 abbrev pub invariant-loop-made : goal.invariant-loop-made

@@ -1,5 +1,5 @@
 use Rattle.std.proofs.Common.{◌≡◌}
-use Rattle.kc_table_seats.specs.Tasks.{IsSameSeat}
+use Rattle.kc_table_laws.specs.Tasks.{IsSameSeat}
 use Rattle.kc_table_tests.proofs.tests.take.Given as goal
 
 abbrev pub invariant-loop : goal.invariant-loop

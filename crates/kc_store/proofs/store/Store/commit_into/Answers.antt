@@ -8,7 +8,7 @@ use Rattle.kc_store.specs.Knows.{IsTold, Remembers}
 use Rattle.kc_store.specs.Verdicts.{is_worn_pool, verdict_of}
 use Rattle.kc_store.specs.Views.{CallerView, StoreView, caller_view}
 use Rattle.kc_store.specs.declared.verdict.Answered.TheVariants as answered
-use Rattle.kc_hang.specs.kc_table_seats.Tasks.{Keeps}
+use Rattle.kc_hang.specs.kc_table_laws.Tasks.{Keeps}
 use Rattle.kc_store.proofs.store.Store.commit_into.Goals as goal
 
 pub commit_by-requires : goal.commit_by-requires

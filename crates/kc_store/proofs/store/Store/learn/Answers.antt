@@ -1,12 +1,12 @@
 use Rattle.std.proofs.Common.{◌≡◌, ◌∙◌, ap, subst, sym}
-use Rattle.kc_hang.specs.kc_machine_claims.Histories.{entries}
+use Rattle.kc_hang.specs.kc_machine_traces.Histories.{entries}
 use Rattle.kc_store.proofs.Remembering.{entries_within}
 use Rattle.kc_store.proofs.Resting.{learns_rest, of_table}
 use Rattle.kc_store.proofs.Waits.{rests_learn}
 use Rattle.kc_store.specs.Knows.{IsWithin, OnlyLearns}
 use Rattle.kc_store.specs.Views.{CallerView, NoteView, StoreView, caller_view}
 use Rattle.kc_hang.specs.kc_table_moves.Origins.{opening_of}
-use Rattle.kc_hang.proofs.kc_table_seats.Causing.{worn_load}
+use Rattle.kc_hang.proofs.kc_table_laws.Causing.{worn_load}
 use Rattle.kc_hang.specs.kc_table_moves.Views.{Joined, TableView}
 use Rattle.kc_hang.specs.kc_table_views.Known.{known}
 use Rattle.kc_store.proofs.store.Store.learn.Goals as goal

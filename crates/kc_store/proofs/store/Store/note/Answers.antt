@@ -1,5 +1,5 @@
 use Rattle.std.proofs.Common.{◌≡◌, ◌∙◌, ap, subst, sym}
-use Rattle.kc_hang.specs.kc_machine_claims.Histories.{entries}
+use Rattle.kc_hang.specs.kc_machine_traces.Histories.{entries}
 use Rattle.kc_store.proofs.Resting.{of_table}
 use Rattle.kc_store.specs.Rests.{KnowsItsWear, Rests}
 use Rattle.kc_store.specs.Views.{CallerView, caller_view, store_view}

@@ -1,7 +1,7 @@
 use Rattle.std.proofs.Common.{◌<◌, ◌-◌, subst, sym}
 use Rattle.std.specs.Prelude.{Err, Ok}
 use Rattle.kc_hang.specs.kc_table_moves.Views.{TableView}
-use Rattle.kc_hang.specs.kc_table_seats.Tasks.{Keeps}
+use Rattle.kc_hang.specs.kc_table_laws.Tasks.{Keeps}
 use Rattle.kc_store.proofs.OneRead.{left, read_busy, sees, stood}
 use Rattle.kc_store.proofs.Resting.{of_table}
 use Rattle.kc_store.proofs.Settling.{counted, from_start}

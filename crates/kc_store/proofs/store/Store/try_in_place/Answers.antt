@@ -8,7 +8,7 @@ use Rattle.kc_store.specs.Knows.{IsTold, Remembers}
 use Rattle.kc_store.specs.Tries.{Tries}
 use Rattle.kc_store.specs.Verdicts.{is_worn_by, is_worn_pool, stays_worn, verdict_as}
 use Rattle.kc_store.specs.Views.{CallerView, StoreView, caller_view}
-use Rattle.kc_hang.specs.kc_table_seats.Tasks.{Keeps}
+use Rattle.kc_hang.specs.kc_table_laws.Tasks.{Keeps}
 use Rattle.kc_xt.specs.Commit.{tried_of}
 use Rattle.kc_store.proofs.store.Store.try_in_place.Goals as goal
 

@@ -1,6 +1,6 @@
 use Rattle.std.proofs.Common.{◌+◌, ◌*◌, arith, refl, sym, ap, ◌∙◌}
 use borrow.Author.Tests.{eq-eqb, ne_eqb}
-use Rattle.kc_table_straight.proofs.kc_machine_seats.SeatedSteps.{seats_stay}
+use Rattle.kc_table_straight.proofs.kc_machine_invariants.SeatedSteps.{seats_stay}
 use Rattle.kc_table.proofs.Begins.{ready_caller, ready_heard, heard_loads, heard_view}
 use Rattle.kc_table_moves.proofs.Unmoved.{hears_signal}
 use Rattle.kc_table.proofs.table.KcTable.signalled.Goals as goal

@@ -1,3 +1,0 @@
-pub mod Follows
-pub mod ByHand
-pub mod ByPlace

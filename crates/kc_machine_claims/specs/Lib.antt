@@ -1,4 +1,0 @@
-pub mod Histories
-pub mod Traces
-pub mod Claims
-pub mod Worked

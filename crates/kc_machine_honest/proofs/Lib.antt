@@ -1,9 +1,0 @@
-pub mod Known
-pub mod Bounds
-pub mod Came
-pub mod Stood
-pub mod Legal
-pub mod Failing
-pub mod Missing
-pub mod Causes
-pub mod Put

@@ -1,4 +1,0 @@
-pub mod Lines
-pub mod Words
-pub mod Phases
-pub mod Passed

@@ -1,5 +1,0 @@
-use Rattle.kc_table_seats.proofs.TaskKinds.{kind_stays}
-use Rattle.kc_table_seats.proofs.laws.tasks_keep_their_kind.Goals as goal
-
-pub returns : goal.returns
-returns c = kind_stays

@@ -1,8 +1,0 @@
-pub mod Steps
-pub mod Alone
-pub mod Meeting
-pub mod Running
-pub mod Bounding
-pub mod Knowing
-pub mod Telling
-pub mod Ending
