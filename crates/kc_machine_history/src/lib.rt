@@ -5,7 +5,7 @@
 
 mod lists;
 mod traces;
-mod resolving;
+mod stands;
 mod honest;
 
 pub use lists::{
@@ -17,7 +17,7 @@ pub use traces::{
     histories_move_by_decisions, histories_rise_by_place, known_values_stood, passes_have_places,
     placed_passes_stay, places_differ, successes_have_their_entry,
 };
-pub use resolving::{
+pub use stands::{
     checked_lines_are_settled, decisions_make_their_puts, histories_are_legal_where_installed,
     histories_of_schedules_grow, known_reads_stood, lines_stand_or_are_past, nothing_later_touches,
     settled_places_stay, succeeded_puts_are_past, words_stand_for_the_history,

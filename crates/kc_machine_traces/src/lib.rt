@@ -6,12 +6,12 @@
 
 mod claims;
 pub mod worked;
-mod runs;
+mod schedules;
 mod passes;
 mod ranges;
 
 pub use claims::{legal_by_place, traces_follow_runs};
-pub use runs::{
+pub use schedules::{
     a_step_is_one_access, begun_is_a_moment, copies_are_true, entries_are_as_told,
     entries_are_of_callers, idle_seats_gain_no_entry, known_stays, no_answer_while_it_runs,
     others_leave_a_seat, schedules_join,
