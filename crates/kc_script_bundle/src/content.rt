@@ -8,10 +8,13 @@ ghost use Rattle.kc_xt.specs.Meaning.{values};
 ghost use Rattle.kc_stack.specs.Meaning.{cells_end as stack_cells_end};
 ghost use Rattle.kc_queue.specs.Meaning.{cells_end as queue_cells_end};
 ghost use Rattle.kc_cache.specs.Content.{shown as cache_shown};
+ghost use Rattle.kc_grow.specs.Content.{shown as grown_shown};
+ghost use Rattle.kc_hash.specs.Content.{shown as table_shown};
 ghost use Rattle.kc_script_bundle.specs.State.{place, stack_shown, queue_shown, number_text, pair_text, content_text};
 
 use kc_cache::Cache;
-use kc_hash::Pairs;
+use kc_grow::Grow;
+use kc_hash::{Hash, Pairs};
 use kc_model::{Loc, Pen, PlainStore, Sink};
 use kc_queue::Queue;
 use kc_stack::Stack;
@@ -71,8 +74,8 @@ pub(crate) fn put_queue<K: Sink>(pen: &mut Pen<K>, store: &PlainStore, queue: Qu
     }
 }
 
-/// The pairs of a table, in rising order of key.
-pub(crate) fn put_table<K: Sink>(pen: &mut Pen<K>, mut pairs: Pairs)
+// The pairs, in the order in which they come.
+fn put_pairs<K: Sink>(pen: &mut Pen<K>, mut pairs: Pairs)
     ensures { Puts K.written K.faults K.write_gives pen.old pen.new (flat_map pair_text pairs.entry) }
 {
     while let Some((key, value)) = pairs.next() {
@@ -80,7 +83,24 @@ pub(crate) fn put_table<K: Sink>(pen: &mut Pen<K>, mut pairs: Pairs)
     }
 }
 
-/// The pairs, from the most recently used one.
+/// The pairs of a table, in rising order of key. Kept apart from other objects, for which the room for pairs would be wiped too.
+#[inline(never)]
+pub(crate) fn put_hash<K: Sink>(pen: &mut Pen<K>, store: &PlainStore, hash: Hash)
+    ensures { Puts K.written K.faults K.write_gives pen.old pen.new (flat_map pair_text (table_shown hash (values (store_of store.now)))) }
+{
+    put_pairs(pen, hash.pairs(store));
+}
+
+/// The pairs of a table that grows, in rising order of key. Kept apart, as those of a table are.
+#[inline(never)]
+pub(crate) fn put_grow<K: Sink>(pen: &mut Pen<K>, store: &PlainStore, grow: Grow)
+    ensures { Puts K.written K.faults K.write_gives pen.old pen.new (flat_map pair_text (grown_shown grow (values (store_of store.now)))) }
+{
+    put_pairs(pen, grow.pairs(store));
+}
+
+/// The pairs, from the most recently used one. Kept apart, as those of a table are.
+#[inline(never)]
 pub(crate) fn put_cache<K: Sink>(pen: &mut Pen<K>, store: &PlainStore, cache: Cache)
     ensures { Puts K.written K.faults K.write_gives pen.old pen.new (flat_map pair_text (cache_shown cache (values (store_of store.now)))) }
 {

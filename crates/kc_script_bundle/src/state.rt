@@ -24,8 +24,8 @@ fn put_content<K: Sink>(pen: &mut Pen<K>, store: &PlainStore, object: Object)
         Object::Mvar(mvar) => content::put_place(pen, mvar.value(store)),
         Object::Promise(promise) => content::put_place(pen, promise.value(store)),
         Object::Acc(acc) => content::put_number(pen, acc.total(store)),
-        Object::Hash(hash) => content::put_table(pen, hash.pairs(store)),
-        Object::Grow(grow) => content::put_table(pen, grow.pairs(store)),
+        Object::Hash(hash) => content::put_hash(pen, store, hash),
+        Object::Grow(grow) => content::put_grow(pen, store, grow),
         Object::Cache(cache) => content::put_cache(pen, store, cache),
     }
 }

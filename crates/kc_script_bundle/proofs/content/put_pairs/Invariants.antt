@@ -2,7 +2,7 @@ use Rattle.std.proofs.Common.{◌≡◌, length}
 use Rattle.std.specs.List.{flat_map}
 use Rattle.kc_model.specs.Pen.{Owes, sheet}
 use Rattle.kc_script_bundle.specs.State.{pair_text}
-use Rattle.kc_script_bundle.proofs.content.put_table.Given as goal
+use Rattle.kc_script_bundle.proofs.content.put_pairs.Given as goal
 
 abbrev pub invariant-loop-key : goal.invariant-loop-key
 invariant-loop-key g l = record {

@@ -2,7 +2,7 @@ use Rattle.std.proofs.Common.{◌≡◌, ◌∙◌, ℕ, Some, None, refl, sym, 
 use Rattle.kc_model.proofs.Pens.{owes_all}
 use Rattle.kc_script_bundle.proofs.Listed.{pair_next, pairs_last, pair_falls}
 use Rattle.kc_script_bundle.specs.State.{pair_text}
-use Rattle.kc_script_bundle.proofs.content.put_table.Goals as goal
+use Rattle.kc_script_bundle.proofs.content.put_pairs.Goals as goal
 
 pub loop-key-init : goal.loop-key-init
 loop-key-init g c = record { same_sink = refl; owes = owes_all _ _ }
