@@ -161,11 +161,9 @@ puts_stand f cells made below finds p h =
     let found = finds r.0 r.1 in
     (omega (arith, below r.0 r.1, r.2), sym r.3 ∙ ap (λ (cell : Cell). cell.version) (sym found) ∙ ap (λ (l : ℕ). (store_of cells l).version) r.2)
 
--- a footprint none of whose reads is stale finds its reads, and its puts make the store after it
-pub applied : (f : Footprint) (cells : List Cell) → IsWellMade f → IsBelow (length cells) f → stale (store_of cells) f.reads.items ≡ None → Finds f (store_of cells) × (store_of (all_put cells f.puts.items) ≡ after f (store_of cells)) × (length (all_put cells f.puts.items) ≡ length cells)
-applied f cells made below e =
-    let finds : Finds f (store_of cells) = finds_all (store_of cells) f.reads.items e in
-    (finds, fun_ext (put_after f.puts.items cells made.puts_rise (puts_stand f cells made below finds)), length_put f.puts.items cells)
+-- the puts of a footprint whose reads stand make the store after it
+pub puts_made : (f : Footprint) (cells : List Cell) → IsWellMade f → IsBelow (length cells) f → Finds f (store_of cells) → (store_of (all_put cells f.puts.items) ≡ after f (store_of cells)) × (length (all_put cells f.puts.items) ≡ length cells)
+puts_made f cells made below finds = (fun_ext (put_after f.puts.items cells made.puts_rise (puts_stand f cells made below finds)), length_put f.puts.items cells)
 
 -- what is written back over all the cells
 pub put_back : (n : ℕ) (old new : List Cell) (puts : List Put) → length old ≡ n → new ≡ all_put old puts → take n (new ++ drop (length new) old) ≡ all_put old puts

@@ -101,8 +101,19 @@ impl PlainStore {
         if let Some(stale) = first_stale(&self.cells, footprint.reads.as_slice()) {
             return Err(stale);
         }
-        put_all(&mut self.cells, footprint.puts.as_slice());
+        self.make_puts(footprint);
         Ok(())
+    }
+
+    /// Makes the puts of a footprint each of whose reads is what stands. It compares none.
+    pub fn make_puts(&mut self, footprint: &Footprint)
+        requires made { IsWellMade footprint.now }
+        requires within { IsBelow (length self.old) footprint.now }
+        requires stands { Finds footprint.now (store_of self.old) }
+        ensures puts { store_of self.new ≡ after footprint.now (store_of self.old) }
+        ensures cells { length self.new ≡ length self.old }
+    {
+        put_all(&mut self.cells, footprint.puts.as_slice());
     }
 }
 

@@ -1,22 +1,21 @@
-use Rattle.std.proofs.Common.{sym, subst, arith, true≢false}
-use Rattle.std.specs.Prelude.{IsOk}
+use Rattle.std.proofs.Common.{arith}
 use Rattle.kc_xt.proofs.committing.commit_over.Goals as goal
 
-pub apply-requires-clause-within : goal.apply-requires-clause-within
-apply-requires-clause-within g c r h =
+pub make_puts-requires-clause-within : goal.make_puts-requires-clause-within
+make_puts-requires-clause-within g c r h =
     let a = c.attempt.ensures in
     let calm = c.plain_attempts.ensures.never_busy _ _ _ _ _ a.looked in
     let below = a.within calm r h in
     let end = c.requires.within in
     omega arith
 
-pub unreachable-requires : goal.unreachable-requires
-unreachable-requires g c =
-    let finds = c.plain_attempts.ensures.finds _ _ _ _ _ c.attempt.ensures.looked in
-    let ok = c.apply.ensures.stands (rw c.new.ensures at finds) in
-    true≢false (sym (subst (λ r. IsOk r) c.in-Err.is ok))
+pub make_puts-requires-clause-stands : goal.make_puts-requires-clause-stands
+make_puts-requires-clause-stands g c = rw c.new.ensures at (c.plain_attempts.ensures.finds _ _ _ _ _ c.attempt.ensures.looked)
 
 pub returns-clause-bound : goal.returns-clause-bound
 returns-clause-bound g c =
     let a = c.attempt.ensures in
     a.within (c.plain_attempts.ensures.never_busy _ _ _ _ _ a.looked)
+
+pub returns-clause-finds : goal.returns-clause-finds
+returns-clause-finds g c = rw c.new.ensures at (c.plain_attempts.ensures.finds _ _ _ _ _ c.attempt.ensures.looked)
