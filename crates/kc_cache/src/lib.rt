@@ -7,8 +7,6 @@ mod laws;
 mod layout;
 mod operation;
 mod pairs;
-#[cfg(test)]
-mod tests;
 
 pub use cache::Cache;
 pub use laws::{

@@ -9,8 +9,6 @@ mod mvar;
 mod one_place;
 mod operation;
 mod promise;
-#[cfg(test)]
-mod tests;
 
 pub use accumulator::{AccAct, AccOp, Accumulator, MOST_CELLS};
 pub use laws::{

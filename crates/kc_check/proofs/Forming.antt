@@ -18,8 +18,6 @@ use Rattle.kc_script_small.specs.Small.{Fits, ItemFits}
 use Rattle.kc_check.specs.Laid.{IsLine, Lacks}
 use Rattle.kc_check.specs.Parts.{joined}
 use Rattle.kc_check.specs.Reads.{FailsHowever, LacksReply}
-use Rattle.kc_check.specs.Walks.{now_of}
-use Rattle.std.specs.Borrow.{Bor}
 use Rattle.kc_check.specs.declared.error.CheckError.{CheckError}
 use Rattle.kc_check.specs.declared.error.CheckError.TheVariants as error
 use Rattle.kc_check.specs.declared.error.CheckWhy.TheVariants as why
@@ -145,10 +143,6 @@ lacking threads thread number n (error.Fault line why.Reply) ks more text rest l
 lacking threads thread number n (error.Fault line why.Order) ks more text rest ls m g h = absurd h
 lacking threads thread number n (error.Fault line why.State) ks more text rest ls m g h = absurd h
 lacking threads thread number n error.NoMemory ks more text rest ls m g h = absurd h
-
-pub now_more : (lines : List (Bor (List ℕ))) (line : Bor (List ℕ)) → now_of (lines ++ line ∷ []) ≡ now_of lines ++ line.now ∷ []
-now_more [] line = refl
-now_more (l ∷ lines) line = ap (λ (ls : List (List ℕ)). l.now ∷ ls) (now_more lines line)
 
 pub if_err : {A E : Type 0} (P : E → Type 0) (r : Result A E) (e : E) → IsErrAnd r (λ d. d ≡ e) → P e → IfErr r P
 if_err P (Ok x) e h p = tt

@@ -2,6 +2,7 @@ pub mod Spaced
 pub mod Answering
 pub mod Printed
 pub mod Spaces
+pub mod Starts
 pub mod Once
 pub mod Formed
 pub mod Exact

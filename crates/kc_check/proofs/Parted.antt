@@ -18,7 +18,7 @@ use Rattle.kc_check.specs.Laid.{AreFew, IsLine}
 use Rattle.kc_check.specs.Parts.{IsPlace, joined, place_text, places_in, places_text, replies_text}
 use Rattle.kc_check.specs.Reads.{FailsForm, FailsHowever, FailsSo, LacksHere, LacksReply}
 use Rattle.kc_check.specs.Replays.{commands_of}
-use Rattle.kc_check.specs.Walks.{lines_in, now_of}
+use Rattle.kc_check.specs.Walks.{lines_at, lines_in, now_of}
 use Rattle.kc_check.specs.declared.error.CheckError.{CheckError}
 use Rattle.kc_check.specs.declared.error.CheckError.TheVariants as error
 use Rattle.kc_check.specs.declared.error.CheckWhy.TheVariants as why
@@ -166,9 +166,9 @@ flat_more : (rs : List (List (List ℕ))) (ls : List (List ℕ)) → flat (rs ++
 flat_more [] ls = append-nil ls
 flat_more (r ∷ rs) ls = ap (λ (xs : List (List ℕ)). r ++ xs) (flat_more rs ls) ∙ sym (append_assoc r (flat rs) ls)
 
-lines_more : (rs : List (Vec (Bor (List ℕ)) Global)) (r : Vec (Bor (List ℕ)) Global) → lines_in (rs ++ r ∷ []) ≡ lines_in rs ++ now_of r.items ∷ []
-lines_more [] r = refl
-lines_more (x ∷ rs) r = ap (λ (xs : List (List (List ℕ))). now_of x.items ∷ xs) (lines_more rs r)
+lines_more : (whole : List ℕ) (rs : List (Vec ℕ Global)) (r : Vec ℕ Global) → lines_in whole (rs ++ r ∷ []) ≡ lines_in whole rs ++ lines_at whole r.items ∷ []
+lines_more whole [] r = refl
+lines_more whole (x ∷ rs) r = ap (λ (xs : List (List (List ℕ))). lines_at whole x.items ∷ xs) (lines_more whole rs r)
 
 -- what has the shapes of a thread's replies are they
 replies_of : (threads : List (List Command)) (thread number : ℕ) (cs : List Command) (n : ℕ) (ls : List (List ℕ)) → n ≡ length cs → AreShaped threads (thread_shapes thread number n) ls → AreReplies thread number cs ls
@@ -193,21 +193,21 @@ pub record ReadTo (vs : List (Vec Command Global)) (t : ℕ) (text : List ℕ) (
 pub read_none : (vs : List (Vec Command Global)) (text : List ℕ) (n : ℕ) → ReadTo vs 0 text n [] text n
 read_none vs text n = record { goes = goes_none (commands_of vs) text n; replies_are = tt }
 
-pub read_more : (vs : List (Vec Command Global)) (t k : ℕ) (v : Vec Command Global) (text : List ℕ) (n : ℕ) (rs others : List (Vec (Bor (List ℕ)) Global)) (lines : Vec (Bor (List ℕ)) Global) (rest : List ℕ) (m : ℕ) (next : List ℕ) (o : ℕ) → t < length vs → v ≡ get_or vs t v → k ≡ length v.items → ReadTo vs t text n (lines_in rs) rest m
-    → ((threads : List (List Command)) → Goes threads (thread_shapes (t + 1) 1 k) rest m (now_of lines.items) next o) → others ≡ rs ++ lines ∷ [] → ReadTo vs (t + 1) text n (lines_in others) next o
-read_more vs t k v text n rs others lines rest m next o lt at long read goes pushed =
+pub read_more : (whole : List ℕ) (vs : List (Vec Command Global)) (t k : ℕ) (v : Vec Command Global) (text : List ℕ) (n : ℕ) (rs others : List (Vec ℕ Global)) (lines : Vec ℕ Global) (rest : List ℕ) (m : ℕ) (next : List ℕ) (o : ℕ) → t < length vs → v ≡ get_or vs t v → k ≡ length v.items → ReadTo vs t text n (lines_in whole rs) rest m
+    → ((threads : List (List Command)) → Goes threads (thread_shapes (t + 1) 1 k) rest m (lines_at whole lines.items) next o) → others ≡ rs ++ lines ∷ [] → ReadTo vs (t + 1) text n (lines_in whole others) next o
+read_more whole vs t k v text n rs others lines rest m next o lt at long read goes pushed =
     let threads : List (List Command) = commands_of vs in
-    let on = goes_on threads (replies_shapes 1 (commands_of (take t vs))) (thread_shapes (t + 1) 1 k) text n (flat (lines_in rs)) (now_of lines.items) rest m next o read.goes (goes threads) in
-    let lines_are : lines_in others ≡ lines_in rs ++ now_of lines.items ∷ [] = ap lines_in pushed ∙ lines_more rs lines in
-    let flat_is : flat (lines_in rs) ++ now_of lines.items ≡ flat (lines_in others) = sym (ap flat lines_are ∙ flat_more (lines_in rs) (now_of lines.items)) in
+    let on = goes_on threads (replies_shapes 1 (commands_of (take t vs))) (thread_shapes (t + 1) 1 k) text n (flat (lines_in whole rs)) (lines_at whole lines.items) rest m next o read.goes (goes threads) in
+    let lines_are : lines_in whole others ≡ lines_in whole rs ++ lines_at whole lines.items ∷ [] = ap (lines_in whole) pushed ∙ lines_more whole rs lines in
+    let flat_is : flat (lines_in whole rs) ++ lines_at whole lines.items ≡ flat (lines_in whole others) = sym (ap flat lines_are ∙ flat_more (lines_in whole rs) (lines_at whole lines.items)) in
     let front : length (commands_of (take t vs)) ≡ t = length-map (take t vs) (λ (w : Vec Command Global). w.items) ∙ took vs t (omega arith) in
     let number : 1 + length (commands_of (take t vs)) ≡ t + 1 = omega (arith, front) in
     let long' : k ≡ length (get_or vs t v).items = long ∙ ap (λ (w : Vec Command Global). length w.items) at in
-    let all = all_more 1 (commands_of (take t vs)) (lines_in rs) (get_or vs t v).items (now_of lines.items) (t + 1) read.replies_are number (replies_of threads (t + 1) 1 (get_or vs t v).items k (now_of lines.items) long' (goes threads).shaped) in
+    let all = all_more 1 (commands_of (take t vs)) (lines_in whole rs) (get_or vs t v).items (lines_at whole lines.items) (t + 1) read.replies_are number (replies_of threads (t + 1) 1 (get_or vs t v).items k (lines_at whole lines.items) long' (goes threads).shaped) in
     let taken : commands_of (take t vs) ++ (get_or vs t v).items ∷ [] ≡ commands_of (take (t + 1) vs) = sym (ap commands_of (take_more vs t v lt) ∙ mapped (take t vs) (get_or vs t v)) in
     record {
-      goes = subst (λ (ls : List (List ℕ)). Goes threads (replies_shapes 1 (commands_of (take (t + 1) vs))) text n ls next o) flat_is (subst (λ (ks : List Shape). Goes threads ks text n (flat (lines_in rs) ++ now_of lines.items) next o) (sym (replies_next vs t k v lt at long)) on);
-      replies_are = subst (λ (xs : List (List (List ℕ))). AllReplies 1 (commands_of (take (t + 1) vs)) xs) (sym lines_are) (subst (λ (ts : List (List Command)). AllReplies 1 ts (lines_in rs ++ now_of lines.items ∷ [])) taken all);
+      goes = subst (λ (ls : List (List ℕ)). Goes threads (replies_shapes 1 (commands_of (take (t + 1) vs))) text n ls next o) flat_is (subst (λ (ks : List Shape). Goes threads ks text n (flat (lines_in whole rs) ++ lines_at whole lines.items) next o) (sym (replies_next vs t k v lt at long)) on);
+      replies_are = subst (λ (xs : List (List (List ℕ))). AllReplies 1 (commands_of (take (t + 1) vs)) xs) (sym lines_are) (subst (λ (ts : List (List Command)). AllReplies 1 ts (lines_in whole rs ++ lines_at whole lines.items ∷ [])) taken all);
     }
   where
     mapped : (xs : List (Vec Command Global)) (x : Vec Command Global) → commands_of (xs ++ x ∷ []) ≡ commands_of xs ++ x.items ∷ []

@@ -22,8 +22,9 @@ use Rattle.kc_check.specs.declared.error.CheckError.TheVariants as error
 use Rattle.kc_check.specs.declared.error.CheckWhy.{CheckWhy}
 use Rattle.kc_check.specs.declared.error.CheckWhy.TheVariants as why
 
-abbrev pub parts_of : List (Vec (Bor (List ℕ)) Global) → List Place → List (Bor (List ℕ)) → Parts
-parts_of replies places state = record { replies = lines_in replies; places = places; state = now_of state }
+-- what is said by a text whose replies begin at these places
+abbrev pub parts_of : List ℕ → List (Vec ℕ Global) → List Place → List (Bor (List ℕ)) → Parts
+parts_of text replies places state = record { replies = lines_in text replies; places = places; state = now_of state }
 
 -- the store has opened, and there is room for each record
 pub record IsSound (s : Script) (threads : List (Vec Command Global)) (cells : List Cell) (records : List RecordsValue) : Type 0 where

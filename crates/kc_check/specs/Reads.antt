@@ -1,6 +1,5 @@
 -- How reading a part of a text ends.
 use Rattle.std.specs.Prelude.{◌≡◌, ◌≢◌, ℕ, ◌+◌, ◌^◌, ◌<◌, ◌≤◌, List, [], ◌∷◌, ◌++◌, All, length, codes, decimal, Vec, vec_capacity}
-use Rattle.std.specs.Borrow.{Bor}
 use Rattle.std.specs.Global.{Global}
 use Rattle.std.specs.List.{flat_map}
 use Rattle.kc_script_bundle.specs.Script.{Names, Script}
@@ -85,8 +84,12 @@ FailsForm s text e = FailsSo s.threads (shapes s) text 1 e
 abbrev pub HaveNames : Names → Type 0
 HaveNames names = All (λ (entry : List ℕ × Object). Lacks 10 entry.0) names
 
+-- what is left lies at the end of the text
+abbrev pub IsEndOf : List ℕ → List ℕ → Type 0
+IsEndOf text rest = (front : List ℕ) × (text ≡ front ++ rest)
+
 -- the lists are empty, and each has room for the replies of its thread
-abbrev pub HaveSpace : List (List Command) → List (Vec (Bor (List ℕ)) Global) → Type 0
+abbrev pub HaveSpace : List (List Command) → List (Vec ℕ Global) → Type 0
 HaveSpace [] [] = Unit {0}
 HaveSpace (cs ∷ threads) (v ∷ vs) = (v.items ≡ []) × (length cs ≤ vec_capacity v) × HaveSpace threads vs
 HaveSpace [] (v ∷ vs) = ⊥

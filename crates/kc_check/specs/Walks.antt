@@ -1,7 +1,8 @@
 -- How a walk over the places ends.
-use Rattle.std.specs.Prelude.{◌≡◌, ℕ, List, map, length, Vec}
+use Rattle.std.specs.Prelude.{◌≡◌, ℕ, List, drop, map, length, Vec}
 use Rattle.std.specs.Borrow.{Bor}
 use Rattle.std.specs.Global.{Global}
+use Rattle.std.specs.Io.BufRead.{take_through}
 use Rattle.kc_history.specs.declared.record.Place.{Place}
 use Rattle.kc_model.specs.Store.{Store}
 use Rattle.kc_script_bundle.specs.declared.operation.Command.{Command}
@@ -13,9 +14,13 @@ use Rattle.kc_check.specs.declared.error.CheckWhy.TheVariants as why
 abbrev pub now_of : List (Bor (List ℕ)) → List (List ℕ)
 now_of lines = map (λ (line : Bor (List ℕ)). line.now) lines
 
--- the lines in vectors
-abbrev pub lines_in : List (Vec (Bor (List ℕ)) Global) → List (List (List ℕ))
-lines_in replies = map (λ (v : Vec (Bor (List ℕ)) Global). now_of v.items) replies
+-- the lines of a text that begin at these places
+abbrev pub lines_at : List ℕ → List ℕ → List (List ℕ)
+lines_at text starts = map (λ (start : ℕ). take_through 10 (drop start text)) starts
+
+-- the same, thread by thread
+abbrev pub lines_in : List ℕ → List (Vec ℕ Global) → List (List (List ℕ))
+lines_in text replies = map (λ (v : Vec ℕ Global). lines_at text v.items) replies
 
 -- the place at an index is the first that is wrong, for this reason
 abbrev pub StopsFor : ℕ → List (List Command) → List (List (List ℕ)) → Store → List Place → ℕ → CheckWhy → Type 0

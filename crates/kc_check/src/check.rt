@@ -31,10 +31,11 @@ use std::alloc::Global;
 /// How many bytes a text may have.
 pub const MOST_TEXT: usize = 16_777_216;
 
-/// What a text says: the lines of the replies, thread by thread, the places of the order, and the lines of the state.
+/// What a text says: where the lines of the replies begin in it, thread by thread, the places of the order, and the lines
+/// of the state.
 #[derive(Drop)]
 pub(crate) struct Said<'a> {
-    pub replies: Vec<Vec<&'a [u8]>>,
+    pub replies: Vec<Vec<u32>>,
     pub places: Vec<Place>,
     pub state: Vec<&'a [u8]>,
 }
@@ -73,28 +74,30 @@ fn make_tests(alloc: Global, bundle: &Bundle, text: &[u8]) -> Result<(), CheckEr
     let mut room = Room::open(alloc, bundle.threads.len() as u32, count)?;
     let mut said = space_for(alloc, bundle, count as usize)?;
     read_text(bundle, count as usize, text, &mut said)?;
-    judge(bundle, &said, &mut store, &mut records, &mut room)
+    judge(bundle, text, &said, &mut store, &mut records, &mut room)
 }
 
 // The tests behind that of the form, in room that was taken before.
 fn judge(
     bundle: &Bundle,
+    text: &[u8],
     said: &Said,
     store: &mut PlainStore,
     records: &mut [Records],
     room: &mut Room,
 ) -> Result<(), CheckError>
     requires sound { IsSound (script_of bundle.now) bundle.now.threads.items store.old records.old }
-    requires said { IsSaid (script_of bundle.now) (parts_of said.now.replies.items said.now.places.items said.now.state.items) }
+    requires said { IsSaid (script_of bundle.now) (parts_of text.now said.now.replies.items said.now.places.items said.now.state.items) }
     requires threads { length records.old ≤ room.old.threads }
     requires room { places_in (script_of bundle.now).threads ≤ room.old.records }
-    ensures legal { IfOk result (λ _. IsText (script_of bundle.now) (lists_of records.new) (parts_text (script_of bundle.now).threads (parts_of said.now.replies.items said.now.places.items said.now.state.items))) }
-    ensures fails { IfErr result (FailsWith (script_of bundle.now) (parts_of said.now.replies.items said.now.places.items said.now.state.items)) }
+    ensures legal { IfOk result (λ _. IsText (script_of bundle.now) (lists_of records.new) (parts_text (script_of bundle.now).threads (parts_of text.now said.now.replies.items said.now.places.items said.now.state.items))) }
+    ensures fails { IfErr result (FailsWith (script_of bundle.now) (parts_of text.now said.now.replies.items said.now.places.items said.now.state.items)) }
 {
     let commands = commands_in(&bundle.threads);
     if let Err(stopped) = walk(
         &bundle.threads,
         bundle.limit,
+        text,
         &said.replies,
         &said.places,
         store,

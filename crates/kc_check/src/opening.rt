@@ -47,14 +47,14 @@ pub(crate) fn rooms(
     Ok(all)
 }
 
-// Room for a line for each command.
-fn spaces<'a>(alloc: Global, threads: &[Vec<Command>]) -> Result<Vec<Vec<&'a [u8]>>, AllocError>
+// Room for a number for each command.
+fn spaces(alloc: Global, threads: &[Vec<Command>]) -> Result<Vec<Vec<u32>>, AllocError>
     ensures { IfOk result (λ v. HaveSpace (commands_of threads.now) v.items) }
 {
     let mut all = Vec::with_capacity(alloc, threads.len())?;
     for i in 0..threads.len() {
-        let lines = Vec::with_capacity(alloc, threads[i].len())?;
-        all.push(lines)?;
+        let starts = Vec::with_capacity(alloc, threads[i].len())?;
+        all.push(starts)?;
     }
     Ok(all)
 }

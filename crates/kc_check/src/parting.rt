@@ -8,9 +8,9 @@ ghost use Rattle.kc_check.specs.Forms.{AllReplies, Goes, IsFormed, IsHeld, IsRep
 ghost use Rattle.kc_check.specs.Judged.{parts_of};
 ghost use Rattle.kc_check.specs.Laid.{IsLine, Lacks};
 ghost use Rattle.kc_check.specs.Parts.{IsPlace, place_text, places_in};
-ghost use Rattle.kc_check.specs.Reads.{FailsForm, FailsHowever, HaveNames, HaveSpace, LacksHere, LacksReply};
+ghost use Rattle.kc_check.specs.Reads.{FailsForm, FailsHowever, HaveNames, HaveSpace, IsEndOf, LacksHere, LacksReply};
 ghost use Rattle.kc_check.specs.Replays.{commands_of};
-ghost use Rattle.kc_check.specs.Walks.{lines_in, now_of};
+ghost use Rattle.kc_check.specs.Walks.{lines_at, lines_in, now_of};
 ghost use Rattle.kc_check.specs.declared.error.CheckError.TheVariants.{Fault};
 ghost use Rattle.kc_check.specs.declared.error.CheckWhy.TheVariants.{Form};
 
@@ -112,47 +112,55 @@ fn read_just(rest: &mut Rest, wanted: &[u8]) -> Result<(), CheckError>
     }
 }
 
-// The reply lines of a thread that has so many commands, into room that is there.
-fn read_thread<'a>(
-    rest: &mut Rest<'a>,
+// The reply lines of a thread that has so many commands; where they begin in the text goes into room that is there.
+fn read_thread(
+    rest: &mut Rest,
+    text: &[u8],
     thread: u32,
     commands: usize,
-    lines: &mut Vec<&'a [u8]>,
+    starts: &mut Vec<u32>,
 ) -> Result<(), CheckError>
     requires few { commands ≤ MOST_COMMANDS }
-    requires empty { lines.old.items ≡ [] }
-    requires space { commands ≤ vec_capacity lines.old }
+    requires empty { starts.old.items ≡ [] }
+    requires space { commands ≤ vec_capacity starts.old }
+    requires end { IsEndOf text.now rest.old.bytes.now }
+    requires long { length text.now < 2 ^ 32 }
     requires room { rest.old.number + length rest.old.bytes.now < 2 ^ 32 }
-    ensures goes { IfOk result (λ _. (threads : List (List Asked)) → Goes threads (thread_shapes thread 1 commands) rest.old.bytes.now rest.old.number (now_of lines.new.items) rest.new.bytes.now rest.new.number) }
+    ensures goes { IfOk result (λ _. (threads : List (List Asked)) → Goes threads (thread_shapes thread 1 commands) rest.old.bytes.now rest.old.number (lines_at text.now starts.new.items) rest.new.bytes.now rest.new.number) }
+    ensures end { IfOk result (λ _. IsEndOf text.now rest.new.bytes.now) }
     ensures room { IfOk result (λ _. rest.new.number + length rest.new.bytes.now < 2 ^ 32) }
     ensures fails { IfErr result (λ e. (threads : List (List Asked)) → FailsHowever threads (thread_shapes thread 1 commands) rest.old.bytes.now rest.old.number e) }
 {
     for k in 0..commands {
-        let line = read_reply(rest, thread, k as u32 + 1)?;
-        lines.push_reserved(line);
+        let start = text.len() - rest.bytes.len();
+        read_reply(rest, thread, k as u32 + 1)?;
+        starts.push_reserved(start as u32);
     }
     Ok(())
 }
 
-// The reply lines of all threads, into room that is there.
-fn read_threads<'a>(
-    rest: &mut Rest<'a>,
+// The reply lines of all threads; where they begin in the text goes into room that is there.
+fn read_threads(
+    rest: &mut Rest,
+    text: &[u8],
     threads: &[Vec<Command>],
-    replies: &mut [Vec<&'a [u8]>],
+    replies: &mut [Vec<u32>],
 ) -> Result<(), CheckError>
+    requires end { IsEndOf text.now rest.old.bytes.now }
+    requires long { length text.now < 2 ^ 32 }
     requires few { length threads.now ≤ MOST_THREADS }
     requires short { All (λ v. length v.items ≤ MOST_COMMANDS) threads.now }
     requires space { HaveSpace (commands_of threads.now) replies.old }
     requires room { rest.old.number + length rest.old.bytes.now < 2 ^ 32 }
-    ensures goes { IfOk result (λ _. Goes (commands_of threads.now) (replies_shapes 1 (commands_of threads.now)) rest.old.bytes.now rest.old.number (flat (lines_in replies.new)) rest.new.bytes.now rest.new.number) }
-    ensures replies { IfOk result (λ _. AllReplies 1 (commands_of threads.now) (lines_in replies.new)) }
+    ensures goes { IfOk result (λ _. Goes (commands_of threads.now) (replies_shapes 1 (commands_of threads.now)) rest.old.bytes.now rest.old.number (flat (lines_in text.now replies.new)) rest.new.bytes.now rest.new.number) }
+    ensures replies { IfOk result (λ _. AllReplies 1 (commands_of threads.now) (lines_in text.now replies.new)) }
     ensures size { length replies.new ≡ length replies.old }
     ensures room { IfOk result (λ _. rest.new.number + length rest.new.bytes.now < 2 ^ 32) }
     ensures fails { IfErr result (FailsHowever (commands_of threads.now) (replies_shapes 1 (commands_of threads.now)) rest.old.bytes.now rest.old.number) }
 {
     for t in 0..threads.len() {
-        let lines = &mut replies[t];
-        read_thread(rest, t as u32 + 1, threads[t].len(), lines)?;
+        let starts = &mut replies[t];
+        read_thread(rest, text, t as u32 + 1, threads[t].len(), starts)?;
     }
     Ok(())
 }
@@ -220,14 +228,14 @@ pub(crate) fn read_text<'a>(
     requires places { (said.old.places.items ≡ []) × (count ≤ vec_capacity said.old.places) }
     requires state { (said.old.state.items ≡ []) × (length (names_of bundle.now.objects) ≤ vec_capacity said.old.state) }
     requires long { length text.now + 1 < 2 ^ 32 }
-    ensures formed { IfOk result (λ _. IsFormed (script_of bundle.now) text.now (parts_of said.new.replies.items said.new.places.items said.new.state.items)) }
+    ensures formed { IfOk result (λ _. IsFormed (script_of bundle.now) text.now (parts_of text.now said.new.replies.items said.new.places.items said.new.state.items)) }
     ensures misformed { IfErr result (FailsForm (script_of bundle.now) text.now) }
 {
     let mut rest = Rest {
         bytes: text,
         number: 1,
     };
-    read_threads(&mut rest, &bundle.threads, &mut said.replies)?;
+    read_threads(&mut rest, text, &bundle.threads, &mut said.replies)?;
     read_just(&mut rest, b"order\n".as_slice())?;
     read_places(&mut rest, &bundle.threads, count, &mut said.places)?;
     read_just(&mut rest, b"state\n".as_slice())?;

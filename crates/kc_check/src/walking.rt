@@ -1,6 +1,7 @@
 //! The places of a text in their order.
 
-ghost use Rattle.std.specs.Prelude.{◌≡◌, ◌<◌, ◌≤◌, ◌↔◌, [], All, IfErr, IfOk, IsSome, IsTrue, Some, length};
+ghost use Rattle.std.specs.Prelude.{◌≡◌, ◌<◌, ◌≤◌, ◌↔◌, [], All, IfErr, IfOk, IsSome, IsTrue, Some, drop, length};
+ghost use Rattle.std.specs.Io.BufRead.{take_through};
 ghost use Rattle.kc_history.specs.Ends.{AreWellMade};
 ghost use Rattle.kc_history.specs.Records.{footprint_at, lists_of, record_at};
 ghost use Rattle.kc_history.specs.Text.{reply_line};
@@ -15,6 +16,7 @@ ghost use Rattle.kc_check.specs.Replays.{AllCanAsk, HaveRoom, all_padded, comman
 ghost use Rattle.kc_check.specs.Walks.{StopsFor, lines_in};
 
 use crate::error::CheckWhy;
+use crate::lines::first_of;
 use crate::matching::is_reply;
 use crate::replaying::{Desk, replay_at};
 use kc_history::{Place, Records};
@@ -28,25 +30,39 @@ pub(crate) struct Stopped {
     pub why: CheckWhy,
 }
 
-// What a text says of the record at a place: of an end nothing.
-fn line_at<'a>(replies: &[Vec<&'a [u8]>], place: Place) -> &'a [u8]
-    requires { place.thread < length replies.now }
-    ensures { result.now ≡ said_at (lines_in replies.now) place }
+// The line of a text that begins at a place; nothing past its end.
+fn line_from(text: &[u8], start: usize) -> &[u8]
+    ensures { result.now ≡ take_through 10 (drop start text.now) }
 {
-    let lines = &replies[place.thread as usize];
-    match lines.get(place.index as usize).copied() {
-        Some(line) => line,
+    if text.len() < start {
+        return b"".as_slice();
+    }
+    let rest = &text[start..];
+    match first_of(rest, b'\n') {
+        Some(end) => &rest[..end + 1],
+        None => rest,
+    }
+}
+
+// What a text says of the record at a place: of an end nothing.
+fn line_at<'a>(text: &'a [u8], replies: &[Vec<u32>], place: Place) -> &'a [u8]
+    requires { place.thread < length replies.now }
+    ensures { result.now ≡ said_at (lines_in text.now replies.now) place }
+{
+    let starts = &replies[place.thread as usize];
+    match starts.get(place.index as usize).copied() {
+        Some(start) => line_from(text, start as usize),
         None => b"",
     }
 }
 
 // Whether the text says what the record at a place replies.
-fn says(replies: &[Vec<&[u8]>], place: Place, records: &[Records]) -> bool
+fn says(text: &[u8], replies: &[Vec<u32>], place: Place, records: &[Records]) -> bool
     requires lines { place.thread < length replies.now }
     requires stands { IsSome (record_at (lists_of records.now) place.thread place.index) }
-    ensures { (commit : Commit) → record_at (lists_of records.now) place.thread place.index ≡ Some commit → (IsTrue result ↔ (said_at (lines_in replies.now) place ≡ reply_line commit)) }
+    ensures { (commit : Commit) → record_at (lists_of records.now) place.thread place.index ≡ Some commit → (IsTrue result ↔ (said_at (lines_in text.now replies.now) place ≡ reply_line commit)) }
 {
-    let line = line_at(replies, place);
+    let line = line_at(text, replies, place);
     let list = &records[place.thread as usize];
     is_reply(line, list.head(place.index as usize))
 }
@@ -56,7 +72,8 @@ fn says(replies: &[Vec<&[u8]>], place: Place, records: &[Records]) -> bool
 pub(crate) fn walk(
     threads: &[Vec<Command>],
     limit: u32,
-    replies: &[Vec<&[u8]>],
+    text: &[u8],
+    replies: &[Vec<u32>],
     places: &[Place],
     store: &mut PlainStore,
     records: &mut [Records],
@@ -72,10 +89,10 @@ pub(crate) fn walk(
     requires room { HaveRoom limit 1 (commands_of threads.now) records.old }
     requires empty { All (λ v. v.items ≡ []) records.old }
     requires young { IsYoung 0 (store_of store.old) }
-    ensures comes { IfOk result (λ _. Comes limit (commands_of threads.now) (lines_in replies.now) (store_of store.old) places.now (counts (lists_of records.new)) (store_of store.new) (all_padded 1 (commands_of threads.now) (lists_of records.new))) }
+    ensures comes { IfOk result (λ _. Comes limit (commands_of threads.now) (lines_in text.now replies.now) (store_of store.old) places.now (counts (lists_of records.new)) (store_of store.new) (all_padded 1 (commands_of threads.now) (lists_of records.new))) }
     ensures room { IfOk result (λ _. HaveRoom limit 1 (commands_of threads.now) records.new) }
     ensures made { IfOk result (λ _. AreWellMade (footprint_at (all_padded 1 (commands_of threads.now) (lists_of records.new)))) }
-    ensures stops { IfErr result (λ stop. StopsFor limit (commands_of threads.now) (lines_in replies.now) (store_of store.old) places.now stop.index stop.why) }
+    ensures stops { IfErr result (λ stop. StopsFor limit (commands_of threads.now) (lines_in text.now replies.now) (store_of store.old) places.now stop.index stop.why) }
     ensures size { length store.new ≡ length store.old }
 {
     let mut desk = Desk::new();
@@ -93,7 +110,7 @@ pub(crate) fn walk(
                 why: CheckWhy::Waits,
             });
         }
-        if !says(replies, place, records) {
+        if !says(text, replies, place, records) {
             return Err(Stopped {
                 index: i,
                 why: CheckWhy::Reply,

@@ -7,8 +7,6 @@ mod laws;
 mod layout;
 mod nodes;
 mod operation;
-#[cfg(test)]
-mod tests;
 
 pub use dllist::Dllist;
 pub use laws::{

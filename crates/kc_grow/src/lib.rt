@@ -8,8 +8,6 @@ mod layout;
 mod operation;
 mod shown;
 mod split;
-#[cfg(test)]
-mod tests;
 
 pub use grow::Grow;
 pub use kc_chain::Pairs;

@@ -7,8 +7,6 @@ mod laws;
 mod layout;
 mod operation;
 mod shown;
-#[cfg(test)]
-mod tests;
 
 pub use hash::Hash;
 pub use kc_chain::Pairs;

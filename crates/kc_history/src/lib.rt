@@ -9,8 +9,6 @@ mod prints;
 mod record;
 mod records;
 mod replaying;
-#[cfg(test)]
-mod tests;
 mod text;
 
 pub use arranging::{Cycle, Room, are_well_made, arrange};

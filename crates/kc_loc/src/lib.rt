@@ -5,8 +5,6 @@ mod acts;
 mod kinds;
 mod laws;
 mod operation;
-#[cfg(test)]
-mod tests;
 
 pub use kinds::{Fun, Rel};
 pub use laws::{means_its_value, runs_inside_others, touches_its_own_cells};

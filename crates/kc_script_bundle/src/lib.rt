@@ -11,8 +11,6 @@ mod operation;
 mod place;
 mod start;
 mod state;
-#[cfg(test)]
-mod tests;
 
 pub use bundle::{Bundle, MOST_COMMANDS, MOST_THREADS};
 pub use cancel::Cancel;

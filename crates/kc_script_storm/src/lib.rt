@@ -4,8 +4,6 @@
 mod laws;
 mod script;
 mod summary;
-#[cfg(test)]
-mod tests;
 pub mod worked;
 
 pub use laws::{

@@ -1,4 +1,4 @@
-//! Tests of reading and printing scripts.
+//! Tests of scripts: of reading and printing them, of what their objects show, and of storms.
 #![tactic(auto)]
 
 #[cfg(test)]
@@ -7,3 +7,7 @@ mod parts;
 mod printing;
 #[cfg(test)]
 mod reading;
+#[cfg(test)]
+mod states;
+#[cfg(test)]
+mod storm;

@@ -6,8 +6,6 @@ mod laws;
 mod layout;
 mod operation;
 mod stack;
-#[cfg(test)]
-mod tests;
 
 pub use laws::{
     content_is_one, keeps_well_formed, means_its_value, opens_empty, runs_inside_others,

@@ -3,3 +3,4 @@ pub mod Room
 pub mod Forming
 pub mod Replies
 pub mod Committed
+pub use Rattle.kc_store.proofs as kc_store

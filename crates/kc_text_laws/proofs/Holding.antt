@@ -17,7 +17,7 @@ use Rattle.kc_model.specs.declared.plain_store.Cell.{Cell}
 use Rattle.kc_text.proofs.Forming.{act_keeps, formed_same, opens_formed, plain_if}
 use Rattle.kc_model.specs.declared.reply.Answer.TheVariants as answer
 use Rattle.kc_model.specs.declared.reply.Reply.TheVariants as reply
-use Rattle.kc_store.proofs.Placing.{finds_behind}
+use Rattle.kc_text.proofs.kc_store.Placing.{finds_behind}
 use Rattle.kc_text.proofs.Replies.{says_there}
 use Rattle.kc_text.proofs.Room.{text_small}
 use Rattle.kc_text.specs.Forming.{AreZero, IsCell, IsWellFormed}

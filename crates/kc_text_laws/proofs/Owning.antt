@@ -12,7 +12,7 @@ use Rattle.kc_model.specs.declared.footprint.Put.{Put}
 use Rattle.kc_model.specs.declared.reply.Answer.{Answer}
 use Rattle.kc_model.specs.declared.reply.Answer.TheVariants as answer
 use Rattle.kc_model.specs.declared.reply.Reply.{Reply}
-use Rattle.kc_store.specs.Knows.{entries_of}
+use Rattle.kc_text.specs.kc_store.Knows.{entries_of}
 use Rattle.kc_text.proofs.Replies.{says_somewhere}
 use Rattle.kc_text_laws.specs.Holding.{ActsOn, EndsItsOwn, KeepTexts, Leaves, ends_lease, holders_after, opens_lease, without, written}
 use Rattle.kc_text.specs.Meaning.{op, text_meaning}

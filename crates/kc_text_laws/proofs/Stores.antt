@@ -6,10 +6,10 @@ use Rattle.std.proofs.lemmas.List.Elements.{All-head, All-tail}
 use Rattle.std.proofs.lemmas.List.Sorted.{Contains-permutation}
 use borrow.Author.Tests.{eqb-false}
 use Rattle.kc_model.specs.declared.footprint.Entry.{Entry}
-use Rattle.kc_store.specs.Backs.{AreAllCallers}
-use Rattle.kc_store.specs.Knows.{IsHistory, entries_of}
-use Rattle.kc_store.specs.Views.{CallerView, PastView, StoreView, last, opening}
-use Rattle.kc_store.specs.kc_table_moves.Views.{count_from}
+use Rattle.kc_text.specs.kc_store.Backs.{AreAllCallers}
+use Rattle.kc_text.specs.kc_store.Knows.{IsHistory, entries_of}
+use Rattle.kc_text.specs.kc_store.Views.{CallerView, PastView, StoreView, last, opening}
+use Rattle.kc_text.specs.kc_store.kc_table_moves.Views.{count_from}
 use Rattle.kc_text.specs.declared.texts.Texts.{Texts}
 use Rattle.kc_text_laws.proofs.Owning.{together}
 use Rattle.kc_text_laws.specs.Holding.{KeepTexts, nobody}

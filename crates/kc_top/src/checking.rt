@@ -38,13 +38,16 @@ fn accept<F: Shelf>(alloc: Global, bundle: &str, text: &str, shelf: &mut F) -> R
     ensures refuses { IfErr result (CheckRefuses F.files F.faults F.sure F.fetch_gives bundle.now text.now shelf.old shelf.new) }
 {
     let (script, printed) = fetch_both(alloc, bundle, text, MOST_TEXT, shelf)?;
-    match parse(alloc, &script) {
-        Ok(parsed) => match check_text(alloc, &parsed, &printed) {
-            Ok(()) => Ok(()),
-            Err(CheckError::Fault { line, why }) => Err(Status::Illegal { line, why }),
-            Err(CheckError::NoMemory) => Err(Status::NoMemory),
-        },
-        Err(ScriptError::Fault { line, why }) => Err(Status::Script { part: 0, line, why }),
-        Err(ScriptError::NoMemory) => Err(Status::NoMemory),
+    let parsed = match parse(alloc, &script) {
+        Ok(parsed) => parsed,
+        Err(ScriptError::Fault { line, why }) => return Err(Status::Script { part: 0, line, why }),
+        Err(ScriptError::NoMemory) => return Err(Status::NoMemory),
+    };
+    // A bundle has all of its script, whose bytes would take as much memory as the text.
+    drop(script);
+    match check_text(alloc, &parsed, &printed) {
+        Ok(()) => Ok(()),
+        Err(CheckError::Fault { line, why }) => Err(Status::Illegal { line, why }),
+        Err(CheckError::NoMemory) => Err(Status::NoMemory),
     }
 }

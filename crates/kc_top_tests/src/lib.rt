@@ -1,18 +1,12 @@
-//! Tests of the top call.
+//! Tests of the top call over a source.
 #![tactic(auto)]
 
 #[cfg(test)]
 mod cancels;
 #[cfg(test)]
-mod checks;
-#[cfg(test)]
-mod files;
-#[cfg(test)]
 mod grown;
 #[cfg(test)]
 mod limits;
-#[cfg(test)]
-mod picks;
 #[cfg(test)]
 mod runs;
 #[cfg(test)]

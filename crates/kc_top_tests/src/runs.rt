@@ -12,15 +12,14 @@ use std::test::Fail;
 use std::thread::Threads;
 
 // More bytes than any text of these scripts has.
-pub(crate) const ROOM: usize = 4096;
+const ROOM: usize = 4096;
 
 // The store options, in one word.
 pub(crate) const STORES: [&str; 2] = ["--store=lock", "--store=kcas"];
 
-pub(crate) const FIRST: &str = "kcas 1\nloc x 5\nthread\nget x\nset x 7\nadd x 1\n";
+const FIRST: &str = "kcas 1\nloc x 5\nthread\nget x\nset x 7\nadd x 1\n";
 
-pub(crate) const FIRST_TEXT: &str =
-    "1.1 5\n1.2 ok\n1.3 7\norder\n1.1\n1.2\n1.3\n1.end\nstate\nx 8\n";
+const FIRST_TEXT: &str = "1.1 5\n1.2 ok\n1.3 7\norder\n1.1\n1.2\n1.3\n1.end\nstate\nx 8\n";
 
 // A shelf without files.
 pub(crate) fn no_files(alloc: Global) -> MemShelf {

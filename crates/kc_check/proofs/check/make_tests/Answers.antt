@@ -66,7 +66,7 @@ judge-requires-clause-sound c =
 pub judge-requires-clause-said : goal.judge-requires-clause-said
 judge-requires-clause-said c =
     let (bytes, spells) = c.requires.spelled in
-    said_of (script_of c.args.bundle.now) c.args.text.now (parts_of c.read_text.new.said.replies.items c.read_text.new.said.places.items c.read_text.new.said.state.items) (objects_few spells) c.in_ok-read_text.ensures.formed
+    said_of (script_of c.args.bundle.now) c.args.text.now (parts_of c.args.text.now c.read_text.new.said.replies.items c.read_text.new.said.places.items c.read_text.new.said.state.items) (objects_few spells) c.in_ok-read_text.ensures.formed
 
 pub judge-requires-clause-threads : goal.judge-requires-clause-threads
 judge-requires-clause-threads c =
@@ -89,11 +89,11 @@ returns-in_err-read_text-clause-fault c =
 pub returns-clause-legal : goal.returns-clause-legal
 returns-clause-legal c =
     let s : Script = script_of c.args.bundle.now in
-    let parts : Parts = parts_of c.read_text.new.said.replies.items c.read_text.new.said.places.items c.read_text.new.said.state.items in
+    let parts : Parts = parts_of c.args.text.now c.read_text.new.said.replies.items c.read_text.new.said.places.items c.read_text.new.said.state.items in
     judged_legal s c.args.text.now parts (lists_of c.judge.new.records) c.judge.result c.in_ok-read_text.ensures.formed c.judge.ensures.legal
 
 pub returns-clause-fault : goal.returns-clause-fault
 returns-clause-fault c =
     let s : Script = script_of c.args.bundle.now in
-    let parts : Parts = parts_of c.read_text.new.said.replies.items c.read_text.new.said.places.items c.read_text.new.said.state.items in
+    let parts : Parts = parts_of c.args.text.now c.read_text.new.said.replies.items c.read_text.new.said.places.items c.read_text.new.said.state.items in
     judged_fails s c.args.text.now parts c.judge.result c.in_ok-read_text.ensures.formed c.judge.ensures.fails

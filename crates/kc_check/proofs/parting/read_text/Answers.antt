@@ -1,5 +1,4 @@
-use Rattle.std.proofs.Common.{◌≡◌, ◌++◌, ℕ, List, [], map, take, drop, All, length, sym, subst, ap, ◌∙◌, arith, Vec}
-use Rattle.std.specs.Borrow.{Bor}
+use Rattle.std.proofs.Common.{◌≡◌, ◌++◌, refl, ℕ, List, [], map, take, drop, All, length, sym, subst, ap, ◌∙◌, arith, Vec}
 use Rattle.std.specs.Global.{Global}
 use Rattle.kc_history.proofs.Opening.{put_back}
 use Rattle.std.specs.Prelude.{replicate}
@@ -14,6 +13,9 @@ use Rattle.kc_check.specs.Reads.{FailsForm, FailsHowever, LacksHere}
 use Rattle.kc_check.specs.Replays.{commands_of}
 use Rattle.kc_check.specs.Walks.{lines_in, now_of}
 use Rattle.kc_check.proofs.parting.read_text.Goals as goal
+
+pub read_threads-requires-clause-end : goal.read_threads-requires-clause-end
+read_threads-requires-clause-end c = ([], refl)
 
 pub returns-in_err-read_threads-clause-misformed : goal.returns-in_err-read_threads-clause-misformed
 returns-in_err-read_threads-clause-misformed c =
@@ -31,7 +33,7 @@ returns-in_err-read_just-clause-misformed c =
     let text : List ℕ = c.args.text.now in
     let rest1 : List ℕ = c.read_threads.new.rest.bytes.now in
     let n1 : ℕ = c.read_threads.new.rest.number in
-    let replies : List (List (List ℕ)) = lines_in c.read_threads.new.replies in
+    let replies : List (List (List ℕ)) = lines_in c.args.text.now c.read_threads.new.replies in
     let one = subst (λ vs. Goes (commands_of vs) (replies_shapes 1 (commands_of vs)) text 1 (flat replies) rest1 n1) c.deref.ensures.value c.in_ok-read_threads.ensures.goes in
     let e = c.in_err-read_just.field-0.0 in
     if_err (FailsForm s text) c.from_residual-in_err-read_just.result e c.from_residual-in_err-read_just.ensures.1 (fails_order s text replies rest1 n1 one e (subst (λ (z : List ℕ). LacksHere [] (just z) rest1 n1 e) c.as_slice.ensures c.in_err-read_just.ensures.lacks))
@@ -42,7 +44,7 @@ returns-in_err-read_places-clause-misformed c =
     let text : List ℕ = c.args.text.now in
     let rest1 : List ℕ = c.read_threads.new.rest.bytes.now in
     let n1 : ℕ = c.read_threads.new.rest.number in
-    let replies : List (List (List ℕ)) = lines_in c.read_threads.new.replies in
+    let replies : List (List (List ℕ)) = lines_in c.args.text.now c.read_threads.new.replies in
     let one = subst (λ vs. Goes (commands_of vs) (replies_shapes 1 (commands_of vs)) text 1 (flat replies) rest1 n1) c.deref.ensures.value c.in_ok-read_threads.ensures.goes in
     let rest2 : List ℕ = c.read_just.new.rest.bytes.now in
     let n2 : ℕ = c.read_just.new.rest.number in
@@ -60,7 +62,7 @@ returns-in_err-read_just-2-clause-misformed c =
     let text : List ℕ = c.args.text.now in
     let rest1 : List ℕ = c.read_threads.new.rest.bytes.now in
     let n1 : ℕ = c.read_threads.new.rest.number in
-    let replies : List (List (List ℕ)) = lines_in c.read_threads.new.replies in
+    let replies : List (List (List ℕ)) = lines_in c.args.text.now c.read_threads.new.replies in
     let one = subst (λ vs. Goes (commands_of vs) (replies_shapes 1 (commands_of vs)) text 1 (flat replies) rest1 n1) c.deref.ensures.value c.in_ok-read_threads.ensures.goes in
     let rest2 : List ℕ = c.read_just.new.rest.bytes.now in
     let n2 : ℕ = c.read_just.new.rest.number in
@@ -78,7 +80,7 @@ returns-in_err-read_state-clause-misformed c =
     let text : List ℕ = c.args.text.now in
     let rest1 : List ℕ = c.read_threads.new.rest.bytes.now in
     let n1 : ℕ = c.read_threads.new.rest.number in
-    let replies : List (List (List ℕ)) = lines_in c.read_threads.new.replies in
+    let replies : List (List (List ℕ)) = lines_in c.args.text.now c.read_threads.new.replies in
     let one = subst (λ vs. Goes (commands_of vs) (replies_shapes 1 (commands_of vs)) text 1 (flat replies) rest1 n1) c.deref.ensures.value c.in_ok-read_threads.ensures.goes in
     let rest2 : List ℕ = c.read_just.new.rest.bytes.now in
     let n2 : ℕ = c.read_just.new.rest.number in
@@ -99,7 +101,7 @@ returns-then-rest-ne0-clause-misformed c =
     let text : List ℕ = c.args.text.now in
     let rest1 : List ℕ = c.read_threads.new.rest.bytes.now in
     let n1 : ℕ = c.read_threads.new.rest.number in
-    let replies : List (List (List ℕ)) = lines_in c.read_threads.new.replies in
+    let replies : List (List (List ℕ)) = lines_in c.args.text.now c.read_threads.new.replies in
     let one = subst (λ vs. Goes (commands_of vs) (replies_shapes 1 (commands_of vs)) text 1 (flat replies) rest1 n1) c.deref.ensures.value c.in_ok-read_threads.ensures.goes in
     let rest2 : List ℕ = c.read_just.new.rest.bytes.now in
     let n2 : ℕ = c.read_just.new.rest.number in
@@ -123,7 +125,7 @@ returns-clause-formed c =
     let text : List ℕ = c.args.text.now in
     let rest1 : List ℕ = c.read_threads.new.rest.bytes.now in
     let n1 : ℕ = c.read_threads.new.rest.number in
-    let replies : List (List (List ℕ)) = lines_in c.read_threads.new.replies in
+    let replies : List (List (List ℕ)) = lines_in c.args.text.now c.read_threads.new.replies in
     let one = subst (λ vs. Goes (commands_of vs) (replies_shapes 1 (commands_of vs)) text 1 (flat replies) rest1 n1) c.deref.ensures.value c.in_ok-read_threads.ensures.goes in
     let rest2 : List ℕ = c.read_just.new.rest.bytes.now in
     let n2 : ℕ = c.read_just.new.rest.number in
@@ -139,12 +141,12 @@ returns-clause-formed c =
     let n5 : ℕ = c.read_state.new.rest.number in
     let lines : List (List ℕ) = now_of c.read_state.new.lines.items in
     let three = c.in_ok-read_state.ensures.goes s.threads in
-    let all : List (Vec (Bor (List ℕ)) Global) = c.read_threads.new.replies in
+    let all : List (Vec ℕ Global) = c.read_threads.new.replies in
     let old = c.args.said.now.replies in
     let size = c.in_ok-read_threads.ensures.size in
     let value = ap length c.deref_mut.ensures.value in
     let ok = old.ok.0 in
     let same : take old.len (all ++ drop (length all) old.items) ≡ all = put_back all old.items old.len (omega (arith, size, value, ok)) (omega (arith, ok)) in
-    subst (λ vs. IsFormed s text (record { replies = lines_in vs; places = places; state = lines })) (sym same)
+    subst (λ vs. IsFormed s text (record { replies = lines_in text vs; places = places; state = lines })) (sym same)
     (text_formed s text replies rest1 n1 one rest2 n2 order c.in_ok-read_just.ensures.number places rest3 n3 two rest4 n4 state c.in_ok-read_just-2.ensures.number lines rest5 n5 three (none_long rest5 c.if-rest-ne0.false)
     (subst (λ vs. AllReplies 1 (commands_of vs) replies) c.deref.ensures.value c.in_ok-read_threads.ensures.replies) (subst (λ vs. All (IsPlace (commands_of vs)) places) c.deref-2.ensures.value c.in_ok-read_places.ensures.places) (c.in_ok-read_places.ensures.count ∙ c.requires.count))

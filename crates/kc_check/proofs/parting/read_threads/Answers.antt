@@ -16,6 +16,7 @@ loop-t-init c = record {
   room = c.requires.room;
   size = refl;
   space = c.requires.space;
+  end = c.requires.end;
 }
 
 pub bounds-replies-t : goal.bounds-replies-t
@@ -52,12 +53,16 @@ loop-t-preserved c =
     let lt = c.loop-t-test.true in
     let within : c.loop-t.t < length c.loop-t.replies = omega (arith, all, count, size, lt) in
     record {
-      read = filled_more c.args.threads.now c.loop-t.t c.len.result v c.args.rest.now.bytes.now c.args.rest.now.number c.loop-t.replies c.read_thread.new.lines c.loop-t.rest.bytes.now c.loop-t.rest.number c.read_thread.new.rest.bytes.now c.read_thread.new.rest.number
+      read = filled_more c.args.text.now c.args.threads.now c.loop-t.t c.len.result v c.args.rest.now.bytes.now c.args.rest.now.number c.loop-t.replies c.read_thread.new.starts c.loop-t.rest.bytes.now c.loop-t.rest.number c.read_thread.new.rest.bytes.now c.read_thread.new.rest.number
           c.loop-t-test.true within c.index-threads-t.is many c.loop-t.invariant.read c.in_ok-read_thread.ensures.goes;
       room = c.in_ok-read_thread.ensures.room;
-      size = length-set c.loop-t.replies c.loop-t.t c.read_thread.new.lines ∙ size;
-      space = space_behind c.loop-t.t c.args.threads.now c.loop-t.replies v c.index-replies-t.result c.read_thread.new.lines c.loop-t-test.true c.loop-t.invariant.space;
+      size = length-set c.loop-t.replies c.loop-t.t c.read_thread.new.starts ∙ size;
+      space = space_behind c.loop-t.t c.args.threads.now c.loop-t.replies v c.index-replies-t.result c.read_thread.new.starts c.loop-t-test.true c.loop-t.invariant.space;
+      end = c.in_ok-read_thread.ensures.end;
     }
+
+pub read_thread-requires-clause-end : goal.read_thread-requires-clause-end
+read_thread-requires-clause-end c = c.loop-t.invariant.end
 
 pub returns-in_err-read_thread-clause-fails : goal.returns-in_err-read_thread-clause-fails
 returns-in_err-read_thread-clause-fails c =
@@ -66,18 +71,18 @@ returns-in_err-read_thread-clause-fails c =
     let long = c.len.ensures in
     let many : c.len.result ≡ length v.items = omega (arith, long, ok) in
     if_err (FailsHowever (commands_of c.args.threads.now) (replies_shapes 1 (commands_of c.args.threads.now)) c.args.rest.now.bytes.now c.args.rest.now.number) c.from_residual.result c.in_err-read_thread.field-0.0 c.from_residual.ensures.1
-    (read_fails c.args.threads.now c.loop-t.t c.len.result v c.args.rest.now.bytes.now c.args.rest.now.number (lines_in (take c.loop-t.t c.loop-t.replies)) c.loop-t.rest.bytes.now c.loop-t.rest.number c.in_err-read_thread.field-0.0 c.loop-t-test.true c.index-threads-t.is many c.loop-t.invariant.read c.in_err-read_thread.ensures.fails)
+    (read_fails c.args.threads.now c.loop-t.t c.len.result v c.args.rest.now.bytes.now c.args.rest.now.number (lines_in c.args.text.now (take c.loop-t.t c.loop-t.replies)) c.loop-t.rest.bytes.now c.loop-t.rest.number c.in_err-read_thread.field-0.0 c.loop-t-test.true c.index-threads-t.is many c.loop-t.invariant.read c.in_err-read_thread.ensures.fails)
 
 pub returns-clause-goes : goal.returns-clause-goes
 returns-clause-goes c =
     let a = space_long (commands_of c.args.threads.now) c.args.replies.now c.requires.space in
     let b = commands_many c.args.threads.now in
     let d = c.loop-t.invariant.size in
-    (filled_whole c.args.threads.now c.loop-t.t c.args.rest.now.bytes.now c.args.rest.now.number c.loop-t.replies c.loop-t.rest.bytes.now c.loop-t.rest.number c.loop-t-test.false (omega (arith, a, b, d)) c.loop-t.invariant.read).0
+    (filled_whole c.args.text.now c.args.threads.now c.loop-t.t c.args.rest.now.bytes.now c.args.rest.now.number c.loop-t.replies c.loop-t.rest.bytes.now c.loop-t.rest.number c.loop-t-test.false (omega (arith, a, b, d)) c.loop-t.invariant.read).0
 
 pub returns-clause-replies : goal.returns-clause-replies
 returns-clause-replies c =
     let a = space_long (commands_of c.args.threads.now) c.args.replies.now c.requires.space in
     let b = commands_many c.args.threads.now in
     let d = c.loop-t.invariant.size in
-    (filled_whole c.args.threads.now c.loop-t.t c.args.rest.now.bytes.now c.args.rest.now.number c.loop-t.replies c.loop-t.rest.bytes.now c.loop-t.rest.number c.loop-t-test.false (omega (arith, a, b, d)) c.loop-t.invariant.read).1
+    (filled_whole c.args.text.now c.args.threads.now c.loop-t.t c.args.rest.now.bytes.now c.args.rest.now.number c.loop-t.replies c.loop-t.rest.bytes.now c.loop-t.rest.number c.loop-t-test.false (omega (arith, a, b, d)) c.loop-t.invariant.read).1

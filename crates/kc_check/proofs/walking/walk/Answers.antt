@@ -14,7 +14,7 @@ use Rattle.kc_check.proofs.walking.walk.Goals as goal
 
 pub loop-i-init : goal.loop-i-init
 loop-i-init c = record {
-  walked = walked_none c.args.limit (commands_of c.args.threads.now) (lines_in c.args.replies.now) (store_of c.args.store.now) c.args.places.now c.args.records.now c.requires.room c.requires.empty c.requires.young;
+  walked = walked_none c.args.limit (commands_of c.args.threads.now) (lines_in c.args.text.now c.args.replies.now) (store_of c.args.store.now) c.args.places.now c.args.records.now c.requires.room c.requires.empty c.requires.young;
   size = refl;
 }
 
@@ -27,7 +27,7 @@ pub returns-then-place-len-clause-stops : goal.returns-then-place-len-clause-sto
 returns-then-place-len-clause-stops c =
     let p : Place = get_or c.args.places.now c.loop-i.i nowhere in
     let h = place_stands c.args.limit c.args.threads.now c.args.places.now c.loop-i.i nowhere c.loop-i.records c.index-records-place.result c.len.result c.requires.places c.loop-i-test.true c.loop-i.invariant.walked.room c.index-records-place.is c.len.ensures in
-    stops_turn c.args.limit (commands_of c.args.threads.now) (lines_in c.args.replies.now) (store_of c.args.store.now) c.args.places.now c.loop-i.i (store_of c.loop-i.store) c.loop-i.records nowhere c.loop-i-test.true c.loop-i.invariant.walked (λ e. c.if-place-len.true (e ∙ h.counted))
+    stops_turn c.args.limit (commands_of c.args.threads.now) (lines_in c.args.text.now c.args.replies.now) (store_of c.args.store.now) c.args.places.now c.loop-i.i (store_of c.loop-i.store) c.loop-i.records nowhere c.loop-i-test.true c.loop-i.invariant.walked (λ e. c.if-place-len.true (e ∙ h.counted))
 
 pub returns-then-place-len-clause-size : goal.returns-then-place-len-clause-size
 returns-then-place-len-clause-size c = c.loop-i.invariant.size
@@ -55,7 +55,7 @@ returns-then-not-replay_at-clause-stops c =
     let p : Place = get_or c.args.places.now c.loop-i.i nowhere in
     let h = place_stands c.args.limit c.args.threads.now c.args.places.now c.loop-i.i nowhere c.loop-i.records c.index-records-place.result c.len.result c.requires.places c.loop-i-test.true c.loop-i.invariant.walked.room c.index-records-place.is c.len.ensures in
     let turn : p.index ≡ counts (lists_of c.loop-i.records) p.thread = c.if-place-len.false ∙ sym h.counted in
-    stops_waits c.args.limit (commands_of c.args.threads.now) (lines_in c.args.replies.now) (store_of c.args.store.now) c.args.places.now c.loop-i.i (store_of c.loop-i.store) c.loop-i.records nowhere c.loop-i-test.true c.loop-i.invariant.walked turn (c.replay_at.ensures.waits c.if-not-replay_at.true)
+    stops_waits c.args.limit (commands_of c.args.threads.now) (lines_in c.args.text.now c.args.replies.now) (store_of c.args.store.now) c.args.places.now c.loop-i.i (store_of c.loop-i.store) c.loop-i.records nowhere c.loop-i-test.true c.loop-i.invariant.walked turn (c.replay_at.ensures.waits c.if-not-replay_at.true)
 
 pub returns-then-not-replay_at-clause-size : goal.returns-then-not-replay_at-clause-size
 returns-then-not-replay_at-clause-size c = c.replay_at.ensures.size ∙ c.loop-i.invariant.size
@@ -74,7 +74,7 @@ returns-then-not-says-clause-stops c =
     let turn : p.index ≡ counts (lists_of c.loop-i.records) p.thread = c.if-place-len.false ∙ sym h.counted in
     let commits = c.replay_at.ensures.commits c.if-not-replay_at.false in
     let (r, at, same) = replayed c.args.limit c.args.threads.now c.loop-i.records c.replay_at.new.records p (store_of c.loop-i.store) (store_of c.replay_at.new.store) h.is turn (c.replay_at.ensures.room c.if-not-replay_at.false) (c.replay_at.ensures.counts c.if-not-replay_at.false) commits in
-    stops_reply c.args.limit (commands_of c.args.threads.now) (lines_in c.args.replies.now) (store_of c.args.store.now) c.args.places.now c.loop-i.i (store_of c.loop-i.store) c.loop-i.records nowhere c.loop-i-test.true c.loop-i.invariant.walked (store_of c.replay_at.new.store) c.replay_at.new.records turn commits (λ e. not_both c.says.result _ ((c.says.ensures r at).1 (e ∙ ap reply_line (sym same))) c.if-not-says.true)
+    stops_reply c.args.limit (commands_of c.args.threads.now) (lines_in c.args.text.now c.args.replies.now) (store_of c.args.store.now) c.args.places.now c.loop-i.i (store_of c.loop-i.store) c.loop-i.records nowhere c.loop-i-test.true c.loop-i.invariant.walked (store_of c.replay_at.new.store) c.replay_at.new.records turn commits (λ e. not_both c.says.result _ ((c.says.ensures r at).1 (e ∙ ap reply_line (sym same))) c.if-not-says.true)
 
 pub returns-then-not-says-clause-size : goal.returns-then-not-says-clause-size
 returns-then-not-says-clause-size c = c.replay_at.ensures.size ∙ c.loop-i.invariant.size
@@ -87,13 +87,13 @@ loop-i-preserved c =
     let commits = c.replay_at.ensures.commits c.if-not-replay_at.false in
     let (r, at, same) = replayed c.args.limit c.args.threads.now c.loop-i.records c.replay_at.new.records p (store_of c.loop-i.store) (store_of c.replay_at.new.store) h.is turn (c.replay_at.ensures.room c.if-not-replay_at.false) (c.replay_at.ensures.counts c.if-not-replay_at.false) commits in
     record {
-      walked = walked_more c.args.limit (commands_of c.args.threads.now) (lines_in c.args.replies.now) (store_of c.args.store.now) c.args.places.now c.loop-i.i (store_of c.loop-i.store) (store_of c.replay_at.new.store) c.loop-i.records c.replay_at.new.records nowhere c.loop-i-test.true
+      walked = walked_more c.args.limit (commands_of c.args.threads.now) (lines_in c.args.text.now c.args.replies.now) (store_of c.args.store.now) c.args.places.now c.loop-i.i (store_of c.loop-i.store) (store_of c.replay_at.new.store) c.loop-i.records c.replay_at.new.records nowhere c.loop-i-test.true
           c.loop-i.invariant.walked turn commits (c.replay_at.ensures.counts c.if-not-replay_at.false) (c.replay_at.ensures.room c.if-not-replay_at.false) ((c.says.ensures r at).0 c.if-not-says.false ∙ ap reply_line same) (c.replay_at.ensures.young c.if-not-replay_at.false);
       size = c.replay_at.ensures.size ∙ c.loop-i.invariant.size;
     }
 
 pub returns-clause-comes : goal.returns-clause-comes
-returns-clause-comes c = walked_all c.args.limit (commands_of c.args.threads.now) (lines_in c.args.replies.now) (store_of c.args.store.now) c.args.places.now c.loop-i.i (store_of c.loop-i.store) c.loop-i.records c.loop-i-test.false c.loop-i.invariant.walked
+returns-clause-comes c = walked_all c.args.limit (commands_of c.args.threads.now) (lines_in c.args.text.now c.args.replies.now) (store_of c.args.store.now) c.args.places.now c.loop-i.i (store_of c.loop-i.store) c.loop-i.records c.loop-i-test.false c.loop-i.invariant.walked
 
 pub returns-clause-room : goal.returns-clause-room
 returns-clause-room c = c.loop-i.invariant.walked.room

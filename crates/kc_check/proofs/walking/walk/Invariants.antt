@@ -7,6 +7,6 @@ use Rattle.kc_check.proofs.walking.walk.Given as goal
 
 abbrev pub invariant-loop-i : goal.invariant-loop-i
 invariant-loop-i l = record {
-  walked : WalkedTo l.limit (commands_of l.threads) (lines_in l.replies) (store_of l.fn.store) l.places l.i (store_of l.store) l.records;
+  walked : WalkedTo l.limit (commands_of l.threads) (lines_in l.text l.replies) (store_of l.fn.store) l.places l.i (store_of l.store) l.records;
   size : length l.store ≡ length l.fn.store;
 }

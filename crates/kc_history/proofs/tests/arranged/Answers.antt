@@ -1,4 +1,0 @@
-use Rattle.kc_history.proofs.tests.arranged.Goals as goal
-
-pub arrange-ended-requires-clause-made : goal.arrange-ended-requires-clause-made
-arrange-ended-requires-clause-made c = c.are_well_made.ensures.0 c.if-not-are_well_made.false

@@ -1,0 +1,5 @@
+//! Tests of records and of their canonical order, by public calls alone.
+#![tactic(auto)]
+
+#[cfg(test)]
+mod records;

@@ -1,0 +1,204 @@
+//! The lines that show what objects hold.
+
+ghost use Rattle.std.specs.Prelude.{◌≡◌, ◌≤◌, ◌+◌, ◌∷◌, [], ℕ, List, length, IfOk};
+ghost use Rattle.kc_script_bundle.specs.Script.{names_of, base, cells, IsWithin};
+
+use indexmap::IndexMap;
+use kc_cache::Cache;
+use kc_cells::{Accumulator, Mvar, Promise};
+use kc_grow::Grow;
+use kc_hash::Hash;
+use kc_model::{FrailSink, Loc, MOST, PlainStore, Reply};
+use kc_queue::Queue;
+use kc_script_bundle::{
+    Bundle, Cancel, Command, Object, Op, cells, cleared, is_flagged, live_threads, opening,
+    write_state,
+};
+use kc_stack::{Stack, StackAct, StackOp};
+use kc_term::Term;
+use kc_xt::{PlainPeek, Room, Stop, Transact, Xt};
+use std::test::Fail;
+
+// A bundle of one object, with no threads.
+fn bundle_of(rt: &HostRuntime, object: Object) -> Result<Bundle, Fail>
+    ensures object { IfOk result (λ bundle. (name : List ℕ) × (names_of bundle.objects ≡ (name, object) ∷ [])) }
+    ensures threads { IfOk result (λ bundle. bundle.threads.items ≡ []) }
+{
+    let mut objects = IndexMap::new(rt.alloc());
+    objects.insert(String::from_str(rt.alloc(), "o")?, object)?;
+    Ok(Bundle {
+        limit: 64,
+        objects,
+        threads: Vec::new(rt.alloc()),
+    })
+}
+
+// Whether the line of an object is this text, where the store has these values.
+fn shows(rt: &HostRuntime, object: Object, values: &[u32], text: &str) -> Result<bool, Fail>
+    requires { IsWithin (length values.now) object }
+{
+    let bundle = bundle_of(rt, object)?;
+    let store = PlainStore::open(rt.alloc(), values)?;
+    let mut sink = FrailSink::new(rt.alloc(), 100, Vec::new(rt.alloc()))?;
+    write_state(&bundle, &store, &mut sink)?;
+    Ok(sink.bytes() == text.as_bytes())
+}
+
+#[test]
+fn a_location_shows_its_value(rt: HostRuntime) -> Result<(), Fail> {
+    let x = Object::Loc {
+        at: Loc(1),
+        value: 5,
+    };
+    assert!(rt; shows(&rt, x, &[0, 7], "o 7\n")?);
+    Ok(())
+}
+
+#[test]
+fn a_stack_is_shown_from_the_top(rt: HostRuntime) -> Result<(), Fail> {
+    let stack = Object::Stack(Stack::layout(Loc(1), 3));
+    assert!(rt; shows(&rt, stack, &[0, 2, 7, 8, 9], "o 8 7\n")?);
+    assert!(rt; shows(&rt, stack, &[0, 9, 7, 8, 9], "o 9 8 7\n")?);
+    assert!(rt; shows(&rt, stack, &[0, 0, 7, 8, 9], "o\n")?);
+    Ok(())
+}
+
+#[test]
+fn a_queue_is_shown_from_the_front(rt: HostRuntime) -> Result<(), Fail> {
+    let queue = Object::Queue(Queue::layout(Loc(1), 3));
+    assert!(rt; shows(&rt, queue, &[0, 2, 3, 7, 8, 9], "o 9 7 8\n")?);
+    assert!(rt; shows(&rt, queue, &[0, 5, 2, 7, 8, 9], "o 7 8\n")?);
+    Ok(())
+}
+
+#[test]
+fn a_place_is_shown_as_its_value_or_none(rt: HostRuntime) -> Result<(), Fail> {
+    let mvar = Object::Mvar(Mvar::layout(Loc(1)));
+    let promise = Object::Promise(Promise::layout(Loc(1)));
+    assert!(rt; shows(&rt, mvar, &[0, 0, 4], "o none\n")?);
+    assert!(rt; shows(&rt, mvar, &[0, 1, 4], "o 4\n")?);
+    assert!(rt; shows(&rt, promise, &[0, 0, 0], "o none\n")?);
+    assert!(rt; shows(&rt, promise, &[0, 1, 0], "o 0\n")?);
+    Ok(())
+}
+
+#[test]
+fn an_accumulator_is_shown_as_its_sum(rt: HostRuntime) -> Result<(), Fail> {
+    let acc = Object::Acc(Accumulator::layout(Loc(1), 2));
+    assert!(rt; shows(&rt, acc, &[0, 4_294_967_295, 3], "o 2\n")?);
+    Ok(())
+}
+
+#[test]
+fn a_table_is_shown_in_rising_order_of_key(rt: HostRuntime) -> Result<(), Fail> {
+    let table = Object::Hash(Hash::layout(Loc(1), 2, 3));
+    let values = [0, 3, 0, 2, 1, 5, 50, 3, 8, 80, 0, 1, 10, 0];
+    assert!(rt; shows(&rt, table, &values, "o 1=10 5=50 8=80\n")?);
+    let circle = [0, 1, 0, 1, 0, 4, 40, 1, 0, 0, 0, 0, 0, 0];
+    assert!(rt; shows(&rt, table, &circle, "o 4=40\n")?);
+    Ok(())
+}
+
+// A number of buckets that is too great counts as 1.
+#[test]
+fn a_table_that_grows_is_shown_as_a_table(rt: HostRuntime) -> Result<(), Fail> {
+    let grow = Object::Grow(Grow::layout(Loc(1), 2));
+    let values = [0, 2, 0, 2, 2, 1, 3, 30, 0, 8, 80, 0];
+    assert!(rt; shows(&rt, grow, &values, "o 3=30 8=80\n")?);
+    let many = [0, 2, 0, 3, 2, 1, 3, 30, 0, 8, 80, 0];
+    assert!(rt; shows(&rt, grow, &many, "o 8=80\n")?);
+    Ok(())
+}
+
+#[test]
+fn a_cache_is_shown_from_the_most_recent_pair(rt: HostRuntime) -> Result<(), Fail> {
+    let cache = Object::Cache(Cache::layout(Loc(1), 1, 2));
+    let values = [
+        0, 0, 2, 0, 1, 8, 1, 2, 5, 2, 0, 2, 1, 0, 8, 2, 0, 5, 0, 1, 80, 50,
+    ];
+    assert!(rt; shows(&rt, cache, &values, "o 5=50 8=80\n")?);
+    Ok(())
+}
+
+// Whether a bundle of this object opens with these values.
+fn opens(rt: &HostRuntime, object: Object, values: &[u32]) -> Result<bool, Fail>
+    requires first { base object ≡ 1 }
+    requires within { 1 + cells object ≤ 65536 }
+{
+    let bundle = bundle_of(rt, object)?;
+    let opened = opening(rt.alloc(), &bundle)?;
+    Ok(opened.as_slice() == values)
+}
+
+#[test]
+fn objects_open_with_their_values(rt: HostRuntime) -> Result<(), Fail> {
+    let base = Loc(1);
+    assert!(rt; opens(&rt, Object::Loc { at: base, value: 5 }, &[0, 5])?);
+    assert!(rt; opens(&rt, Object::Stack(Stack::layout(base, 2)), &[0, 0, 0, 0])?);
+    assert!(rt; opens(&rt, Object::Queue(Queue::layout(base, 1)), &[0, 0, 0, 0])?);
+    assert!(rt; opens(&rt, Object::Mvar(Mvar::layout(base)), &[0, 0, 0])?);
+    assert!(rt; opens(&rt, Object::Promise(Promise::layout(base)), &[0, 0, 0])?);
+    assert!(rt; opens(&rt, Object::Acc(Accumulator::layout(base, 1)), &[0, 0])?);
+    let cache = Cache::layout(base, 1, 1);
+    let opened = [0, 1, 0, 1, 0, 0, 0, 0, 0, 0, 1, 0, 0, 0, 0];
+    assert!(rt; opens(&rt, Object::Cache(cache), &opened)?);
+    let table = Hash::layout(base, 1, 2);
+    assert!(rt; opens(&rt, Object::Hash(table), &[0, 0, 1, 0, 0, 0, 2, 0, 0, 0])?);
+    let grow = Grow::layout(base, 2);
+    assert!(rt;
+        opens(
+            &rt,
+            Object::Grow(grow),
+            &[0, 0, 1, 1, 0, 0, 0, 0, 2, 0, 0, 0]
+        )?
+    );
+    Ok(())
+}
+
+#[test]
+fn a_command_is_one_operation_or_a_block(rt: HostRuntime) -> Result<(), Fail> {
+    let Ok(store) = PlainStore::open(rt.alloc(), &[0, 0, 0, 0]) else {
+        return Err(Fail::from("no memory"));
+    };
+    if store.len() < 4 {
+        return Err(Fail::from("too few locations"));
+    }
+    let mut room = Room::new();
+    let mut xt = Xt::new(PlainPeek::new(&store), &mut room, MOST as u32);
+    let stack = Stack::layout(Loc(1), 2);
+    let op = |act: StackAct| Op::Stack(StackOp { stack, act });
+    let push = Command::One(op(StackAct::Push(4)));
+    let pop = Command::Block(Term::op(op(StackAct::PopWait)));
+    assert_eq!(rt; push.bound(), 4);
+    assert_eq!(rt; pop.bound(), 4);
+    assert_eq!(rt; pop.run(&mut xt), Err(Stop::Retry));
+    assert_eq!(rt; push.run(&mut xt), Ok(Reply::Unit));
+    assert_eq!(rt; pop.run(&mut xt), Ok(Reply::Value(4)));
+    Ok(())
+}
+
+#[test]
+fn a_cancel_sets_the_flag_of_its_thread(rt: HostRuntime) -> Result<(), Fail> {
+    let Ok(store) = PlainStore::open(rt.alloc(), &[3, 7]) else {
+        return Err(Fail::from("no memory"));
+    };
+    if store.len() < 2 {
+        return Err(Fail::from("too few locations"));
+    }
+    let mut room = Room::new();
+    let mut xt = Xt::new(PlainPeek::new(&store), &mut room, MOST as u32);
+    let live = Loc(0);
+    let first = Op::Cancel(Cancel { live, thread: 1 });
+    let last = Command::One(Op::Cancel(Cancel { live, thread: 16 }));
+    assert_eq!(rt; last.bound(), 1);
+    assert_eq!(rt; first.run(&mut xt), Ok(Reply::Unit));
+    assert_eq!(rt; last.run(&mut xt), Ok(Reply::Unit));
+    assert_eq!(rt; first.run(&mut xt), Ok(Reply::Unit));
+    let value = 3 + (1 << 16) + (1 << 31);
+    assert_eq!(rt; xt.get(live), Ok(value));
+    assert_eq!(rt; live_threads(value), 3);
+    assert!(rt; is_flagged(1, value) && !is_flagged(2, value) && is_flagged(16, value));
+    assert_eq!(rt; cleared(16, value), 3 + (1 << 16));
+    assert_eq!(rt; cleared(2, value), value);
+    Ok(())
+}

@@ -1,0 +1,19 @@
+//! Tests of the structures, by public calls alone.
+#![tactic(auto)]
+
+#[cfg(test)]
+mod cache;
+#[cfg(test)]
+mod cells;
+#[cfg(test)]
+mod dllist;
+#[cfg(test)]
+mod grow;
+#[cfg(test)]
+mod hash;
+#[cfg(test)]
+mod loc;
+#[cfg(test)]
+mod queue;
+#[cfg(test)]
+mod stack;
