@@ -67,7 +67,7 @@ space_behind t threads vs c v lines lt h =
 -- all of them
 pub filled_whole : (whole : List ℕ) (threads : List (Vec Command Global)) (t : ℕ) (text : List ℕ) (n : ℕ) (vs : List (Vec ℕ Global)) (rest : List ℕ) (m : ℕ) → length threads ≤ t → length vs ≡ length threads → ReadTo threads t text n (lines_in whole (take t vs)) rest m → Goes (commands_of threads) (replies_shapes 1 (commands_of threads)) text n (flat (lines_in whole vs)) rest m × AllReplies 1 (commands_of threads) (lines_in whole vs)
 filled_whole whole threads t text n vs rest m le long read =
-    let all : lines_in whole (take t vs) ≡ lines_in whole vs = ap (lines_in whole) whole (take_all t vs (omega (arith, le, long))) in
+    let all : lines_in whole (take t vs) ≡ lines_in whole vs = ap (lines_in whole) (take_all t vs (omega (arith, le, long))) in
     read_whole threads t text n (lines_in whole vs) rest m le (subst (λ (ls : List (List (List ℕ))). ReadTo threads t text n ls rest m) all read)
 
 pub commands_many : (threads : List (Vec Command Global)) → length (commands_of threads) ≡ length threads

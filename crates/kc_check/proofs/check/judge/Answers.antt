@@ -37,14 +37,14 @@ pub returns-in-Err-clause-fails : goal.returns-in-Err-clause-fails
 returns-in-Err-clause-fails c =
     let s : Script = script_of c.args.bundle.now in
     let parts : Parts = parts_of c.args.text.now c.args.said.now.replies.items c.args.said.now.places.items c.args.said.now.state.items in
-    given_stop s parts s.limit refl (commands_of c.deref-2.result.now) (lines_in c.args.text.now c.deref-3.result.now) c.deref-4.result.now (store_of c.args.store.now) (ap commands_of c.deref-2.ensures.value) (ap (lines_in c.args.text.now) c.args.text.now c.deref-3.ensures.value) c.deref-4.ensures.value c.requires.sound.opens (commands_of c.deref-in-Err.result.now) c.deref-in-Err-2.result.now c.in-Err.stopped.index c.line_of-line.result c.in-Err.stopped.why
+    given_stop s parts s.limit refl (commands_of c.deref-2.result.now) (lines_in c.args.text.now c.deref-3.result.now) c.deref-4.result.now (store_of c.args.store.now) (ap commands_of c.deref-2.ensures.value) (ap (lines_in c.args.text.now) c.deref-3.ensures.value) c.deref-4.ensures.value c.requires.sound.opens (commands_of c.deref-in-Err.result.now) c.deref-in-Err-2.result.now c.in-Err.stopped.index c.line_of-line.result c.in-Err.stopped.why
     (ap commands_of c.deref-in-Err.ensures.value) c.deref-in-Err-2.ensures.value c.in-Err.ensures.stops c.line_of-line.ensures
 
 pub first_disorder-requires-clause-records : goal.first_disorder-requires-clause-records
 first_disorder-requires-clause-records c =
     let s : Script = script_of c.args.bundle.now in
     let parts : Parts = parts_of c.args.text.now c.args.said.now.replies.items c.args.said.now.places.items c.args.said.now.state.items in
-    let (made, whole) = given_comes s parts s.limit refl (commands_of c.deref-2.result.now) (lines_in c.args.text.now c.deref-3.result.now) c.deref-4.result.now (store_of c.args.store.now) (ap commands_of c.deref-2.ensures.value) (ap (lines_in c.args.text.now) c.args.text.now c.deref-3.ensures.value) c.deref-4.ensures.value c.requires.sound.opens (store_of c.walk.new.store) c.walk.new.records c.requires.said c.in_default.ensures.room c.in_default.ensures.comes in
+    let (made, whole) = given_comes s parts s.limit refl (commands_of c.deref-2.result.now) (lines_in c.args.text.now c.deref-3.result.now) c.deref-4.result.now (store_of c.args.store.now) (ap commands_of c.deref-2.ensures.value) (ap (lines_in c.args.text.now) c.deref-3.ensures.value) c.deref-4.ensures.value c.requires.sound.opens (store_of c.walk.new.store) c.walk.new.records c.requires.said c.in_default.ensures.room c.in_default.ensures.comes in
     let a = made.counted in
     let b = ap (λ vs. places_in (commands_of vs)) c.deref-2.ensures.value in
     let d = c.requires.room in
@@ -54,14 +54,14 @@ pub first_disorder-requires-clause-made : goal.first_disorder-requires-clause-ma
 first_disorder-requires-clause-made c =
     let s : Script = script_of c.args.bundle.now in
     let parts : Parts = parts_of c.args.text.now c.args.said.now.replies.items c.args.said.now.places.items c.args.said.now.state.items in
-    let (made, whole) = given_comes s parts s.limit refl (commands_of c.deref-2.result.now) (lines_in c.args.text.now c.deref-3.result.now) c.deref-4.result.now (store_of c.args.store.now) (ap commands_of c.deref-2.ensures.value) (ap (lines_in c.args.text.now) c.args.text.now c.deref-3.ensures.value) c.deref-4.ensures.value c.requires.sound.opens (store_of c.walk.new.store) c.walk.new.records c.requires.said c.in_default.ensures.room c.in_default.ensures.comes in
+    let (made, whole) = given_comes s parts s.limit refl (commands_of c.deref-2.result.now) (lines_in c.args.text.now c.deref-3.result.now) c.deref-4.result.now (store_of c.args.store.now) (ap commands_of c.deref-2.ensures.value) (ap (lines_in c.args.text.now) c.deref-3.ensures.value) c.deref-4.ensures.value c.requires.sound.opens (store_of c.walk.new.store) c.walk.new.records c.requires.said c.in_default.ensures.room c.in_default.ensures.comes in
     subst (λ (rs : List (List Record)). AreWellMade (footprint_at rs)) made.same c.in_default.ensures.made
 
 pub first_disorder-requires-clause-legal : goal.first_disorder-requires-clause-legal
 first_disorder-requires-clause-legal c =
     let s : Script = script_of c.args.bundle.now in
     let parts : Parts = parts_of c.args.text.now c.args.said.now.replies.items c.args.said.now.places.items c.args.said.now.state.items in
-    let (made, whole) = given_comes s parts s.limit refl (commands_of c.deref-2.result.now) (lines_in c.args.text.now c.deref-3.result.now) c.deref-4.result.now (store_of c.args.store.now) (ap commands_of c.deref-2.ensures.value) (ap (lines_in c.args.text.now) c.args.text.now c.deref-3.ensures.value) c.deref-4.ensures.value c.requires.sound.opens (store_of c.walk.new.store) c.walk.new.records c.requires.said c.in_default.ensures.room c.in_default.ensures.comes in
+    let (made, whole) = given_comes s parts s.limit refl (commands_of c.deref-2.result.now) (lines_in c.args.text.now c.deref-3.result.now) c.deref-4.result.now (store_of c.args.store.now) (ap commands_of c.deref-2.ensures.value) (ap (lines_in c.args.text.now) c.deref-3.ensures.value) c.deref-4.ensures.value c.requires.sound.opens (store_of c.walk.new.store) c.walk.new.records c.requires.said c.in_default.ensures.room c.in_default.ensures.comes in
     subst (IsLegalList (footprint_at (lists_of c.walk.new.records))) (sym c.deref-5.ensures.value) (comes_legal s parts (store_of c.walk.new.store) (lists_of c.walk.new.records) c.requires.said whole)
 
 pub place_line-line-requires-clause-index : goal.place_line-line-requires-clause-index
@@ -88,7 +88,7 @@ pub returns-in-Some-first_unlike-clause-fails : goal.returns-in-Some-first_unlik
 returns-in-Some-first_unlike-clause-fails c =
     let s : Script = script_of c.args.bundle.now in
     let parts : Parts = parts_of c.args.text.now c.args.said.now.replies.items c.args.said.now.places.items c.args.said.now.state.items in
-    let (made, whole) = given_comes s parts s.limit refl (commands_of c.deref-2.result.now) (lines_in c.args.text.now c.deref-3.result.now) c.deref-4.result.now (store_of c.args.store.now) (ap commands_of c.deref-2.ensures.value) (ap (lines_in c.args.text.now) c.args.text.now c.deref-3.ensures.value) c.deref-4.ensures.value c.requires.sound.opens (store_of c.walk.new.store) c.walk.new.records c.requires.said c.in_default.ensures.room c.in_default.ensures.comes in
+    let (made, whole) = given_comes s parts s.limit refl (commands_of c.deref-2.result.now) (lines_in c.args.text.now c.deref-3.result.now) c.deref-4.result.now (store_of c.args.store.now) (ap commands_of c.deref-2.ensures.value) (ap (lines_in c.args.text.now) c.deref-3.ensures.value) c.deref-4.ensures.value c.requires.sound.opens (store_of c.walk.new.store) c.walk.new.records c.requires.said c.in_default.ensures.room c.in_default.ensures.comes in
     let canonical : IsCanonical (footprint_at (lists_of c.walk.new.records)) parts.places = subst (IsCanonical (footprint_at (lists_of c.walk.new.records))) c.deref-5.ensures.value c.in_default-first_disorder.ensures.none in
     let unlike : UnlikeAt parts.state s.objects (values (store_of c.walk.new.store)) c.in-Some-first_unlike.index = subst (λ ls. UnlikeAt (now_of ls) s.objects (values (store_of c.walk.new.store)) c.in-Some-first_unlike.index) c.deref-6.ensures.value c.in-Some-first_unlike.ensures.some in
     let n = c.state_line-line.ensures in
@@ -101,7 +101,7 @@ pub returns-clause-legal : goal.returns-clause-legal
 returns-clause-legal c =
     let s : Script = script_of c.args.bundle.now in
     let parts : Parts = parts_of c.args.text.now c.args.said.now.replies.items c.args.said.now.places.items c.args.said.now.state.items in
-    let (made, whole) = given_comes s parts s.limit refl (commands_of c.deref-2.result.now) (lines_in c.args.text.now c.deref-3.result.now) c.deref-4.result.now (store_of c.args.store.now) (ap commands_of c.deref-2.ensures.value) (ap (lines_in c.args.text.now) c.args.text.now c.deref-3.ensures.value) c.deref-4.ensures.value c.requires.sound.opens (store_of c.walk.new.store) c.walk.new.records c.requires.said c.in_default.ensures.room c.in_default.ensures.comes in
+    let (made, whole) = given_comes s parts s.limit refl (commands_of c.deref-2.result.now) (lines_in c.args.text.now c.deref-3.result.now) c.deref-4.result.now (store_of c.args.store.now) (ap commands_of c.deref-2.ensures.value) (ap (lines_in c.args.text.now) c.deref-3.ensures.value) c.deref-4.ensures.value c.requires.sound.opens (store_of c.walk.new.store) c.walk.new.records c.requires.said c.in_default.ensures.room c.in_default.ensures.comes in
     let canonical : IsCanonical (footprint_at (lists_of c.walk.new.records)) parts.places = subst (IsCanonical (footprint_at (lists_of c.walk.new.records))) c.deref-5.ensures.value c.in_default-first_disorder.ensures.none in
     let held : parts.state ≡ held_lines s.objects (values (store_of c.walk.new.store)) = sym (ap now_of c.deref-6.ensures.value) ∙ c.in_default-first_unlike.ensures.none in
     judged_text s parts (store_of c.walk.new.store) (lists_of c.walk.new.records) c.requires.sound.lies.lie c.requires.sound.on c.requires.said whole canonical held
@@ -110,6 +110,6 @@ pub returns-in-Some-clause-fails : goal.returns-in-Some-clause-fails
 returns-in-Some-clause-fails c =
     let s : Script = script_of c.args.bundle.now in
     let parts : Parts = parts_of c.args.text.now c.args.said.now.replies.items c.args.said.now.places.items c.args.said.now.state.items in
-    let (made, whole) = given_comes s parts s.limit refl (commands_of c.deref-2.result.now) (lines_in c.args.text.now c.deref-3.result.now) c.deref-4.result.now (store_of c.args.store.now) (ap commands_of c.deref-2.ensures.value) (ap (lines_in c.args.text.now) c.args.text.now c.deref-3.ensures.value) c.deref-4.ensures.value c.requires.sound.opens (store_of c.walk.new.store) c.walk.new.records c.requires.said c.in_default.ensures.room c.in_default.ensures.comes in
+    let (made, whole) = given_comes s parts s.limit refl (commands_of c.deref-2.result.now) (lines_in c.args.text.now c.deref-3.result.now) c.deref-4.result.now (store_of c.args.store.now) (ap commands_of c.deref-2.ensures.value) (ap (lines_in c.args.text.now) c.deref-3.ensures.value) c.deref-4.ensures.value c.requires.sound.opens (store_of c.walk.new.store) c.walk.new.records c.requires.said c.in_default.ensures.room c.in_default.ensures.comes in
     let line = c.place_line-line.ensures ∙ ap (λ n. n + c.in-Some.index + 2) (c.commands_in-commands.ensures.count ∙ ap (λ vs. commands_in (commands_of vs)) c.deref.ensures.value) in
     disorder_fails s parts (store_of c.walk.new.store) (lists_of c.walk.new.records) c.deref-5.result.now c.in-Some.index c.place_line-line.result c.deref-5.ensures.value whole c.in-Some.ensures.some line
