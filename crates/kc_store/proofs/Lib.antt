@@ -20,6 +20,7 @@ pub mod Placing
 pub mod Crossed
 pub mod Settling
 pub mod Back
+pub mod Boxed
 pub mod Filling
 pub mod LoneLooking
 pub mod LoneCommits

@@ -55,12 +55,11 @@ impl HoldsSeat for Caller {
 
     fn into_seat(self) -> KcSeat {
         let Caller {
-            apart: _,
             seat,
             room: _,
             worn: _,
         } = self;
-        seat
+        Box::into_inner(seat)
     }
 }
 

@@ -9,6 +9,7 @@ use crate::budget::Budget;
 use crate::looks::look_at;
 use crate::store::{Caller, Store};
 use kc_model::{Loc, Seen};
+use kc_table::KcSeat;
 
 /// A read was given up after so many steps.
 #[derive(Clone, Copy, Debug, PartialEq, Eq)]
@@ -32,15 +33,16 @@ impl Store {
         ensures learns { OnlyLearns caller.old caller.new }
         ensures keeps { Keeps caller.old.seat caller.new.seat }
     {
-        let before = caller.seat.steps();
+        let seat: &mut KcSeat = &mut caller.seat;
+        let before = seat.steps();
         let budget = Budget {
             most: self.most_steps as u64,
             before,
         };
-        match look_at(&self.table, &mut caller.seat, at, budget) {
+        match look_at(&self.table, seat, at, budget) {
             Ok(seen) => return Ok(seen),
             Err(_) => {
-                let steps = caller.seat.steps() - before;
+                let steps = seat.steps() - before;
                 return Err(ReadBusy { steps });
             }
         }

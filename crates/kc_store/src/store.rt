@@ -9,7 +9,6 @@ ghost use Rattle.kc_store.specs.Knows.{OpensWith, entries_of};
 ghost use Rattle.kc_store.specs.Rests.{KnowsItsWear, Rests};
 ghost use Rattle.kc_store.specs.Views.{caller_view, opened_callers, store_view};
 
-use crossbeam_utils::CachePadded;
 use kc_machine_words::LAST_GENERATION;
 use kc_model::{LAST_VERSION, MOST, OpenError};
 use kc_table::{KcSeat, KcTable, Past};
@@ -44,14 +43,11 @@ impl Model for Store {
 /// are its own, and whether it was told that no descriptor has a life left. It runs no task and isn't blocked: one that hangs is
 /// a `Hanging`.
 #[derive(Drop)]
-#[repr(C)]
 pub struct Caller {
-    // Callers lie side by side in a vector, and each is written at every step: two threads' on one line of a cache hold each
-    // other up.
-    pub(crate) apart: CachePadded<()>,
-    pub(crate) seat: KcSeat,
+    // In boxes of its own: a caller is moved into what hangs and back.
+    pub(crate) seat: Box<KcSeat>,
     /// For the log of an attempt, whose lines are those of its commit.
-    pub(crate) room: Room,
+    pub(crate) room: Box<Room>,
     /// It was told that no descriptor has a life left.
     pub(crate) worn: bool,
 }
@@ -62,9 +58,9 @@ impl Model for Caller {
 
     ghost Value = { CallerView };
 
-    ghost view = { λ c. caller_view c.worn c.seat };
+    ghost view = { λ c. caller_view c.worn c.seat.value };
 
-    ghost invariant = { λ c. Rests c.seat × KnowsItsWear c.worn c.seat };
+    ghost invariant = { λ c. Rests c.seat.value × KnowsItsWear c.worn c.seat.value };
 }
 
 impl Caller {
@@ -93,18 +89,13 @@ impl Caller {
         self.seat.take_wakes()
     }
 
-    // A caller with this seat, and room for its attempts. `worn`: it was told that no descriptor has a life left.
-    pub(crate) fn of(seat: KcSeat, worn: bool) -> Caller
-        requires rests { Rests seat }
-        requires wear { KnowsItsWear worn seat }
-        ensures { result ≡ caller_view worn seat }
+    // A caller with this seat, and this room for its attempts. `worn`: it was told that no descriptor has a life left.
+    pub(crate) fn of(seat: Box<KcSeat>, room: Box<Room>, worn: bool) -> Caller
+        requires rests { Rests seat.value }
+        requires wear { KnowsItsWear worn seat.value }
+        ensures { result ≡ caller_view worn seat.value }
     {
-        Caller {
-            apart: CachePadded::new(()),
-            seat,
-            room: Room::new(),
-            worn,
-        }
+        Caller { seat, room, worn }
     }
 }
 
@@ -171,7 +162,8 @@ fn shared(
 {
     let mut given = Vec::with_capacity(alloc, seats.len())?;
     for seat in seats {
-        given.push(Caller::of(seat, false))?;
+        let room = Box::new(alloc, Room::new())?;
+        given.push(Caller::of(Box::new(alloc, seat)?, room, false))?;
     }
     let most_steps = (callers + 1) * (callers + 1) * STEPS_EACH;
     Ok((Store { table, most_steps }, given))

@@ -17,6 +17,7 @@ use kc_machine_words::Mode;
 use kc_model::{Footprint, Loc, MOST};
 use kc_table::{KcSeat, KcTable};
 use kc_xt::{Room, Trial, Went};
+use std::alloc::Global;
 use std::test::Fail;
 
 const ADD: LocOp = LocOp::FetchAdd(Loc(0), 1);
@@ -37,7 +38,7 @@ fn open_two(rt: &HostRuntime, values: &[u32]) -> Option<(Store, KcSeat, KcSeat)>
 }
 
 // A try of the first, between whose looks and commit the second commits.
-fn overtaken(store: &Store, a: &mut KcSeat, b: KcSeat) -> Option<Verdict>
+fn overtaken(alloc: Global, store: &Store, a: &mut KcSeat, b: KcSeat) -> Option<Verdict>
     requires first { (a.old.of ≡ store.now.table) × (is_idle a.old.seat.work ≡ true) }
     requires second { (b.of ≡ store.now.table) × Rests b }
     requires location { 0 < store.now.locations }
@@ -61,7 +62,10 @@ fn overtaken(store: &Store, a: &mut KcSeat, b: KcSeat) -> Option<Verdict>
         return None;
     }
     let mut other = Footprint::new();
-    store.try_commit_into(&mut Caller::of(b, false), &ADD, &mut other);
+    let (Ok(seat), Ok(lines)) = (Box::new(alloc, b), Box::new(alloc, Room::new())) else {
+        return None;
+    };
+    store.try_commit_into(&mut Caller::of(seat, lines, false), &ADD, &mut other);
     let told = commit(&store.table, a, &footprint, room.as_slice(), false, budget);
     Some(verdict_on(fate_of(told, &mut footprint, 0), &trial))
 }
@@ -73,7 +77,7 @@ fn a_try_that_another_overtakes_is_lost(rt: HostRuntime) -> Result<(), Fail> {
     };
     let loc = Loc(0);
     let lost = Verdict::Lost { loc, version: 1 };
-    assert_eq!(rt; overtaken(&store, &mut a, b), Some(lost));
+    assert_eq!(rt; overtaken(rt.alloc(), &store, &mut a, b), Some(lost));
     Ok(())
 }
 

@@ -15,6 +15,7 @@ use arrayvec::ArrayVec;
 use kc_hang::{Hang, HangState, step, wait_for_a_change};
 use kc_model::{Footprint, MOST, Seen};
 use kc_table::KcSeat;
+use kc_xt::Room;
 use std::marker::Model;
 use std::sync::Wait;
 
@@ -35,7 +36,9 @@ impl Store {
 /// see the caller, the reads, its state, and whether that state's task has begun.
 #[derive(Drop)]
 pub struct Hanging {
-    seat: KcSeat,
+    seat: Box<KcSeat>,
+    // Its caller's, kept for it.
+    room: Box<Room>,
     // Its caller was told that no descriptor has a life left.
     worn: bool,
     reads: ArrayVec<Seen, MOST>,
@@ -51,9 +54,9 @@ impl Model for Hanging {
 
     ghost Value = { HangingView };
 
-    ghost view = { λ h. record { caller = caller_view h.worn h.seat; reads = h.reads; state = h.state; begun = h.begun } };
+    ghost view = { λ h. record { caller = caller_view h.worn h.seat.value; reads = h.reads; state = h.state; begun = h.begun } };
 
-    ghost invariant = { λ h. Stands h.state h.begun h.reads h.seat × KnowsItsWear h.worn h.seat };
+    ghost invariant = { λ h. Stands h.state h.begun h.reads h.seat.value × KnowsItsWear h.worn h.seat.value };
 }
 
 impl Hanging {
@@ -63,14 +66,10 @@ impl Hanging {
         requires below { IsBelow caller.of.locations footprint.now }
         ensures { result ≡ record { caller = caller; reads = footprint.now.reads; state = HangState.Going; begun = false } }
     {
-        let Caller {
-            apart: _,
-            seat,
-            room: _,
-            worn,
-        } = caller;
+        let Caller { seat, room, worn } = caller;
         Hanging {
             seat,
+            room,
             worn,
             reads: copied(footprint.reads.as_slice()),
             state: HangState::Going,
@@ -101,12 +100,13 @@ impl Hanging {
     {
         let Hanging {
             seat,
+            room,
             worn,
             reads: _,
             state: _,
             begun: _,
         } = self;
-        Caller::of(seat, worn)
+        Caller::of(seat, room, worn)
     }
 
     /// The steps that its caller has made since the opening, up to 2^64 - 1.

@@ -11,7 +11,7 @@ pub returns : goal.returns
 returns c =
     let is = c.self.view_is in
     record {
-      own = subst (λ (x : CallerView). x.own ≡ entries_of x.number x.known) is (sym (entries_by c.self.inside.seat.number (knows c.self.inside.seat)));
+      own = subst (λ (x : CallerView). x.own ≡ entries_of x.number x.known) is (sym (entries_by c.self.inside.seat.value.number (knows c.self.inside.seat.value)));
       view = sym is ∙ ap (λ (x : CallerView). caller_view x.worn x.seat) is;
       rests = subst (λ (x : CallerView). Rests x.seat) is c.self.invariant.0;
     }

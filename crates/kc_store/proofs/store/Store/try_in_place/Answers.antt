@@ -1,5 +1,6 @@
 use Rattle.kc_xt.specs.Meaning.{limited}
 use Rattle.std.proofs.Common.{◌≡◌, ◌≤◌, ◌||◌, true, refl, subst, sym}
+use Rattle.kc_store.proofs.Boxed.{caller_of, rests_so, worn_so}
 use Rattle.kc_store.proofs.Remembering.{remembers, still_told, told}
 use Rattle.kc_store.proofs.Resting.{of_table, rests_on}
 use Rattle.kc_store.proofs.Settling.{noted, notes_as}
@@ -15,11 +16,11 @@ use Rattle.kc_store.proofs.store.Store.try_in_place.Goals as goal
 pub try_quietly-fate-requires : goal.try_quietly-fate-requires
 try_quietly-fate-requires g c =
     record {
-      table = of_table c.caller.inside.worn c.caller.inside.seat c.self.inside.table c.args.caller.now c.args.self.now c.caller.view_is c.self.view_is c.requires.caller;
+      table = of_table c.caller.inside.worn c.deref_mut.result.now c.self.inside.table c.args.caller.now c.args.self.now (caller_of c.caller.inside.worn c.deref_mut.result.now c.caller.inside.seat.value c.args.caller.now c.deref_mut.ensures.value c.caller.view_is) c.self.view_is c.requires.caller;
       steps = c.self.invariant;
-      idle = c.caller.invariant.0.idle;
+      idle = (rests_so c.deref_mut.result.now c.caller.inside.seat.value c.deref_mut.ensures.value c.caller.invariant.0).idle;
       fit = c.requires.fit;
-      worn = c.caller.invariant.1;
+      worn = (worn_so c.caller.inside.worn c.deref_mut.result.now c.caller.inside.seat.value c.deref_mut.ensures.value c.caller.invariant.1);
       within = subst (λ (s : StoreView). g.T.Transact.end c.args.transaction.now ≤ s.locations) (sym c.self.view_is) c.requires.within;
     }
 
@@ -27,22 +28,22 @@ pub invariant_of-caller : goal.invariant_of-caller
 invariant_of-caller g c =
     let m = (limited (g.T.Transact.most c.args.transaction.now) (g.T.Transact.meaning c.args.transaction.now)) in
     let x = c.try_quietly-fate in (
-      rests_on c.caller.inside.seat x.new.seat c.caller.invariant.0 x.ensures.idle x.ensures.blocked,
-      noted m x.result (tried_of x.new.trial.went x.new.trial.reply) c.caller.inside.seat x.new.footprint x.new.seat c.caller.inside.worn c.note_worn.new.worn c.note_worn.ensures c.caller.invariant.1 x.ensures.stays x.ensures.settles,
+      rests_on c.deref_mut.result.now x.new.seat (rests_so c.deref_mut.result.now c.caller.inside.seat.value c.deref_mut.ensures.value c.caller.invariant.0) x.ensures.idle x.ensures.blocked,
+      noted m x.result (tried_of x.new.trial.went x.new.trial.reply) c.deref_mut.result.now x.new.footprint x.new.seat c.caller.inside.worn c.note_worn.new.worn c.note_worn.ensures (worn_so c.caller.inside.worn c.deref_mut.result.now c.caller.inside.seat.value c.deref_mut.ensures.value c.caller.invariant.1) x.ensures.stays x.ensures.settles,
     )
 
 pub returns : goal.returns
 returns g c =
     let m = (limited (g.T.Transact.most c.args.transaction.now) (g.T.Transact.meaning c.args.transaction.now)) in
     let f = c.try_quietly-fate.new.footprint in
-    let v = c.caller.inside.seat in
+    let v = c.deref_mut.result.now in
     let w = c.try_quietly-fate.new.seat in
     let e = c.try_quietly-fate.ensures in
     let t = tried_of c.try_quietly-fate.new.trial.went c.try_quietly-fate.new.trial.reply in
     let a = verdict_as c.try_quietly-fate.result t in
     let old = c.caller.inside.worn in
     let new = c.note_worn.new.worn in
-    let is = c.caller.view_is in
+    let is = (caller_of c.caller.inside.worn c.deref_mut.result.now c.caller.inside.seat.value c.args.caller.now c.deref_mut.ensures.value c.caller.view_is) in
     let s : Settles m a v f w = e.settles in
     record {
       told = subst (λ x. IsTold m a x f (caller_view new w)) is (told old new m a v f w s);
