@@ -1,0 +1,4 @@
+pub mod Placing
+pub mod Filling
+pub mod Fits
+pub mod Parts

@@ -1,0 +1,6 @@
+pub mod Structures
+pub mod Said
+pub mod Meaning
+pub mod Cut
+pub mod Operations
+pub mod Told
