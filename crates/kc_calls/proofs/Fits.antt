@@ -1,7 +1,7 @@
 -- What are operations of a transaction may be run.
-use Rattle.std.proofs.Common.{◌≡◌, ℕ, ◌==◌, ◌≤◌, ◌<◌, Bool, true, false, cond, List, [], ◌∷◌, Option, Some, None, refl, sym, ap, subst, arith}
+use Rattle.std.proofs.Common.{◌≡◌, ℕ, zero, suc, length, get_or, ◌==◌, ◌≤◌, ◌<◌, Bool, true, false, cond, List, [], ◌∷◌, Option, Some, None, ap, arith}
 use Rattle.std.specs.Option.{option_map, option_and_then}
-use Rattle.kc_calls.specs.Meaning.{call_end, CallIsFit, program_said, said_meaning, said_end, end_said, FitIfSaid, SaidIsFit, CallsAreFit, calls_end}
+use Rattle.kc_calls.specs.Meaning.{call_end, program_said, said_end, end_said, FitIfSaid, SaidIsFit, CallsAreFit, calls_end}
 use Rattle.kc_calls.specs.Operations.{AreOperations, IsOperation}
 use Rattle.kc_calls.specs.Said.{said, done_to, acted, loc_said, stack_said, queue_said, table_said, grow_said, cache_said, mvar_said, promise_said, accumulator_said}
 use Rattle.kc_calls.specs.Structures.{structure_of}
@@ -18,7 +18,6 @@ use Rattle.kc_script_bundle.specs.declared.operation.Op.{Op}
 use Rattle.kc_script_bundle.specs.declared.operation.Op.TheVariants as op
 use Rattle.kc_term.proofs.Ones.{means_one, each_of}
 use Rattle.kc_term.specs.Fit.{Each}
-use Rattle.kc_term.specs.Meaning.{greatest_end}
 use Rattle.kc_xt.proofs.Stay.{stays_one}
 use Rattle.kc_xt.specs.Program.{replies, meaning}
 use Rattle.kc_xt.specs.Structure.{RepliesOneItem}
@@ -105,3 +104,9 @@ one_said None = means_one (program_said None) tt
 
 pub are_fit : (locations : ℕ) → locations ≤ MOST_LOCATIONS → (os : List KcasOp) → AreOperations locations os → CallsAreFit os
 are_fit locations most os h = record { few = h.few; each = each_fit locations most os h.each; single = each_of (λ o. one_said (said o)) os }
+
+-- what holds of each holds of the one at a place
+pub each_there : {X : Type 0} (P : X → Type 0) (xs : List X) (i : ℕ) (d : X) → i < length xs → Each P xs → P (get_or xs i d)
+each_there P [] i d lt h = absurd (omega arith)
+each_there P (x ∷ xs) zero d lt h = h.0
+each_there P (x ∷ xs) (suc i) d lt h = each_there P xs i d (omega arith) h.1

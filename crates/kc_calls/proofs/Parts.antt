@@ -1,5 +1,5 @@
 -- Alternatives as parts of a list of operations.
-use Rattle.std.proofs.Common.{◌≡◌, ◌≢◌, ℕ, zero, suc, ◌==◌, ◌≤◌, max, List, ◌++◌, length, take, drop, true, false, refl, sym, ap, ap₂, ◌∙◌, subst, arith}
+use Rattle.std.proofs.Common.{◌≡◌, ◌≢◌, ℕ, zero, suc, ◌≤◌, max, List, ◌++◌, length, take, drop, refl, sym, ap, ap₂, ◌∙◌, subst}
 use Rattle.std.specs.Prelude.{Result, if◌then◌else◌}
 use Rattle.std.proofs.Common.{eq-eqb, ne_eqb}
 use Rattle.std.proofs.lemmas.List.{take-append-drop}
@@ -21,6 +21,9 @@ pub record IsParted (os : List KcasOp) (one : ℕ) (first behind : List KcasOp) 
   pub more : one ≢ length os
   pub front : first ≡ take one os
   pub back : behind ≡ drop one os
+
+pub is_parted : {os : List KcasOp} {one : ℕ} {first behind : List KcasOp} → one ≡ cut os → one ≢ length os → first ≡ take one os → behind ≡ drop one os → IsParted os one first behind
+is_parted at more front back = record { at = at; more = more; front = front; back = back }
 
 module _ (os : List KcasOp) (one : ℕ) (first behind : List KcasOp) (p : IsParted os one first behind) where
   whole : first ++ behind ≡ os
@@ -51,3 +54,8 @@ alone_meaning (suc n) os one e f = ap (λ t. if t then row_meaning os else first
 -- what obeys a meaning obeys another that is the same, below a greater end
 pub obeys_as : {P : Type 0} {gives : Gives P} (m w : Meaning) (a b : ℕ) (x : Log P) (r : Result Reply Stop) (y : Log P) → m ≡ w → a ≤ b → Obeys gives m a x r y → Obeys gives w b x r y
 obeys_as {P} {gives} m w a b x r y e le h = let Q : Meaning → Type 0 = λ v. Obeys gives v b x r y in subst Q e (obeys_wider a b le _ _ _ _ h)
+
+-- where no more are told apart, what is left is one
+pub last_meaning : (os : List KcasOp) → row_meaning os ≡ alternatives_meaning 0 os
+unfolding alternatives_meaning
+last_meaning os = refl

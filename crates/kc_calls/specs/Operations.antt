@@ -1,5 +1,5 @@
 -- Which of what C says are operations of one transaction.
-use Rattle.std.specs.Prelude.{◌≡◌, ℕ, ◌<◌, ◌≤◌, List, [], ◌∷◌, length, Option, Some, None}
+use Rattle.std.specs.Prelude.{◌≡◌, ℕ, ◌<◌, ◌≤◌, List, [], ◌∷◌, length, Some}
 use Rattle.kc_calls.specs.Cut.{ors}
 use Rattle.kc_calls.specs.Meaning.{call_end}
 use Rattle.kc_calls.specs.Said.{said}

@@ -16,9 +16,7 @@ mod verbs;
 pub use call::Call;
 pub use calls::{Calls, MOST_ALTERNATIVES, MOST_CALLS};
 pub use checks::are_operations;
-pub use kinds::{
-    ACCUMULATOR, CACHE, GROW, LOCATION, MVAR, PROMISE, QUEUE, STACK, TABLE,
-};
+pub use kinds::{ACCUMULATOR, CACHE, GROW, LOCATION, MVAR, PROMISE, QUEUE, STACK, TABLE};
 pub use object::{KcasObject, cells, opening};
 pub use operation::KcasOp;
 pub use reply::{KcasReply, tell};

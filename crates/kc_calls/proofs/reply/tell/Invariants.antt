@@ -1,5 +1,5 @@
-use Rattle.std.proofs.Common.{◌≡◌, length, take, slice_get}
-use Rattle.kc_calls.specs.Told.{told, told_of}
+use Rattle.std.proofs.Common.{◌≡◌, length, take}
+use Rattle.kc_calls.specs.Told.{told}
 use Rattle.kc_term.specs.Meaning.{items_of}
 use Rattle.kc_calls.proofs.reply.tell.Given as goal
 
