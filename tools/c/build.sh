@@ -20,8 +20,8 @@ ar rcs "$to/libkcas.a" "$room"/*.o
 has() { command -v "$1" > /dev/null || { echo "no $1: $2 is left out"; return 1; }; }
 has gcc "libkcas.so, and C" && {
     gcc -shared -o "$to/libkcas.so" -Wl,--whole-archive "$to/libkcas.a" -Wl,--no-whole-archive
-    gcc -std=c11 -O2 -Wall -Wextra -I "$top/c" "$top/examples/c/accounts.c" "$to/libkcas.a" -pthread -o "$to/accounts"
+    gcc -std=c11 -O2 -Wall -Wextra -I "$top/c" "$top/c/examples/accounts.c" "$to/libkcas.a" -pthread -o "$to/accounts"
 }
-has g++ "C++" && g++ -std=c++17 -O2 -Wall -Wextra -I "$top/c" "$top/examples/c/jobs.cc" "$to/libkcas.a" -pthread -o "$to/jobs"
+has g++ "C++" && g++ -std=c++17 -O2 -Wall -Wextra -I "$top/c" "$top/c/examples/jobs.cc" "$to/libkcas.a" -pthread -o "$to/jobs"
 has cargo "Rust" && (cd "$top/c/rust" && KCAS_LIB_DIR="$to" CARGO_TARGET_DIR="$to/cargo" cargo build --offline -q --release --examples)
 echo "made in out/c: $(cd "$to" && ls -d libkcas.a libkcas.so accounts jobs 2> /dev/null | tr '\n' ' ')"

@@ -44,5 +44,5 @@ for example in accounts jobs; do
     [ -x "$to/$example" ] && { timeout 60 "$to/$example" || failed=1; }
 done
 [ -x "$to/cargo/release/examples/accounts" ] && { timeout 60 "$to/cargo/release/examples/accounts" || failed=1; }
-has python3 "Python" && { KCAS_LIB="$to/libkcas.so" timeout 60 python3 "$top/examples/c/jobs.py" || failed=1; }
+has python3 "Python" && { KCAS_LIB="$to/libkcas.so" timeout 60 python3 "$top/c/examples/jobs.py" || failed=1; }
 exit "$failed"
