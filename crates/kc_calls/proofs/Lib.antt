@@ -2,3 +2,4 @@ pub mod Placing
 pub mod Filling
 pub mod Fits
 pub mod Parts
+pub mod Saying
