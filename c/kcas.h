@@ -188,8 +188,8 @@ uint32_t kcas_is_open(kcas_caller *caller);
 /* The number of the handle's caller in its store, from 0 on: the bit by which `wakes` names it. 0xFFFFFFFF: closed. */
 uint32_t kcas_number(kcas_caller *caller);
 
-/* Tries the operations once, as one transaction: KCAS_DONE to KCAS_BUSY. At KCAS_DONE the replies of the operations that ran are
- * written in order, and KCAS_NONE to the rest of the room. KCAS_BAD_OPS where they are no transaction of this store: none or
+/* Tries the operations once, as one transaction: KCAS_DONE to KCAS_BUSY. At KCAS_DONE as many replies are written as there are
+ * operations: first those of the operations that ran, in order, then KCAS_NONE. KCAS_BAD_OPS where they are no transaction of this store: none or
  * more than 16, a kind, verb or mark that there isn't, a cell outside of the store, more than four alternatives, or
  * less room than operations. Which alternative ran is told by a KCAS_SAY in it. *wakes gets a bit for each caller
  * whose hang this try has ended, at every answer of a try: who waits by hangs has to wake them. */

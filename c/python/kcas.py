@@ -206,7 +206,7 @@ class Caller:
         if answer != DONE:
             raise Refused(answer)
         self._bell.ring()
-        return [reply.told() for reply in self._replies if reply.kind != 0]
+        return [reply.told() for reply in self._replies[: len(ops)] if reply.kind != 0]
 
     def first(self, *alternatives):
         """The first of these lists of operations that doesn't wait."""

@@ -24,7 +24,7 @@ try() {
         [ "$test" = refused ] && wrap=(-Wl,--wrap=malloc,--wrap=realloc,--wrap=free)
         gcc -std=c11 -g -O1 -Wall -Wextra "$@" -I "$top/c" "$top/tools/c/tests/$test.c" "$to/libkcas.a" "${wrap[@]}" -pthread -o "$room/$test"
         if timeout 600 "$room/$test" ${rounds:+$rounds} > "$room/said" 2>&1; then
-            echo "$name: $test passed"
+            echo "$name: $test passed $(tr '\n' ' ' < "$room/said")"
         else
             echo "$name: $test FAILED"
             tail -5 "$room/said"

@@ -7,9 +7,13 @@ static kcas_caller callers[THREADS];
 static kcas_bell *bell;
 static int rounds, way;
 static kcas_object queue, sent;
-static uint32_t taken[THREADS];
+static uint32_t taken[THREADS], waits[THREADS];
 
-static uint32_t waiting(kcas_caller *caller, const kcas_op *ops, size_t count, kcas_reply *replies) {
+static uint32_t waiting(size_t me, const kcas_op *ops, size_t count, kcas_reply *replies) {
+    kcas_caller *caller = &callers[me];
+    uint32_t answer = kcas_commit(bell, caller, ops, count, replies, count);
+    if (answer != KCAS_LATER) return answer;
+    waits[me]++;
     return way == 0 ? kcas_commit_waiting(bell, caller, ops, count, replies, count) : kcas_commit_hanging(bell, caller, ops, count, replies, count);
 }
 
@@ -19,7 +23,7 @@ static void *producer(void *arg) {
     for (int i = 0; i < rounds; i++) {
         kcas_op ops[] = { kcas_check(queue.base + 1, KCAS_LT, queue.capacity), kcas_do(queue, KCAS_ENQ, i, 0) };
         kcas_reply replies[2];
-        CLAIM(waiting(&callers[me], ops, 2, replies) == KCAS_DONE && replies[1].kind == KCAS_UNIT);
+        CLAIM(waiting(me, ops, 2, replies) == KCAS_DONE && replies[1].kind == KCAS_UNIT);
     }
     return NULL;
 }
@@ -37,7 +41,7 @@ static void *consumer(void *arg) {
     for (int i = 0; i < rounds; i++) {
         kcas_op ops[] = { kcas_do(queue, KCAS_DEQW, 0, 0), kcas_do(sent, KCAS_INCR, 0, 0) };
         kcas_reply replies[2];
-        CLAIM(waiting(&callers[me], ops, 2, replies) == KCAS_DONE && replies[0].kind == KCAS_VALUE);
+        CLAIM(waiting(me, ops, 2, replies) == KCAS_DONE && replies[0].kind == KCAS_VALUE);
         taken[me] += replies[0].value;
         if (way == 0) CLAIM(kcas_run(bell, &callers[me], take_one, &count) == KCAS_DONE);
     }
@@ -53,12 +57,13 @@ static void run(void) {
     CLAIM(kcas_open(values, 16, callers, THREADS) == KCAS_DONE);
     bell = calloc(1, sizeof *bell);
     CLAIM(bell);
-    for (size_t i = 0; i < THREADS; i++) taken[i] = 0;
+    for (size_t i = 0; i < THREADS; i++) taken[i] = waits[i] = 0;
     for (size_t i = 0; i < THREADS; i++) pthread_create(&threads[i], NULL, i < THREADS / 2 ? producer : consumer, (void *)i);
     for (size_t i = 0; i < THREADS; i++) pthread_join(threads[i], NULL);
     for (size_t i = 0; i < THREADS; i++) all += taken[i];
     CLAIM(all == (uint32_t)rounds * (uint32_t)(rounds - 1));
     for (size_t i = 0; i < THREADS; i++) CLAIM(kcas_close(&callers[i]) == KCAS_DONE);
+    printf("%s: %u waits\n", way == 0 ? "by the bell" : "by hangs", waits[0] + waits[1] + waits[2] + waits[3]);
     free(bell);
 }
 
