@@ -1,5 +1,5 @@
 //! Two threads move money between four accounts, and a third waits until one account has enough.
-use kcas::{ADD, CHECK, GE, GET, MOST_OPS, Object, Op, Refused, Reply};
+use kcas::{Object, Op, Refused, Reply, ADD, CHECK, GE, GET, MOST_OPS};
 
 fn moved(from: u32, to: u32, amount: u32) -> [Op; 3] {
     [
@@ -10,7 +10,16 @@ fn moved(from: u32, to: u32, amount: u32) -> [Op; 3] {
 }
 
 fn total(replies: [Reply; MOST_OPS]) -> u32 {
-    replies.iter().map(|reply| if let Reply::Value(value) = reply { *value } else { 0 }).sum()
+    replies
+        .iter()
+        .map(|reply| {
+            if let Reply::Value(value) = reply {
+                *value
+            } else {
+                0
+            }
+        })
+        .sum()
 }
 
 fn main() -> Result<(), Refused> {
@@ -33,6 +42,9 @@ fn main() -> Result<(), Refused> {
         clerk.join().expect("no clerk panics")?;
     }
     let looks: [Op; 4] = std::array::from_fn(|at| Object::location(at as u32).op(GET, 0, 0));
-    println!("the accounts have {}", last.commit(&looks)?.map_or(0, total));
+    println!(
+        "the accounts have {}",
+        last.commit(&looks)?.map_or(0, total)
+    );
     Ok(())
 }

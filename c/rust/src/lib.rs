@@ -3,11 +3,11 @@
 //! A [`Caller`] is one thread's handle. It may be sent to another thread and is not shared, and each call takes it by
 //! `&mut`, so the compiler upholds what `kcas.h` asks of a program.
 
+use std::cell::Cell;
 use std::hint::spin_loop;
 use std::marker::PhantomData;
-use std::cell::Cell;
-use std::sync::{Arc, Condvar, Mutex};
 use std::sync::atomic::{AtomicU32, Ordering::SeqCst};
+use std::sync::{Arc, Condvar, Mutex};
 
 mod numbers;
 pub use numbers::*;
@@ -71,9 +71,21 @@ impl std::fmt::Display for Refused {
 impl std::error::Error for Refused {}
 
 extern "C" {
-    fn kcas_open(values: *const u32, count: usize, callers: *mut Handle, callers_count: usize) -> u32;
+    fn kcas_open(
+        values: *const u32,
+        count: usize,
+        callers: *mut Handle,
+        callers_count: usize,
+    ) -> u32;
     fn kcas_close(caller: *mut Handle) -> u32;
-    fn kcas_try(caller: *mut Handle, ops: *const Op, count: usize, replies: *mut RawReply, room: usize, wakes: *mut u64) -> u32;
+    fn kcas_try(
+        caller: *mut Handle,
+        ops: *const Op,
+        count: usize,
+        replies: *mut RawReply,
+        room: usize,
+        wakes: *mut u64,
+    ) -> u32;
     fn kcas_read(caller: *mut Handle, location: u32, value: *mut u32, version: *mut u32) -> u32;
     fn kcas_cells(object: *const Object) -> u32;
     fn kcas_opening(object: *const Object, values: *mut u32, room: usize) -> u32;
@@ -82,15 +94,31 @@ extern "C" {
 impl Object {
     /// A structure whose base is not known yet: [`Layout::add`] finds it.
     pub fn new(kind: u32, capacity: u32, buckets: u32) -> Object {
-        Object { kind, base: 0, capacity, buckets }
+        Object {
+            kind,
+            base: 0,
+            capacity,
+            buckets,
+        }
     }
 
     pub fn location(base: u32) -> Object {
-        Object { kind: LOC, base, capacity: 0, buckets: 0 }
+        Object {
+            kind: LOC,
+            base,
+            capacity: 0,
+            buckets: 0,
+        }
     }
 
     pub fn op(self, verb: u32, a: u32, b: u32) -> Op {
-        Op { verb, mark: NEXT, on: self, a, b }
+        Op {
+            verb,
+            mark: NEXT,
+            on: self,
+            a,
+            b,
+        }
     }
 }
 
@@ -156,11 +184,24 @@ impl Drop for Caller {
 
 /// A store with these values, and so many callers of it.
 pub fn open(values: &[u32], callers: usize) -> Result<Vec<Caller>, Refused> {
-    let mut handles: Vec<Handle> = (0..callers).map(|_| Handle { held: 0, busy: 0, at: std::ptr::null_mut() }).collect();
+    let mut handles: Vec<Handle> = (0..callers)
+        .map(|_| Handle {
+            held: 0,
+            busy: 0,
+            at: std::ptr::null_mut(),
+        })
+        .collect();
     match unsafe { kcas_open(values.as_ptr(), values.len(), handles.as_mut_ptr(), callers) } {
         DONE => {
             let bell = Arc::new(Bell::default());
-            Ok(handles.into_iter().map(|handle| Caller { handle: Box::new(handle), bell: bell.clone(), _one_thread: PhantomData }).collect())
+            Ok(handles
+                .into_iter()
+                .map(|handle| Caller {
+                    handle: Box::new(handle),
+                    bell: bell.clone(),
+                    _one_thread: PhantomData,
+                })
+                .collect())
         }
         answer => Err(Refused(answer)),
     }
@@ -172,7 +213,16 @@ impl Caller {
         let mut raw = [RawReply::default(); MOST_OPS];
         loop {
             let mut wakes = 0;
-            match unsafe { kcas_try(&mut *self.handle, ops.as_ptr(), ops.len(), raw.as_mut_ptr(), MOST_OPS, &mut wakes) } {
+            match unsafe {
+                kcas_try(
+                    &mut *self.handle,
+                    ops.as_ptr(),
+                    ops.len(),
+                    raw.as_mut_ptr(),
+                    MOST_OPS,
+                    &mut wakes,
+                )
+            } {
                 DONE => break,
                 LATER => return Ok(None),
                 LOST | BUSY => spin_loop(),
@@ -194,7 +244,12 @@ impl Caller {
             let tried = self.commit(ops);
             if let Ok(None) = tried {
                 let now = self.bell.changes.lock().expect("no holder panics");
-                drop(self.bell.changed.wait_while(now, |now| *now == seen).expect("no holder panics"));
+                drop(
+                    self.bell
+                        .changed
+                        .wait_while(now, |now| *now == seen)
+                        .expect("no holder panics"),
+                );
             }
             self.bell.waiters.fetch_sub(1, SeqCst);
             if let Some(replies) = tried? {
