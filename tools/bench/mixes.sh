@@ -43,6 +43,9 @@ build_peer bare g++ -std=c++17 -O2 -march=x86-64-v2 -pthread "$mixes/bare.cpp"
 build_peer release g++ -std=c++17 -O2 -march=x86-64-v2 -pthread -DRELEASE "$mixes/bare.cpp"
 build_peer stm ghc -O2 -threaded -rtsopts -with-rtsopts=-A64m -outputdir "$room/stm.o" "$mixes/Stm.hs"
 build_peer mutex g++ -std=c++17 -O2 -march=x86-64-v2 -pthread "$mixes/mutex.cpp"
+if [ -f "$top/out/c/libkcas.a" ]; then
+    build_peer c g++ -std=c++17 -O2 -march=x86-64-v2 -pthread -I "$top/c" "$top/tools/c/bench/kcas.cpp" "$top/out/c/libkcas.a"
+fi
 build_peer gcc g++ -std=c++17 -O2 -march=x86-64-v2 -pthread -fgnu-tm "$mixes/transactional.cpp"
 
 run_all() {

@@ -12,6 +12,7 @@ WHO = {
     "kcas": "lock-free store",
     "bare": "its atomic operations alone, in C++",
     "release": "the same with release stores",
+    "c": "the same store from C",
     "locked": "store behind one lock",
     "stm": "GHC's STM",
     "mutex": "C++ mutex",

@@ -1,0 +1,482 @@
+/*
+ * kcas.h: transactions on a store that threads share without a lock.
+ *
+ * A store has up to 65,536 locations of 32 bits, and up to 64 callers. Structures (stacks, queues, tables, caches ..) lie
+ * in its locations. A transaction is an array of operations that happens at one moment or not at all. Each thread
+ * has a handle of its own, a `kcas_caller`; no call waits, and no transaction takes memory.
+ *
+ * The first part declares the calls of the library libkcas.a; what each answers is proved. The second part is plain
+ * C over these calls: it tries again, waits, and runs transactions whose next step depends on what they read.
+ *
+ * What a program has to uphold, since the library can't test it:
+ *
+ * - one thread at a time in a handle; a handle is handed on by a lock, a join or an atomic (with KCAS_CHECKED
+ *   defined, a second thread in a handle ends the program);
+ * - a handle may be moved while no call runs on it; it is never copied and then used twice, nor written to;
+ * - a pointer has as many elements behind it as is said, and replies and ops don't overlap;
+ * - no call from a signal handler, nor in a child between fork and exec;
+ * - all who commit on a store by which some wait use that store's one bell.
+ */
+#ifndef KCAS_H
+#define KCAS_H
+
+#include <stddef.h>
+#include <stdint.h>
+
+#ifdef __cplusplus
+extern "C" {
+#endif
+
+/* ---- data ---- */
+
+/* A caller's handle. All zero: closed. */
+typedef struct kcas_caller {
+    uint32_t held;
+    uint32_t busy; /* of KCAS_CHECKED alone */
+    void *at;
+} kcas_caller;
+
+#define KCAS_CALLER_INIT { 0, 0, 0 }
+
+/* Kinds of structures. A stack, queue or growing table has a capacity of 1 to 4,096 items or keys; a table and a
+ * cache have besides 1 to 1,024 buckets; the capacity of a total is the number of its cells, 1 to 32. */
+enum {
+    KCAS_LOC = 1, /* one location */
+    KCAS_STACK,
+    KCAS_QUEUE,
+    KCAS_TABLE,
+    KCAS_GROW, /* a table that begins with one bucket and splits buckets as keys come */
+    KCAS_CACHE, /* a table that drops the least recently used key */
+    KCAS_MVAR, /* a place for one value */
+    KCAS_PROMISE, /* a value that is set once */
+    KCAS_ACC /* a total that is kept in several cells, so that those who add seldom meet */
+};
+
+/* Where a structure lies: its kind, its first location, its sizes. What its kind doesn't use is not looked at.
+ * Structures that overlap are the program's to avoid: kcas_cells says how many locations one takes. */
+typedef struct kcas_object {
+    uint32_t kind, base, capacity, buckets;
+} kcas_object;
+
+/* What is done. K is a key, V and W are values; "waits" says when the transaction is answered KCAS_LATER. */
+enum {
+    KCAS_SAY = 1, /* a = V: replies V, touches nothing, and needs no structure */
+    /* on a location */
+    KCAS_GET, /* replies the value */
+    KCAS_SET, /* a = V: unit */
+    KCAS_XCHG, /* a = V: puts V, replies the value before */
+    KCAS_SWAP, /* a = another location: each gets the other's value; unit */
+    KCAS_CAS, /* a = V, b = W: puts W where the value is V; bool */
+    KCAS_ADD, /* a = V: adds V, which wraps; replies the value before */
+    KCAS_INCR, /* unit */
+    KCAS_DECR, /* unit */
+    KCAS_UPDATE, /* a = a function, b = V: puts what it makes of the value and V, replies the value before */
+    KCAS_MODIFY, /* the same; unit */
+    KCAS_CHECK, /* a = a relation, b = V: waits unless it holds of the value and V; unit */
+    KCAS_DIFFERS, /* a = V: waits while the value is V; unit */
+    /* on a stack */
+    KCAS_PUSH, /* a = V: unit, or full */
+    KCAS_POP, /* the top item, or empty */
+    KCAS_POPW, /* the top item; waits where there is none */
+    KCAS_TOP, /* the top item, which stays, or empty */
+    /* on a queue */
+    KCAS_ENQ, /* a = V: unit, or full */
+    KCAS_DEQ, /* the front item, or empty */
+    KCAS_DEQW, /* the front item; waits where there is none */
+    KCAS_FRONT, /* the front item, which stays, or empty */
+    /* on a table of either kind */
+    KCAS_PUT, /* a = K, b = V: unit; full where K is new and there is no room */
+    KCAS_FIND, /* a = K: its value, or empty */
+    KCAS_DEL, /* a = K: takes it out and replies its value, or empty */
+    /* on a cache; each but KCAS_CDEL makes its key the most recently used one */
+    KCAS_CPUT, /* a = K, b = V: unit; the least recently used key goes where K is new and there is no room */
+    KCAS_CPUTW, /* a = K, b = V: unit; waits where a key would have to go */
+    KCAS_CGET, /* a = K: its value, or empty */
+    KCAS_CDEL, /* a = K: takes it out and replies its value, or empty */
+    /* on a one-place variable */
+    KCAS_MPUT, /* a = V: unit; waits where there is a value */
+    KCAS_MTAKE, /* takes the value; waits where there is none */
+    KCAS_MPEEK, /* the value, which stays, or empty */
+    /* on a promise */
+    KCAS_RESOLVE, /* a = V: unit; bool false where there is a value, which stays */
+    KCAS_AWAIT, /* the value; waits where there is none */
+    KCAS_RESOLVED, /* bool */
+    /* on a total */
+    KCAS_BUMP, /* a = V, b = a number that picks the cell, as that of a thread: unit */
+    KCAS_TOTAL, /* the total, which wraps */
+    /* on a stack, queue, table or cache */
+    KCAS_LEN /* how many items or keys */
+};
+
+/* Functions of KCAS_UPDATE and KCAS_MODIFY. */
+enum { KCAS_FUN_ADD = 1, KCAS_FUN_MAX, KCAS_FUN_MIN, KCAS_FUN_AND, KCAS_FUN_OR, KCAS_FUN_XOR };
+
+/* Relations of KCAS_CHECK, the location's value standing left. */
+enum { KCAS_EQ = 1, KCAS_NE, KCAS_LT, KCAS_LE, KCAS_GT, KCAS_GE };
+
+/* KCAS_OR: this operation begins the next alternative. The alternatives are tried in order; one that would wait is
+ * forgotten, with all that it did. A transaction has at most four. */
+enum { KCAS_NEXT = 0, KCAS_OR = 1 };
+
+typedef struct kcas_op {
+    uint32_t verb, mark;
+    kcas_object on;
+    uint32_t a, b;
+} kcas_op;
+
+/* Kinds of replies. */
+enum { KCAS_NONE = 0, KCAS_UNIT, KCAS_VALUE, KCAS_BOOL, KCAS_EMPTY, KCAS_FULL };
+
+/* The value is that of KCAS_VALUE, 1 or 0 at KCAS_BOOL, and else 0. */
+typedef struct kcas_reply {
+    uint32_t kind, value;
+} kcas_reply;
+
+typedef struct kcas_seen {
+    uint32_t location, version, value;
+} kcas_seen;
+
+/* What the calls answer. */
+enum {
+    KCAS_DONE = 0,
+    /* of a try */
+    KCAS_LATER = 1, /* it would wait: nothing was done */
+    KCAS_TOO_LARGE = 2, /* it would touch more than 256 locations: nothing was done */
+    KCAS_WORN = 3, /* a location has been put 2,147,483,647 times: nothing was done */
+    KCAS_POOL_WORN = 4, /* the store has no descriptor left, after billions of tries */
+    KCAS_LOST = 5, /* another caller was faster: nothing was done; try again */
+    KCAS_BUSY = 6, /* given up in time: nothing was done; try again */
+    /* of a wrong call: nothing was changed */
+    KCAS_CLOSED = 16,
+    KCAS_IS_OPEN = 17,
+    KCAS_BAD_OPS = 18,
+    KCAS_NO_MEMORY = 19,
+    KCAS_BAD_SIZE = 20,
+    KCAS_NOT_NOW = 21, /* the caller hangs, or doesn't */
+    /* of a hang */
+    KCAS_GOING = 32,
+    KCAS_HUNG = 33,
+    KCAS_LEAVING = 34,
+    KCAS_FREE = 35,
+    KCAS_QUIET = 36,
+    KCAS_SIGNALLED = 37
+};
+
+enum { KCAS_MOST_LOCATIONS = 65536, KCAS_MOST_CALLERS = 64, KCAS_MOST_OPS = 16, KCAS_MOST_TOUCHED = 256 };
+
+/* ---- calls of the library ---- */
+
+/* How many locations a structure takes, from its base on; 0 where there is no such structure: of an unknown kind, of a
+ * size that there isn't, or with a cell above location 65,535. */
+uint32_t kcas_cells(const kcas_object *object);
+
+/* Writes the values that the structure's cells open with, to values[0] and on: KCAS_DONE. KCAS_BAD_SIZE where there is no
+ * such structure, or fewer values than it has cells; then none is written. */
+uint32_t kcas_opening(const kcas_object *object, uint32_t *values, size_t room);
+
+/* Opens a store whose locations have these values, at most 65,536, and each handle as one of its callers, 1 to 64:
+ * KCAS_DONE. Or KCAS_IS_OPEN where one of them was open, KCAS_BAD_SIZE, KCAS_NO_MEMORY: then those that were closed are
+ * closed, and no memory is kept. */
+uint32_t kcas_open(const uint32_t *values, size_t count, kcas_caller *callers, size_t callers_count);
+
+/* Closes the handle: KCAS_DONE, or KCAS_CLOSED. The store is freed with its last handle. */
+uint32_t kcas_close(kcas_caller *caller);
+
+/* 1 or 0. */
+uint32_t kcas_is_open(kcas_caller *caller);
+
+/* The number of the handle's caller in its store, from 0 on: the bit by which `wakes` names it. 0xFFFFFFFF: closed. */
+uint32_t kcas_number(kcas_caller *caller);
+
+/* Tries the operations once, as one transaction: KCAS_DONE to KCAS_BUSY. At KCAS_DONE as many replies are written as there are
+ * operations: first those of the operations that ran, in order, then KCAS_NONE. KCAS_BAD_OPS where they are no transaction of this store: none or
+ * more than 16, a kind, verb or mark that there isn't, a cell outside of the store, more than four alternatives, or
+ * less room than operations. Which alternative ran is told by a KCAS_SAY in it. *wakes gets a bit for each caller
+ * whose hang this try has ended, at every answer of a try: who waits by hangs has to wake them. */
+uint32_t kcas_try(kcas_caller *caller, const kcas_op *ops, size_t count, kcas_reply *replies, size_t room, uint64_t *wakes);
+
+/* One location and its version, without a transaction: KCAS_DONE; KCAS_BUSY; KCAS_BAD_OPS for a location outside. */
+uint32_t kcas_read(kcas_caller *caller, uint32_t location, uint32_t *value, uint32_t *version);
+
+/* What the last try read, in rising order of location: how many are written. */
+size_t kcas_reads(kcas_caller *caller, kcas_seen *reads, size_t room);
+
+/* A wait for a change of what the last try read, a step a call; kcas_commit_hanging below makes it. kcas_hang begins it:
+ * KCAS_GOING. kcas_hang_step: KCAS_GOING until KCAS_HUNG (the caller will be signalled), or KCAS_FREE (something has changed
+ * already). kcas_signalled: KCAS_QUIET or KCAS_SIGNALLED. kcas_leave begins to leave: KCAS_LEAVING, and kcas_hang_step until
+ * KCAS_FREE. While a caller hangs its tries are answered KCAS_NOT_NOW. */
+uint32_t kcas_hang(kcas_caller *caller);
+uint32_t kcas_hang_step(kcas_caller *caller);
+uint32_t kcas_signalled(kcas_caller *caller);
+uint32_t kcas_leave(kcas_caller *caller);
+
+#ifdef __cplusplus
+}
+#endif
+
+/* ---- what is plain C over these calls ---- */
+
+#include <stdlib.h>
+
+#ifdef __linux__
+#include <linux/futex.h>
+#include <sys/syscall.h>
+#include <unistd.h>
+#ifndef __cplusplus
+long syscall(long number, ...);
+#endif
+#endif
+
+#ifdef __cplusplus
+#include <atomic>
+typedef std::atomic<uint32_t> kcas_word;
+static inline uint32_t kcas_load(kcas_word *word) { return word->load(); }
+static inline uint32_t kcas_plus(kcas_word *word, uint32_t n) { return word->fetch_add(n); }
+#else
+#include <stdatomic.h>
+typedef _Atomic uint32_t kcas_word;
+static inline uint32_t kcas_load(kcas_word *word) { return atomic_load(word); }
+static inline uint32_t kcas_plus(kcas_word *word, uint32_t n) { return atomic_fetch_add(word, n); }
+#endif
+
+#ifdef KCAS_CHECKED
+/* A second thread in a handle ends the program. */
+static inline void kcas_enter(kcas_caller *caller) {
+    if (__atomic_exchange_n(&caller->busy, 1, __ATOMIC_ACQUIRE)) abort();
+}
+static inline void kcas_exit(kcas_caller *caller) { __atomic_store_n(&caller->busy, 0, __ATOMIC_RELEASE); }
+#else
+static inline void kcas_enter(kcas_caller *caller) { (void)caller; }
+static inline void kcas_exit(kcas_caller *caller) { (void)caller; }
+#endif
+
+/* Structures. */
+static inline kcas_object kcas_object_of(uint32_t kind, uint32_t base, uint32_t capacity, uint32_t buckets) {
+    kcas_object object;
+    object.kind = kind;
+    object.base = base;
+    object.capacity = capacity;
+    object.buckets = buckets;
+    return object;
+}
+static inline kcas_object kcas_loc(uint32_t location) { return kcas_object_of(KCAS_LOC, location, 0, 0); }
+static inline kcas_object kcas_stack(uint32_t base, uint32_t capacity) { return kcas_object_of(KCAS_STACK, base, capacity, 0); }
+static inline kcas_object kcas_queue(uint32_t base, uint32_t capacity) { return kcas_object_of(KCAS_QUEUE, base, capacity, 0); }
+static inline kcas_object kcas_table(uint32_t base, uint32_t buckets, uint32_t capacity) { return kcas_object_of(KCAS_TABLE, base, capacity, buckets); }
+static inline kcas_object kcas_grow(uint32_t base, uint32_t capacity) { return kcas_object_of(KCAS_GROW, base, capacity, 0); }
+static inline kcas_object kcas_cache(uint32_t base, uint32_t buckets, uint32_t capacity) { return kcas_object_of(KCAS_CACHE, base, capacity, buckets); }
+static inline kcas_object kcas_mvar(uint32_t base) { return kcas_object_of(KCAS_MVAR, base, 0, 0); }
+static inline kcas_object kcas_promise(uint32_t base) { return kcas_object_of(KCAS_PROMISE, base, 0, 0); }
+static inline kcas_object kcas_acc(uint32_t base, uint32_t cells) { return kcas_object_of(KCAS_ACC, base, cells, 0); }
+
+/* Operations. */
+static inline kcas_op kcas_do(kcas_object on, uint32_t verb, uint32_t a, uint32_t b) {
+    kcas_op op;
+    op.verb = verb;
+    op.mark = KCAS_NEXT;
+    op.on = on;
+    op.a = a;
+    op.b = b;
+    return op;
+}
+static inline kcas_op kcas_at(uint32_t location, uint32_t verb, uint32_t a, uint32_t b) { return kcas_do(kcas_loc(location), verb, a, b); }
+static inline kcas_op kcas_check(uint32_t location, uint32_t relation, uint32_t value) { return kcas_at(location, KCAS_CHECK, relation, value); }
+static inline kcas_op kcas_say(uint32_t value) { return kcas_at(0, KCAS_SAY, value, 0); }
+static inline kcas_op kcas_or(kcas_op op) {
+    op.mark = KCAS_OR;
+    return op;
+}
+
+/* Where threads sleep that wait for a change. One for a store, all zero at first. */
+typedef struct kcas_bell {
+    kcas_word waiters, changes;
+    kcas_word seats[KCAS_MOST_CALLERS];
+} kcas_bell;
+
+static inline void kcas_sleep(kcas_word *word, uint32_t seen) {
+#ifdef __linux__
+    syscall(SYS_futex, (uint32_t *)word, FUTEX_WAIT_PRIVATE, seen, (void *)0, (void *)0, 0);
+#else
+    (void)word;
+    (void)seen;
+#endif
+}
+static inline void kcas_rouse(kcas_word *word) {
+    kcas_plus(word, 1);
+#ifdef __linux__
+    syscall(SYS_futex, (uint32_t *)word, FUTEX_WAKE_PRIVATE, INT32_MAX, (void *)0, (void *)0, 0);
+#endif
+}
+static inline void kcas_pause(void) {
+#if defined(__x86_64__) || defined(__i386__)
+    __builtin_ia32_pause();
+#elif defined(__aarch64__)
+    __asm__ volatile("yield");
+#endif
+}
+
+/* Tries until a try was neither lost nor given up, and wakes those whose hangs it ended. */
+static inline uint32_t kcas_commit_quietly(kcas_bell *bell, kcas_caller *caller, const kcas_op *ops, size_t count, kcas_reply *replies, size_t room) {
+    uint32_t answer, pauses = 16;
+    kcas_enter(caller);
+    for (;;) {
+        uint64_t wakes = 0;
+        answer = kcas_try(caller, ops, count, replies, room, &wakes);
+        for (uint32_t i = 0; wakes != 0 && bell; wakes >>= 1, i++) {
+            if (wakes & 1) kcas_rouse(&bell->seats[i]);
+        }
+        if (answer != KCAS_LOST && answer != KCAS_BUSY) break;
+        for (uint32_t i = 0; i < pauses; i++) kcas_pause();
+        if (pauses < 1024) pauses *= 2;
+    }
+    kcas_exit(caller);
+    return answer;
+}
+
+/* Tries until a try was neither lost nor given up, and wakes who waits: every answer of kcas_try but KCAS_LOST and
+ * KCAS_BUSY. The bell may be NULL where nobody waits. */
+static inline uint32_t kcas_commit(kcas_bell *bell, kcas_caller *caller, const kcas_op *ops, size_t count, kcas_reply *replies, size_t room) {
+    uint32_t answer = kcas_commit_quietly(bell, caller, ops, count, replies, room);
+    if (answer == KCAS_DONE && bell && kcas_load(&bell->waiters) != 0) kcas_rouse(&bell->changes);
+    return answer;
+}
+
+/* And waits where it would have to: never KCAS_LATER. It wakes at each commit on the store by the same bell. */
+static inline uint32_t kcas_commit_waiting(kcas_bell *bell, kcas_caller *caller, const kcas_op *ops, size_t count, kcas_reply *replies, size_t room) {
+    uint32_t answer = kcas_commit(bell, caller, ops, count, replies, room);
+    while (answer == KCAS_LATER) {
+        kcas_plus(&bell->waiters, 1);
+        uint32_t seen = kcas_load(&bell->changes);
+        answer = kcas_commit(bell, caller, ops, count, replies, room);
+        if (answer == KCAS_LATER) kcas_sleep(&bell->changes, seen);
+        kcas_plus(&bell->waiters, (uint32_t)-1);
+        if (answer == KCAS_LATER) answer = kcas_commit(bell, caller, ops, count, replies, room);
+    }
+    return answer;
+}
+
+/* Waits for a change of what the last try read, by a hang of the store itself. */
+static inline void kcas_hang_on(kcas_bell *bell, kcas_caller *caller) {
+    kcas_enter(caller);
+    uint32_t step = kcas_hang(caller), number = kcas_number(caller);
+    while (step == KCAS_GOING) step = kcas_hang_step(caller);
+    if (step == KCAS_HUNG) {
+        for (;;) {
+            uint32_t seen = kcas_load(&bell->seats[number]);
+            if (kcas_signalled(caller) != KCAS_QUIET) break;
+            kcas_sleep(&bell->seats[number], seen);
+        }
+        step = kcas_leave(caller);
+        while (step == KCAS_LEAVING) step = kcas_hang_step(caller);
+    }
+    kcas_exit(caller);
+}
+
+/* As kcas_commit_waiting, but it wakes only at a change of what it read. It costs more to begin to wait, and nothing to
+ * those who commit elsewhere. */
+static inline uint32_t kcas_commit_hanging(kcas_bell *bell, kcas_caller *caller, const kcas_op *ops, size_t count, kcas_reply *replies, size_t room) {
+    uint32_t answer;
+    while ((answer = kcas_commit(bell, caller, ops, count, replies, room)) == KCAS_LATER) kcas_hang_on(bell, caller);
+    return answer;
+}
+
+/* ---- transactions whose next step depends on what they read ---- */
+
+/* What a body has read and is to write: up to 16 locations read and written together. */
+typedef struct kcas_log {
+    kcas_op ops[KCAS_MOST_OPS];
+    uint32_t count;
+    uint32_t failed; /* an answer that ends it, or 0 */
+    kcas_caller *caller;
+} kcas_log;
+
+/* The value of a location: what the body wrote there, or read there before, or what stands there now. 0 once the log has
+ * failed. The values of two locations may be of two moments; then the body runs again. */
+static inline uint32_t kcas_read_in(kcas_log *log, uint32_t location) {
+    uint32_t value = 0, version, answer;
+    for (uint32_t i = log->count; i > 0; i--) {
+        const kcas_op *op = &log->ops[i - 1];
+        if (op->on.base == location) return op->verb == KCAS_SET ? op->a : op->b;
+    }
+    if (log->failed) return 0;
+    if (log->count == KCAS_MOST_OPS) {
+        log->failed = KCAS_BAD_OPS;
+        return 0;
+    }
+    kcas_enter(log->caller);
+    while ((answer = kcas_read(log->caller, location, &value, &version)) == KCAS_BUSY) kcas_pause();
+    kcas_exit(log->caller);
+    if (answer != KCAS_DONE) {
+        log->failed = answer;
+        return 0;
+    }
+    log->ops[log->count++] = kcas_check(location, KCAS_EQ, value);
+    return value;
+}
+
+static inline void kcas_write(kcas_log *log, uint32_t location, uint32_t value) {
+    for (uint32_t i = 0; i < log->count; i++) {
+        if (log->ops[i].verb == KCAS_SET && log->ops[i].on.base == location) {
+            log->ops[i].a = value;
+            return;
+        }
+    }
+    if (log->count == KCAS_MOST_OPS) {
+        log->failed = KCAS_BAD_OPS;
+        return;
+    }
+    log->ops[log->count++] = kcas_at(location, KCAS_SET, value, 0);
+}
+
+/* What a body answers. */
+enum { KCAS_COMMIT = 0, KCAS_WAIT = 1, KCAS_STOP = 2 };
+
+/* Whether all that the body read still stands, at one moment: KCAS_DONE, or KCAS_LATER. */
+static inline uint32_t kcas_still(kcas_bell *bell, kcas_log *log) {
+    kcas_reply replies[KCAS_MOST_OPS];
+    uint32_t reads = 0;
+    for (uint32_t i = 0; i < log->count; i++) {
+        if (log->ops[i].verb == KCAS_CHECK) log->ops[reads++] = log->ops[i];
+    }
+    log->count = reads;
+    if (reads == 0) return KCAS_DONE;
+    return kcas_commit_quietly(bell, log->caller, log->ops, reads, replies, KCAS_MOST_OPS);
+}
+
+/* The same, and it sleeps until the next commit by the bell where all still stands. */
+static inline uint32_t kcas_wait_in(kcas_bell *bell, kcas_log *log) {
+    kcas_plus(&bell->waiters, 1);
+    uint32_t seen = kcas_load(&bell->changes);
+    uint32_t answer = kcas_still(bell, log);
+    if (answer == KCAS_DONE && log->count != 0) kcas_sleep(&bell->changes, seen);
+    kcas_plus(&bell->waiters, (uint32_t)-1);
+    return log->count == 0 ? (uint32_t)KCAS_BAD_OPS : answer;
+}
+
+/* Runs the body until what it read stood at one moment, and then makes its writes at that moment: KCAS_DONE. The body has no
+ * effects but by kcas_write, may run many times, and ends by itself on any values. Where it answers KCAS_WAIT it runs again
+ * once something was changed; where KCAS_STOP, nothing is written: KCAS_LATER. KCAS_BAD_OPS for more than 16 reads and writes, a
+ * location outside, or a wait on nothing; or as kcas_try. */
+static inline uint32_t kcas_run(kcas_bell *bell, kcas_caller *caller, uint32_t (*body)(kcas_log *log, void *with), void *with) {
+    for (;;) {
+        kcas_log log;
+        kcas_reply replies[KCAS_MOST_OPS];
+        log.count = log.failed = 0;
+        log.caller = caller;
+        uint32_t wish = body(&log, with), answer;
+        if (log.failed) return log.failed;
+        if (wish == KCAS_WAIT) {
+            answer = kcas_wait_in(bell, &log);
+            if (answer != KCAS_DONE && answer != KCAS_LATER) return answer;
+        } else if (wish == KCAS_STOP) {
+            answer = kcas_still(bell, &log);
+            if (answer != KCAS_LATER) return answer == KCAS_DONE ? (uint32_t)KCAS_LATER : answer;
+        } else {
+            if (log.count == 0) return KCAS_DONE;
+            answer = kcas_commit(bell, caller, log.ops, log.count, replies, KCAS_MOST_OPS);
+            if (answer != KCAS_LATER) return answer;
+        }
+    }
+}
+
+#endif

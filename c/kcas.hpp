@@ -1,0 +1,131 @@
+// kcas.hpp: kcas.h for C++17. A caller is moved and never copied, and closes its handle; a store hands them out.
+#ifndef KCAS_HPP
+#define KCAS_HPP
+
+#include "kcas.h"
+
+#include <array>
+#include <cstddef>
+#include <memory>
+#include <stdexcept>
+#include <string>
+#include <type_traits>
+#include <utility>
+#include <vector>
+
+namespace kcas {
+
+using object = kcas_object;
+using op = kcas_op;
+using reply = kcas_reply;
+
+// What a call refused, by its number.
+struct refused : std::runtime_error {
+    std::uint32_t answer;
+    explicit refused(std::uint32_t answer) : std::runtime_error("kcas: answer " + std::to_string(answer)), answer(answer) {}
+};
+
+// The operations of one transaction, and behind it their replies.
+class transaction {
+public:
+    transaction &add(const op &operation) {
+        if (count_ == ops_.size()) throw refused(KCAS_BAD_OPS);
+        ops_[count_++] = operation;
+        return *this;
+    }
+    transaction &add(const object &on, std::uint32_t verb, std::uint32_t a = 0, std::uint32_t b = 0) { return add(kcas_do(on, verb, a, b)); }
+    // Begins the next alternative with this operation.
+    transaction &or_else(const op &operation) { return add(kcas_or(operation)); }
+    transaction &or_else(const object &on, std::uint32_t verb, std::uint32_t a = 0, std::uint32_t b = 0) { return or_else(kcas_do(on, verb, a, b)); }
+    std::size_t size() const { return count_; }
+    const reply &operator[](std::size_t i) const { return replies_[i]; }
+
+private:
+    friend class caller;
+    std::array<op, KCAS_MOST_OPS> ops_{};
+    std::array<reply, KCAS_MOST_OPS> replies_{};
+    std::size_t count_ = 0;
+};
+
+// One caller of a store. One thread at a time uses it.
+class caller {
+public:
+    caller(caller &&other) noexcept : handle_(std::exchange(other.handle_, kcas_caller KCAS_CALLER_INIT)), bell_(std::move(other.bell_)) {}
+    caller &operator=(caller &&other) noexcept {
+        if (this != &other) {
+            kcas_close(&handle_);
+            handle_ = std::exchange(other.handle_, kcas_caller KCAS_CALLER_INIT);
+            bell_ = std::move(other.bell_);
+        }
+        return *this;
+    }
+    caller(const caller &) = delete;
+    caller &operator=(const caller &) = delete;
+    ~caller() { kcas_close(&handle_); }
+
+    // False where it would wait; a refusal is thrown.
+    bool commit(transaction &t) { return checked(kcas_commit(bell_.get(), &handle_, t.ops_.data(), t.count_, t.replies_.data(), t.replies_.size())); }
+    void commit_waiting(transaction &t) { checked(kcas_commit_waiting(bell_.get(), &handle_, t.ops_.data(), t.count_, t.replies_.data(), t.replies_.size())); }
+    void commit_hanging(transaction &t) { checked(kcas_commit_hanging(bell_.get(), &handle_, t.ops_.data(), t.count_, t.replies_.data(), t.replies_.size())); }
+
+    // One operation, and its reply.
+    reply commit(const object &on, std::uint32_t verb, std::uint32_t a = 0, std::uint32_t b = 0) {
+        op operation = kcas_do(on, verb, a, b);
+        reply told{};
+        if (!checked(kcas_commit(bell_.get(), &handle_, &operation, 1, &told, 1))) throw refused(KCAS_LATER);
+        return told;
+    }
+
+    // A body that is called with a log, as by kcas_run: false where it stopped.
+    template <class Body>
+    bool run(Body &&body) {
+        using Called = std::remove_reference_t<Body>;
+        return checked(kcas_run(bell_.get(), &handle_, [](kcas_log *log, void *with) -> std::uint32_t { return (*static_cast<Called *>(with))(*log); }, const_cast<void *>(static_cast<const void *>(std::addressof(body)))));
+    }
+
+    kcas_caller *get() { return &handle_; }
+
+private:
+    friend std::vector<caller> open(const std::vector<std::uint32_t> &, std::size_t);
+    caller(kcas_caller handle, std::shared_ptr<kcas_bell> bell) : handle_(handle), bell_(std::move(bell)) {}
+    static bool checked(std::uint32_t answer) {
+        if (answer != KCAS_DONE && answer != KCAS_LATER) throw refused(answer);
+        return answer == KCAS_DONE;
+    }
+    kcas_caller handle_;
+    std::shared_ptr<kcas_bell> bell_;
+};
+
+// A store with these values, and so many callers of it.
+inline std::vector<caller> open(const std::vector<std::uint32_t> &values, std::size_t count) {
+    std::vector<caller> callers;
+    callers.reserve(count);
+    std::vector<kcas_caller> handles(count, kcas_caller KCAS_CALLER_INIT);
+    auto bell = std::make_shared<kcas_bell>();
+    std::uint32_t answer = kcas_open(values.data(), values.size(), handles.data(), count);
+    if (answer != KCAS_DONE) throw refused(answer);
+    for (const kcas_caller &handle : handles) callers.push_back(caller(handle, bell));
+    return callers;
+}
+
+// The values of structures that lie one behind another, from location `first` on.
+class layout {
+public:
+    explicit layout(std::size_t first = 0) : values_(first) {}
+    object add(object o) {
+        o.base = static_cast<std::uint32_t>(values_.size());
+        std::size_t cells = kcas_cells(&o);
+        if (cells == 0) throw refused(KCAS_BAD_SIZE);
+        values_.resize(values_.size() + cells);
+        kcas_opening(&o, values_.data() + o.base, cells);
+        return o;
+    }
+    const std::vector<std::uint32_t> &values() const { return values_; }
+
+private:
+    std::vector<std::uint32_t> values_;
+};
+
+}  // namespace kcas
+
+#endif

@@ -1,0 +1,5 @@
+pub mod Placing
+pub mod Filling
+pub mod Fits
+pub mod Parts
+pub mod Saying

@@ -1,0 +1,80 @@
+//! The operation that C says, with its structure.
+
+ghost use Rattle.std.specs.Prelude.{◌≡◌};
+ghost use Rattle.kc_calls.specs.Said.{said, done_to};
+
+use crate::acts::{
+    accumulator_act, cache_act, grow_act, loc_op, mvar_act, promise_act, queue_act, stack_act,
+    table_act,
+};
+use crate::call::Call;
+use crate::operation::KcasOp;
+use crate::verbs::SAY;
+use kc_cache::CacheOp;
+use kc_cells::{AccOp, MvarOp, PromiseOp};
+use kc_grow::GrowOp;
+use kc_hash::HashOp;
+use kc_queue::QueueOp;
+use kc_script_bundle::{Object, Op};
+use kc_stack::StackOp;
+
+impl KcasOp {
+    // The operation that it says, if it is one.
+    #[inline(always)]
+    #[tactic(auto, unfolding(crate::specs::Said::said))]
+    pub(crate) fn said(&self) -> Option<Call>
+        ensures { result ≡ said self.now }
+    {
+        if self.verb == SAY {
+            return Some(Call::Say(self.a));
+        }
+        match self.on.structure() {
+            Some(structure) => done_to(structure, self.verb, self.a, self.b),
+            None => None,
+        }
+    }
+}
+
+// What is done to a structure.
+#[inline(always)]
+#[tactic(auto, unfolding(crate::specs::Said::done_to))]
+fn done_to(structure: Object, verb: u32, a: u32, b: u32) -> Option<Call>
+    ensures { result ≡ done_to structure verb a b }
+{
+    let operation = match structure {
+        Object::Loc { at, .. } => Op::Loc(loc_op(at, verb, a, b)?),
+        Object::Stack(stack) => Op::Stack(StackOp {
+            stack,
+            act: stack_act(verb, a)?,
+        }),
+        Object::Queue(queue) => Op::Queue(QueueOp {
+            queue,
+            act: queue_act(verb, a)?,
+        }),
+        Object::Hash(hash) => Op::Hash(HashOp {
+            hash,
+            act: table_act(verb, a, b)?,
+        }),
+        Object::Grow(grow) => Op::Grow(GrowOp {
+            grow,
+            act: grow_act(verb, a, b)?,
+        }),
+        Object::Cache(cache) => Op::Cache(CacheOp {
+            cache,
+            act: cache_act(verb, a, b)?,
+        }),
+        Object::Mvar(mvar) => Op::Mvar(MvarOp {
+            mvar,
+            act: mvar_act(verb, a)?,
+        }),
+        Object::Promise(promise) => Op::Promise(PromiseOp {
+            promise,
+            act: promise_act(verb, a)?,
+        }),
+        Object::Acc(acc) => Op::Acc(AccOp {
+            acc,
+            act: accumulator_act(verb, a, b)?,
+        }),
+    };
+    Some(Call::Act(operation))
+}
