@@ -1,0 +1,5 @@
+pub mod Boxes
+pub mod Copying
+pub mod Opened
+pub mod Steps
+pub mod Words

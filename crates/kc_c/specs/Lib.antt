@@ -1,0 +1,6 @@
+pub mod Clients
+pub mod Held
+pub mod Openings
+pub mod Reads
+pub mod Standings
+pub mod Waits
