@@ -1,5 +1,5 @@
 -- The clients that handles hold.
-use Rattle.std.specs.Prelude.{◌≡◌, ◌≢◌, ℕ, suc, List, [], ◌∷◌, length, replicate}
+use Rattle.std.specs.Prelude.{◌≡◌, ◌≢◌, ◌==◌, ◌||◌, ℕ, suc, Bool, false, List, [], ◌∷◌, length, replicate}
 use Rattle.std.specs.Arc.{arc_value}
 use Rattle.kc_c.specs.declared.client.Client.{Client}
 use Rattle.kc_c.specs.declared.handle.KcasCaller.{KcasCaller}
@@ -19,6 +19,10 @@ IsOpen h = h.held ≡ 1
 
 abbrev pub IsClosed : KcasCaller → Type 0
 IsClosed h = h.held ≢ 1
+
+abbrev pub some_open : List KcasCaller → Bool
+some_open [] = false
+some_open (h ∷ hs) = (h.held == 1) || some_open hs
 
 -- the caller of this number of a store that was just opened
 abbrev pub IsOpened : StoreView → ℕ → KcasCaller → Type 0

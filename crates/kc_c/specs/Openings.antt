@@ -1,6 +1,6 @@
 -- What the calls that open and close answer.
-use Rattle.std.specs.Prelude.{◌≡◌, ℕ, ◌<◌, ◌⊎◌, List, All, length}
-use Rattle.kc_c.specs.Clients.{IsClosed, OpensAll}
+use Rattle.std.specs.Prelude.{◌≡◌, ℕ, ◌<◌, ◌⊎◌, false, List, length}
+use Rattle.kc_c.specs.Clients.{OpensAll, some_open}
 use Rattle.kc_c.specs.declared.answers.TheConstants.{DONE, IS_OPEN, BAD_SIZE, NO_MEMORY}
 use Rattle.kc_c.specs.declared.handle.KcasCaller.{KcasCaller}
 use Rattle.kc_hang.specs.kc_machine.declared.machine.TheConstants.{MOST_CALLERS}
@@ -16,8 +16,8 @@ IsBadSize values handles = (MOST_LOCATIONS < length values) ⊎ ((length handles
 abbrev pub Opens : List ℕ → List KcasCaller → ℕ → List KcasCaller → Type 0
 Opens values old n new =
     ((n ≡ DONE) × (¬ IsBadSize values old) × OpensAll values new) ⊎
-    ((n ≡ BAD_SIZE) × IsBadSize values old × All IsClosed new) ⊎
-    ((n ≡ NO_MEMORY) × (¬ IsBadSize values old) × All IsClosed new)
+    ((n ≡ BAD_SIZE) × IsBadSize values old × (some_open new ≡ false)) ⊎
+    ((n ≡ NO_MEMORY) × (¬ IsBadSize values old) × (some_open new ≡ false))
 
 abbrev pub number_of_error : OpenError → ℕ
 number_of_error failed.NoMemory = NO_MEMORY

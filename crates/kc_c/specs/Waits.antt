@@ -1,5 +1,5 @@
 -- What a wait, step by step, answers.
-use Rattle.std.specs.Prelude.{◌≡◌, ◌≢◌, ℕ, Bool, true, false, [], if◌then◌else◌}
+use Rattle.std.specs.Prelude.{◌≡◌, ◌≢◌, ◌<◌, ℕ, Bool, true, false, [], All, if◌then◌else◌}
 use Rattle.kc_c.specs.Standings.{rests, settled}
 use Rattle.kc_c.specs.declared.answers.TheConstants.{GOING, HUNG, LEAVING, FREE, NOT_NOW, QUIET, SIGNALLED}
 use Rattle.kc_c.specs.declared.client.Client.{Client}
@@ -9,7 +9,6 @@ use Rattle.kc_hang.specs.Hanging.{Shows, stepping}
 use Rattle.kc_hang.specs.declared.hang_state.HangState.{HangState}
 use Rattle.kc_hang.specs.declared.hang_state.HangState.TheVariants as state
 use Rattle.kc_hang.specs.kc_table_moves.Views.{Signalled, Stepped}
-use Rattle.kc_model.specs.Footprint.{IsBelow}
 use Rattle.kc_store.specs.HangingView.{HangingView, hang_of}
 use Rattle.kc_store.specs.Knows.{OnlyLearns}
 use Rattle.kc_store.specs.Views.{CallerView}
@@ -24,7 +23,7 @@ number_of_state state.Free = FREE
 pub record MayHang (c : Client) : Type 0 where
   pub rests : rests c.standing ≡ true
   pub some : c.footprint.reads.items ≢ []
-  pub below : IsBelow c.locations c.footprint
+  pub below : All (λ r. r.loc.0 < c.locations) c.footprint.reads.items
 
 -- one step of the machine was made by a hanging, and it came to this
 pub record Steps (h : HangingView) (n : ℕ) (s : Standing) : Type 0 where

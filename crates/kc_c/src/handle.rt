@@ -1,6 +1,6 @@
 //! What C keeps of a client.
 
-ghost use Rattle.std.specs.Prelude.{◌≡◌, ◌≢◌, ◌==◌};
+ghost use Rattle.std.specs.Prelude.{◌≡◌, ◌==◌, false};
 ghost use Rattle.kc_c.specs.declared.client.Client.{Client};
 
 use crate::client::Client;
@@ -57,7 +57,7 @@ impl KcasCaller {
 
     /// Lets go of what it holds, if anything.
     pub(crate) fn close(&mut self, alloc: Global)
-        ensures { self.new.held ≢ 1 }
+        ensures { (self.new.held == 1) ≡ false }
     {
         if self.is_open() {
             drop(self.take(alloc));

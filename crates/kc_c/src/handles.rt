@@ -1,13 +1,13 @@
 //! What C calls to open and close handles.
 
-ghost use Rattle.std.specs.Prelude.{◌≡◌, ◌≢◌, ◌==◌, All, Some, if◌then◌else◌, length};
+ghost use Rattle.std.specs.Prelude.{◌≡◌, ◌==◌, Some, false, true, if◌then◌else◌, length};
 ghost use Rattle.kc_c.specs.Openings.{Opens, number_of_error};
-ghost use Rattle.kc_c.specs.Clients.{IsClosed, IsOpen};
+ghost use Rattle.kc_c.specs.Clients.{IsClosed, IsOpen, some_open};
 ghost use Rattle.kc_c.specs.Standings.{number_in};
 
 use crate::answers::{BAD_SIZE, CLOSED, DONE, IS_OPEN, NO_MEMORY, NO_NUMBER};
 use crate::handle::KcasCaller;
-use crate::opening::{are_closed, close_all, open_all};
+use crate::opening::{close_all, open_all, some_is_open};
 use kc_model::OpenError;
 use std::alloc::Global;
 
@@ -16,11 +16,11 @@ use std::alloc::Global;
 /// NO_MEMORY.
 #[unsafe(no_mangle)]
 pub extern "C" fn kcas_open(alloc: Global, values: &[u32], callers: &mut [KcasCaller]) -> u32
-    ensures is_open { ¬ All IsClosed callers.old → (result ≡ IS_OPEN) × (callers.new ≡ callers.old) }
-    ensures opens { All IsClosed callers.old → Opens values.now callers.old result callers.new }
+    ensures is_open { some_open callers.old ≡ true → (result ≡ IS_OPEN) × (callers.new ≡ callers.old) }
+    ensures opens { some_open callers.old ≡ false → Opens values.now callers.old result callers.new }
     ensures count { length callers.new ≡ length callers.old }
 {
-    if !are_closed(callers) {
+    if some_is_open(callers) {
         return IS_OPEN;
     }
     match open_all(alloc, values, callers) {

@@ -11,5 +11,8 @@ mod opening;
 mod reading;
 mod reads;
 mod standing;
+mod structures;
+mod tries;
+mod trying;
 mod waiting;
 mod waits;

@@ -1,8 +1,8 @@
 //! Opening a store, each handle as one of its callers.
 
-ghost use Rattle.std.specs.Prelude.{◌≡◌, ◌≤◌, ◌<◌, ◌⊎◌, ◌↔◌, All, Err, IfOk, IsTrue, length};
+ghost use Rattle.std.specs.Prelude.{◌≡◌, ◌≤◌, ◌<◌, ◌⊎◌, ◌↔◌, Err, IfOk, false, length};
 ghost use Rattle.std.specs.Arc.{arc_value};
-ghost use Rattle.kc_c.specs.Clients.{AreOpened, IsClosed, IsNew, OpensAll};
+ghost use Rattle.kc_c.specs.Clients.{AreOpened, IsNew, OpensAll, some_open};
 ghost use Rattle.kc_hang.specs.kc_machine.declared.machine.TheConstants.{MOST_CALLERS};
 ghost use Rattle.kc_model.specs.declared.plain_store.TheConstants.{MOST_LOCATIONS};
 ghost use Rattle.kc_store.specs.Views.{opened_callers};
@@ -19,17 +19,17 @@ use std::sync::Arc;
 // More handles than a store has callers.
 const TOO_MANY: usize = 65;
 
-/// Whether none of them holds a client.
-pub(crate) fn are_closed(handles: &mut [KcasCaller]) -> bool
-    ensures value { IsTrue result ↔ All IsClosed handles.old }
+/// Whether one of them holds a client.
+pub(crate) fn some_is_open(handles: &mut [KcasCaller]) -> bool
+    ensures value { result ≡ some_open handles.old }
     ensures same { handles.new ≡ handles.old }
 {
     for handle in handles.iter_mut() {
         if handle.is_open() {
-            return false;
+            return true;
         }
     }
-    true
+    false
 }
 
 /// A store with these values, and each handle as one of its callers, in order. Where it fails some of them may hold a client.
@@ -39,6 +39,7 @@ pub(crate) fn are_closed(handles: &mut [KcasCaller]) -> bool
 /// - TooManyLocs: exactly above 65,536 values
 /// - TooManyCallers: else, exactly for no handle or more than 64
 /// - NoMemory
+#[tactic(auto, using(crate::proofs::Opened::opened_length))]
 pub(crate) fn open_all(
     alloc: Global,
     values: &[u32],
@@ -69,20 +70,19 @@ fn deal(
     handles: &mut [KcasCaller],
 ) -> Result<(), AllocError>
     requires callers { callers.items ≡ opened_callers (arc_value store.now) 0 (length handles.old) }
+    requires count { length callers.items ≡ length handles.old }
     requires few { length handles.old ≤ MOST_CALLERS }
     requires size { locations ≡ (arc_value store.now).locations }
     requires most { locations ≤ MOST_LOCATIONS }
     ensures ok { IfOk result (λ _. AreOpened (arc_value store.now) 0 handles.new) }
     ensures count { length handles.new ≡ length handles.old }
 {
-    let mut callers = callers.into_iter();
-    for (number, handle) in handles.iter_mut().enumerate() {
-        let Some(caller) = callers.next() else {
-            unreachable!("there is a caller for each");
-        };
+    let mut number = 0;
+    for caller in callers {
         let share = Arc::try_clone(store)?;
-        let client = client_of(share, caller, locations, number as u32);
-        handle.put(Box::new(alloc, client)?);
+        let client = client_of(share, caller, locations, number);
+        handles[number as usize].put(Box::new(alloc, client)?);
+        number += 1;
     }
     Ok(())
 }
@@ -107,7 +107,7 @@ fn client_of(store: Arc<Store, Global>, caller: Caller, locations: u32, number: 
 
 /// Lets go of what the handles hold.
 pub(crate) fn close_all(alloc: Global, handles: &mut [KcasCaller])
-    ensures closed { All IsClosed handles.new }
+    ensures closed { some_open handles.new ≡ false }
     ensures count { length handles.new ≡ length handles.old }
 {
     for handle in handles.iter_mut() {

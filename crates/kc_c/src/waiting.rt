@@ -1,14 +1,13 @@
 //! Hanging on what was read, step by step.
 
-ghost use Rattle.std.specs.Prelude.{◌≡◌, ◌≢◌, [], ◌↔◌, IsTrue, false, true};
-ghost use Rattle.kc_c.specs.Standings.{hanging_on, rests};
+ghost use Rattle.std.specs.Prelude.{◌≡◌, ◌<◌, ◌↔◌, All, IsTrue};
+ghost use Rattle.kc_c.specs.Standings.{hanging_on};
 ghost use Rattle.kc_c.specs.Waits.{Hears, Leaves, MayHang, StepsOn, number_of_state};
-ghost use Rattle.kc_model.specs.Footprint.{IsBelow};
 
 use crate::answers::{FREE, GOING, HUNG, LEAVING, NOT_NOW, QUIET, SIGNALLED};
 use crate::client::Client;
 use crate::standing::Standing;
-use kc_model::Footprint;
+use kc_model::Seen;
 use kc_store::{HangState, hang_step, signalled};
 use std::mem::replace;
 
@@ -16,7 +15,8 @@ impl Client {
     /// Begins a hang on what the last try read: its steps are still to be made.
     pub(crate) fn hang(&mut self) -> u32
         ensures refused { ¬ MayHang self.old → (result ≡ NOT_NOW) × (self.new ≡ self.old) }
-        ensures hangs { MayHang self.old → (result ≡ GOING) × (self.new.standing ≡ hanging_on self.old.footprint self.old.standing) × (self.new.footprint ≡ self.old.footprint) }
+        ensures hangs { MayHang self.old → (result ≡ GOING) × (self.new.standing ≡ hanging_on self.old.footprint self.old.standing) }
+        ensures footprint { self.new.footprint ≡ self.old.footprint }
     {
         let Client {
             standing,
@@ -24,7 +24,14 @@ impl Client {
             locations,
             ..
         } = self;
-        if !standing.rests() || !may_hang_on(footprint, *locations) {
+        if !standing.rests() {
+            return NOT_NOW;
+        }
+        let reads = footprint.reads.as_slice();
+        if reads.len() == 0 {
+            return NOT_NOW;
+        }
+        if !are_below(reads, *locations) {
             return NOT_NOW;
         }
         *standing = replace(standing, Standing::Away).hanging_on(footprint);
@@ -93,11 +100,10 @@ impl Client {
     }
 }
 
-// Whether it has reads, all of a store of so many locations.
-fn may_hang_on(footprint: &Footprint, locations: u32) -> bool
-    ensures { IsTrue result ↔ (footprint.now.reads.items ≢ []) × IsBelow locations footprint.now }
+fn are_below(reads: &[Seen], locations: u32) -> bool
+    ensures { IsTrue result ↔ All (λ r. r.loc.0 < locations) reads.now }
 {
-    footprint.reads.len() > 0 && footprint.reads.iter().all(|read| read.loc.0 < locations)
+    reads.iter().all(|read| read.loc.0 < locations)
 }
 
 fn number_of_state(state: HangState) -> u32
