@@ -1,0 +1,7 @@
+pub mod Boxes
+pub mod Closed
+pub mod Copying
+pub mod Hangs
+pub mod Opened
+pub mod Steps
+pub mod Words

@@ -1,0 +1,51 @@
+-- What a try of C's operations answers.
+use Rattle.std.specs.Prelude.{◌≡◌, ◌≤◌, ℕ, true, List, ◌++◌, drop, length}
+use Rattle.kc_c.specs.declared.answers.TheConstants.{DONE, LATER, TOO_LARGE, WORN, POOL_WORN, LOST, BUSY}
+use Rattle.kc_c.specs.declared.client.Client.{Client}
+use Rattle.kc_c.specs.declared.standing.Standing.TheVariants as standing
+use Rattle.kc_calls.specs.Meaning.{calls_end, calls_meaning}
+use Rattle.kc_calls.specs.Operations.{AreOperations}
+use Rattle.kc_calls.specs.Told.{told}
+use Rattle.kc_calls.specs.declared.operation.KcasOp.{KcasOp}
+use Rattle.kc_calls.specs.declared.reply.KcasReply.{KcasReply}
+use Rattle.kc_model.specs.Footprint.{IsBelow}
+use Rattle.kc_model.specs.declared.footprint.TheConstants.{MOST}
+use Rattle.kc_store.specs.Knows.{IsTold, Remembers}
+use Rattle.kc_store.specs.Verdicts.{has_entry}
+use Rattle.kc_store.specs.Views.{CallerView}
+use Rattle.kc_store.specs.declared.verdict.Verdict.{Verdict}
+use Rattle.kc_store.specs.declared.verdict.Verdict.TheVariants as verdict
+use Rattle.kc_term.specs.Meaning.{items_of}
+use Rattle.kc_xt.specs.Meaning.{limited}
+
+-- they are operations of one transaction of a store of so many locations, and there is room for a reply to each
+abbrev pub MayTry : ℕ → List KcasOp → List KcasReply → Type 0
+MayTry locations ops replies = AreOperations locations ops × (length ops ≤ length replies)
+
+-- the number that C is given
+abbrev pub number_of : Verdict → ℕ
+number_of (verdict.Done r) = DONE
+number_of verdict.Later = LATER
+number_of verdict.TooLarge = TOO_LARGE
+number_of (verdict.WornLocation loc) = WORN
+number_of verdict.WornPool = POOL_WORN
+number_of (verdict.Lost loc version) = LOST
+number_of (verdict.Busy steps) = BUSY
+
+-- a reply for each operation, where it was done
+abbrev pub written : List KcasOp → Verdict → List KcasReply → List KcasReply
+written ops (verdict.Done r) replies = told (items_of r) (length ops) ++ drop (length ops) replies
+written ops _ replies = replies
+
+-- one try of them was made as one transaction, and the number says what became of it
+pub record IsTried (ops : List KcasOp) (c : Client) (n : ℕ) (d : Client) (before after : List KcasReply) : Type 0 where
+  pub caller : CallerView
+  pub rested : c.standing ≡ standing.Rests caller
+  pub then_caller : CallerView
+  pub rests : d.standing ≡ standing.Rests then_caller
+  pub verdict : Verdict
+  pub number : n ≡ number_of verdict
+  pub told : IsTold (limited MOST (calls_meaning ops)) verdict caller d.footprint then_caller
+  pub remembers : Remembers caller then_caller
+  pub within : has_entry verdict ≡ true → IsBelow (calls_end ops) d.footprint
+  pub replies : after ≡ written ops verdict before
