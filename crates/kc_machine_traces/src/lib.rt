@@ -5,17 +5,12 @@
 #![tactic(auto)]
 
 mod claims;
-pub mod worked;
-mod schedules;
 mod passes;
 mod ranges;
+mod schedules;
+pub mod worked;
 
 pub use claims::{legal_by_place, traces_follow_runs};
-pub use schedules::{
-    a_step_is_one_access, begun_is_a_moment, copies_are_true, entries_are_as_told,
-    entries_are_of_callers, idle_seats_gain_no_entry, known_stays, no_answer_while_it_runs,
-    others_leave_a_seat, schedules_join,
-};
 pub use passes::{
     installed_lines_are_a_prefix, met_lines_exist, only_halted_owners_decide_halted,
     passed_lines_are_installed, passes_go_over_their_words, references_are_held,
@@ -24,4 +19,9 @@ pub use passes::{
 pub use ranges::{
     counts_have_room, only_callers_are_woken, ranges_fit_bits, steps_are_possible,
     words_and_seats_are_in_range,
+};
+pub use schedules::{
+    a_step_is_one_access, begun_is_a_moment, copies_are_true, entries_are_as_told,
+    entries_are_of_callers, idle_seats_gain_no_entry, known_stays, no_answer_while_it_runs,
+    others_leave_a_seat, schedules_join,
 };
