@@ -162,7 +162,10 @@ fn a_look_is_given_up_with_no_step_left(rt: HostRuntime) -> Result<(), Fail> {
     assert!(rt; a.steps() > 0);
     let loc = Loc(0);
     let lost = Verdict::Lost { loc, version: 1 };
-    let mut a = Caller::of(a, false);
+    let (Ok(seat), Ok(lines)) = (Box::new(rt.alloc(), a), Box::new(rt.alloc(), Room::new())) else {
+        return Err(Fail::from("no memory"));
+    };
+    let mut a = Caller::of(seat, lines, false);
     let tried = store.try_commit_into(&mut a, &ADD, &mut footprint);
     assert_eq!(rt; tried, lost);
     Ok(())
