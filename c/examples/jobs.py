@@ -22,7 +22,8 @@ with kcas.open(layout, callers=2) as (foreman, worker):
     thread = threading.Thread(target=work, args=[worker])
     thread.start()
     for job in range(JOBS):
-        while foreman.commit(jobs.enq(job)) == [kcas.FULL]:
-            foreman.commit_waiting(done.differs(foreman.commit(done.get())[0]))
+        # Where the queue is full, it waits until one more is done than was done then.
+        while (told := foreman.commit(done.get(), jobs.enq(job)))[1] is kcas.FULL:
+            foreman.commit_waiting(done.differs(told[0]))
     thread.join()
     print("%d jobs, in all %d" % tuple(foreman.commit(done.get(), total.get())))
