@@ -1,7 +1,6 @@
 //! Cancels.
 
-use crate::runs::{STORES, run, run_behind};
-use crate::threads::text_of;
+use crate::asserts::{STORES, all_give, begins, closes, ends, is, run_behind, text_of};
 use kc_top::{OpenGate, Status};
 use std::alloc::Global;
 use std::fmt::Write;
@@ -33,12 +32,7 @@ fn a_flag_cancels_one_wait_and_is_taken_back_with_its_block(rt: HostRuntime) -> 
             "1.1 ok ok\n1.2 cancelled\n1.3 0\norder\n1.1\n1.2\n1.3\n1.end\nstate\nx 0\n",
         ),
     ];
-    for (script, text) in rows {
-        let (status, written) = run(&rt, rt.alloc(), script.as_bytes())?;
-        assert_eq!(rt; status, Status::Done, "{script}");
-        assert_eq!(rt; written.as_slice(), text.as_bytes(), "{script}");
-    }
-    Ok(())
+    all_give(&rt, rt.alloc(), &rows)
 }
 
 #[test]
@@ -48,9 +42,9 @@ fn a_thread_that_waits_is_cancelled_by_another(rt: HostRuntime) -> Result<(), Fa
         for _ in 0..RUNS {
             let words = ["run", option];
             let (status, written) = run_behind(&rt, rt.alloc(), &words, script, &OpenGate)?;
-            assert_eq!(rt; status, Status::Done);
-            assert!(rt; written.starts_with(b"1.1 cancelled\n2.1 ok\norder\n2.1\n"));
-            assert!(rt; written.ends_with(b"state\np none\n"));
+            ends(&rt, status, Status::Done, option);
+            begins(&rt, &written, "1.1 cancelled\n2.1 ok\norder\n2.1\n", option);
+            closes(&rt, &written, "state\np none\n", option);
         }
     }
     Ok(())
@@ -75,14 +69,14 @@ fn a_thousand_cancels_of_a_thread_that_waits_end(rt: HostRuntime) -> Result<(), 
     let script = waits(rt.alloc())?;
     for option in STORES {
         let (status, written) = text_of(&rt, rt.alloc(), option, &script)?;
-        assert_eq!(rt; status, Status::Done);
+        ends(&rt, status, Status::Done, option);
+        closes(&rt, &written, "state\np none\nn 1000\n", option);
         let text = str::from_utf8(&written)?;
         let cancelled = text
             .lines()
             .filter(|line| line.ends_with(" cancelled"))
             .count();
-        assert_eq!(rt; cancelled, TIMES as usize);
-        assert!(rt; text.ends_with("state\np none\nn 1000\n"));
+        is(&rt, cancelled, TIMES as usize, option);
     }
     Ok(())
 }

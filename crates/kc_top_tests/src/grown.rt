@@ -1,7 +1,6 @@
 //! Tables that grow.
 
-use crate::runs::{STORES, run};
-use crate::threads::text_of;
+use crate::asserts::{STORES, all_give, begins, closes, ends, text_of};
 use kc_top::Status;
 use std::alloc::Global;
 use std::fmt::Write;
@@ -19,12 +18,7 @@ fn a_table_that_grows_gives_its_text(rt: HostRuntime) -> Result<(), Fail> {
             "1.1 none\n1.2 ok\n1.3 ok\n1.4 full\n1.5 2\n1.6 0\norder\n1.1\n1.2\n1.3\n1.4\n1.5\n1.6\n1.end\nstate\ng\n",
         ),
     ];
-    for (script, text) in rows {
-        let (status, written) = run(&rt, rt.alloc(), script.as_bytes())?;
-        assert_eq!(rt; status, Status::Done, "{script}");
-        assert_eq!(rt; written.as_slice(), text.as_bytes(), "{script}");
-    }
-    Ok(())
+    all_give(&rt, rt.alloc(), &rows)
 }
 
 // Four threads put a hundred keys each into one table, thread T the keys from 100 T on.
@@ -67,10 +61,9 @@ fn four_threads_put_into_one_table_that_grows(rt: HostRuntime) -> Result<(), Fai
     let state = their_state(alloc)?;
     for option in STORES {
         let (status, written) = text_of(&rt, alloc, option, &script)?;
-        assert_eq!(rt; status, Status::Done, "{option}");
-        let text = str::from_utf8(&written)?;
-        assert!(rt; text.starts_with(replies.as_str()), "{option}");
-        assert!(rt; text.ends_with(state.as_str()), "{option}");
+        ends(&rt, status, Status::Done, option);
+        begins(&rt, &written, &replies, option);
+        closes(&rt, &written, &state, option);
     }
     Ok(())
 }

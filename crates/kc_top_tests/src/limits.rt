@@ -1,7 +1,6 @@
 //! How many locations a command may touch.
 
-use crate::runs::run;
-use kc_top::Status;
+use crate::asserts::{all_give, gives};
 use std::test::Fail;
 
 // Eight accumulators have 256 cells. The first block totals them; the second adds to one of them before, and reads a
@@ -26,9 +25,7 @@ fn a_block_touches_256_locations_where_its_script_allows_them(rt: HostRuntime) -
     for (front, replies) in rows {
         let script = format!(in rt.alloc(); "{front}{EIGHT}")?;
         let text = format!(in rt.alloc(); "{replies}{EIGHT_STAND}")?;
-        let (status, written) = run(&rt, rt.alloc(), script.as_bytes())?;
-        assert_eq!(rt; status, Status::Done, "{front}");
-        assert_eq!(rt; written.as_slice(), text.as_bytes(), "{front}");
+        gives(&rt, rt.alloc(), &script, &text)?;
     }
     Ok(())
 }
@@ -50,10 +47,5 @@ fn a_command_that_would_wait_touches_one_location_more(rt: HostRuntime) -> Resul
             "1.1 stranded\n1.2 toolarge\norder\n1.1\n1.2\n1.end\nstate\na 0\nb 0\nc 0\nd 0\ne 0\nf 0\ng 0\nh 0\nx 1\ny 1\n",
         ),
     ];
-    for (script, text) in rows {
-        let (status, written) = run(&rt, rt.alloc(), script.as_bytes())?;
-        assert_eq!(rt; status, Status::Done, "{script}");
-        assert_eq!(rt; written.as_slice(), text.as_bytes(), "{script}");
-    }
-    Ok(())
+    all_give(&rt, rt.alloc(), &rows)
 }

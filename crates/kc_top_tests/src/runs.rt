@@ -2,85 +2,21 @@
 
 ghost use Rattle.std.specs.Prelude.{◌≤◌, None};
 
-use kc_model::{Failed, FrailSink, FrailSource, MemShelf, Shelf, Sink, Source, SureSource};
+use crate::asserts::{
+    ROOM, STORES, all_give, call, ends, gives, holds, is, no_files, run, run_behind, says, text_of,
+};
+use kc_model::{Failed, FrailSink, FrailSource, Sink, SureSource};
 use kc_script_lines::{Limit, Why};
-use kc_top::{CheckWhy, Gate, OpenGate, Served, Status, StoreName, kcas_main};
+use kc_top::{CheckWhy, OpenGate, Status, StoreName};
 use std::alloc::Global;
 use std::fmt::Write;
 use std::sync::Wait;
 use std::test::Fail;
 use std::thread::Threads;
 
-// More bytes than any text of these scripts has.
-const ROOM: usize = 4096;
-
-// The store options, in one word.
-pub(crate) const STORES: [&str; 2] = ["--store=lock", "--store=kcas"];
-
 const FIRST: &str = "kcas 1\nloc x 5\nthread\nget x\nset x 7\nadd x 1\n";
 
 const FIRST_TEXT: &str = "1.1 5\n1.2 ok\n1.3 7\norder\n1.1\n1.2\n1.3\n1.end\nstate\nx 8\n";
-
-// A shelf without files.
-pub(crate) fn no_files(alloc: Global) -> MemShelf {
-    MemShelf::new(Vec::new(alloc), Vec::new(alloc))
-}
-
-// What the words behind the program's name come to over a source, a shelf and a sink, and which store served.
-pub(crate) fn call<S: Source, F: Shelf, K: Sink, G: Gate, R: Threads + Wait + Sync>(
-    rt: &R,
-    alloc: Global,
-    behind: &[&str],
-    source: &mut S,
-    shelf: &mut F,
-    sink: &mut K,
-    gate: &G,
-) -> Result<(Status, Option<StoreName>), Fail> {
-    let mut words = Vec::new(alloc);
-    words.push(String::from_str(alloc, "kcas")?)?;
-    for word in behind {
-        words.push(String::from_str(alloc, word)?)?;
-    }
-    let (status, served) = kcas_main(rt, alloc, &words, source, shelf, sink, gate);
-    let store = match served {
-        Served::Nothing => None,
-        Served::Lock(_) => Some(StoreName::Lock),
-        Served::Kcas(_) => Some(StoreName::Kcas),
-    };
-    Ok((status, store))
-}
-
-// The status of these words on these bytes behind a gate, and what they wrote.
-pub(crate) fn run_behind<R: Threads + Wait + Sync, G: Gate>(
-    rt: &R,
-    alloc: Global,
-    behind: &[&str],
-    script: &[u8],
-    gate: &G,
-) -> Result<(Status, Vec<u8>), Fail> {
-    let mut source = FrailSource::new(script.to_vec(alloc)?, Vec::new(alloc));
-    let mut sink = FrailSink::new(alloc, ROOM, Vec::new(alloc))?;
-    let mut shelf = no_files(alloc);
-    let (status, _) = call(rt, alloc, behind, &mut source, &mut shelf, &mut sink, gate)?;
-    Ok((status, sink.bytes().to_vec(alloc)?))
-}
-
-// The status of `kcas run` on these bytes, and what it wrote: the same with each store option and with none. So the
-// script has one thread, or one order.
-pub(crate) fn run<R: Threads + Wait + Sync>(
-    rt: &R,
-    alloc: Global,
-    script: &[u8],
-) -> Result<(Status, Vec<u8>), Fail> {
-    let (status, written) = run_behind(rt, alloc, &["run"], script, &OpenGate)?;
-    for option in STORES {
-        let (other, text) = run_behind(rt, alloc, &["run", option], script, &OpenGate)?;
-        if other != status || text.as_slice() != written.as_slice() {
-            return Err(Fail::from("the stores tell different things"));
-        }
-    }
-    Ok((status, written))
-}
 
 #[test]
 fn worked_scripts_give_their_texts(rt: HostRuntime) -> Result<(), Fail> {
@@ -104,12 +40,7 @@ fn worked_scripts_give_their_texts(rt: HostRuntime) -> Result<(), Fail> {
             "1.1 ok\n1.2 true\n1.3 false\n1.4 9\n1.5 ok\n1.6 ok\n1.7 stranded\norder\n1.1\n1.2\n1.3\n1.4\n1.5\n1.6\n1.7\n1.end\nstate\nx 9\ny 3\n",
         ),
     ];
-    for (script, text) in rows {
-        let (status, written) = run(&rt, rt.alloc(), script.as_bytes())?;
-        assert_eq!(rt; status, Status::Done, "{script}");
-        assert_eq!(rt; written.as_slice(), text.as_bytes(), "{script}");
-    }
-    Ok(())
+    all_give(&rt, rt.alloc(), &rows)
 }
 
 #[test]
@@ -176,12 +107,7 @@ fn worked_blocks_and_structures_give_their_texts(rt: HostRuntime) -> Result<(), 
             "1.1 toolarge\n1.2 0 0 ok\norder\n1.1\n1.2\n1.end\nstate\na 0\nb 0\nx 1\n",
         ),
     ];
-    for (script, text) in rows {
-        let (status, written) = run(&rt, rt.alloc(), script.as_bytes())?;
-        assert_eq!(rt; status, Status::Done, "{script}");
-        assert_eq!(rt; written.as_slice(), text.as_bytes(), "{script}");
-    }
-    Ok(())
+    all_give(&rt, rt.alloc(), &rows)
 }
 
 /// The script `examples/tour.kcas`, without its comments: each declaration and each command at least once.
@@ -193,10 +119,7 @@ const TOUR_TEXT: &str =
 
 #[test]
 fn the_tour_of_all_commands_gives_its_text(rt: HostRuntime) -> Result<(), Fail> {
-    let (status, written) = run(&rt, rt.alloc(), TOUR.as_bytes())?;
-    assert_eq!(rt; status, Status::Done);
-    assert_eq!(rt; written.as_slice(), TOUR_TEXT.as_bytes());
-    Ok(())
+    gives(&rt, rt.alloc(), TOUR, TOUR_TEXT)
 }
 
 #[test]
@@ -209,9 +132,7 @@ fn the_longest_and_the_widest_table_are_used(rt: HostRuntime) -> Result<(), Fail
         let text = format!(in rt.alloc();
             "1.1 ok\n1.2 ok\n1.3 ok\n1.4 ok\n1.5 9\n1.6 2\norder\n1.1\n1.2\n1.3\n1.4\n1.5\n1.6\n1.end\nstate\n{state}\n"
         )?;
-        let (status, written) = run(&rt, rt.alloc(), script.as_bytes())?;
-        assert_eq!(rt; status, Status::Done, "{sizes}");
-        assert_eq!(rt; written.as_slice(), text.as_bytes(), "{sizes}");
+        gives(&rt, rt.alloc(), &script, &text)?;
     }
     Ok(())
 }
@@ -248,9 +169,7 @@ fn each_function_and_relation_is_the_one_it_is_called(rt: HostRuntime) -> Result
     for (command, reply, value) in rows {
         let script = format!(in rt.alloc(); "kcas 1\nloc x 12\nthread\n{command}\n")?;
         let text = format!(in rt.alloc(); "1.1 {reply}\norder\n1.1\n1.end\nstate\nx {value}\n")?;
-        let (status, written) = run(&rt, rt.alloc(), script.as_bytes())?;
-        assert_eq!(rt; status, Status::Done, "{command}");
-        assert_eq!(rt; written.as_slice(), text.as_bytes(), "{command}");
+        gives(&rt, rt.alloc(), &script, &text)?;
     }
     Ok(())
 }
@@ -276,8 +195,8 @@ fn what_is_no_script_has_its_fault_and_writes_nothing(rt: HostRuntime) -> Result
     ];
     for (script, line, why) in rows {
         let (status, written) = run(&rt, rt.alloc(), script.as_bytes())?;
-        assert_eq!(rt; status, Status::Script { part: 0, line, why }, "{script}");
-        assert!(rt; written.is_empty());
+        ends(&rt, status, Status::Script { part: 0, line, why }, script);
+        says(&rt, &written, "", script);
     }
     Ok(())
 }
@@ -286,8 +205,8 @@ fn what_is_no_script_has_its_fault_and_writes_nothing(rt: HostRuntime) -> Result
 fn other_words_are_usage(rt: HostRuntime) -> Result<(), Fail> {
     for word in ["", "runs", "--help", "storm"] {
         let (status, written) = run_behind(&rt, rt.alloc(), &[word], FIRST.as_bytes(), &OpenGate)?;
-        assert_eq!(rt; status, Status::Usage, "{word}");
-        assert!(rt; written.is_empty());
+        ends(&rt, status, Status::Usage, word);
+        says(&rt, &written, "", word);
     }
     Ok(())
 }
@@ -315,9 +234,9 @@ fn the_store_that_the_words_name_serves(rt: HostRuntime) -> Result<(), Fail> {
             &mut sink,
             &OpenGate,
         )?;
-        assert_eq!(rt; status, Status::Done);
-        assert!(rt; store == Some(named));
-        assert_eq!(rt; sink.bytes(), FIRST_TEXT.as_bytes());
+        ends(&rt, status, Status::Done, "first");
+        holds(&rt, store == Some(named), "another store served");
+        says(&rt, sink.bytes(), FIRST_TEXT, "first");
     }
     Ok(())
 }
@@ -354,11 +273,11 @@ pub(crate) fn run_failing<R: Threads + Wait + Sync>(
 fn each_read_that_fails_is_a_read_fault_and_writes_nothing(rt: HostRuntime) -> Result<(), Fail> {
     for call in 1..5 {
         let (status, written) = run_failing(&rt, rt.alloc(), FIRST, call, 9)?;
-        assert_eq!(rt; status, Status::ReadFault, "{call}");
-        assert!(rt; written.is_empty(), "{call}");
+        ends(&rt, status, Status::ReadFault, "first");
+        says(&rt, &written, "", "first");
     }
     let (status, _) = run_failing(&rt, rt.alloc(), FIRST, 5, 9)?;
-    assert_eq!(rt; status, Status::Done);
+    ends(&rt, status, Status::Done, "first");
     Ok(())
 }
 
@@ -368,15 +287,13 @@ fn each_write_that_fails_is_a_write_fault_behind_a_front_of_the_text(
 ) -> Result<(), Fail> {
     for call in 1..5 {
         let (status, written) = run_failing(&rt, rt.alloc(), FIRST, 9, call)?;
-        assert_eq!(rt; status, Status::WriteFault, "{call}");
-        assert_eq!(rt;
-            written.as_slice(),
-            &FIRST_TEXT.as_bytes()[..16 * (call as usize - 1)]
-        );
+        ends(&rt, status, Status::WriteFault, "first");
+        is(&rt, written.len(), 16 * (call as usize - 1), "bytes");
+        holds(&rt, FIRST_TEXT.as_bytes().starts_with(&written), "no front");
     }
     let (status, written) = run_failing(&rt, rt.alloc(), FIRST, 9, 5)?;
-    assert_eq!(rt; status, Status::Done);
-    assert_eq!(rt; written.as_slice(), FIRST_TEXT.as_bytes());
+    ends(&rt, status, Status::Done, "first");
+    says(&rt, &written, FIRST_TEXT, "first");
     Ok(())
 }
 
@@ -416,21 +333,9 @@ fn as_many_commands_as_may_be_are_run(rt: HostRuntime) -> Result<(), Fail> {
     text.push_str(&order)?;
     text.push_str("1.end\nstate\nx 4096\n")?;
     for option in STORES {
-        let words = ["run", option];
-        let mut source = SureSource::new(script.as_bytes().to_vec(alloc)?);
-        let mut sink = FrailSink::new(alloc, 100_000, Vec::new(alloc))?;
-        let mut shelf = no_files(alloc);
-        let (status, _) = call(
-            &rt,
-            alloc,
-            &words,
-            &mut source,
-            &mut shelf,
-            &mut sink,
-            &OpenGate,
-        )?;
-        assert_eq!(rt; status, Status::Done);
-        assert_eq!(rt; sink.bytes(), text.as_bytes());
+        let (status, written) = text_of(&rt, alloc, option, &script)?;
+        ends(&rt, status, Status::Done, option);
+        says(&rt, &written, &text, option);
     }
     Ok(())
 }
@@ -455,13 +360,10 @@ fn a_text_is_written_by_the_page(rt: HostRuntime) -> Result<(), Fail> {
         &mut counting,
         &OpenGate,
     )?;
-    assert_eq!(rt; status, Status::Done);
-    assert!(rt; 40_000 < counting.bytes);
-    assert!(rt;
-        counting.calls <= (counting.bytes / 4000).wrapping_add(1),
-        "{}",
-        counting.calls
-    );
+    ends(&rt, status, Status::Done, "a long text");
+    let (calls, bytes) = (counting.calls, counting.bytes);
+    holds(&rt, 40_000 < bytes, "a short text");
+    holds(&rt, calls <= (bytes / 4000).wrapping_add(1), "many writes");
     Ok(())
 }
 
@@ -476,21 +378,9 @@ fn as_many_locations_as_may_be_are_opened(rt: HostRuntime) -> Result<(), Fail> {
     }
     script.push_str("thread\nget n65534\n")?;
     for option in STORES {
-        let words = ["run", option];
-        let mut source = SureSource::new(script.as_bytes().to_vec(alloc)?);
-        let mut sink = FrailSink::new(alloc, 1_000_000, Vec::new(alloc))?;
-        let mut shelf = no_files(alloc);
-        let (status, _) = call(
-            &rt,
-            alloc,
-            &words,
-            &mut source,
-            &mut shelf,
-            &mut sink,
-            &OpenGate,
-        )?;
-        assert_eq!(rt; status, Status::Done);
-        assert_eq!(rt; sink.bytes(), text.as_bytes());
+        let (status, written) = text_of(&rt, alloc, option, &script)?;
+        ends(&rt, status, Status::Done, option);
+        says(&rt, &written, &text, option);
     }
     Ok(())
 }
@@ -501,12 +391,12 @@ fn one_byte_past_the_limit_is_too_long(rt: HostRuntime) -> Result<(), Fail> {
     let mut script = Vec::from_slice(alloc, b"kcas 1\n")?;
     script.resize(1_048_576, b'#')?;
     let (status, written) = run(&rt, rt.alloc(), &script)?;
-    assert_eq!(rt; status, Status::Done);
-    assert_eq!(rt; written.as_slice(), b"order\nstate\n".as_slice());
+    ends(&rt, status, Status::Done, "the longest");
+    says(&rt, &written, "order\nstate\n", "the longest");
     script.push(b'#')?;
     let (status, written) = run(&rt, rt.alloc(), &script)?;
-    assert_eq!(rt; status, Status::TooLong);
-    assert!(rt; written.is_empty());
+    ends(&rt, status, Status::TooLong, "one more");
+    says(&rt, &written, "", "one more");
     Ok(())
 }
 
@@ -531,7 +421,7 @@ fn each_status_has_its_line(rt: HostRuntime) {
     ];
     for (status, line) in rows {
         let text = status.line();
-        assert_eq!(rt; text.as_str(), line);
+        says(&rt, text.as_str().as_bytes(), line, line);
     }
 }
 
@@ -548,8 +438,8 @@ fn each_test_of_a_text_has_its_words(rt: HostRuntime) {
     for (why, line) in rows {
         let status = Status::Illegal { line: 7, why };
         let text = status.line();
-        assert_eq!(rt; text.as_str(), line);
-        assert_eq!(rt; status.number(), 8);
+        says(&rt, text.as_str().as_bytes(), line, line);
+        is(&rt, status.number() as usize, 8, line);
     }
 }
 
@@ -577,6 +467,6 @@ fn each_fault_has_its_words(rt: HostRuntime) {
         (Why::TooMany(Limit::Picks), "too many picks"),
     ];
     for (why, words) in rows {
-        assert_eq!(rt; why.words(), words);
+        says(&rt, why.words().as_bytes(), words, words);
     }
 }

@@ -1,11 +1,10 @@
 //! Storms.
 
-use crate::runs::{STORES, call, no_files};
+use crate::asserts::{Counting, STORES, call, ends, holds, no_files, says};
 use kc_model::{FrailSink, SureSource};
 use kc_top::{Gate, OpenGate, Status, StoreName};
 use std::alloc::Global;
 use std::sync::Wait;
-use std::sync::atomic::{AtomicU32, Ordering};
 use std::test::Fail;
 use std::thread::Threads;
 
@@ -52,9 +51,9 @@ fn a_storm_writes_its_summary_at_each_run(rt: HostRuntime) -> Result<(), Fail> {
     ];
     for (words, summary, named) in rows {
         let (status, written, store) = asked(&rt, rt.alloc(), words, &OpenGate)?;
-        assert_eq!(rt; status, Status::Done);
-        assert_eq!(rt; written.as_slice(), summary.as_bytes());
-        assert!(rt; store == Some(named));
+        ends(&rt, status, Status::Done, summary);
+        says(&rt, &written, summary, summary);
+        holds(&rt, store == Some(named), "another store served");
     }
     Ok(())
 }
@@ -71,42 +70,21 @@ fn other_words_are_no_storm(rt: HostRuntime) -> Result<(), Fail> {
     ];
     for words in rows {
         let (status, written, store) = asked(&rt, rt.alloc(), words, &OpenGate)?;
-        assert_eq!(rt; status, Status::Usage);
-        assert!(rt; written.is_empty());
-        assert!(rt; store.is_none());
+        ends(&rt, status, Status::Usage, "no storm");
+        says(&rt, &written, "", "no storm");
+        holds(&rt, store.is_none(), "a store served");
     }
     Ok(())
-}
-
-// Counts its calls.
-#[derive(Drop)]
-struct Counting {
-    before: AtomicU32,
-    after: AtomicU32,
-}
-
-impl Gate for Counting {
-    fn before(&self, _thread: u32, _number: u32) {
-        self.before.fetch_add(1, Ordering::SeqCst);
-    }
-
-    fn after(&self, _thread: u32, _number: u32) {
-        self.after.fetch_add(1, Ordering::SeqCst);
-    }
 }
 
 #[test]
 fn each_command_of_a_storm_passes_the_gate(rt: HostRuntime) -> Result<(), Fail> {
     for option in STORES {
-        let gate = Counting {
-            before: AtomicU32::new(0),
-            after: AtomicU32::new(0),
-        };
+        let gate = Counting::new();
         let (status, written, _) = asked(&rt, rt.alloc(), &["storm", option, "0"], &gate)?;
-        assert_eq!(rt; status, Status::Done);
-        assert_eq!(rt; written.as_slice(), STORM_0.as_bytes());
-        assert_eq!(rt; gate.before.load(Ordering::SeqCst), 8000);
-        assert_eq!(rt; gate.after.load(Ordering::SeqCst), 8000);
+        ends(&rt, status, Status::Done, option);
+        says(&rt, &written, STORM_0, option);
+        gate.counted(&rt, 8000);
     }
     Ok(())
 }

@@ -1,10 +1,12 @@
 //! Scripts of several threads.
 
-use crate::runs::{STORES, call, no_files, run_behind, run_failing};
-use kc_model::{FrailSink, SureSource};
+use crate::asserts::{
+    Counting, STORES, begins, closes, ends, holds, is, run_behind, says, text_of,
+};
+use crate::runs::run_failing;
 use kc_top::{Gate, OpenGate, Status};
 use std::alloc::Global;
-use std::fmt::Write;
+use std::process::Abort;
 use std::sync::Wait;
 use std::sync::atomic::{AtomicBool, AtomicU32, Ordering};
 use std::test::Fail;
@@ -42,29 +44,6 @@ fn team(
     Ok(script)
 }
 
-// The text of a script that is longer than the others, with a store option.
-pub(crate) fn text_of<R: Threads + Wait + Sync>(
-    rt: &R,
-    alloc: Global,
-    option: &str,
-    script: &str,
-) -> Result<(Status, Vec<u8>), Fail> {
-    let mut source = SureSource::new(script.as_bytes().to_vec(alloc)?);
-    let mut sink = FrailSink::new(alloc, 2_000_000, Vec::new(alloc))?;
-    let mut shelf = no_files(alloc);
-    let words = ["run", option];
-    let (status, _) = call(
-        rt,
-        alloc,
-        &words,
-        &mut source,
-        &mut shelf,
-        &mut sink,
-        &OpenGate,
-    )?;
-    Ok((status, sink.bytes().to_vec(alloc)?))
-}
-
 // How many different numbers below so many are replied.
 fn replies(alloc: Global, text: &str, most: usize) -> Result<usize, Fail> {
     let mut seen = vec![in alloc; false; most]?;
@@ -85,13 +64,13 @@ fn two_threads_add_to_one_location(rt: HostRuntime) -> Result<(), Fail> {
     let script = team(alloc, "kcas 1\nloc x 0\n", 2, "add x 1\n", 1000)?;
     for option in STORES {
         let (status, written) = text_of(&rt, alloc, option, &script)?;
-        assert_eq!(rt; status, Status::Done);
+        ends(&rt, status, Status::Done, option);
+        closes(&rt, &written, "state\nx 2000\n", option);
         let text = str::from_utf8(&written)?;
-        let Some((shown, rest)) = text.split_once("order\n") else {
+        let Some((shown, _)) = text.split_once("order\n") else {
             return Err(Fail::from("there is no order"));
         };
-        assert_eq!(rt; replies(alloc, shown, 2000)?, 2000);
-        assert!(rt; rest.ends_with("state\nx 2000\n"));
+        is(&rt, replies(alloc, shown, 2000)?, 2000, option);
     }
     Ok(())
 }
@@ -121,9 +100,9 @@ fn values_are_handed_over_by_waiting(rt: HostRuntime) -> Result<(), Fail> {
                 script.as_bytes(),
                 &OpenGate,
             )?;
-            assert_eq!(rt; status, Status::Done, "{script}");
-            assert!(rt; written.starts_with(front.as_bytes()), "{script}");
-            assert!(rt; written.ends_with(end.as_bytes()), "{script}");
+            ends(&rt, status, Status::Done, script);
+            begins(&rt, &written, front, script);
+            closes(&rt, &written, end, script);
         }
     }
     Ok(())
@@ -168,10 +147,10 @@ fn a_thread_that_is_held_up_waits_for_another(rt: HostRuntime) -> Result<(), Fai
         };
         let words = ["run", option];
         let (status, written) = run_behind(&rt, alloc, &words, script.as_bytes(), &gate)?;
-        assert_eq!(rt; status, Status::Done);
-        assert!(rt; !gate.used_up.load(Ordering::SeqCst));
-        assert!(rt; written.starts_with(b"1.1 ok\n2.1 ok\norder\n2.1\n1.1\n"));
-        assert!(rt; written.ends_with(b"state\nx 2\n"));
+        ends(&rt, status, Status::Done, option);
+        holds(&rt, !gate.used_up.load(Ordering::SeqCst), option);
+        begins(&rt, &written, "1.1 ok\n2.1 ok\norder\n2.1\n1.1\n", option);
+        closes(&rt, &written, "state\nx 2\n", option);
     }
     Ok(())
 }
@@ -214,28 +193,11 @@ fn all_threads_of_a_script_run_at_the_same_time(rt: HostRuntime) -> Result<(), F
         };
         let words = ["run", option];
         let (status, written) = run_behind(&rt, alloc, &words, script.as_bytes(), &gate)?;
-        assert_eq!(rt; status, Status::Done);
-        assert!(rt; !gate.used_up.load(Ordering::SeqCst));
-        assert!(rt; written.ends_with(b"state\nx 16\n"));
+        ends(&rt, status, Status::Done, option);
+        holds(&rt, !gate.used_up.load(Ordering::SeqCst), option);
+        closes(&rt, &written, "state\nx 16\n", option);
     }
     Ok(())
-}
-
-// Counts what it is told of.
-#[derive(Drop)]
-struct Counting {
-    before: AtomicU32,
-    after: AtomicU32,
-}
-
-impl Gate for Counting {
-    fn before(&self, _thread: u32, _number: u32) {
-        self.before.fetch_add(1, Ordering::SeqCst);
-    }
-
-    fn after(&self, _thread: u32, _number: u32) {
-        self.after.fetch_add(1, Ordering::SeqCst);
-    }
 }
 
 #[test]
@@ -243,16 +205,12 @@ fn each_command_of_a_script_runs_once(rt: HostRuntime) -> Result<(), Fail> {
     let alloc = rt.alloc();
     let script = team(alloc, "kcas 1\nloc x 0\n", 4, "incr x\n", 25)?;
     for option in STORES {
-        let gate = Counting {
-            before: AtomicU32::new(0),
-            after: AtomicU32::new(0),
-        };
+        let gate = Counting::new();
         let words = ["run", option];
         let (status, written) = run_behind(&rt, alloc, &words, script.as_bytes(), &gate)?;
-        assert_eq!(rt; status, Status::Done);
-        assert!(rt; written.ends_with(b"state\nx 100\n"));
-        assert_eq!(rt; gate.before.load(Ordering::SeqCst), 100);
-        assert_eq!(rt; gate.after.load(Ordering::SeqCst), 100);
+        ends(&rt, status, Status::Done, option);
+        closes(&rt, &written, "state\nx 100\n", option);
+        gate.counted(&rt, 100);
     }
     Ok(())
 }
@@ -261,13 +219,17 @@ fn each_command_of_a_script_runs_once(rt: HostRuntime) -> Result<(), Fail> {
 fn ends_that_fail_are_told_of_two_threads(rt: HostRuntime) -> Result<(), Fail> {
     for call in 1..7 {
         let (status, written) = run_failing(&rt, rt.alloc(), HANDOVER, 9, call)?;
-        assert_eq!(rt; status, Status::WriteFault, "{call}");
-        assert!(rt; HANDOVER_TEXT.as_bytes().starts_with(&written), "{call}");
-        assert_eq!(rt; written.len(), 16 * (call as usize - 1));
+        ends(&rt, status, Status::WriteFault, "handover");
+        is(&rt, written.len(), 16 * (call as usize - 1), "bytes");
+        holds(
+            &rt,
+            HANDOVER_TEXT.as_bytes().starts_with(&written),
+            "no front",
+        );
     }
     let (status, written) = run_failing(&rt, rt.alloc(), HANDOVER, 3, 9)?;
-    assert_eq!(rt; status, Status::ReadFault);
-    assert!(rt; written.is_empty());
+    ends(&rt, status, Status::ReadFault, "handover");
+    says(&rt, &written, "", "handover");
     Ok(())
 }
 
@@ -370,13 +332,13 @@ fn replayed(
     Ok((right, a, b))
 }
 
-// How many commands of the largest script reply what their place in the printed order makes, and whether the values at
+// Asserts that each command of the largest script replies what its place in the printed order makes, and that the values at
 // last are those too.
-fn right_of_largest<R: Threads + Wait + Sync>(
+fn right_of_largest<R: Threads + Wait + Sync + Abort>(
     rt: &R,
     alloc: Global,
     option: &str,
-) -> Result<(usize, bool), Fail> {
+) -> Result<(), Fail> {
     let (_, written) = text_of(rt, alloc, option, &largest(alloc)?)?;
     let text = str::from_utf8(&written)?;
     let Some((shown, rest)) = text.split_once("order\n") else {
@@ -387,20 +349,18 @@ fn right_of_largest<R: Threads + Wait + Sync>(
     };
     let replies = printed_replies(alloc, shown)?;
     let (right, a, b) = replayed(alloc, order, &replies)?;
+    is(rt, right, 65_536, option);
     let last = format!(in alloc; "a {a}\nb {b}\n")?;
-    Ok((right, state == last.as_str()))
+    says(rt, state.as_bytes(), &last, option);
+    Ok(())
 }
 
 #[test]
 fn the_largest_script_is_right_in_the_printed_order(rt: HostRuntime) -> Result<(), Fail> {
-    let found = right_of_largest(&rt, rt.alloc(), "--store=lock")?;
-    assert!(rt; found == (65_536, true), "{}", found.0);
-    Ok(())
+    right_of_largest(&rt, rt.alloc(), "--store=lock")
 }
 
 #[test]
 fn the_largest_script_is_right_on_the_lock_free_store(rt: HostRuntime) -> Result<(), Fail> {
-    let found = right_of_largest(&rt, rt.alloc(), "--store=kcas")?;
-    assert!(rt; found == (65_536, true), "{}", found.0);
-    Ok(())
+    right_of_largest(&rt, rt.alloc(), "--store=kcas")
 }
