@@ -1,4 +1,5 @@
-//! Calls of the top call.
+//! Calls of the top call, and what is asserted of them. Each kind of assertion is a function, since one in line costs seconds to
+//! prove, and a call a fraction.
 
 ghost use Rattle.std.specs.Prelude.{IsTrue};
 ghost use Rattle.kc_model.specs.Forms.{are_calls};
@@ -6,6 +7,7 @@ ghost use Rattle.kc_model.specs.Forms.{are_calls};
 use kc_model::{FrailSink, FrailSource, MemShelf, Shelf, Sink, Source};
 use kc_top::{OpenGate, Served, Status, StoreName, kcas_main};
 use std::alloc::Global;
+use std::process::Abort;
 use std::sync::Wait;
 use std::test::Fail;
 use std::thread::Threads;
@@ -75,4 +77,24 @@ pub(crate) fn run_files<R: Threads + Wait + Sync>(
 ) -> Result<(Status, Vec<u8>), Fail> {
     let mut shelf = shelf(alloc, files, Vec::new(alloc))?;
     run_over(rt, alloc, words, &mut shelf)
+}
+
+// Asserts a status.
+pub(crate) fn ends(rt: &impl Abort, status: Status, want: Status) {
+    assert_eq!(rt; status, want);
+}
+
+// The same, of a text which is told where the status is another.
+pub(crate) fn ends_of(rt: &impl Abort, status: Status, want: Status, text: &str) {
+    assert_eq!(rt; status, want, "{text}");
+}
+
+// Asserts what was written.
+pub(crate) fn says(rt: &impl Abort, written: &[u8], text: &[u8]) {
+    assert_eq!(rt; written, text);
+}
+
+// Asserts that something holds.
+pub(crate) fn holds(rt: &impl Abort, test: bool) {
+    assert!(rt; test);
 }

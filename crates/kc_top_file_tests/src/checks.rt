@@ -2,7 +2,7 @@
 
 ghost use Rattle.std.specs.Prelude.{◌≤◌};
 
-use crate::calling::{call, run_files, run_over, shelf};
+use crate::calling::{call, ends, ends_of, holds, run_files, run_over, says, shelf};
 use kc_model::{FrailSink, FrailSource, MemShelf};
 use kc_script_lines::Why;
 use kc_top::{CheckWhy, Status};
@@ -78,8 +78,8 @@ fn a_text_that_was_changed_fails_at_its_line(rt: HostRuntime) -> Result<(), Fail
     ];
     for (bundle, text, line, why) in rows {
         let (status, written) = check(&rt, rt.alloc(), bundle, text)?;
-        assert_eq!(rt; status, Status::Illegal { line, why }, "{text}");
-        assert!(rt; written.is_empty(), "{text}");
+        ends_of(&rt, status, Status::Illegal { line, why }, text);
+        says(&rt, &written, b"");
     }
     Ok(())
 }
@@ -115,15 +115,15 @@ fn what_is_printed_is_legal(rt: HostRuntime) -> Result<(), Fail> {
     for script in SCRIPTS {
         for option in ["--store=lock", "--store=kcas"] {
             let (status, text) = run(&rt, alloc, option, script)?;
-            assert_eq!(rt; status, Status::Done, "{script}");
+            ends_of(&rt, status, Status::Done, script);
             let files = vec![in alloc;
                 named(alloc, "B", script.as_bytes())?,
                 named(alloc, "T", &text)?,
             ]?;
             let mut shelf = MemShelf::new(files, Vec::new(alloc));
             let (status, written) = run_over(&rt, alloc, &WORDS, &mut shelf)?;
-            assert_eq!(rt; status, Status::Done, "{script}");
-            assert_eq!(rt; written.as_slice(), b"legal\n".as_slice(), "{script}");
+            ends_of(&rt, status, Status::Done, script);
+            says(&rt, &written, b"legal\n");
         }
     }
     Ok(())
@@ -140,8 +140,8 @@ fn both_files_are_read_before_the_bundle_is_parsed(rt: HostRuntime) -> Result<()
     let rows: [&[(&str, &str)]; 3] = [&[], &[("T", FIRST_TEXT)], &[("B", "no header\n")]];
     for files in rows {
         let (status, written) = run_files(&rt, alloc, &WORDS, files)?;
-        assert_eq!(rt; status, Status::ReadFault);
-        assert!(rt; written.is_empty());
+        ends(&rt, status, Status::ReadFault);
+        says(&rt, &written, b"");
     }
     let (status, written) = check(&rt, alloc, "kcas 1\nloc x 4294967296\n", "")?;
     let fault = Status::Script {
@@ -149,8 +149,8 @@ fn both_files_are_read_before_the_bundle_is_parsed(rt: HostRuntime) -> Result<()
         line: 2,
         why: Why::BadNumber,
     };
-    assert_eq!(rt; status, fault);
-    assert!(rt; written.is_empty());
+    ends(&rt, status, fault);
+    says(&rt, &written, b"");
     Ok(())
 }
 
@@ -179,15 +179,15 @@ fn check_failing<R: Threads + Wait + Sync>(
 fn each_fetch_and_each_write_of_a_check_may_fail(rt: HostRuntime) -> Result<(), Fail> {
     for call in 1..3 {
         let (status, written) = check_failing(&rt, rt.alloc(), call, 9)?;
-        assert_eq!(rt; status, Status::ReadFault, "{call}");
-        assert!(rt; written.is_empty(), "{call}");
+        ends(&rt, status, Status::ReadFault);
+        says(&rt, &written, b"");
     }
     let (status, written) = check_failing(&rt, rt.alloc(), 3, 1)?;
-    assert_eq!(rt; status, Status::WriteFault);
-    assert!(rt; b"legal\n".starts_with(&written));
+    ends(&rt, status, Status::WriteFault);
+    holds(&rt, b"legal\n".starts_with(&written));
     let (status, written) = check_failing(&rt, rt.alloc(), 3, 2)?;
-    assert_eq!(rt; status, Status::Done);
-    assert_eq!(rt; written.as_slice(), b"legal\n".as_slice());
+    ends(&rt, status, Status::Done);
+    says(&rt, &written, b"legal\n");
     Ok(())
 }
 
@@ -221,11 +221,8 @@ fn each_file_has_a_limit_of_its_own(rt: HostRuntime) -> Result<(), Fail> {
         (MOST_BYTES + 1, MOST_TEXT + 1, Status::TooLong),
     ];
     for (bundle, text, status) in rows {
-        assert_eq!(rt;
-            check_long(&rt, rt.alloc(), bundle, text)?,
-            status,
-            "{bundle} {text}"
-        );
+        let found = check_long(&rt, rt.alloc(), bundle, text)?;
+        ends(&rt, found, status);
     }
     Ok(())
 }

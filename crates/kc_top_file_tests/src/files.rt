@@ -2,7 +2,7 @@
 
 ghost use Rattle.std.specs.Prelude.{◌≤◌};
 
-use crate::calling::{call, run_files, run_over, shelf};
+use crate::calling::{call, ends, holds, run_files, run_over, says, shelf};
 use kc_model::{FrailSink, FrailSource};
 use kc_script_lines::Why;
 use kc_top::Status;
@@ -38,8 +38,8 @@ fn each_file_is_a_thread_of_its_own(rt: HostRuntime) -> Result<(), Fail> {
     ];
     for words in rows {
         let (status, written) = run_files(&rt, alloc, words, &files)?;
-        assert_eq!(rt; status, Status::Done);
-        assert!(rt; has_added_twice(&written));
+        ends(&rt, status, Status::Done);
+        holds(&rt, has_added_twice(&written));
     }
     Ok(())
 }
@@ -48,17 +48,11 @@ fn each_file_is_a_thread_of_its_own(rt: HostRuntime) -> Result<(), Fail> {
 fn an_empty_file_is_a_thread_without_commands(rt: HostRuntime) -> Result<(), Fail> {
     let files = [SETUP, ("A", ""), ("lock", "")];
     let (status, written) = run_files(&rt, rt.alloc(), &["files", "S", "A"], &files)?;
-    assert_eq!(rt; status, Status::Done);
-    assert_eq!(rt;
-        written.as_slice(),
-        b"order\n1.end\nstate\nx 0\n".as_slice()
-    );
+    ends(&rt, status, Status::Done);
+    says(&rt, &written, b"order\n1.end\nstate\nx 0\n");
     let (status, written) = run_files(&rt, rt.alloc(), &["files", "S", "lock"], &files)?;
-    assert_eq!(rt; status, Status::Done);
-    assert_eq!(rt;
-        written.as_slice(),
-        b"order\n1.end\nstate\nx 0\n".as_slice()
-    );
+    ends(&rt, status, Status::Done);
+    says(&rt, &written, b"order\n1.end\nstate\nx 0\n");
     Ok(())
 }
 
@@ -94,8 +88,8 @@ fn a_fault_names_its_part_and_the_line_in_it(rt: HostRuntime) -> Result<(), Fail
     for (setup, one, other, part, line, why) in rows {
         let files = [("S", setup), ("A", one), ("B", other)];
         let (status, written) = run_files(&rt, rt.alloc(), &["files", "S", "A", "B"], &files)?;
-        assert_eq!(rt; status, Status::Script { part, line, why });
-        assert!(rt; written.is_empty());
+        ends(&rt, status, Status::Script { part, line, why });
+        says(&rt, &written, b"");
     }
     Ok(())
 }
@@ -112,8 +106,8 @@ fn a_file_that_is_not_there_is_a_read_fault_before_any_is_parsed(
     ];
     for words in rows {
         let (status, written) = run_files(&rt, rt.alloc(), words, &files)?;
-        assert_eq!(rt; status, Status::ReadFault);
-        assert!(rt; written.is_empty());
+        ends(&rt, status, Status::ReadFault);
+        says(&rt, &written, b"");
     }
     Ok(())
 }
@@ -134,12 +128,12 @@ fn run_failing_fetch<R: Threads + Wait + Sync>(
 fn each_fetch_that_fails_is_a_read_fault_and_writes_nothing(rt: HostRuntime) -> Result<(), Fail> {
     for call in 1..4 {
         let (status, written) = run_failing_fetch(&rt, rt.alloc(), call)?;
-        assert_eq!(rt; status, Status::ReadFault, "{call}");
-        assert!(rt; written.is_empty(), "{call}");
+        ends(&rt, status, Status::ReadFault);
+        says(&rt, &written, b"");
     }
     let (status, written) = run_failing_fetch(&rt, rt.alloc(), 4)?;
-    assert_eq!(rt; status, Status::Done);
-    assert!(rt; has_added_twice(&written));
+    ends(&rt, status, Status::Done);
+    holds(&rt, has_added_twice(&written));
     Ok(())
 }
 
@@ -151,13 +145,13 @@ fn one_long_file_is_too_long_though_another_is_not_there(rt: HostRuntime) -> Res
         long.push_str("###############################################################\n")?;
     }
     let (status, _) = run_files(&rt, alloc, &["files", "S", "A"], &[SETUP, ("A", &long)])?;
-    assert_eq!(rt; status, Status::Done);
+    ends(&rt, status, Status::Done);
     long.push_str("#")?;
     let rows: [&[&str]; 2] = [&["files", "S", "A", "B"], &["files", "A", "S"]];
     for words in rows {
         let (status, written) = run_files(&rt, alloc, words, &[SETUP, ("A", &long)])?;
-        assert_eq!(rt; status, Status::TooLong);
-        assert!(rt; written.is_empty());
+        ends(&rt, status, Status::TooLong);
+        says(&rt, &written, b"");
     }
     Ok(())
 }
@@ -205,8 +199,8 @@ fn words_that_are_no_command_are_usage(rt: HostRuntime) -> Result<(), Fail> {
     for words in rows {
         let files = [SETUP, ONE, ("-x", ""), ("", "")];
         let (status, written) = run_files(&rt, rt.alloc(), words, &files)?;
-        assert_eq!(rt; status, Status::Usage);
-        assert!(rt; written.is_empty());
+        ends(&rt, status, Status::Usage);
+        says(&rt, &written, b"");
     }
     Ok(())
 }
@@ -218,11 +212,11 @@ fn as_many_files_as_threads_may_be(rt: HostRuntime) -> Result<(), Fail> {
         words.push("A")?;
     }
     let (status, written) = run_files(&rt, rt.alloc(), &words, &[SETUP, ONE])?;
-    assert_eq!(rt; status, Status::Done);
-    assert!(rt; written.ends_with(b".end\nstate\nx 16\n".as_slice()));
+    ends(&rt, status, Status::Done);
+    holds(&rt, written.ends_with(b".end\nstate\nx 16\n"));
     words.push("A")?;
     let (status, _) = run_files(&rt, rt.alloc(), &words, &[SETUP, ONE])?;
-    assert_eq!(rt; status, Status::Usage);
+    ends(&rt, status, Status::Usage);
     Ok(())
 }
 
@@ -240,9 +234,9 @@ fn run_takes_the_store_option_and_no_file(rt: HostRuntime) -> Result<(), Fail> {
         let mut shelf = shelf(alloc, &[], vec![in alloc; 1]?)?;
         let mut sink = FrailSink::new(alloc, 100, Vec::new(alloc))?;
         let (status, store) = call(&rt, alloc, words, &mut source, &mut shelf, &mut sink)?;
-        assert_eq!(rt; status, Status::Done);
-        assert!(rt; store.is_none());
-        assert_eq!(rt; sink.bytes(), b"order\nstate\n".as_slice());
+        ends(&rt, status, Status::Done);
+        holds(&rt, store.is_none());
+        says(&rt, sink.bytes(), b"order\nstate\n");
     }
     Ok(())
 }

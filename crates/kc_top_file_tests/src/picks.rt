@@ -2,7 +2,7 @@
 
 ghost use Rattle.std.specs.Prelude.{◌≤◌};
 
-use crate::calling::{call, run_files, run_over, shelf};
+use crate::calling::{call, ends, ends_of, holds, run_files, run_over, says, shelf};
 use kc_model::{FrailSink, FrailSource, MemShelf};
 use kc_script_lines::{Limit, Why};
 use kc_top::{Status, StoreName};
@@ -59,9 +59,9 @@ fn picked_texts_are_written_in_the_order_of_the_picks(rt: HostRuntime) -> Result
     ];
     for (texts, picks, lines) in rows {
         let (status, store, written) = pick(&rt, rt.alloc(), texts.as_bytes(), picks.as_bytes())?;
-        assert_eq!(rt; status, Status::Done, "{texts}");
-        assert_eq!(rt; store, Some(StoreName::Kcas), "{texts}");
-        assert_eq!(rt; written.as_slice(), lines.as_bytes(), "{texts}");
+        ends_of(&rt, status, Status::Done, texts);
+        holds(&rt, store == Some(StoreName::Kcas));
+        says(&rt, &written, lines.as_bytes());
     }
     Ok(())
 }
@@ -70,9 +70,9 @@ fn picked_texts_are_written_in_the_order_of_the_picks(rt: HostRuntime) -> Result
 fn no_pick_writes_nothing_and_opens_no_store(rt: HostRuntime) -> Result<(), Fail> {
     for texts in ["", "red\n"] {
         let (status, store, written) = pick(&rt, rt.alloc(), texts.as_bytes(), b"")?;
-        assert_eq!(rt; status, Status::Done);
-        assert_eq!(rt; store, None);
-        assert!(rt; written.is_empty());
+        ends(&rt, status, Status::Done);
+        holds(&rt, store.is_none());
+        says(&rt, &written, b"");
     }
     Ok(())
 }
@@ -95,13 +95,9 @@ fn the_first_fault_is_told_and_that_of_texts_first(rt: HostRuntime) -> Result<()
     ];
     for (texts, picks, part, line, why) in rows {
         let (status, store, written) = pick(&rt, rt.alloc(), texts.as_bytes(), picks.as_bytes())?;
-        assert_eq!(rt;
-            status,
-            Status::Script { part, line, why },
-            "{texts} {picks}"
-        );
-        assert_eq!(rt; store, None);
-        assert!(rt; written.is_empty());
+        ends_of(&rt, status, Status::Script { part, line, why }, texts);
+        holds(&rt, store.is_none());
+        says(&rt, &written, b"");
     }
     Ok(())
 }
@@ -123,10 +119,10 @@ fn the_last_text_and_the_last_pick_that_fit_are_written(rt: HostRuntime) -> Resu
     let texts = lines(alloc, "a\n", MOST_TEXTS)?;
     let picks = lines(alloc, "4096\n", MOST_PICKS)?;
     let (status, store, written) = pick(&rt, alloc, &texts, &picks)?;
-    assert_eq!(rt; status, Status::Done);
-    assert_eq!(rt; store, Some(StoreName::Kcas));
+    ends(&rt, status, Status::Done);
+    holds(&rt, store == Some(StoreName::Kcas));
     let whole = lines(alloc, "a\n", MOST_PICKS)?;
-    assert_eq!(rt; written.as_slice(), whole.as_slice());
+    says(&rt, &written, &whole);
     Ok(())
 }
 
@@ -143,7 +139,7 @@ fn one_more_is_refused_before_what_else_is_wrong_with_it(rt: HostRuntime) -> Res
             line: 4_097,
             why: Why::TooMany(Limit::Texts),
         };
-        assert_eq!(rt; status, fault);
+        ends(&rt, status, fault);
     }
     for line in ["1\n", "x"] {
         let mut picks = lines(alloc, "1\n", MOST_PICKS)?;
@@ -154,7 +150,7 @@ fn one_more_is_refused_before_what_else_is_wrong_with_it(rt: HostRuntime) -> Res
             line: 65_537,
             why: Why::TooMany(Limit::Picks),
         };
-        assert_eq!(rt; status, fault);
+        ends(&rt, status, fault);
     }
     Ok(())
 }
@@ -165,8 +161,8 @@ fn both_files_are_read_before_either_is_taken_apart(rt: HostRuntime) -> Result<(
     let rows: [&[(&str, &str)]; 3] = [&[], &[("T", "red\n")], &[("P", "1\n")]];
     for files in rows {
         let (status, written) = run_files(&rt, alloc, &WORDS, files)?;
-        assert_eq!(rt; status, Status::ReadFault);
-        assert!(rt; written.is_empty());
+        ends(&rt, status, Status::ReadFault);
+        says(&rt, &written, b"");
     }
     Ok(())
 }
@@ -205,11 +201,8 @@ fn each_file_has_the_same_limit(rt: HostRuntime) -> Result<(), Fail> {
         (MOST_BYTES, MOST_BYTES + 1, Status::TooLong),
     ];
     for (texts, picks, status) in rows {
-        assert_eq!(rt;
-            pick_long(&rt, rt.alloc(), texts, picks)?,
-            status,
-            "{texts} {picks}"
-        );
+        let found = pick_long(&rt, rt.alloc(), texts, picks)?;
+        ends(&rt, found, status);
     }
     Ok(())
 }
@@ -246,19 +239,19 @@ fn each_fetch_and_each_write_of_picks_may_fail(rt: HostRuntime) -> Result<(), Fa
     let whole = lines(alloc, "green\nred\n", 100)?;
     for call in 1..3 {
         let (status, written) = pick_failing(&rt, alloc, call, 99)?;
-        assert_eq!(rt; status, Status::ReadFault, "{call}");
-        assert!(rt; written.is_empty(), "{call}");
+        ends(&rt, status, Status::ReadFault);
+        says(&rt, &written, b"");
     }
     for call in [1, 2, 40, 63] {
         let (status, written) = pick_failing(&rt, alloc, 3, call)?;
-        assert_eq!(rt; status, Status::WriteFault, "{call}");
-        assert!(rt;
+        ends(&rt, status, Status::WriteFault);
+        holds(
+            &rt,
             written.len() < whole.len() && whole.starts_with(&written),
-            "{call}"
         );
     }
     let (status, written) = pick_failing(&rt, alloc, 3, 64)?;
-    assert_eq!(rt; status, Status::Done);
-    assert_eq!(rt; written.as_slice(), whole.as_slice());
+    ends(&rt, status, Status::Done);
+    says(&rt, &written, &whole);
     Ok(())
 }
