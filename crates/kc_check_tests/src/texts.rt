@@ -2,6 +2,8 @@
 
 use kc_check::{CheckError, CheckWhy, MOST_TEXT, check_text};
 use kc_script::{MOST_BYTES, parse};
+use std::alloc::Global;
+use std::process::Abort;
 use std::test::Fail;
 
 const FIRST: &str = "kcas 1\nloc x 5\nthread\nget x\nset x 7\nadd x 1\n";
@@ -53,38 +55,54 @@ const ROWS: [Row; 8] = [
 ];
 
 // What a check of the text of a script answers; nothing where memory is missing.
-fn told(
-    rt: &HostRuntime,
-    script: &str,
-    text: &str,
-) -> Result<Option<Option<(u32, CheckWhy)>>, Fail> {
+fn told(alloc: Global, script: &str, text: &str) -> Result<Option<Option<(u32, CheckWhy)>>, Fail> {
     let script = script.as_bytes();
     let text = text.as_bytes();
     if script.len() > MOST_BYTES || text.len() > MOST_TEXT {
         return Err(Fail::from("too long"));
     }
-    let Ok(bundle) = parse(rt.alloc(), script) else {
+    let Ok(bundle) = parse(alloc, script) else {
         return Ok(None);
     };
-    match check_text(rt.alloc(), &bundle, text) {
+    match check_text(alloc, &bundle, text) {
         Ok(()) => Ok(Some(None)),
         Err(CheckError::Fault { line, why }) => Ok(Some(Some((line, why)))),
         Err(CheckError::NoMemory) => Ok(None),
     }
 }
 
-// The line and the test at which the text of a script fails, if it does.
-fn fault(rt: &HostRuntime, script: &str, text: &str) -> Result<Option<(u32, CheckWhy)>, Fail> {
-    match told(rt, script, text)? {
-        Some(told) => Ok(told),
-        None => Err(Fail::from("no script, or no memory")),
+// Asserts the line and the test at which the text of a script fails, if it does.
+fn fails(
+    rt: &impl Abort,
+    alloc: Global,
+    script: &str,
+    text: &str,
+    wanted: Option<(u32, CheckWhy)>,
+) -> Result<(), Fail> {
+    match told(alloc, script, text)? {
+        Some(fault) => assert_eq!(rt; fault, wanted, "{text}"),
+        None => return Err(Fail::from("no script, or no memory")),
     }
+    Ok(())
+}
+
+// Asserts it of each of these texts.
+fn all_fail(
+    rt: &impl Abort,
+    alloc: Global,
+    script: &str,
+    rows: &[(&str, Option<(u32, CheckWhy)>)],
+) -> Result<(), Fail> {
+    for (text, wanted) in rows {
+        fails(rt, alloc, script, text, *wanted)?;
+    }
+    Ok(())
 }
 
 #[test]
 fn each_fault_is_told_at_its_line(rt: HostRuntime) -> Result<(), Fail> {
     for (script, text, wanted) in ROWS {
-        assert_eq!(rt; fault(&rt, script, text)?, wanted);
+        fails(&rt, rt.alloc(), script, text, wanted)?;
     }
     Ok(())
 }
@@ -93,7 +111,7 @@ fn each_fault_is_told_at_its_line(rt: HostRuntime) -> Result<(), Fail> {
 #[test]
 fn want_of_memory_changes_no_answer(rt: HostRuntime) -> Result<(), Fail> {
     for (script, text, wanted) in ROWS {
-        if let Some(told) = told(&rt, script, text)? {
+        if let Some(told) = told(rt.alloc(), script, text)? {
             assert_eq!(rt; told, wanted);
         }
     }
@@ -151,10 +169,7 @@ fn the_form_takes_no_line_that_is_nearly_one(rt: HostRuntime) -> Result<(), Fail
             Some((10, CheckWhy::State)),
         ),
     ];
-    for (text, wanted) in rows {
-        assert_eq!(rt; fault(&rt, FIRST, text)?, wanted);
-    }
-    Ok(())
+    all_fail(&rt, rt.alloc(), FIRST, &rows)
 }
 
 #[test]
@@ -178,10 +193,7 @@ fn numbers_end_at_32_bits(rt: HostRuntime) -> Result<(), Fail> {
             Some((6, CheckWhy::State)),
         ),
     ];
-    for (text, wanted) in rows {
-        assert_eq!(rt; fault(&rt, script, text)?, wanted);
-    }
-    Ok(())
+    all_fail(&rt, rt.alloc(), script, &rows)
 }
 
 #[test]
@@ -202,10 +214,7 @@ fn a_reply_has_at_most_16_words(rt: HostRuntime) -> Result<(), Fail> {
             Some((1, CheckWhy::Form)),
         ),
     ];
-    for (text, wanted) in rows {
-        assert_eq!(rt; fault(&rt, script, text)?, wanted);
-    }
-    Ok(())
+    all_fail(&rt, rt.alloc(), script, &rows)
 }
 
 #[test]
@@ -225,10 +234,7 @@ fn a_cancelled_wait_is_known(rt: HostRuntime) -> Result<(), Fail> {
             Some((4, CheckWhy::Waits)),
         ),
     ];
-    for (text, wanted) in rows {
-        assert_eq!(rt; fault(&rt, script, text)?, wanted);
-    }
-    Ok(())
+    all_fail(&rt, rt.alloc(), script, &rows)
 }
 
 #[test]
@@ -237,10 +243,10 @@ fn a_script_has_its_limit(rt: HostRuntime) -> Result<(), Fail> {
     let large = "kcas 2\nlimit 2\nloc x 1\nloc y 2\nthread\nswap x y\n";
     let refused = "1.1 toolarge\norder\n1.1\n1.end\nstate\nx 1\ny 2\n";
     let swapped = "1.1 ok\norder\n1.1\n1.end\nstate\nx 2\ny 1\n";
-    assert_eq!(rt; fault(&rt, small, refused)?, None);
-    assert_eq!(rt; fault(&rt, small, swapped)?, Some((1, CheckWhy::Reply)));
-    assert_eq!(rt; fault(&rt, large, swapped)?, None);
-    assert_eq!(rt; fault(&rt, large, refused)?, Some((1, CheckWhy::Reply)));
+    fails(&rt, rt.alloc(), small, refused, None)?;
+    fails(&rt, rt.alloc(), small, swapped, Some((1, CheckWhy::Reply)))?;
+    fails(&rt, rt.alloc(), large, swapped, None)?;
+    fails(&rt, rt.alloc(), large, refused, Some((1, CheckWhy::Reply)))?;
     Ok(())
 }
 
@@ -274,8 +280,5 @@ fn the_first_test_is_told(rt: HostRuntime) -> Result<(), Fail> {
             Some((14, CheckWhy::State)),
         ),
     ];
-    for (text, wanted) in rows {
-        assert_eq!(rt; fault(&rt, script, text)?, wanted);
-    }
-    Ok(())
+    all_fail(&rt, rt.alloc(), script, &rows)
 }

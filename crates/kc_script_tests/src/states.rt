@@ -17,31 +17,40 @@ use kc_script_bundle::{
 use kc_stack::{Stack, StackAct, StackOp};
 use kc_term::Term;
 use kc_xt::{PlainPeek, Room, Stop, Transact, Xt};
+use std::alloc::Global;
+use std::process::Abort;
 use std::test::Fail;
 
 // A bundle of one object, with no threads.
-fn bundle_of(rt: &HostRuntime, object: Object) -> Result<Bundle, Fail>
+fn bundle_of(alloc: Global, object: Object) -> Result<Bundle, Fail>
     ensures object { IfOk result (λ bundle. (name : List ℕ) × (names_of bundle.objects ≡ (name, object) ∷ [])) }
     ensures threads { IfOk result (λ bundle. bundle.threads.items ≡ []) }
 {
-    let mut objects = IndexMap::new(rt.alloc());
-    objects.insert(String::from_str(rt.alloc(), "o")?, object)?;
+    let mut objects = IndexMap::new(alloc);
+    objects.insert(String::from_str(alloc, "o")?, object)?;
     Ok(Bundle {
         limit: 64,
         objects,
-        threads: Vec::new(rt.alloc()),
+        threads: Vec::new(alloc),
     })
 }
 
-// Whether the line of an object is this text, where the store has these values.
-fn shows(rt: &HostRuntime, object: Object, values: &[u32], text: &str) -> Result<bool, Fail>
+// Asserts the line of an object, where the store has these values.
+fn shows(
+    rt: &impl Abort,
+    alloc: Global,
+    object: Object,
+    values: &[u32],
+    text: &str,
+) -> Result<(), Fail>
     requires { IsWithin (length values.now) object }
 {
-    let bundle = bundle_of(rt, object)?;
-    let store = PlainStore::open(rt.alloc(), values)?;
-    let mut sink = FrailSink::new(rt.alloc(), 100, Vec::new(rt.alloc()))?;
+    let bundle = bundle_of(alloc, object)?;
+    let store = PlainStore::open(alloc, values)?;
+    let mut sink = FrailSink::new(alloc, 100, Vec::new(alloc))?;
     write_state(&bundle, &store, &mut sink)?;
-    Ok(sink.bytes() == text.as_bytes())
+    assert_eq!(rt; sink.bytes(), text.as_bytes());
+    Ok(())
 }
 
 #[test]
@@ -50,24 +59,24 @@ fn a_location_shows_its_value(rt: HostRuntime) -> Result<(), Fail> {
         at: Loc(1),
         value: 5,
     };
-    assert!(rt; shows(&rt, x, &[0, 7], "o 7\n")?);
+    shows(&rt, rt.alloc(), x, &[0, 7], "o 7\n")?;
     Ok(())
 }
 
 #[test]
 fn a_stack_is_shown_from_the_top(rt: HostRuntime) -> Result<(), Fail> {
     let stack = Object::Stack(Stack::layout(Loc(1), 3));
-    assert!(rt; shows(&rt, stack, &[0, 2, 7, 8, 9], "o 8 7\n")?);
-    assert!(rt; shows(&rt, stack, &[0, 9, 7, 8, 9], "o 9 8 7\n")?);
-    assert!(rt; shows(&rt, stack, &[0, 0, 7, 8, 9], "o\n")?);
+    shows(&rt, rt.alloc(), stack, &[0, 2, 7, 8, 9], "o 8 7\n")?;
+    shows(&rt, rt.alloc(), stack, &[0, 9, 7, 8, 9], "o 9 8 7\n")?;
+    shows(&rt, rt.alloc(), stack, &[0, 0, 7, 8, 9], "o\n")?;
     Ok(())
 }
 
 #[test]
 fn a_queue_is_shown_from_the_front(rt: HostRuntime) -> Result<(), Fail> {
     let queue = Object::Queue(Queue::layout(Loc(1), 3));
-    assert!(rt; shows(&rt, queue, &[0, 2, 3, 7, 8, 9], "o 9 7 8\n")?);
-    assert!(rt; shows(&rt, queue, &[0, 5, 2, 7, 8, 9], "o 7 8\n")?);
+    shows(&rt, rt.alloc(), queue, &[0, 2, 3, 7, 8, 9], "o 9 7 8\n")?;
+    shows(&rt, rt.alloc(), queue, &[0, 5, 2, 7, 8, 9], "o 7 8\n")?;
     Ok(())
 }
 
@@ -75,17 +84,17 @@ fn a_queue_is_shown_from_the_front(rt: HostRuntime) -> Result<(), Fail> {
 fn a_place_is_shown_as_its_value_or_none(rt: HostRuntime) -> Result<(), Fail> {
     let mvar = Object::Mvar(Mvar::layout(Loc(1)));
     let promise = Object::Promise(Promise::layout(Loc(1)));
-    assert!(rt; shows(&rt, mvar, &[0, 0, 4], "o none\n")?);
-    assert!(rt; shows(&rt, mvar, &[0, 1, 4], "o 4\n")?);
-    assert!(rt; shows(&rt, promise, &[0, 0, 0], "o none\n")?);
-    assert!(rt; shows(&rt, promise, &[0, 1, 0], "o 0\n")?);
+    shows(&rt, rt.alloc(), mvar, &[0, 0, 4], "o none\n")?;
+    shows(&rt, rt.alloc(), mvar, &[0, 1, 4], "o 4\n")?;
+    shows(&rt, rt.alloc(), promise, &[0, 0, 0], "o none\n")?;
+    shows(&rt, rt.alloc(), promise, &[0, 1, 0], "o 0\n")?;
     Ok(())
 }
 
 #[test]
 fn an_accumulator_is_shown_as_its_sum(rt: HostRuntime) -> Result<(), Fail> {
     let acc = Object::Acc(Accumulator::layout(Loc(1), 2));
-    assert!(rt; shows(&rt, acc, &[0, 4_294_967_295, 3], "o 2\n")?);
+    shows(&rt, rt.alloc(), acc, &[0, 4_294_967_295, 3], "o 2\n")?;
     Ok(())
 }
 
@@ -93,9 +102,9 @@ fn an_accumulator_is_shown_as_its_sum(rt: HostRuntime) -> Result<(), Fail> {
 fn a_table_is_shown_in_rising_order_of_key(rt: HostRuntime) -> Result<(), Fail> {
     let table = Object::Hash(Hash::layout(Loc(1), 2, 3));
     let values = [0, 3, 0, 2, 1, 5, 50, 3, 8, 80, 0, 1, 10, 0];
-    assert!(rt; shows(&rt, table, &values, "o 1=10 5=50 8=80\n")?);
+    shows(&rt, rt.alloc(), table, &values, "o 1=10 5=50 8=80\n")?;
     let circle = [0, 1, 0, 1, 0, 4, 40, 1, 0, 0, 0, 0, 0, 0];
-    assert!(rt; shows(&rt, table, &circle, "o 4=40\n")?);
+    shows(&rt, rt.alloc(), table, &circle, "o 4=40\n")?;
     Ok(())
 }
 
@@ -104,9 +113,9 @@ fn a_table_is_shown_in_rising_order_of_key(rt: HostRuntime) -> Result<(), Fail> 
 fn a_table_that_grows_is_shown_as_a_table(rt: HostRuntime) -> Result<(), Fail> {
     let grow = Object::Grow(Grow::layout(Loc(1), 2));
     let values = [0, 2, 0, 2, 2, 1, 3, 30, 0, 8, 80, 0];
-    assert!(rt; shows(&rt, grow, &values, "o 3=30 8=80\n")?);
+    shows(&rt, rt.alloc(), grow, &values, "o 3=30 8=80\n")?;
     let many = [0, 2, 0, 3, 2, 1, 3, 30, 0, 8, 80, 0];
-    assert!(rt; shows(&rt, grow, &many, "o 8=80\n")?);
+    shows(&rt, rt.alloc(), grow, &many, "o 8=80\n")?;
     Ok(())
 }
 
@@ -116,42 +125,72 @@ fn a_cache_is_shown_from_the_most_recent_pair(rt: HostRuntime) -> Result<(), Fai
     let values = [
         0, 0, 2, 0, 1, 8, 1, 2, 5, 2, 0, 2, 1, 0, 8, 2, 0, 5, 0, 1, 80, 50,
     ];
-    assert!(rt; shows(&rt, cache, &values, "o 5=50 8=80\n")?);
+    shows(&rt, rt.alloc(), cache, &values, "o 5=50 8=80\n")?;
     Ok(())
 }
 
-// Whether a bundle of this object opens with these values.
-fn opens(rt: &HostRuntime, object: Object, values: &[u32]) -> Result<bool, Fail>
+// Asserts the values with which a bundle of this object opens.
+fn opens(rt: &impl Abort, alloc: Global, object: Object, values: &[u32]) -> Result<(), Fail>
     requires first { base object ≡ 1 }
     requires within { 1 + cells object ≤ 65536 }
 {
-    let bundle = bundle_of(rt, object)?;
-    let opened = opening(rt.alloc(), &bundle)?;
-    Ok(opened.as_slice() == values)
+    let bundle = bundle_of(alloc, object)?;
+    let opened = opening(alloc, &bundle)?;
+    assert_eq!(rt; opened.as_slice(), values);
+    Ok(())
 }
 
 #[test]
 fn objects_open_with_their_values(rt: HostRuntime) -> Result<(), Fail> {
     let base = Loc(1);
-    assert!(rt; opens(&rt, Object::Loc { at: base, value: 5 }, &[0, 5])?);
-    assert!(rt; opens(&rt, Object::Stack(Stack::layout(base, 2)), &[0, 0, 0, 0])?);
-    assert!(rt; opens(&rt, Object::Queue(Queue::layout(base, 1)), &[0, 0, 0, 0])?);
-    assert!(rt; opens(&rt, Object::Mvar(Mvar::layout(base)), &[0, 0, 0])?);
-    assert!(rt; opens(&rt, Object::Promise(Promise::layout(base)), &[0, 0, 0])?);
-    assert!(rt; opens(&rt, Object::Acc(Accumulator::layout(base, 1)), &[0, 0])?);
+    opens(&rt, rt.alloc(), Object::Loc { at: base, value: 5 }, &[0, 5])?;
+    opens(
+        &rt,
+        rt.alloc(),
+        Object::Stack(Stack::layout(base, 2)),
+        &[0, 0, 0, 0],
+    )?;
+    opens(
+        &rt,
+        rt.alloc(),
+        Object::Queue(Queue::layout(base, 1)),
+        &[0, 0, 0, 0],
+    )?;
+    opens(
+        &rt,
+        rt.alloc(),
+        Object::Mvar(Mvar::layout(base)),
+        &[0, 0, 0],
+    )?;
+    opens(
+        &rt,
+        rt.alloc(),
+        Object::Promise(Promise::layout(base)),
+        &[0, 0, 0],
+    )?;
+    opens(
+        &rt,
+        rt.alloc(),
+        Object::Acc(Accumulator::layout(base, 1)),
+        &[0, 0],
+    )?;
     let cache = Cache::layout(base, 1, 1);
     let opened = [0, 1, 0, 1, 0, 0, 0, 0, 0, 0, 1, 0, 0, 0, 0];
-    assert!(rt; opens(&rt, Object::Cache(cache), &opened)?);
+    opens(&rt, rt.alloc(), Object::Cache(cache), &opened)?;
     let table = Hash::layout(base, 1, 2);
-    assert!(rt; opens(&rt, Object::Hash(table), &[0, 0, 1, 0, 0, 0, 2, 0, 0, 0])?);
+    opens(
+        &rt,
+        rt.alloc(),
+        Object::Hash(table),
+        &[0, 0, 1, 0, 0, 0, 2, 0, 0, 0],
+    )?;
     let grow = Grow::layout(base, 2);
-    assert!(rt;
-        opens(
-            &rt,
-            Object::Grow(grow),
-            &[0, 0, 1, 1, 0, 0, 0, 0, 2, 0, 0, 0]
-        )?
-    );
+    opens(
+        &rt,
+        rt.alloc(),
+        Object::Grow(grow),
+        &[0, 0, 1, 1, 0, 0, 0, 0, 2, 0, 0, 0],
+    )?;
     Ok(())
 }
 
