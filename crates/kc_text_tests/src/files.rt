@@ -6,6 +6,7 @@ use kc_text::Text;
 use kc_text_files::{picks_of, texts_of};
 use kc_text_run::{ReadPicks, read_by_two, write_lines};
 use std::alloc::Global;
+use std::process::Abort;
 use std::sync::Wait;
 use std::test::Fail;
 use std::thread::Threads;
@@ -41,28 +42,39 @@ fn times(alloc: Global, line: &[u8], count: u32) -> Option<Vec<u8>> {
     Some(bytes)
 }
 
+// Asserts a fault, or that there is none.
+fn fails(rt: &impl Abort, fault: Option<(u32, Why)>, want: Option<(u32, Why)>) {
+    assert_eq!(rt; fault, want);
+}
+
+// Asserts what was written.
+fn says(rt: &impl Abort, written: &[u8], lines: &[u8]) {
+    assert_eq!(rt; written, lines);
+}
+
 #[test]
 fn a_file_of_texts_has_the_faults_of_its_lines(rt: HostRuntime) -> Result<(), Fail> {
     let alloc = rt.alloc();
     let long = Some((2, Why::TooMany(Limit::TextBytes)));
-    assert_eq!(rt; texts_fault(alloc, b""), None);
-    assert_eq!(rt; texts_fault(alloc, b"red\ngreen\nblue"), None);
+    fails(&rt, texts_fault(alloc, b""), None);
+    fails(&rt, texts_fault(alloc, b"red\ngreen\nblue"), None);
     let (Some(fits), Some(longer)) = (times(alloc, b"x", 64), times(alloc, b"x", 65)) else {
         return Err(Fail::from("no memory"));
     };
-    assert_eq!(rt; texts_fault(alloc, &fits), None);
+    fails(&rt, texts_fault(alloc, &fits), None);
     let mut bytes = Vec::new(alloc);
     bytes.extend_from_slice(b"red\n")?;
     bytes.extend_from_slice(&longer)?;
-    assert_eq!(rt; texts_fault(alloc, &bytes), long);
+    fails(&rt, texts_fault(alloc, &bytes), long);
     let Some(mut lines) = times(alloc, b"x\n", 4096) else {
         return Err(Fail::from("no memory"));
     };
-    assert_eq!(rt; texts_fault(alloc, &lines), None);
+    fails(&rt, texts_fault(alloc, &lines), None);
     lines.extend_from_slice(&longer)?;
-    assert_eq!(rt;
+    fails(
+        &rt,
         texts_fault(alloc, &lines),
-        Some((4097, Why::TooMany(Limit::Texts)))
+        Some((4097, Why::TooMany(Limit::Texts))),
     );
     Ok(())
 }
@@ -71,25 +83,27 @@ fn a_file_of_texts_has_the_faults_of_its_lines(rt: HostRuntime) -> Result<(), Fa
 fn a_file_of_picks_has_the_faults_of_its_lines(rt: HostRuntime) -> Result<(), Fail> {
     let alloc = rt.alloc();
     let bad = Some((1, Why::BadNumber));
-    assert_eq!(rt; picks_fault(alloc, 3, b"3\n1\n3\n2"), None);
-    assert_eq!(rt; picks_fault(alloc, 3, b"0000000003\n"), None);
+    fails(&rt, picks_fault(alloc, 3, b"3\n1\n3\n2"), None);
+    fails(&rt, picks_fault(alloc, 3, b"0000000003\n"), None);
     for bytes in ["4", "0", "3 ", " 3", "3\r", "\n3", "+3", "00000000003", "x"] {
-        assert_eq!(rt; picks_fault(alloc, 3, bytes.as_bytes()), bad);
+        fails(&rt, picks_fault(alloc, 3, bytes.as_bytes()), bad);
     }
-    assert_eq!(rt; picks_fault(alloc, 0, b"1"), bad);
-    assert_eq!(rt; picks_fault(alloc, 0, b""), None);
-    assert_eq!(rt;
+    fails(&rt, picks_fault(alloc, 0, b"1"), bad);
+    fails(&rt, picks_fault(alloc, 0, b""), None);
+    fails(
+        &rt,
         picks_fault(alloc, 1, b"1\n1\n2\n"),
-        Some((3, Why::BadNumber))
+        Some((3, Why::BadNumber)),
     );
     let Some(mut lines) = times(alloc, b"1\n", 65_536) else {
         return Err(Fail::from("no memory"));
     };
-    assert_eq!(rt; picks_fault(alloc, 1, &lines), None);
+    fails(&rt, picks_fault(alloc, 1, &lines), None);
     lines.extend_from_slice(b"x")?;
-    assert_eq!(rt;
+    fails(
+        &rt,
         picks_fault(alloc, 1, &lines),
-        Some((65_537, Why::TooMany(Limit::Picks)))
+        Some((65_537, Why::TooMany(Limit::Picks))),
     );
     Ok(())
 }
@@ -146,11 +160,11 @@ fn two_threads_read_the_picked_lines(rt: HostRuntime) -> Result<(), Fail> {
         let Some(bytes) = written(&rt, alloc, b"red\ngreen\nblue", b"3\n1\n3\n2") else {
             return Err(Fail::from("not read"));
         };
-        assert_eq!(rt; bytes.as_slice(), b"blue\nred\nblue\ngreen\n".as_slice());
+        says(&rt, &bytes, b"blue\nred\nblue\ngreen\n");
     }
     let Some(bytes) = written(&rt, alloc, b"red\ngreen\nblue\n", b"3\n1\n2\n") else {
         return Err(Fail::from("not read"));
     };
-    assert_eq!(rt; bytes.as_slice(), b"blue\nred\ngreen\n".as_slice());
+    says(&rt, &bytes, b"blue\nred\ngreen\n");
     Ok(())
 }

@@ -2,7 +2,23 @@ use crate::library::{bury, open, read, reply};
 use kc_model::{Loc, MOST, PlainStore, Reply};
 use kc_text::{BURIED, PoolError, Text, TextAct, TextOp, TextPool, Texts};
 use kc_xt::{PlainPeek, Room, Transact, Xt};
+use std::process::Abort;
 use std::test::Fail;
+
+// Asserts which text is read, and how many bytes it has. Assertions in line cost seconds to prove, calls a fraction.
+fn sees(rt: &impl Abort, seen: Option<(u32, usize)>, want: Option<(u32, usize)>) {
+    assert_eq!(rt; seen, want);
+}
+
+// Asserts how many bytes were buried.
+fn buries(rt: &impl Abort, bytes: Option<usize>, want: Option<usize>) {
+    assert_eq!(rt; bytes, want);
+}
+
+// Asserts a reply.
+fn replies(rt: &impl Abort, reply: Option<Reply>, want: Option<Reply>) {
+    assert_eq!(rt; reply, want);
+}
 
 #[test]
 fn a_text_is_read_while_a_place_names_it_and_then_buried(rt: HostRuntime) -> Result<(), Fail> {
@@ -10,18 +26,27 @@ fn a_text_is_read_while_a_place_names_it_and_then_buried(rt: HostRuntime) -> Res
         return Err(Fail::from("not opened"));
     };
     let library = &mut library;
-    assert_eq!(rt; read(&rt, library, 0), Some((0, 0)));
-    assert_eq!(rt; reply(&rt, library, TextAct::Name(0, 1)), Some(Reply::Unit));
-    assert_eq!(rt; read(&rt, library, 0), Some((1, 3)));
-    assert_eq!(rt; bury(&rt, library, 1), Some(0));
-    assert_eq!(rt; reply(&rt, library, TextAct::Clear(0)), Some(Reply::Unit));
-    assert_eq!(rt; bury(&rt, library, 1), Some(3));
-    assert_eq!(rt;
+    sees(&rt, read(&rt, library, 0), Some((0, 0)));
+    replies(
+        &rt,
         reply(&rt, library, TextAct::Name(0, 1)),
-        Some(Reply::Bool(false))
+        Some(Reply::Unit),
     );
-    assert_eq!(rt; bury(&rt, library, 1), Some(0));
-    assert_eq!(rt; read(&rt, library, 0), Some((0, 0)));
+    sees(&rt, read(&rt, library, 0), Some((1, 3)));
+    buries(&rt, bury(&rt, library, 1), Some(0));
+    replies(
+        &rt,
+        reply(&rt, library, TextAct::Clear(0)),
+        Some(Reply::Unit),
+    );
+    buries(&rt, bury(&rt, library, 1), Some(3));
+    replies(
+        &rt,
+        reply(&rt, library, TextAct::Name(0, 1)),
+        Some(Reply::Bool(false)),
+    );
+    buries(&rt, bury(&rt, library, 1), Some(0));
+    sees(&rt, read(&rt, library, 0), Some((0, 0)));
     Ok(())
 }
 
@@ -33,16 +58,33 @@ fn a_place_that_comes_to_name_another_text_gives_the_first_one_up(
         return Err(Fail::from("not opened"));
     };
     let library = &mut library;
-    assert_eq!(rt; reply(&rt, library, TextAct::Name(0, 2)), Some(Reply::Unit));
-    assert_eq!(rt; reply(&rt, library, TextAct::Name(1, 2)), Some(Reply::Unit));
-    assert_eq!(rt; reply(&rt, library, TextAct::Name(0, 1)), Some(Reply::Unit));
-    assert_eq!(rt; read(&rt, library, 0), Some((1, 3)));
-    assert_eq!(rt; bury(&rt, library, 2), Some(0));
-    assert_eq!(rt; reply(&rt, library, TextAct::Name(1, 1)), Some(Reply::Unit));
-    assert_eq!(rt; bury(&rt, library, 2), Some(5));
-    assert_eq!(rt;
+    replies(
+        &rt,
+        reply(&rt, library, TextAct::Name(0, 2)),
+        Some(Reply::Unit),
+    );
+    replies(
+        &rt,
+        reply(&rt, library, TextAct::Name(1, 2)),
+        Some(Reply::Unit),
+    );
+    replies(
+        &rt,
+        reply(&rt, library, TextAct::Name(0, 1)),
+        Some(Reply::Unit),
+    );
+    sees(&rt, read(&rt, library, 0), Some((1, 3)));
+    buries(&rt, bury(&rt, library, 2), Some(0));
+    replies(
+        &rt,
+        reply(&rt, library, TextAct::Name(1, 1)),
+        Some(Reply::Unit),
+    );
+    buries(&rt, bury(&rt, library, 2), Some(5));
+    replies(
+        &rt,
         reply(&rt, library, TextAct::Return(2)),
-        Some(Reply::Bool(false))
+        Some(Reply::Bool(false)),
     );
     Ok(())
 }
