@@ -8,6 +8,7 @@ use kc_locked::{Held, LockPass, LockedStore, Waits, answer_of};
 use kc_model::{Answer, Footprint, Loc, OpenError, Reply};
 use kc_xt::{Ended, Room, Trial};
 use std::alloc::Global;
+use std::process::Abort;
 use std::sync::Wait;
 use std::test::Fail;
 use std::thread;
@@ -95,14 +96,27 @@ fn refusal(alloc: Global, values: usize, shares: usize) -> Result<Option<OpenErr
     }
 }
 
+// Asserts why. In line that costs seconds to prove, and a call a fraction.
+fn refuses(rt: &impl Abort, error: Option<OpenError>, want: Option<OpenError>) {
+    assert_eq!(rt; error, want);
+}
+
 #[test]
 fn open_refuses_by_number(rt: HostRuntime) -> Result<(), Fail> {
     let alloc = rt.alloc();
-    assert_eq!(rt; refusal(alloc, 65537, 65)?, Some(OpenError::TooManyLocs));
-    assert_eq!(rt; refusal(alloc, 65536, 65)?, Some(OpenError::TooManyCallers));
-    assert_eq!(rt; refusal(alloc, 3, 0)?, Some(OpenError::TooManyCallers));
-    assert_eq!(rt; refusal(alloc, 65536, 64)?, None);
-    assert_eq!(rt; refusal(alloc, 0, 1)?, None);
-    assert_eq!(rt; refusal(alloc, 3, 2)?, None);
+    refuses(
+        &rt,
+        refusal(alloc, 65537, 65)?,
+        Some(OpenError::TooManyLocs),
+    );
+    refuses(
+        &rt,
+        refusal(alloc, 65536, 65)?,
+        Some(OpenError::TooManyCallers),
+    );
+    refuses(&rt, refusal(alloc, 3, 0)?, Some(OpenError::TooManyCallers));
+    refuses(&rt, refusal(alloc, 65536, 64)?, None);
+    refuses(&rt, refusal(alloc, 0, 1)?, None);
+    refuses(&rt, refusal(alloc, 3, 2)?, None);
     Ok(())
 }

@@ -10,6 +10,7 @@ use kc_queue::{Queue, QueueAct, QueueOp};
 use kc_run::{KcShared, OpenGate, open_kcas, open_locked, run_threads};
 use kc_script_bundle::{Cancel, Command, Op};
 use std::alloc::Global;
+use std::process::Abort;
 use std::sync::Wait;
 use std::test::Fail;
 use std::thread::Threads;
@@ -127,14 +128,19 @@ fn count(records: &[Records], reply: Reply) -> usize {
     count
 }
 
+// Asserts a number. In line that costs seconds to prove, and a call a fraction.
+fn is(rt: &impl Abort, number: usize, want: usize) {
+    assert_eq!(rt; number, want);
+}
+
 #[test]
 fn two_threads_add_to_one_location(rt: HostRuntime) -> Result<(), Fail> {
     let alloc = rt.alloc();
     let threads = team(alloc, Op::Loc(LocOp::FetchAdd(Loc(1), 1)), 500, 2)?;
     let locked = run_locked(&rt, alloc, &threads)?;
-    assert_eq!(rt; replies(alloc, &locked, 1000)?, 1000);
+    is(&rt, replies(alloc, &locked, 1000)?, 1000);
     let free = run_kcas(&rt, alloc, &threads)?;
-    assert_eq!(rt; replies(alloc, &free, 1000)?, 1000);
+    is(&rt, replies(alloc, &free, 1000)?, 1000);
     Ok(())
 }
 
@@ -143,9 +149,9 @@ fn sixteen_threads_add_to_one_location(rt: HostRuntime) -> Result<(), Fail> {
     let alloc = rt.alloc();
     let threads = team(alloc, Op::Loc(LocOp::FetchAdd(Loc(1), 1)), 100, 16)?;
     let locked = run_locked(&rt, alloc, &threads)?;
-    assert_eq!(rt; replies(alloc, &locked, 1600)?, 1600);
+    is(&rt, replies(alloc, &locked, 1600)?, 1600);
     let free = run_kcas(&rt, alloc, &threads)?;
-    assert_eq!(rt; replies(alloc, &free, 1600)?, 1600);
+    is(&rt, replies(alloc, &free, 1600)?, 1600);
     Ok(())
 }
 
@@ -159,9 +165,9 @@ fn a_queue_is_handed_over_by_a_wait(rt: HostRuntime) -> Result<(), Fail> {
     let put = QueueAct::Enq(7);
     threads.push(same(alloc, Op::Queue(QueueOp { queue, act: put }), 1)?)?;
     let locked = run_locked(&rt, alloc, &threads)?;
-    assert_eq!(rt; replies(alloc, &locked, 8)?, 1);
+    is(&rt, replies(alloc, &locked, 8)?, 1);
     let free = run_kcas(&rt, alloc, &threads)?;
-    assert_eq!(rt; replies(alloc, &free, 8)?, 1);
+    is(&rt, replies(alloc, &free, 8)?, 1);
     Ok(())
 }
 
@@ -187,13 +193,13 @@ fn a_thread_is_cancelled_a_thousand_times(rt: HostRuntime) -> Result<(), Fail> {
     threads.push(in_turn(alloc, wait, tell, 1000)?)?;
     threads.push(in_turn(alloc, cancel, hear, 1000)?)?;
     let locked = run_locked(&rt, alloc, &threads)?;
-    assert_eq!(rt; count(&locked, Reply::Cancelled), 1000);
-    assert_eq!(rt; count(&locked, Reply::Value(7)), 1000);
-    assert_eq!(rt; count(&locked, Reply::Full), 0);
+    is(&rt, count(&locked, Reply::Cancelled), 1000);
+    is(&rt, count(&locked, Reply::Value(7)), 1000);
+    is(&rt, count(&locked, Reply::Full), 0);
     let free = run_kcas(&rt, alloc, &threads)?;
-    assert_eq!(rt; count(&free, Reply::Cancelled), 1000);
-    assert_eq!(rt; count(&free, Reply::Value(7)), 1000);
-    assert_eq!(rt; count(&free, Reply::Full), 0);
+    is(&rt, count(&free, Reply::Cancelled), 1000);
+    is(&rt, count(&free, Reply::Value(7)), 1000);
+    is(&rt, count(&free, Reply::Full), 0);
     Ok(())
 }
 
