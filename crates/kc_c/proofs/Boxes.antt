@@ -1,7 +1,7 @@
 -- A box of what a handle holds, as calls pass it.
-use Rattle.std.proofs.Common.{◌≡◌, [], ◌∷◌, refl}
+use Rattle.std.proofs.Common.{[], ◌∷◌, refl}
 use seplogic.Ra.Ura.{Ura}
-use base.Logic.{emp, emp∗, comm∗, sep, ent, SProp, id⊢, via}
+use base.Logic.{emp, sep}
 use base.Fml.{ftrue, fsep}
 use contract.Running.{Running}
 use denote.Exit.{no}

@@ -1,5 +1,5 @@
 -- Whether one of several handles is open.
-use Rattle.std.proofs.Common.{◌≡◌, ℕ, zero, suc, ◌+◌, ◌<◌, ◌==◌, ◌||◌, Bool, true, false, List, [], ◌∷◌, arith, length, set, take, drop, get_or, refl}
+use Rattle.std.proofs.Common.{◌≡◌, ℕ, zero, suc, ◌+◌, ◌<◌, ◌==◌, ◌||◌, Bool, true, false, List, [], ◌∷◌, arith, length, set, take, refl}
 use Rattle.kc_c.specs.Clients.{some_open}
 use Rattle.kc_c.specs.declared.handle.KcasCaller.{KcasCaller}
 

@@ -1,5 +1,5 @@
 -- A caller that is to hang on reads of its store.
-use Rattle.std.proofs.Common.{◌≡◌, ℕ, ◌<◌, All, Some, None, subst, sym, ap}
+use Rattle.std.proofs.Common.{◌≡◌, ℕ, ◌<◌, All, Some, subst, sym, ap}
 use Rattle.std.specs.Prelude.{unwrap_or}
 use Rattle.std.proofs.lemmas.List.Elements.{All-contains}
 use Rattle.kc_c.specs.Standings.{HangsOnStore, store_in}

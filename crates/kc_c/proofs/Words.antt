@@ -1,9 +1,9 @@
 -- The machine values of a `Handle`.
-use Rattle.kc_c.proofs.Steps.{◌≡◌, ℕ, List, [], ◌∷◌, refl, lit<, w32, ‵, ◌$◌, fjoin, fpack, feq_i, u32, uint_Makes, RawPtr, block_ptr, nothing, owned, Val, vint}
+use Rattle.kc_c.proofs.Steps.{ℕ, List, [], ◌∷◌, refl, lit<, w32, ‵, ◌$◌, fjoin, fpack, feq_i, u32, uint_Makes, RawPtr, block_ptr, nothing, owned, Val, vint}
 use seplogic.Ra.Ura.{Ura}
 use mir.Val.{vptr, vstruct, vcons, vnil}
 use types.Logic.{Logic}
-use types.Kit.{Item, Goal, Seq, Step, step}
+use types.Kit.{Item, Goal, Step, step}
 use denote.RattleType.{RattleType, Valss}
 use denote.Struct.Struct.{within}
 use denote.Struct.Owning.{shape}

@@ -1,7 +1,7 @@
 -- What the calls that open and close answer.
 use Rattle.std.specs.Prelude.{◌≡◌, ℕ, ◌<◌, ◌⊎◌, false, List, length}
 use Rattle.kc_c.specs.Clients.{OpensAll, some_open}
-use Rattle.kc_c.specs.declared.answers.TheConstants.{DONE, IS_OPEN, BAD_SIZE, NO_MEMORY}
+use Rattle.kc_c.specs.declared.answers.TheConstants.{DONE, BAD_SIZE, NO_MEMORY}
 use Rattle.kc_c.specs.declared.handle.KcasCaller.{KcasCaller}
 use Rattle.kc_hang.specs.kc_machine.declared.machine.TheConstants.{MOST_CALLERS}
 use Rattle.kc_model.specs.declared.errors.OpenError.{OpenError}

@@ -1,16 +1,25 @@
 //! One try of C's operations.
 
-ghost use Rattle.std.specs.Prelude.{◌≡◌, ◌≤◌, false, true, length};
+ghost use Rattle.std.specs.Prelude.{◌≡◌, ◌≤◌, ◌==◌, false, true, length};
+ghost use Rattle.kc_c.specs.declared.answers.TheConstants.{DONE};
 ghost use Rattle.kc_c.specs.Standings.{rests};
 ghost use Rattle.kc_c.specs.Tries.{IsTried, MayTry, number_of};
-ghost use Rattle.kc_store.specs.Verdicts.{verdict_as};
+ghost use Rattle.kc_calls.specs.Meaning.{CallsAreFit, calls_end, calls_meaning};
+ghost use Rattle.kc_model.specs.Footprint.{IsBelow};
+ghost use Rattle.kc_model.specs.declared.footprint.TheConstants.{MOST};
+ghost use Rattle.kc_store.specs.Knows.{IsTold, Remembers};
+ghost use Rattle.kc_store.specs.Verdicts.{has_entry, verdict_as};
 ghost use Rattle.kc_xt.specs.Commit.{tried_of};
+ghost use Rattle.kc_xt.specs.Meaning.{limited};
 
 use crate::answers::{BAD_OPS, BUSY, DONE, LATER, LOST, NOT_NOW, POOL_WORN, TOO_LARGE, WORN};
 use crate::client::Client;
 use crate::standing::Standing;
-use kc_calls::{Calls, KcasOp, KcasReply, are_operations, tell};
-use kc_store::Fate;
+use kc_calls::{
+    Calls, KcasOp, KcasReply, Silent, alone_on_location, are_operations, tell, told_alone,
+};
+use kc_model::Footprint;
+use kc_store::{Caller, Fate, Store};
 use kc_xt::{Trial, Went};
 
 impl Client {
@@ -36,17 +45,56 @@ impl Client {
         let Standing::Rests(caller) = standing else {
             return NOT_NOW;
         };
-        if ops.len() > replies.len() || !are_operations(ops, *locations) {
+        if ops.len() > replies.len() {
             return BAD_OPS;
         }
-        let fate = store.try_in_place(caller, &Calls { ops }, trial, footprint);
-        *wakes = caller.take_wakes();
-        let answer = number_of(fate, trial);
-        if answer == DONE {
-            tell(&trial.reply, &mut replies[..ops.len()]);
+        if let Some(operation) = alone_on_location(ops, *locations) {
+            // Its own trial, which is kept in registers.
+            let mut trial = Trial::new();
+            let fate = store.try_in_place(caller, &Silent { operation }, &mut trial, footprint);
+            *wakes = caller.take_wakes();
+            if is_done(fate, &trial) {
+                replies[0] = told_alone(operation, footprint);
+                return DONE;
+            }
+            return number_of(fate, &trial);
         }
-        answer
+        if !are_operations(ops, *locations) {
+            return BAD_OPS;
+        }
+        let fate = try_calls(store, caller, ops, trial, footprint);
+        *wakes = caller.take_wakes();
+        if is_done(fate, trial) {
+            tell(&trial.reply, &mut replies[..ops.len()]);
+            return DONE;
+        }
+        number_of(fate, trial)
     }
+}
+
+// Kept apart from one operation alone, for which the room for more would be wiped too.
+#[inline(never)]
+fn try_calls(
+    store: &Store,
+    caller: &mut Caller,
+    ops: &[KcasOp],
+    trial: &mut Trial,
+    footprint: &mut Footprint,
+) -> Fate
+    requires caller { caller.old.of ≡ store.now }
+    requires fit { CallsAreFit ops.now }
+    requires within { calls_end ops.now ≤ store.now.locations }
+    ensures told { IsTold (limited MOST (calls_meaning ops.now)) (verdict_as result (tried_of trial.new.went trial.new.reply)) caller.old footprint.new caller.new }
+    ensures remembers { Remembers caller.old caller.new }
+    ensures within { has_entry (verdict_as result (tried_of trial.new.went trial.new.reply)) ≡ true → IsBelow (calls_end ops.now) footprint.new }
+{
+    store.try_in_place(caller, &Calls { ops }, trial, footprint)
+}
+
+fn is_done(fate: Fate, trial: &Trial) -> bool
+    ensures { result ≡ (number_of (verdict_as fate (tried_of trial.now.went trial.now.reply)) == DONE) }
+{
+    matches!(fate, Fate::Entered { .. }) && matches!(trial.went, Went::Done)
 }
 
 fn number_of(fate: Fate, trial: &Trial) -> u32

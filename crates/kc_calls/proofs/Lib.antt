@@ -1,3 +1,4 @@
+pub mod Aloud
 pub mod Placing
 pub mod Filling
 pub mod Fits

@@ -1,11 +1,13 @@
 -- What C's numbers say.
-use Rattle.std.proofs.Common.{◌≡◌, ◌==◌, ◌≤◌, ◌+◌, false, cond, Some, refl, ap, ◌∙◌, arith}
+use Rattle.std.proofs.Common.{◌≡◌, ◌==◌, ◌≤◌, ◌+◌, Bool, true, false, cond, Option, Some, None, IfSome, refl, sym, ap, ◌∙◌, arith, eq-eqb, eqb-true}
+use Rattle.std.proofs.lemmas.Bool.{cond-true}
 use Rattle.std.specs.Option.{option_map, option_and_then}
 use Rattle.kc_calls.proofs.Placing.{laid_is, stack_laid, queue_laid, table_laid, grow_laid, cache_laid, mvar_laid, promise_laid, accumulator_laid}
-use Rattle.kc_calls.specs.Said.{said, done_to, fun_said, rel_said}
+use Rattle.kc_calls.specs.Said.{said, done_to, fun_said, rel_said, loc_said}
 use Rattle.kc_calls.specs.Structures.{structure_of, location_at}
 use Rattle.kc_calls.specs.Words.{loc_words, object_words, fun_number, fun_with, rel_number, loc_op_words, stack_words, queue_words, table_words, grow_words, cache_words, mvar_words, promise_words, accumulator_words, op_words, IsSayable}
 use Rattle.kc_calls.specs.declared.call.Call.TheVariants as call
+use Rattle.kc_calls.specs.declared.kinds.TheConstants.{LOCATION}
 use Rattle.kc_calls.specs.declared.operation.KcasOp.{KcasOp}
 use Rattle.kc_calls.specs.declared.verbs.TheConstants.{SAY}
 use Rattle.kc_cache.specs.declared.cache.Cache.{Cache}
@@ -78,6 +80,21 @@ rel_says rel.Ge = refl
 at_loc : (l : Loc) → l.0 + 1 ≤ MOST_LOCATIONS → structure_of (loc_words l) ≡ Some (object.Loc l 0)
 unfolding structure_of location_at
 at_loc l room = laid_is (l.0 + 1) _ room
+
+-- what is said of a location, where it says something
+module _ (o : KcasOp) (kind : o.on.kind ≡ LOCATION) (room : o.on.base + 1 ≤ MOST_LOCATIONS) where
+  structure_said : structure_of o.on ≡ Some (object.Loc (record { 0 = o.on.base }) 0)
+  unfolding structure_of location_at
+  structure_said = cond-true _ _ _ (eq-eqb _ _ kind) ∙ laid_is (o.on.base + 1) _ room
+
+  pub location_said : (r : Option LocOp) → r ≡ loc_said (record { 0 = o.on.base }) o.verb o.a o.b → IfSome r (λ p. Says o (op.Loc p))
+  unfolding done_to
+  location_said None e = tt
+  location_said (Some p) e = by (o.verb == SAY) refl
+    where
+      by : (t : Bool) → (o.verb == SAY) ≡ t → Says o (op.Loc p)
+      by true f = absurd (let g : Some p ≡ None = e ∙ ap (λ v. loc_said (record { 0 = o.on.base }) v o.a o.b) (eqb-true o.verb SAY f) in cc)
+      by false f = by_structure o _ structure_said f ∙ ap (λ x. option_map call.Act (option_map op.Loc x)) (sym e)
 
 loc_says : (o : LocOp) → LocIsFit o → Says (loc_op_words o) (op.Loc o)
 unfolding done_to

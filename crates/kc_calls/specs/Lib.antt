@@ -5,3 +5,5 @@ pub mod Meaning
 pub mod Cut
 pub mod Operations
 pub mod Told
+pub mod Silent
+pub mod Alone

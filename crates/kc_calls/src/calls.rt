@@ -24,10 +24,11 @@ impl Transact for KcasOp {
 
     ghost end = { said_end };
 
+    #[inline(always)]
     fn bound(&self) -> u32 {
-        match self.said() {
-            Some(call) => call.bound(),
-            None => 0,
+        match self.on_location() {
+            Some(operation) => operation.bound(),
+            None => bound_said(self),
         }
     }
 
@@ -35,11 +36,37 @@ impl Transact for KcasOp {
         MOST as u32
     }
 
+    #[inline(always)]
     fn run<P: Peek>(&self, xt: &mut Xt<P>) -> Result<Reply, Stop> {
-        match self.said() {
-            Some(call) => call.run(xt),
-            None => unreachable!("only operations are fit"),
+        match self.on_location() {
+            Some(operation) => operation.run(xt),
+            None => run_said(self, xt),
         }
+    }
+}
+
+// Kept apart from operations on locations, for which the room for those on structures would be wiped too.
+#[inline(never)]
+fn bound_said(op: &KcasOp) -> u32
+    ensures { result ≡ said_end op.now }
+{
+    match op.said() {
+        Some(call) => call.bound(),
+        None => 0,
+    }
+}
+
+// Kept apart, as their bound is.
+#[inline(never)]
+fn run_said<P: Peek>(op: &KcasOp, xt: &mut Xt<P>) -> Result<Reply, Stop>
+    requires fit { SaidIsFit op.now }
+    requires within { said_end op.now ≤ P.locations xt.old.peek }
+    ensures law { Obeys P.peek_gives (said_meaning op.now) (said_end op.now) xt.old result xt.new }
+    ensures size { P.locations xt.new.peek ≡ P.locations xt.old.peek }
+{
+    match op.said() {
+        Some(call) => call.run(xt),
+        None => unreachable!("only operations are fit"),
     }
 }
 
@@ -76,6 +103,7 @@ impl<'a> Transact for Calls<'a> {
 }
 
 // Up to four alternatives.
+#[inline(never)]
 fn run_alternatives<P: Peek>(ops: &[KcasOp], xt: &mut Xt<P>) -> Result<Reply, Stop>
     requires fit { CallsAreFit ops.now }
     requires within { calls_end ops.now ≤ P.locations xt.old.peek }

@@ -27,7 +27,20 @@ pub fn are_operations(ops: &[KcasOp], locations: u32) -> bool
     count_of_ors(ops) < MOST_ALTERNATIVES && are_each_operations(ops, locations)
 }
 
+#[inline(always)]
 fn is_operation(op: &KcasOp, locations: u32) -> bool
+    requires { locations ≤ MOST_LOCATIONS }
+    ensures { IsTrue result ↔ IsOperation locations op.now }
+{
+    match op.on_location() {
+        Some(operation) => op.mark <= OR && operation.bound() <= locations,
+        None => is_said(op, locations),
+    }
+}
+
+// Kept apart from operations on locations, for which the room for those on structures would be wiped too.
+#[inline(never)]
+fn is_said(op: &KcasOp, locations: u32) -> bool
     requires { locations ≤ MOST_LOCATIONS }
     ensures { IsTrue result ↔ IsOperation locations op.now }
 {

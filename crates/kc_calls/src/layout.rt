@@ -24,7 +24,7 @@ fn is_size(size: u32, most: u32) -> bool
 }
 
 // So many cells from a location on are locations of a store.
-fn has_room(base: u32, cells: u32) -> bool
+pub(crate) fn has_room(base: u32, cells: u32) -> bool
     ensures { result ≡ nat_le (base + cells) MOST_LOCATIONS }
 {
     base <= END && cells <= END - base

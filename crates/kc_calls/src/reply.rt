@@ -65,7 +65,7 @@ fn item_at(reply: &Reply, index: usize) -> Option<Item>
     }
 }
 
-fn told(item: Item) -> KcasReply
+pub(crate) fn told(item: Item) -> KcasReply
     ensures { result ≡ told_item item }
 {
     match item {

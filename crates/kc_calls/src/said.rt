@@ -1,24 +1,41 @@
 //! The operation that C says, with its structure.
 
-ghost use Rattle.std.specs.Prelude.{◌≡◌};
+ghost use Rattle.std.specs.Prelude.{◌≡◌, Some, IfSome};
 ghost use Rattle.kc_calls.specs.Said.{said, done_to};
+ghost use Rattle.kc_calls.specs.declared.call.Call.TheVariants as call;
+ghost use Rattle.kc_script_bundle.specs.declared.operation.Op.TheVariants as op;
 
 use crate::acts::{
     accumulator_act, cache_act, grow_act, loc_op, mvar_act, promise_act, queue_act, stack_act,
     table_act,
 };
 use crate::call::Call;
+use crate::kinds::LOCATION;
+use crate::layout::has_room;
 use crate::operation::KcasOp;
 use crate::verbs::SAY;
 use kc_cache::CacheOp;
 use kc_cells::{AccOp, MvarOp, PromiseOp};
 use kc_grow::GrowOp;
 use kc_hash::HashOp;
+use kc_loc::LocOp;
+use kc_model::Loc;
 use kc_queue::QueueOp;
 use kc_script_bundle::{Object, Op};
 use kc_stack::StackOp;
 
 impl KcasOp {
+    // The operation on a location that it says, if it says one. Most do, and these take few steps to read.
+    #[inline(always)]
+    pub(crate) fn on_location(&self) -> Option<LocOp>
+        ensures { IfSome result (λ o. said self.now ≡ Some (call.Act (op.Loc o))) }
+    {
+        if self.on.kind != LOCATION || !has_room(self.on.base, 1) {
+            return None;
+        }
+        loc_op(Loc(self.on.base), self.verb, self.a, self.b)
+    }
+
     // The operation that it says, if it is one.
     #[inline(always)]
     #[tactic(auto, unfolding(crate::specs::Said::said))]

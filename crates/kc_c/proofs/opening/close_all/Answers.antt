@@ -1,5 +1,4 @@
-use Rattle.std.proofs.Common.{◌+◌, suc, arith, false, take, subst}
-use Rattle.kc_c.specs.Clients.{some_open}
+use Rattle.std.proofs.Common.{arith}
 use Rattle.kc_c.proofs.Closed.{closed_more}
 use Rattle.kc_c.proofs.opening.close_all.Goals as goal
 

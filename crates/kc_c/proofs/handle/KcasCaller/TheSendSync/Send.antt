@@ -4,7 +4,6 @@ use base.Shift.{Keyless}
 use denote.Builtin.{RawPtr, u32}
 use denote.Memory.{lone}
 use denote.Param.Send.{AllSend, IsSend, owning_send, sendable, struct_send}
-use denote.RattleType.{RattleType}
 use denote.RawPtr.{Ptr}
 use denote.Struct.Owning.{fields, shape, to}
 use denote.Struct.Struct.{exits_of}

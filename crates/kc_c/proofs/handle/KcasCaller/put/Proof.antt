@@ -1,4 +1,4 @@
-use Rattle.kc_c.proofs.Steps.{◌==◌, ◌≡◌, ℕ, List, [], ◌∷◌, ◌++◌, refl, sym, ap, ◌∙◌, subst, lit<, w32, proved_at, leaves, full_share, SProp, ent, id⊢, ftrue, flft, named, Val, vint, vunit, tables, fact, ‵, raw, ◌⊛◌, some, later, ◌$◌, ◌∵◌, !, qed, done, drop, move, keep, split, join, fsplit, fsplit3, fjoin, rewrite, suffices, frame, group, feq_i, feq_l, use1, pick, await, enter, of_opd, lit, unit_lit, load, stop, fld, no_more, and_then, assigns, first, blocks, exec, returns, well_typed, alloc_all, pass_all, free_all, look_at, get, get_in, through, sets, lands_as, whole, sub, agg, look_in, store_in, cell_at, shows, yes, no, MutRef, Ptr, block_ptr, in_a_block, mut_vals, mut_Tells, plain, nothing, owned, opens, closes, peeks, heard, Stays, walk_of, says, stay_ref, stay_dropped, Goes-dropped, Goes-ref, ends_at}
+use Rattle.kc_c.proofs.Steps.{◌≡◌, List, [], ◌∷◌, ◌++◌, refl, sym, ap, ◌∙◌, subst, lit<, proved_at, full_share, SProp, ent, id⊢, ftrue, flft, named, Val, vunit, tables, fact, ‵, raw, ◌⊛◌, some, later, ◌$◌, ◌∵◌, !, qed, done, drop, move, keep, split, join, fsplit, fsplit3, fjoin, rewrite, suffices, frame, group, feq_i, feq_l, use1, pick, await, enter, of_opd, lit, unit_lit, stop, fld, no_more, and_then, assigns, returns, alloc_all, pass_all, free_all, look_at, get, through, sets, lands_as, whole, sub, store_in, cell_at, shows, yes, Ptr, block_ptr, in_a_block, mut_Tells, plain, nothing, opens, closes, peeks, Stays, walk_of, stay_ref, stay_dropped, Goes-dropped, Goes-ref, ends_at}
 use base.Logic.{emp, never, fst∗}
 use contract.BorrowLft.{◌⊑◌, ⊑_static}
 use contract.Monad.{fact_i}
@@ -17,7 +17,7 @@ use prog.Wp.{WpFn}
 use types.Kit.{use0}
 use types.Logic.{sem}
 use base.Fml.{fsep}
-use Rattle.core.proofs.alloc.Calls.{Fits, Goes-blank, handle_tells}
+use Rattle.core.proofs.alloc.Calls.{handle_tells}
 use Rattle.core.proofs.mem.Facts.{says_two}
 use Rattle.kc_c.proofs.Boxes.{Boxed, Client, Heap, boxed, client_drop, client_passes, heap_drop, heap_passes, lets_go, passed}
 use Rattle.kc_c.proofs.Words.{handle_in, word}

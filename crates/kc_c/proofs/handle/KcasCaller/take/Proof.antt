@@ -1,4 +1,4 @@
-use Rattle.kc_c.proofs.Steps.{◌==◌, ◌≡◌, ℕ, List, [], ◌∷◌, ◌++◌, refl, sym, ap, ◌∙◌, subst, lit<, w32, proved_at, leaves, full_share, SProp, ent, id⊢, ftrue, flft, named, Val, vint, vunit, tables, fact, ‵, raw, ◌⊛◌, some, later, ◌$◌, ◌∵◌, !, qed, done, drop, move, keep, split, join, fsplit, fsplit3, fjoin, rewrite, suffices, frame, group, feq_i, use1, pick, await, enter, of_opd, lit, unit_lit, load, stop, fld, no_more, and_then, assigns, first, blocks, exec, returns, well_typed, alloc_all, pass_all, free_all, look_at, get, get_in, through, sets, whole, sub, agg, look_in, store_in, cell_at, shows, yes, no, MutRef, Ptr, block_ptr, in_a_block, mut_vals, mut_Tells, plain, nothing, owned, opens, closes, peeks, heard, Stays, walk_of, says, stay_ref, stay_dropped, Goes-dropped, Goes-ref, ends_at}
+use Rattle.kc_c.proofs.Steps.{◌≡◌, ℕ, List, [], ◌∷◌, ◌++◌, refl, sym, ap, ◌∙◌, subst, lit<, proved_at, full_share, SProp, ent, id⊢, ftrue, flft, named, Val, tables, fact, ‵, raw, ◌⊛◌, some, later, ◌$◌, ◌∵◌, !, qed, done, drop, move, keep, split, join, fsplit, fsplit3, fjoin, rewrite, suffices, frame, group, feq_i, use1, pick, await, enter, of_opd, lit, load, stop, fld, no_more, and_then, assigns, first, blocks, exec, returns, alloc_all, pass_all, free_all, look_at, get, through, sets, whole, sub, look_in, store_in, cell_at, shows, yes, Ptr, block_ptr, in_a_block, mut_Tells, plain, nothing, opens, closes, peeks, heard, Stays, walk_of, stay_ref, stay_dropped, Goes-dropped, Goes-ref, ends_at}
 use prog.Wp.{WpFn}
 use mir.Raw.{raw as bare}
 use mir.Val.{vptr}
@@ -14,7 +14,7 @@ use denote.Memory.{lone}
 use types.Kit.{use0}
 use denote.Param.NoDrop.{glues}
 use denote.RawPtr.{null_ptr}
-use denote.RattleType.{RattleType, owns}
+use denote.RattleType.{owns}
 use denote.Signature.{types_at}
 use denote.Triple.Spec.{triple_of}
 use base.Fml.{fsep}

@@ -1,0 +1,105 @@
+-- One operation alone, which was made silently.
+use Rattle.std.proofs.Common.{◌≡◌, ◌≢◌, ◌≤◌, ℕ, true, List, [], ◌∷◌, ◌++◌, length, drop, slice_set, refl, sym, ap, ◌∙◌, subst, arith}
+use Rattle.kc_c.specs.Tries.{IsTried, number_of, written}
+use Rattle.kc_c.specs.declared.answers.TheConstants.{DONE}
+use Rattle.kc_c.specs.declared.client.Client.{Client}
+use Rattle.kc_c.specs.declared.standing.Standing.TheVariants as standing
+use Rattle.kc_calls.proofs.Aloud.{done_aloud, waits_aloud, too_large_aloud, wears_aloud}
+use Rattle.kc_calls.specs.Alone.{IsAlone, first_value, reply_on}
+use Rattle.kc_calls.specs.Meaning.{calls_end, calls_meaning}
+use Rattle.kc_calls.specs.Silent.{silent}
+use Rattle.kc_calls.specs.Told.{told}
+use Rattle.kc_calls.specs.declared.operation.KcasOp.{KcasOp}
+use Rattle.kc_calls.specs.declared.reply.KcasReply.{KcasReply}
+use Rattle.kc_loc.specs.Meaning.{loc_end, loc_meaning}
+use Rattle.kc_loc.specs.declared.operation.LocOp.{LocOp}
+use Rattle.kc_model.specs.Footprint.{IsBelow}
+use Rattle.kc_model.specs.declared.footprint.Footprint.{Footprint}
+use Rattle.kc_model.specs.declared.footprint.TheConstants.{MOST}
+use Rattle.kc_model.specs.declared.reply.Item.{Item}
+use Rattle.kc_store.specs.Knows.{IsTold, Remembers}
+use Rattle.kc_store.specs.Verdicts.{has_entry}
+use Rattle.kc_store.specs.Views.{CallerView}
+use Rattle.kc_store.specs.declared.verdict.Verdict.{Verdict}
+use Rattle.kc_store.specs.declared.verdict.Verdict.TheVariants as verdict
+use Rattle.kc_term.specs.Meaning.{items_of}
+use Rattle.kc_xt.specs.Meaning.{limited}
+
+-- its verdict, with the reply that the first read tells
+abbrev pub loud : LocOp → Footprint → Verdict → Verdict
+loud o f (verdict.Done r) = verdict.Done (reply_on o (first_value f.reads.items))
+loud o f v = v
+
+same_number : (o : LocOp) (f : Footprint) (v : Verdict) → number_of v ≡ number_of (loud o f v)
+same_number o f (verdict.Done r) = refl
+same_number o f verdict.Later = refl
+same_number o f verdict.TooLarge = refl
+same_number o f (verdict.WornLocation l) = refl
+same_number o f verdict.WornPool = refl
+same_number o f (verdict.Lost l n) = refl
+same_number o f (verdict.Busy n) = refl
+
+same_entry : (o : LocOp) (f : Footprint) (v : Verdict) → has_entry (loud o f v) ≡ has_entry v
+same_entry o f (verdict.Done r) = refl
+same_entry o f verdict.Later = refl
+same_entry o f verdict.TooLarge = refl
+same_entry o f (verdict.WornLocation l) = refl
+same_entry o f verdict.WornPool = refl
+same_entry o f (verdict.Lost l n) = refl
+same_entry o f (verdict.Busy n) = refl
+
+module _ (locations : ℕ) (ops : List KcasOp) (o : LocOp) (alone : IsAlone locations ops o) (f : Footprint) where
+  loud_told : (v : Verdict) (c d : CallerView) → IsTold (limited MOST (silent (loc_meaning o))) v c f d → IsTold (limited MOST (loc_meaning o)) (loud o f v) c f d
+  loud_told (verdict.Done r) c d h = (done_aloud o alone.one f r h.0, h.1)
+  loud_told verdict.Later c d h = (waits_aloud o alone.one f h.0, h.1)
+  loud_told verdict.TooLarge c d h = (too_large_aloud o alone.one f h.0, h.1)
+  loud_told (verdict.WornLocation l) c d h = (wears_aloud o alone.one f l.0 h.0, h.1)
+  loud_told verdict.WornPool c d h = h
+  loud_told (verdict.Lost l n) c d h = h
+  loud_told (verdict.Busy n) c d h = h
+
+  told_loud : (v : Verdict) (c d : CallerView) → IsTold (limited MOST (silent (loc_meaning o))) v c f d → IsTold (limited MOST (calls_meaning ops)) (loud o f v) c f d
+  told_loud v c d h = subst (λ m. IsTold (limited MOST m) (loud o f v) c f d) (sym alone.meaning) (loud_told v c d h)
+
+  loud_within : (v : Verdict) → (has_entry v ≡ true → IsBelow (loc_end o) f) → has_entry (loud o f v) ≡ true → IsBelow (calls_end ops) f
+  loud_within v h e = subst (λ n. IsBelow n f) (sym alone.end) (h (sym (same_entry o f v) ∙ e))
+
+  one_written : (before : List KcasReply) (rs : List Item) (x : KcasReply) → length ops ≤ length before → told rs 1 ≡ x ∷ [] → slice_set before 0 x ≡ told rs (length ops) ++ drop (length ops) before
+  one_written [] rs x le e = absurd (omega (arith, le, alone.count))
+  one_written (y ∷ ys) rs x le e = sym (ap (λ n. told rs n ++ drop n (y ∷ ys)) alone.count ∙ ap (λ zs. zs ++ drop 1 (y ∷ ys)) e)
+
+  -- the one reply, where it was done
+  pub loud_written : (v : Verdict) (before : List KcasReply) (x : KcasReply) → number_of v ≡ DONE → length ops ≤ length before → told (items_of (reply_on o (first_value f.reads.items))) 1 ≡ x ∷ [] → slice_set before 0 x ≡ written ops (loud o f v) before
+  loud_written (verdict.Done r) before x n le e = one_written before _ x le e
+  loud_written verdict.Later before x n le e = absurd (omega (arith, n))
+  loud_written verdict.TooLarge before x n le e = absurd (omega (arith, n))
+  loud_written (verdict.WornLocation l) before x n le e = absurd (omega (arith, n))
+  loud_written verdict.WornPool before x n le e = absurd (omega (arith, n))
+  loud_written (verdict.Lost l k) before x n le e = absurd (omega (arith, n))
+  loud_written (verdict.Busy k) before x n le e = absurd (omega (arith, n))
+
+  -- and else none
+  pub none_written : (v : Verdict) (before : List KcasReply) → number_of v ≢ DONE → before ≡ written ops (loud o f v) before
+  none_written (verdict.Done r) before n = absurd (n refl)
+  none_written verdict.Later before n = refl
+  none_written verdict.TooLarge before n = refl
+  none_written (verdict.WornLocation l) before n = refl
+  none_written verdict.WornPool before n = refl
+  none_written (verdict.Lost l k) before n = refl
+  none_written (verdict.Busy k) before n = refl
+
+-- ---- the try
+
+pub tried_alone : (locations : ℕ) (ops : List KcasOp) (o : LocOp) → IsAlone locations ops o → (c d : Client) (k j : CallerView) (n : ℕ) (v : Verdict) (before after : List KcasReply) → c.standing ≡ standing.Rests k → d.standing ≡ standing.Rests j → n ≡ number_of v → IsTold (limited MOST (silent (loc_meaning o))) v k d.footprint j → Remembers k j → (has_entry v ≡ true → IsBelow (loc_end o) d.footprint) → after ≡ written ops (loud o d.footprint v) before → IsTried ops c n d before after
+tried_alone locations ops o alone c d k j n v before after rested rests number told remembers within replies = record {
+  caller = k;
+  rested = rested;
+  then_caller = j;
+  rests = rests;
+  verdict = loud o d.footprint v;
+  number = number ∙ same_number o d.footprint v;
+  told = told_loud locations ops o alone d.footprint v k j told;
+  remembers = remembers;
+  within = loud_within locations ops o alone d.footprint v within;
+  replies = replies;
+}
