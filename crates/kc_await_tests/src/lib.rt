@@ -2,6 +2,10 @@
 #![tactic(auto)]
 
 #[cfg(test)]
+mod asserts;
+#[cfg(test)]
+mod callers;
+#[cfg(test)]
 mod hanging;
 #[cfg(test)]
 mod waiting;

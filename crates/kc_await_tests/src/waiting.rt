@@ -1,71 +1,31 @@
 //! Callers that wait for each other.
 
-ghost use Rattle.std.specs.Prelude.{◌≡◌, ◌<◌, ◌≤◌, IfSome, length};
+ghost use Rattle.std.specs.Prelude.{◌≡◌, ◌<◌, ◌≤◌};
 ghost use Rattle.kc_cells.specs.Mvar.{mvar_cells_end};
 ghost use Rattle.kc_queue.specs.Meaning.{cells_end};
 
-use kc_await::commit_waiting;
+use crate::asserts::equal;
+use crate::callers::{ONE, UNTIL_ONE, opened, reply};
 use kc_cells::{Mvar, MvarAct, MvarOp};
 use kc_loc::{LocOp, Rel};
 use kc_model::{Loc, Reply};
 use kc_queue::{Queue, QueueAct, QueueOp};
-use kc_store::{Caller, Outcome, Store};
-use kc_xt::Transact;
-use std::alloc::Global;
+use kc_store::{Caller, Store};
 use std::sync::Wait;
-use std::test::Fail;
 use std::thread;
 
-const UNTIL_ONE: LocOp = LocOp::Check(Loc(0), Rel::Eq, 1);
-
-const ONE: LocOp = LocOp::Set(Loc(0), 1);
-
-// A store of these values, and two callers.
-fn open_two(alloc: Global, values: &[u32]) -> Option<(Store, Caller, Caller)>
-    ensures first { IfSome result (λ t. t.1.of ≡ t.0) }
-    ensures second { IfSome result (λ t. t.2.of ≡ t.0) }
-    ensures locations { IfSome result (λ t. t.0.locations ≡ length values.now) }
-{
-    let Ok((store, mut callers)) = Store::open(alloc, values, 2) else {
-        return None;
-    };
-    let second = callers.pop()?;
-    let first = callers.pop()?;
-    Some((store, first, second))
-}
-
-// What a commit replies.
-fn reply<R: Wait, T: Transact>(
-    rt: &R,
-    store: &Store,
-    caller: &mut Caller,
-    transaction: &T,
-) -> Option<Reply>
-    requires caller { caller.old.of ≡ store.now }
-    requires fit { T.is_fit transaction.now }
-    requires within { T.end transaction.now ≤ store.now.locations }
-    ensures { caller.new.of ≡ caller.old.of }
-{
-    match commit_waiting(rt, store, caller, transaction) {
-        Outcome::Done {
-            reply,
-            footprint: _,
-        } => Some(reply),
-        _ => None,
-    }
-}
-
 #[test]
-fn who_learned_of_a_put_commits_behind_it(rt: HostRuntime) -> Result<(), Fail> {
-    let Some((store, mut a, mut b)) = open_two(rt.alloc(), &[0]) else {
-        return Err(Fail::from("not opened"));
-    };
-    assert_eq!(rt; reply(&rt, &store, &mut a, &ONE), Some(Reply::Unit));
+fn who_learned_of_a_put_commits_behind_it(rt: HostRuntime) {
+    let (store, mut a, mut b) = opened(&rt, &[0]);
+    equal(&rt, reply(&rt, &store, &mut a, &ONE), Some(Reply::Unit));
     let note = store.note(&mut a);
     store.learn(&mut b, note);
-    assert_eq!(rt; b.steps(), 0);
-    assert_eq!(rt; reply(&rt, &store, &mut b, &UNTIL_ONE), Some(Reply::Unit));
-    Ok(())
+    equal(&rt, b.steps(), 0);
+    equal(
+        &rt,
+        reply(&rt, &store, &mut b, &UNTIL_ONE),
+        Some(Reply::Unit),
+    );
 }
 
 // ---- two threads, each of which waits for the other: a wait that isn't woken keeps a test for ever
@@ -118,10 +78,8 @@ fn pass_on<R: Wait>(
 }
 
 #[test]
-fn two_threads_hand_an_item_over(rt: HostRuntime) -> Result<(), Fail> {
-    let Some((store, mut a, b)) = open_two(rt.alloc(), &[0; 6]) else {
-        return Err(Fail::from("not opened"));
-    };
+fn two_threads_hand_an_item_over(rt: HostRuntime) {
+    let (store, mut a, b) = opened(&rt, &[0; 6]);
     let there = Queue::layout(Loc(0), 1);
     let back = Queue::layout(Loc(3), 1);
     let first = QueueOp {
@@ -135,8 +93,7 @@ fn two_threads_hand_an_item_over(rt: HostRuntime) -> Result<(), Fail> {
         move || pass_on(&rt, shared, a, back, there),
         move || pass_on(&rt, shared, b, there, back),
     );
-    assert_eq!(rt; taken, (Some(999), Some(998)));
-    Ok(())
+    equal(&rt, taken, (Some(999), Some(998)));
 }
 
 // Waits for its turn and hands it on, 500 times.
@@ -151,17 +108,14 @@ fn take_turns<R: Wait>(rt: &R, store: &Store, mut caller: Caller, mine: u32, nex
 }
 
 #[test]
-fn two_threads_take_turns(rt: HostRuntime) -> Result<(), Fail> {
-    let Some((store, a, b)) = open_two(rt.alloc(), &[0]) else {
-        return Err(Fail::from("not opened"));
-    };
+fn two_threads_take_turns(rt: HostRuntime) {
+    let (store, a, b) = opened(&rt, &[0]);
     let shared = &store;
     thread::join(
         &rt,
         move || take_turns(&rt, shared, a, 0, 1),
         move || take_turns(&rt, shared, b, 1, 0),
     );
-    Ok(())
 }
 
 // Puts 1,000 values one after another, each once the one before was taken.
@@ -192,10 +146,8 @@ fn take<R: Wait>(rt: &R, store: &Store, mut caller: Caller, mvar: Mvar) -> u32
 }
 
 #[test]
-fn two_threads_hand_values_over_by_a_variable(rt: HostRuntime) -> Result<(), Fail> {
-    let Some((store, a, b)) = open_two(rt.alloc(), &[0; 2]) else {
-        return Err(Fail::from("not opened"));
-    };
+fn two_threads_hand_values_over_by_a_variable(rt: HostRuntime) {
+    let (store, a, b) = opened(&rt, &[0; 2]);
     let mvar = Mvar::layout(Loc(0));
     let shared = &store;
     let (_, in_order) = thread::join(
@@ -203,6 +155,5 @@ fn two_threads_hand_values_over_by_a_variable(rt: HostRuntime) -> Result<(), Fai
         move || give(&rt, shared, a, mvar),
         move || take(&rt, shared, b, mvar),
     );
-    assert_eq!(rt; in_order, 1_000);
-    Ok(())
+    equal(&rt, in_order, 1_000);
 }

@@ -2,11 +2,12 @@
 
 ghost use Rattle.std.specs.Prelude.{◌≡◌, ◌<◌};
 
+use crate::asserts::{equal, holds};
+use crate::trying::{open_alone, opened};
 use kc_loc::LocOp;
 use kc_model::{Footprint, Loc, Seen};
 use kc_store::{Caller, Store};
 use std::sync::Wait;
-use std::test::Fail;
 use std::thread;
 
 const ADD: LocOp = LocOp::FetchAdd(Loc(0), 1);
@@ -43,54 +44,43 @@ fn rises(store: &Store, mut caller: Caller, times: u32) -> bool
 }
 
 #[test]
-fn a_read_sees_an_own_put_by_one_step(rt: HostRuntime) -> Result<(), Fail> {
-    let Ok((store, mut callers)) = Store::open(rt.alloc(), &[5, 9], 1) else {
-        return Err(Fail::from("not opened"));
-    };
-    let Some(mut a) = callers.pop() else {
-        return Err(Fail::from("no caller"));
-    };
+fn a_read_sees_an_own_put_by_one_step(rt: HostRuntime) {
+    let (store, mut a) = open_alone(&rt, &[5, 9]);
     let first = Seen {
         loc: Loc(0),
         version: 0,
         value: 5,
     };
-    assert_eq!(rt; store.read(&mut a, Loc(0)), Ok(first));
-    assert_eq!(rt; a.steps(), 1);
+    equal(&rt, store.read(&mut a, Loc(0)), Ok(first));
+    equal(&rt, a.steps(), 1);
     let mut a = raise(&rt, &store, a, 2);
     let raised = Seen {
         loc: Loc(0),
         version: 2,
         value: 7,
     };
-    assert_eq!(rt; store.read(&mut a, Loc(0)), Ok(raised));
+    equal(&rt, store.read(&mut a, Loc(0)), Ok(raised));
     let other = Seen {
         loc: Loc(1),
         version: 0,
         value: 9,
     };
-    assert_eq!(rt; store.read(&mut a, Loc(1)), Ok(other));
-    Ok(())
+    equal(&rt, store.read(&mut a, Loc(1)), Ok(other));
 }
 
 #[test]
-fn a_reader_beside_a_writer_never_goes_back(rt: HostRuntime) -> Result<(), Fail> {
-    let Ok((store, mut callers)) = Store::open(rt.alloc(), &[0], 2) else {
-        return Err(Fail::from("not opened"));
-    };
-    let (Some(b), Some(a)) = (callers.pop(), callers.pop()) else {
-        return Err(Fail::from("no callers"));
-    };
+fn a_reader_beside_a_writer_never_goes_back(rt: HostRuntime) {
+    let (store, a, b) = opened(&rt, &[0]);
     let (shared, run) = (&store, &rt);
     let (mut a, rising) = thread::join(
         run,
         move || raise(run, shared, a, 2_000),
         move || rises(shared, b, 20_000),
     );
-    assert!(rt; rising);
-    assert_eq!(rt;
+    holds(&rt, rising);
+    equal(
+        &rt,
         store.read(&mut a, Loc(0)).map(|seen| seen.value),
-        Ok(2_000)
+        Ok(2_000),
     );
-    Ok(())
 }

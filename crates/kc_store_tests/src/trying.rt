@@ -3,11 +3,13 @@
 ghost use Rattle.std.specs.Prelude.{◌≡◌, ◌+◌, ◌<◌, ◌≤◌, length, IfOk, IfSome};
 ghost use Rattle.kc_hash.specs.Meaning.{cells_end};
 
+use crate::asserts::{equal, holds};
 use kc_hash::{Hash, HashAct, HashOp};
 use kc_loc::{LocOp, Rel};
 use kc_model::{Footprint, LAST_VERSION, Loc, MOST, OpenError, Reply};
 use kc_store::{Answered, Caller, LAST_GENERATION, Outcome, Store, Try, Verdict, Wear};
 use kc_xt::Transact;
+use std::process::Abort;
 use std::sync::Wait;
 use std::test::Fail;
 use std::thread;
@@ -18,7 +20,7 @@ const ADD: LocOp = LocOp::FetchAdd(Loc(0), 1);
 const GET: LocOp = LocOp::Get(Loc(0));
 
 // A store of these values, and two callers.
-fn open_two(rt: &HostRuntime, values: &[u32]) -> Option<(Store, Caller, Caller)>
+fn open_two(rt: &impl AllocGlobal, values: &[u32]) -> Option<(Store, Caller, Caller)>
     ensures of { IfSome result (λ t. (t.1.of ≡ t.0) × (t.2.of ≡ t.0)) }
     ensures locations { IfSome result (λ t. t.0.locations ≡ length values.now) }
 {
@@ -28,6 +30,36 @@ fn open_two(rt: &HostRuntime, values: &[u32]) -> Option<(Store, Caller, Caller)>
     let second = callers.pop()?;
     let first = callers.pop()?;
     Some((store, first, second))
+}
+
+// The same, where a test can't go on without them.
+pub(crate) fn opened(rt: &(impl Abort + AllocGlobal), values: &[u32]) -> (Store, Caller, Caller)
+    ensures of { (result.1.of ≡ result.0) × (result.2.of ≡ result.0) }
+    ensures locations { result.0.locations ≡ length values.now }
+{
+    open_two(rt, values).expect(rt, "not opened")
+}
+
+// A store of one location at 5 whose pool is at its last generation, and its only caller.
+pub(crate) fn open_worn(rt: &(impl Abort + AllocGlobal)) -> (Store, Caller)
+    ensures of { result.1.of ≡ result.0 }
+    ensures one { (result.0.locations ≡ 1) × (result.0.callers ≡ 1) }
+{
+    let opened = Store::open_at(rt.alloc(), &[5], &[0], 1, LAST_GENERATION);
+    let (store, mut callers) = opened.expect(rt, "not opened");
+    let caller = callers.pop().expect(rt, "no caller");
+    (store, caller)
+}
+
+// A store of these values, and its only caller.
+pub(crate) fn open_alone(rt: &(impl Abort + AllocGlobal), values: &[u32]) -> (Store, Caller)
+    ensures of { result.1.of ≡ result.0 }
+    ensures numbers { (result.0.locations ≡ length values.now) × (result.0.callers ≡ 1) }
+{
+    let opened = Store::open(rt.alloc(), values, 1);
+    let (store, mut callers) = opened.expect(rt, "not opened");
+    let caller = callers.pop().expect(rt, "no caller");
+    (store, caller)
 }
 
 // One try.
@@ -46,80 +78,78 @@ fn tried<T: Transact>(
 }
 
 // The version and the value of the first read.
-fn first_read(footprint: &Footprint) -> Option<(u32, u32)> {
+pub(crate) fn first_read(footprint: &Footprint) -> Option<(u32, u32)> {
     let read = footprint.reads.as_slice().get(0).copied()?;
     Some((read.version, read.value))
 }
 
+fn zeros(rt: &HostRuntime, count: usize) -> Result<Vec<u32>, Fail> {
+    Ok(vec![in rt.alloc(); 0u32; count]?)
+}
+
+// Why no store of these values and callers is opened.
+fn refusal(rt: &HostRuntime, values: &[u32], callers: u32) -> Option<OpenError> {
+    Store::open(rt.alloc(), values, callers).err()
+}
+
+// The same of a store of one location that opens at a version.
+fn refusal_at(rt: &HostRuntime, callers: u32) -> Option<OpenError> {
+    Store::open_at(rt.alloc(), &[5], &[0], callers, 0).err()
+}
+
 #[test]
 fn open_refuses_by_number(rt: HostRuntime) -> Result<(), Fail> {
-    let many = vec![in rt.alloc(); 0u32; 65_537]?;
-    assert!(rt;
-        matches!(
-            &Store::open(rt.alloc(), &many, 1),
-            Err(OpenError::TooManyLocs)
-        )
-    );
+    let too_many = Some(OpenError::TooManyCallers);
+    let many = zeros(&rt, 65_537)?;
+    equal(&rt, refusal(&rt, &many, 1), Some(OpenError::TooManyLocs));
     for callers in [0, 65] {
-        assert!(rt;
-            matches!(
-                &Store::open(rt.alloc(), &[5], callers),
-                Err(OpenError::TooManyCallers)
-            )
-        );
-        assert!(rt;
-            matches!(
-                &Store::open_at(rt.alloc(), &[5], &[0], callers, 0),
-                Err(OpenError::TooManyCallers)
-            )
-        );
+        let refused = (refusal(&rt, &[5], callers), refusal_at(&rt, callers));
+        equal(&rt, refused, (too_many, too_many));
     }
-    assert!(rt; Store::open(rt.alloc(), &[5, 6, 7], 2).is_ok());
+    equal(&rt, refusal(&rt, &[5, 6, 7], 2), None);
     Ok(())
 }
 
 #[test]
-fn two_callers_put_in_turn(rt: HostRuntime) -> Result<(), Fail> {
-    let Some((store, mut a, mut b)) = open_two(&rt, &[5]) else {
-        return Err(Fail::from("not opened"));
-    };
+fn two_callers_put_in_turn(rt: HostRuntime) {
+    let (store, mut a, mut b) = opened(&rt, &[5]);
     let mut footprint = Footprint::new();
     let first = tried(&store, &mut a, &ADD, &mut footprint);
-    assert_eq!(rt; first, Verdict::Done(Reply::Value(5)));
+    equal(&rt, first, Verdict::Done(Reply::Value(5)));
     // A look, an exchange and a wake.
-    assert_eq!(rt; a.steps(), 3);
-    assert_eq!(rt; (footprint.reads.len(), footprint.puts.len()), (1, 1));
+    equal(&rt, a.steps(), 3);
+    equal(&rt, (footprint.reads.len(), footprint.puts.len()), (1, 1));
     let second = tried(&store, &mut b, &ADD, &mut footprint);
-    assert_eq!(rt; second, Verdict::Done(Reply::Value(6)));
-    assert_eq!(rt; first_read(&footprint), Some((1, 6)));
+    equal(&rt, second, Verdict::Done(Reply::Value(6)));
+    equal(&rt, first_read(&footprint), Some((1, 6)));
     let third = tried(&store, &mut a, &GET, &mut footprint);
-    assert_eq!(rt; third, Verdict::Done(Reply::Value(7)));
-    assert_eq!(rt;
+    equal(&rt, third, Verdict::Done(Reply::Value(7)));
+    equal(
+        &rt,
         (first_read(&footprint), footprint.puts.len()),
-        (Some((2, 7)), 0)
+        (Some((2, 7)), 0),
     );
-    Ok(())
 }
 
 #[test]
 fn what_would_wait_is_for_later(rt: HostRuntime) -> Result<(), Fail> {
-    let Some((store, mut a, _b)) = open_two(&rt, &[0]) else {
-        return Err(Fail::from("not opened"));
-    };
+    let (store, mut a, _b) = opened(&rt, &[0]);
     let mut footprint = Footprint::new();
     let until_one = LocOp::Check(Loc(0), Rel::Eq, 1);
-    assert_eq!(rt;
+    equal(
+        &rt,
         tried(&store, &mut a, &until_one, &mut footprint),
-        Verdict::Later
+        Verdict::Later,
     );
-    assert_eq!(rt;
+    equal(
+        &rt,
         (first_read(&footprint), footprint.puts.len()),
-        (Some((0, 0)), 0)
+        (Some((0, 0)), 0),
     );
     let Try::Later { footprint } = store.try_commit(&mut a, &until_one) else {
         return Err(Fail::from("another answer"));
     };
-    assert_eq!(rt; footprint.reads.len(), 1);
+    equal(&rt, footprint.reads.len(), 1);
     Ok(())
 }
 
@@ -147,116 +177,101 @@ fn a_long_chain_is_too_large(rt: HostRuntime) -> Result<(), Fail> {
     for i in 0..values.len() {
         values[i] = hash.opening(i as u32);
     }
-    let Some((store, mut a, _b)) = open_two(&rt, &values) else {
-        return Err(Fail::from("not opened"));
-    };
+    let (store, mut a, _b) = opened(&rt, &values);
     let mut footprint = Footprint::new();
-    assert_eq!(rt; puts(&store, &mut a, hash, &mut footprint), 126);
-    assert_eq!(rt; (footprint.reads.len(), footprint.puts.len()), (MOST, 0));
+    equal(&rt, puts(&store, &mut a, hash, &mut footprint), 126);
+    equal(
+        &rt,
+        (footprint.reads.len(), footprint.puts.len()),
+        (MOST, 0),
+    );
     Ok(())
 }
 
 #[test]
 fn a_location_at_its_last_version_is_worn(rt: HostRuntime) -> Result<(), Fail> {
-    let Ok((store, mut callers)) = Store::open_at(rt.alloc(), &[5], &[LAST_VERSION - 1], 1, 0)
-    else {
-        return Err(Fail::from("not opened"));
-    };
-    let Some(mut a) = callers.pop() else {
-        return Err(Fail::from("no caller"));
-    };
+    let opened = Store::open_at(rt.alloc(), &[5], &[LAST_VERSION - 1], 1, 0);
+    let (store, mut callers) = opened.expect(&rt, "not opened");
+    let mut a = callers.pop().expect(&rt, "no caller");
     let mut footprint = Footprint::new();
     let last = tried(&store, &mut a, &ADD, &mut footprint);
-    assert_eq!(rt; last, Verdict::Done(Reply::Value(5)));
+    equal(&rt, last, Verdict::Done(Reply::Value(5)));
     let worn = tried(&store, &mut a, &ADD, &mut footprint);
-    assert_eq!(rt; worn, Verdict::WornLocation(Loc(0)));
-    assert_eq!(rt;
+    equal(&rt, worn, Verdict::WornLocation(Loc(0)));
+    equal(
+        &rt,
         (first_read(&footprint), footprint.puts.len()),
-        (Some((LAST_VERSION, 6)), 0)
+        (Some((LAST_VERSION, 6)), 0),
     );
     let Outcome::Worn(Wear::Location { loc, footprint: _ }) = store.commit(&rt, &mut a, &ADD) else {
         return Err(Fail::from("another answer"));
     };
-    assert_eq!(rt; loc, Loc(0));
+    equal(&rt, loc, Loc(0));
     Ok(())
 }
 
 #[test]
-fn a_pool_at_its_last_generation_is_worn(rt: HostRuntime) -> Result<(), Fail> {
-    let Ok((store, mut callers)) = Store::open_at(rt.alloc(), &[5], &[0], 1, LAST_GENERATION) else {
-        return Err(Fail::from("not opened"));
-    };
-    let Some(mut a) = callers.pop() else {
-        return Err(Fail::from("no caller"));
-    };
+fn a_pool_at_its_last_generation_is_worn(rt: HostRuntime) {
+    let (store, mut a) = open_worn(&rt);
     let mut footprint = Footprint::new();
-    assert_eq!(rt;
+    equal(
+        &rt,
         tried(&store, &mut a, &GET, &mut footprint),
-        Verdict::WornPool
+        Verdict::WornPool,
     );
-    assert_eq!(rt;
+    equal(
+        &rt,
         store.commit_into(&rt, &mut a, &GET, &mut footprint),
-        Answered::WornPool
+        Answered::WornPool,
     );
-    Ok(())
 }
 
 #[test]
-fn who_was_told_worn_pool_is_told_nothing_but_that(rt: HostRuntime) -> Result<(), Fail> {
-    let Ok((store, mut callers)) = Store::open_at(rt.alloc(), &[5], &[0], 1, LAST_GENERATION) else {
-        return Err(Fail::from("not opened"));
-    };
-    let Some(mut a) = callers.pop() else {
-        return Err(Fail::from("no caller"));
-    };
+fn who_was_told_worn_pool_is_told_nothing_but_that(rt: HostRuntime) {
+    let (store, mut a) = open_worn(&rt);
     let mut footprint = Footprint::new();
-    assert_eq!(rt;
+    equal(
+        &rt,
         tried(&store, &mut a, &GET, &mut footprint),
-        Verdict::WornPool
+        Verdict::WornPool,
     );
-    assert_eq!(rt;
+    equal(
+        &rt,
         tried(&store, &mut a, &ADD, &mut footprint),
-        Verdict::WornPool
+        Verdict::WornPool,
     );
-    assert_eq!(rt; footprint.puts.len(), 0);
-    assert_eq!(rt;
+    equal(&rt, footprint.puts.len(), 0);
+    equal(
+        &rt,
         store.commit_into(&rt, &mut a, &ADD, &mut footprint),
-        Answered::WornPool
+        Answered::WornPool,
     );
-    Ok(())
 }
 
 #[test]
-fn one_put_needs_no_descriptor(rt: HostRuntime) -> Result<(), Fail> {
-    let Ok((store, mut callers)) = Store::open_at(rt.alloc(), &[5], &[0], 1, LAST_GENERATION) else {
-        return Err(Fail::from("not opened"));
-    };
-    let Some(mut a) = callers.pop() else {
-        return Err(Fail::from("no caller"));
-    };
+fn one_put_needs_no_descriptor(rt: HostRuntime) {
+    let (store, mut a) = open_worn(&rt);
     let mut footprint = Footprint::new();
-    assert_eq!(rt;
+    equal(
+        &rt,
         tried(&store, &mut a, &ADD, &mut footprint),
-        Verdict::Done(Reply::Value(5))
+        Verdict::Done(Reply::Value(5)),
     );
-    assert_eq!(rt;
+    equal(
+        &rt,
         store.commit_into(&rt, &mut a, &ADD, &mut footprint),
-        Answered::Done(Reply::Value(6))
+        Answered::Done(Reply::Value(6)),
     );
-    Ok(())
 }
 
 #[test]
-fn a_note_passes_on_what_a_caller_knows(rt: HostRuntime) -> Result<(), Fail> {
-    let Some((store, mut a, mut b)) = open_two(&rt, &[5]) else {
-        return Err(Fail::from("not opened"));
-    };
+fn a_note_passes_on_what_a_caller_knows(rt: HostRuntime) {
+    let (store, mut a, mut b) = opened(&rt, &[5]);
     let mut footprint = Footprint::new();
     tried(&store, &mut a, &ADD, &mut footprint);
     let note = store.note(&mut a);
     store.learn(&mut b, note);
-    assert_eq!(rt; b.steps(), 0);
-    Ok(())
+    equal(&rt, b.steps(), 0);
 }
 
 // Adds one to the first location, so often.
@@ -293,18 +308,12 @@ fn count_both<R: Threads + Wait + Sync>(
 }
 
 #[test]
-fn four_threads_count(rt: HostRuntime) -> Result<(), Fail> {
-    let Ok((store, mut callers)) = Store::open(rt.alloc(), &[0], 4) else {
-        return Err(Fail::from("not opened"));
-    };
-    let (Some(d), Some(c), Some(b), Some(a)) = (
-        callers.pop(),
-        callers.pop(),
-        callers.pop(),
-        callers.pop(),
-    ) else {
-        return Err(Fail::from("no callers"));
-    };
+fn four_threads_count(rt: HostRuntime) {
+    let (store, mut callers) = Store::open(rt.alloc(), &[0], 4).expect(&rt, "not opened");
+    let d = callers.pop().expect(&rt, "no caller");
+    let c = callers.pop().expect(&rt, "no caller");
+    let b = callers.pop().expect(&rt, "no caller");
+    let a = callers.pop().expect(&rt, "no caller");
     let (shared, run) = (&store, &rt);
     let ((mut a, _b), _) = thread::join(
         run,
@@ -313,7 +322,6 @@ fn four_threads_count(rt: HostRuntime) -> Result<(), Fail> {
     );
     let mut footprint = Footprint::new();
     let all = store.commit_into(&rt, &mut a, &LocOp::Get(Loc(0)), &mut footprint);
-    assert_eq!(rt; all, Answered::Done(Reply::Value(4_000)));
-    assert_eq!(rt; first_read(&footprint), Some((4_000, 4_000)));
-    Ok(())
+    equal(&rt, all, Answered::Done(Reply::Value(4_000)));
+    equal(&rt, first_read(&footprint), Some((4_000, 4_000)));
 }

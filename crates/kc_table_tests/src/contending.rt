@@ -3,12 +3,13 @@
 ghost use Rattle.std.specs.Prelude.{◌≡◌, ◌<◌, All, IfSome};
 ghost use Rattle.kc_table_laws.specs.Tasks.{IsSameSeat};
 
-use crate::tests::{look, look_both, run};
+use crate::asserts::equal;
+use crate::tests::{look_both, run, saw_both};
 use kc_machine_steps::Told;
 use kc_machine_words::Mode;
 use kc_model::{Loc, Seen};
 use kc_table::{KcSeat, KcTable};
-use std::test::Fail;
+use std::process::Abort;
 use std::thread;
 use std::thread::Threads;
 
@@ -177,6 +178,15 @@ fn next_pair(table: &KcTable, seats: &mut Vec<KcSeat>) -> Option<Pair>
     Some(Pair { first, second })
 }
 
+// The same, where a test can't go on without them.
+fn take_pair(rt: &impl Abort, table: &KcTable, seats: &mut Vec<KcSeat>) -> Pair
+    requires { All (λ s. s.of ≡ table.now) seats.old.items }
+    ensures pair { (result.first.of ≡ table.now) × (result.second.of ≡ table.now) }
+    ensures rest { All (λ s. s.of ≡ table.now) seats.new.items }
+{
+    next_pair(table, seats).expect(rt, "no seats")
+}
+
 // Two threads, with two seats each.
 fn add_by_two<R: Threads + Sync>(rt: &R, table: &KcTable, a: Pair, b: Pair) -> (KcSeat, Sums)
     requires first { (a.first.of ≡ table.now) × (a.second.of ≡ table.now) × (1 < table.now.origin.locations) }
@@ -194,18 +204,12 @@ fn add_by_two<R: Threads + Sync>(rt: &R, table: &KcTable, a: Pair, b: Pair) -> (
 }
 
 #[test]
-fn what_contending_seats_were_told_adds_up(rt: HostRuntime) -> Result<(), Fail> {
-    let Some((table, mut seats)) = open_eight(&rt) else {
-        return Err(Fail::from("not opened"));
-    };
-    let (Some(a), Some(b), Some(c), Some(d)) = (
-        next_pair(&table, &mut seats),
-        next_pair(&table, &mut seats),
-        next_pair(&table, &mut seats),
-        next_pair(&table, &mut seats),
-    ) else {
-        return Err(Fail::from("no seats"));
-    };
+fn what_contending_seats_were_told_adds_up(rt: HostRuntime) {
+    let (table, mut seats) = open_eight(&rt).expect(&rt, "not opened");
+    let a = take_pair(&rt, &table, &mut seats);
+    let b = take_pair(&rt, &table, &mut seats);
+    let c = take_pair(&rt, &table, &mut seats);
+    let d = take_pair(&rt, &table, &mut seats);
     let shared = &table;
     let runtime = &rt;
     let (ours, theirs) = thread::join(
@@ -216,22 +220,22 @@ fn what_contending_seats_were_told_adds_up(rt: HostRuntime) -> Result<(), Fail> 
     let (mut seat, some) = ours;
     let (_seat, others) = theirs;
     let sums = sum_of(some, others);
-    let (Some(first), Some(second)) = (
-        look(&table, &mut seat, &[], Loc(0)),
-        look(&table, &mut seat, &[], Loc(1)),
-    ) else {
-        return Err(Fail::from("nothing seen"));
-    };
+    let [first, second] = saw_both(&rt, &table, &mut seat);
     let [at_first, at_second] = sums;
-    assert_eq!(rt;
+    equal(
+        &rt,
         (first.version, first.value),
-        (at_first.puts, at_first.added.wrapping_add(5))
+        (at_first.puts, at_first.added.wrapping_add(5)),
     );
-    assert_eq!(rt;
+    equal(
+        &rt,
         (second.version, second.value),
-        (at_second.puts, at_second.added.wrapping_add(6))
+        (at_second.puts, at_second.added.wrapping_add(6)),
     );
     // Of each four commits of a seat three put at each of the locations.
-    assert_eq!(rt; (at_first.puts, at_second.puts), (6 * COMMITS, 6 * COMMITS));
-    Ok(())
+    equal(
+        &rt,
+        (at_first.puts, at_second.puts),
+        (6 * COMMITS, 6 * COMMITS),
+    );
 }

@@ -1,18 +1,15 @@
 //! Owners that stopped or were halted after each number of steps.
 
-ghost use Rattle.std.specs.Prelude.{◌≡◌, All};
-ghost use Rattle.kc_table_laws.specs.Tasks.{IsSameSeat, KnowsRead};
+ghost use Rattle.std.specs.Prelude.{◌≡◌};
 
-use crate::tests::{begin, look_both, open_two, steps, together};
+use crate::asserts::{equal, equal_at};
+use crate::tests::{FAILED, SUCCEEDED, end, go, opened, saw_both, together};
 use kc_machine_steps::Told;
 use kc_machine_words::Mode;
-use kc_model::{Loc, Seen};
+use kc_model::Loc;
 use kc_table::{KcSeat, KcTable};
+use std::process::Abort;
 use std::test::Fail;
-
-const SUCCEEDED: Option<Told> = Some(Told::Succeeded { number: 1 });
-
-const FAILED: Option<Told> = Some(Told::Failed { entry: 0 });
 
 const HALTED: Option<Told> = Some(Told::Halted);
 
@@ -26,7 +23,12 @@ type Ended = (u32, Option<Told>);
 type Stood = [(u32, u32); 2];
 
 // What stands at both locations when both seats have come back.
-fn close(rt: &HostRuntime, table: KcTable, first: KcSeat, second: KcSeat) -> Result<Stood, Fail>
+fn close(
+    rt: &impl AllocGlobal,
+    table: KcTable,
+    first: KcSeat,
+    second: KcSeat,
+) -> Result<Stood, Fail>
     requires table { (first.of ≡ table) × (second.of ≡ table) × (table.origin.callers ≡ 2) }
     requires numbers { (first.number ≡ 0) × (second.number ≡ 1) }
 {
@@ -40,62 +42,38 @@ fn close(rt: &HostRuntime, table: KcTable, first: KcSeat, second: KcSeat) -> Res
     Ok([(zero.version, zero.value), (one.version, one.value)])
 }
 
-// Begins a commit of these puts, and makes at most so many of its steps; how many were made.
-fn go(
-    table: &KcTable,
-    seat: &mut KcSeat,
-    reads: &[Seen],
-    puts: &[Option<u32>],
-    most: u32,
-) -> Result<u32, Fail>
-    requires table { seat.old.of ≡ table.now }
-    requires reads { All (KnowsRead seat.old) reads.now }
-    ensures same { IsSameSeat seat.old seat.new }
-    ensures reads { All (KnowsRead seat.new) reads.now }
-{
-    if !begin(seat, Mode::All, reads, puts) {
-        return Err(Fail::from("not begun"));
-    }
-    Ok(steps(table, seat, reads, most))
-}
-
 // A commit of the first seat stops; one of the other runs to its end, and then the first goes on. How the other's ended,
 // how the first one's did, and what stands then.
-fn stop(rt: &HostRuntime, made: u32) -> Result<(Ended, Ended, Stood), Fail> {
-    let Some((table, mut a, mut b)) = open_two(rt, &[5, 6]) else {
-        return Err(Fail::from("not opened"));
-    };
-    let Some(mine) = look_both(&table, &mut a) else {
-        return Err(Fail::from("nothing seen"));
-    };
-    let Some(theirs) = look_both(&table, &mut b) else {
-        return Err(Fail::from("nothing seen"));
-    };
-    if go(&table, &mut a, &mine, &[Some(7), Some(8)], made)? != made {
-        return Err(Fail::from("it ended before its stop"));
-    }
-    let others = go(&table, &mut b, &theirs, &[Some(9), Some(9)], STEPS)?;
+fn stop(rt: &(impl Abort + AllocGlobal), made: u32) -> Result<(Ended, Ended, Stood), Fail> {
+    let (table, mut a, mut b) = opened(rt, &[5, 6]);
+    let mine = saw_both(rt, &table, &mut a);
+    let theirs = saw_both(rt, &table, &mut b);
+    let puts = [Some(7), Some(8)];
+    equal(
+        rt,
+        go(rt, &table, &mut a, Mode::All, &mine, &puts, made),
+        made,
+    );
+    let puts = [Some(9), Some(9)];
+    let others = go(rt, &table, &mut b, Mode::All, &theirs, &puts, STEPS);
     let other = (others, b.told());
-    let further = steps(&table, &mut a, &mine, STEPS);
-    let own = (further, a.told());
+    let own = end(&table, &mut a, &mine);
     let stood = close(rt, table, a, b)?;
     Ok((other, own, stood))
 }
 
 // A commit of the first seat is halted. How it ended, and what stands then.
-fn halt(rt: &HostRuntime, made: u32) -> Result<(Ended, Stood), Fail> {
-    let Some((table, mut a, b)) = open_two(rt, &[5, 6]) else {
-        return Err(Fail::from("not opened"));
-    };
-    let Some(mine) = look_both(&table, &mut a) else {
-        return Err(Fail::from("nothing seen"));
-    };
-    if go(&table, &mut a, &mine, &[Some(7), Some(8)], made)? != made {
-        return Err(Fail::from("it ended before its halt"));
-    }
+fn halt(rt: &(impl Abort + AllocGlobal), made: u32) -> Result<(Ended, Stood), Fail> {
+    let (table, mut a, b) = opened(rt, &[5, 6]);
+    let mine = saw_both(rt, &table, &mut a);
+    let puts = [Some(7), Some(8)];
+    equal(
+        rt,
+        go(rt, &table, &mut a, Mode::All, &mine, &puts, made),
+        made,
+    );
     a.halt();
-    let further = steps(&table, &mut a, &[], STEPS);
-    let own = (further, a.told());
+    let own = end(&table, &mut a, &[]);
     let stood = close(rt, table, a, b)?;
     Ok((own, stood))
 }
@@ -124,13 +102,13 @@ fn an_owner_that_stopped_anywhere_is_helped(rt: HostRuntime) -> Result<(), Fail>
     ] {
         let (other, own, stood) = stop(&rt, made)?;
         if made < 9 {
-            assert_eq!(rt; other, (others, SUCCEEDED), "behind {made} steps");
-            assert_eq!(rt; own, (further, FAILED), "behind {made} steps");
-            assert_eq!(rt; stood, [(1, 9), (1, 9)], "behind {made} steps");
+            equal_at(&rt, made, other, (others, SUCCEEDED));
+            equal_at(&rt, made, own, (further, FAILED));
+            equal_at(&rt, made, stood, [(1, 9), (1, 9)]);
         } else {
-            assert_eq!(rt; other, (others, FAILED), "behind {made} steps");
-            assert_eq!(rt; own, (further, SUCCEEDED), "behind {made} steps");
-            assert_eq!(rt; stood, [(1, 7), (1, 8)], "behind {made} steps");
+            equal_at(&rt, made, other, (others, FAILED));
+            equal_at(&rt, made, own, (further, SUCCEEDED));
+            equal_at(&rt, made, stood, [(1, 7), (1, 8)]);
         }
     }
     Ok(())
@@ -159,8 +137,8 @@ fn an_owner_that_was_halted_leaves_nothing_half_done(rt: HostRuntime) -> Result<
         (16, 0, SUCCEEDED, all),
     ] {
         let (own, stood) = halt(&rt, made)?;
-        assert_eq!(rt; own, (further, told), "behind {made} steps");
-        assert_eq!(rt; stood, stands, "behind {made} steps");
+        equal_at(&rt, made, own, (further, told));
+        equal_at(&rt, made, stood, stands);
     }
     Ok(())
 }

@@ -3,7 +3,10 @@
 ghost use Rattle.std.specs.Prelude.{◌≡◌};
 ghost use Rattle.kc_table_laws.specs.Tasks.{IsSameSeat, KnowsRead};
 
-use crate::tests::{begin, hang, look, look_both, open_two, see, steps};
+use crate::asserts::{equal, holds};
+use crate::tests::{
+    FAILED, SEVEN_AND_EIGHT, SUCCEEDED, crossed, end, go, hang, opened, saw, saw_both, see, steps,
+};
 use kc_machine_steps::Told;
 use kc_machine_words::Mode;
 use kc_model::{LAST_VERSION, Loc, Seen};
@@ -24,73 +27,55 @@ fn swap(table: &KcTable, seat: &mut KcSeat, seen: Seen, after: u32) -> bool
 }
 
 #[test]
-fn a_swap_in_one_call_makes_its_steps(rt: HostRuntime) -> Result<(), Fail> {
-    let Some((table, mut a, mut b)) = open_two(&rt, &[5, 6]) else {
-        return Err(Fail::from("not opened"));
-    };
-    let Some(mine) = look(&table, &mut a, &[], Loc(0)) else {
-        return Err(Fail::from("nothing seen"));
-    };
-    let Some(theirs) = look(&table, &mut b, &[], Loc(0)) else {
-        return Err(Fail::from("nothing seen"));
-    };
-    assert!(rt; swap(&table, &mut a, mine, 7));
-    assert_eq!(rt; a.steps(), 3);
-    assert_eq!(rt; a.told(), Some(Told::Succeeded { number: 1 }));
+fn a_swap_in_one_call_makes_its_steps(rt: HostRuntime) {
+    let (table, mut a, mut b) = opened(&rt, &[5, 6]);
+    let mine = saw(&rt, &table, &mut a, Loc(0));
+    let theirs = saw(&rt, &table, &mut b, Loc(0));
+    equal(
+        &rt,
+        (swap(&table, &mut a, mine, 7), a.steps(), a.told()),
+        (true, 3, SUCCEEDED),
+    );
     // One that fails has no wake.
-    assert!(rt; swap(&table, &mut b, theirs, 9));
-    assert_eq!(rt; b.steps(), 2);
-    assert_eq!(rt; b.told(), Some(Told::Failed { entry: 0 }));
+    equal(
+        &rt,
+        (swap(&table, &mut b, theirs, 9), b.steps(), b.told()),
+        (true, 2, FAILED),
+    );
     let seven = Seen {
         loc: Loc(0),
         version: 1,
         value: 7,
     };
-    assert_eq!(rt; see(&table, &mut b, Loc(0)), Some(seven));
-    Ok(())
+    equal(&rt, see(&table, &mut b, Loc(0)), Some(seven));
 }
 
 #[test]
-fn a_swap_is_crossed_at_anothers_reference(rt: HostRuntime) -> Result<(), Fail> {
-    let Some((table, mut a, mut b)) = open_two(&rt, &[5, 6]) else {
-        return Err(Fail::from("not opened"));
-    };
-    let Some(mine) = look_both(&table, &mut a) else {
-        return Err(Fail::from("nothing seen"));
-    };
-    let Some(theirs) = look(&table, &mut b, &[], Loc(0)) else {
-        return Err(Fail::from("nothing seen"));
-    };
-    assert!(rt; begin(&mut a, Mode::All, &mine, &[Some(7), Some(8)]));
-    assert_eq!(rt; steps(&table, &mut a, &mine, 9), 9);
-    assert!(rt; swap(&table, &mut b, theirs, 9));
-    assert_eq!(rt; b.told(), Some(Told::Crossed { entry: 0 }));
-    assert_eq!(rt; b.own(), None);
-    steps(&table, &mut a, &mine, 100);
-    assert_eq!(rt; a.told(), Some(Told::Succeeded { number: 1 }));
-    Ok(())
+fn a_swap_is_crossed_at_anothers_reference(rt: HostRuntime) {
+    let (table, mut a, mut b) = opened(&rt, &[5, 6]);
+    let mine = saw_both(&rt, &table, &mut a);
+    let theirs = saw(&rt, &table, &mut b, Loc(0));
+    let made = go(&rt, &table, &mut a, Mode::All, &mine, &SEVEN_AND_EIGHT, 9);
+    equal(&rt, made, 9);
+    holds(&rt, swap(&table, &mut b, theirs, 9));
+    equal(&rt, b.told(), crossed(0));
+    equal(&rt, b.own(), None);
+    equal(&rt, end(&table, &mut a, &mine).1, SUCCEEDED);
 }
 
 #[test]
-fn a_swap_in_one_call_wakes_who_hangs_on_it(rt: HostRuntime) -> Result<(), Fail> {
-    let Some((table, mut a, mut b)) = open_two(&rt, &[0]) else {
-        return Err(Fail::from("not opened"));
-    };
+fn a_swap_in_one_call_wakes_who_hangs_on_it(rt: HostRuntime) {
+    let (table, mut a, mut b) = opened(&rt, &[0]);
     let zero = Seen {
         loc: Loc(0),
         version: 0,
         value: 0,
     };
-    assert!(rt; hang(&mut b, zero));
-    assert_eq!(rt; steps(&table, &mut b, &[], 100), 2);
-    assert_eq!(rt; b.told(), Some(Told::Hung));
-    let Some(seen) = look(&table, &mut a, &[], Loc(0)) else {
-        return Err(Fail::from("nothing seen"));
-    };
-    assert!(rt; swap(&table, &mut a, seen, 1));
+    holds(&rt, hang(&mut b, zero));
+    equal(&rt, end(&table, &mut b, &[]), (2, Some(Told::Hung)));
+    let seen = saw(&rt, &table, &mut a, Loc(0));
+    holds(&rt, swap(&table, &mut a, seen, 1));
     // It owes a signal.
-    assert_eq!(rt; steps(&table, &mut a, &[], 100), 1);
-    assert_eq!(rt; a.told(), Some(Told::Succeeded { number: 1 }));
-    assert!(rt; table.signalled(&mut b));
-    Ok(())
+    equal(&rt, end(&table, &mut a, &[]), (1, SUCCEEDED));
+    holds(&rt, table.signalled(&mut b));
 }
