@@ -15,9 +15,18 @@ CASES = {
     "value": "one put, answered by value",
     "get": "a look, as a transaction",
     "read": "a read without a transaction",
+    "load": "a bare load",
+    "tvar_io": "GHC's readTVarIO",
+    "tvar": "GHC's atomically . readTVar",
     "hang": "a hang of one read and its leave",
     "open": "opening a store of 16 locations for 4 callers",
 }
+
+
+def shown(ns):
+    """Tenths only where they tell."""
+    return f"{ns:.0f}" if ns >= 10 else f"{ns:.1f}"
+
 
 times, sizes = collections.defaultdict(list), {}
 for line in sys.stdin:
@@ -31,7 +40,7 @@ print("| commit | least / median, ns |")
 print("|---|---|")
 for name, told in CASES.items():
     if name in times:
-        print(f"| {told} | {min(times[name]):.0f} / {statistics.median(times[name]):.0f} |")
+        print(f"| {told} | {shown(min(times[name]))} / {shown(statistics.median(times[name]))} |")
 print("\n| of | bytes |")
 print("|---|---|")
 for name, size in sizes.items():
