@@ -72,7 +72,8 @@ impl Client {
     }
 }
 
-// Kept apart from one operation alone, for which the room for more would be wiped too.
+// Kept apart from one operation alone, for which the room for more would be wiped too, and laid behind it.
+#[cold]
 #[inline(never)]
 fn try_calls(
     store: &Store,

@@ -8,8 +8,10 @@ ghost use Rattle.kc_calls.specs.Alone.{IsAlone, first_value, has_one_location, r
 ghost use Rattle.kc_calls.specs.Silent.{silent};
 ghost use Rattle.kc_calls.specs.Told.{told};
 ghost use Rattle.kc_loc.specs.Meaning.{LocIsFit, loc_end, loc_last, loc_meaning};
+ghost use Rattle.kc_loc.specs.declared.operation.LocOp.TheVariants as loc;
 ghost use Rattle.kc_model.specs.declared.plain_store.TheConstants.{MOST_LOCATIONS};
 ghost use Rattle.kc_term.specs.Meaning.{items_of};
+ghost use Rattle.kc_xt.specs.Law.{Obeys};
 
 use crate::operation::KcasOp;
 use crate::reply::{KcasReply, told};
@@ -41,12 +43,27 @@ impl Transact for Silent {
 
     #[inline(always)]
     fn run<P: Peek>(&self, xt: &mut Xt<P>) -> Result<Reply, Stop> {
-        if let LocOp::Swap(_, _) = self.operation {
-            unreachable!("a swap has two locations");
+        match self.operation {
+            LocOp::Swap(_, _) => unreachable!("a swap has two locations"),
+            LocOp::FetchAdd(at, number) => add(at, number, xt),
+            operation => {
+                operation.run(xt)?;
+                Ok(Reply::Unit)
+            }
         }
-        self.operation.run(xt)?;
-        Ok(Reply::Unit)
     }
+}
+
+// It looks its line up once, where `LocOp` looks it up to read and to put.
+#[inline(always)]
+fn add<P: Peek>(at: Loc, number: u32, xt: &mut Xt<P>) -> Result<Reply, Stop>
+    requires fit { LocIsFit (loc.FetchAdd at number) }
+    requires within { loc_end (loc.FetchAdd at number) ≤ P.locations xt.old.peek }
+    ensures law { Obeys P.peek_gives (silent (loc_meaning (loc.FetchAdd at number))) (loc_end (loc.FetchAdd at number)) xt.old result xt.new }
+    ensures size { P.locations xt.new.peek ≡ P.locations xt.old.peek }
+{
+    xt.fetch_add(at, number)?;
+    Ok(Reply::Unit)
 }
 
 /// The operation, where there is one alone, on one location of a store of so many.

@@ -1,5 +1,6 @@
 /* Each wrong call has its number and changes nothing; alternatives, replies, cells and openings; open and close in a loop. */
 #include "test.h"
+#include <string.h>
 
 static kcas_caller a[2];
 static kcas_reply replies[20];
@@ -66,6 +67,35 @@ static void alternatives(void) {
     CLAIM(one(kcas_at(0, KCAS_INCR, 0, 0)) == KCAS_DONE && replies[0].kind == KCAS_UNIT && value_at(0) == 6);
 }
 
+/* One operation alone on a location does, and is told, what it is behind another one. */
+static void alone(void) {
+    const kcas_op ops[] = {
+        kcas_at(0, KCAS_GET, 0, 0), kcas_at(0, KCAS_SET, 9, 0), kcas_at(0, KCAS_XCHG, 9, 0), kcas_at(0, KCAS_SWAP, 1, 0), kcas_at(0, KCAS_CAS, 5, 9), kcas_at(0, KCAS_CAS, 4, 9),
+        kcas_at(0, KCAS_ADD, 0xfffffffe, 0), kcas_at(0, KCAS_INCR, 0, 0), kcas_at(0, KCAS_DECR, 0, 0), kcas_at(0, KCAS_UPDATE, KCAS_FUN_MAX, 9), kcas_at(0, KCAS_MODIFY, KCAS_FUN_XOR, 9),
+        kcas_check(0, KCAS_GE, 5), kcas_check(0, KCAS_GT, 5), kcas_at(0, KCAS_DIFFERS, 4, 0), kcas_at(0, KCAS_DIFFERS, 5, 0),
+    };
+    for (size_t i = 0; i < sizeof ops / sizeof ops[0]; i++) {
+        uint32_t values[2] = { 5, 6 };
+        kcas_caller once[1] = { KCAS_CALLER_INIT }, behind[1] = { KCAS_CALLER_INIT };
+        kcas_op two[] = { kcas_say(3), ops[i] };
+        kcas_reply told[2] = { { 99, 99 }, { 99, 99 } }, same[2] = { { 99, 99 }, { 99, 99 } };
+        kcas_seen seen[2], as_seen[2];
+        CLAIM(kcas_open(values, 2, once, 1) == KCAS_DONE && kcas_open(values, 2, behind, 1) == KCAS_DONE);
+        uint32_t answer = kcas_try(once, &ops[i], 1, told, 2, &wakes);
+        CLAIM(answer == kcas_try(behind, two, 2, same, 2, &wakes) && told[1].kind == 99);
+        CLAIM(told[0].kind == same[1].kind && told[0].value == same[1].value && (told[0].kind == 99) == (answer == KCAS_LATER));
+        size_t reads = kcas_reads(once, seen, 2);
+        CLAIM(reads == kcas_reads(behind, as_seen, 2) && memcmp(seen, as_seen, reads * sizeof seen[0]) == 0);
+        for (uint32_t k = 0; k < 2; k++) {
+            uint32_t value, version, as_value, as_version;
+            CLAIM(kcas_read(once, k, &value, &version) == KCAS_DONE && kcas_read(behind, k, &as_value, &as_version) == KCAS_DONE);
+            CLAIM(value == as_value && version == as_version);
+        }
+        CLAIM(answer == KCAS_DONE || kcas_hang(once) == KCAS_GOING);
+        CLAIM(kcas_close(once) == KCAS_DONE && kcas_close(behind) == KCAS_DONE);
+    }
+}
+
 /* One of each kind, by a few operations. */
 static void structures(void) {
     static uint32_t values[65536];
@@ -108,6 +138,7 @@ int main(int argc, char **argv) {
     uint32_t values[3] = { 1, 2, 3 };
     refusals();
     alternatives();
+    alone();
     structures();
     CLAIM(kcas_close(&a[0]) == KCAS_DONE && kcas_close(&a[0]) == KCAS_CLOSED && kcas_close(&a[1]) == KCAS_DONE);
     for (int i = times(argc, argv, 500); i > 0; i--) {

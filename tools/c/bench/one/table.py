@@ -12,11 +12,15 @@ for line in sys.stdin:
     else:
         counts[way, who] = int(number)
 
-print("| commit of one | Rattle's own call, ns | from C, ns | least to least | median to median | instructions |")
-print("|---|---|---|---|---|---|")
+PEERS = ("own", "data", "c")
+
+print("| commit of one | Rattle's own call | by data | from C | to own | to data | instructions |")
+print("|---|---|---|---|---|---|---|")
 for way in ("add", "set", "get"):
-    own, c = times[way, "own"], times[way, "c"]
-    least, median = min, statistics.median
-    said = [f"{least(it):.1f} / {median(it):.1f}" for it in (own, c)]
-    made = " / ".join(str(counts.get((way, who), "-")) for who in ("own", "c"))
-    print(f"| {way} | {said[0]} | {said[1]} | {least(c) / least(own):.2f} | {median(c) / median(own):.2f} | {made} |")
+    of = {who: times[way, who] for who in PEERS}
+    said = [f"{min(of[who]):.1f} / {statistics.median(of[who]):.1f}" for who in PEERS]
+    for who in PEERS[:2]:
+        ratios = [kind(of["c"]) / kind(of[who]) for kind in (min, statistics.median)]
+        said.append(" / ".join(f"{it:.2f}" for it in ratios))
+    said.append(" / ".join(str(counts.get((way, who), "-")) for who in PEERS))
+    print(f"| {way} | {' | '.join(said)} |")
