@@ -1,6 +1,6 @@
 //! One operation alone, on one location: the transaction that programs make most often.
 //!
-//! A reply has room for 16 items. To carry it costs more than such an operation, which is therefore made without one: what it replies
+//! A reply has room for 16 items, and to carry it costs half as much as such an operation. So it is made without one: what it replies
 //! is told by what it read.
 
 ghost use Rattle.std.specs.Prelude.{◌≡◌, ◌≤◌, ◌∷◌, [], true, IfSome};
