@@ -13,6 +13,6 @@ unfolding next_from
 one_within names entry e h = rw e h
 
 pub opening-requires-clause-lies : goal.opening-requires-clause-lies
-opening-requires-clause-lies c =
+opening-requires-clause-lies g c =
     let only = c.in_ok-bundle.ensures.object in
     record { lie = one_lies _ _ only.1 c.requires.first; within = one_within _ _ only.1 c.requires.within }
