@@ -29,7 +29,8 @@ extern "C" {
 
 /* ---- data ---- */
 
-/* A caller's handle. All zero: closed. */
+/* A caller's handle. All zero: closed. Each call writes to it, so where handles lie beside one another, a thread does best to move its
+ * own to memory that no other thread uses (kcas_caller mine = callers[i];). */
 typedef struct kcas_caller {
     uint32_t held;
     uint32_t busy; /* of KCAS_CHECKED alone */

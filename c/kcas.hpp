@@ -47,8 +47,9 @@ private:
     std::size_t count_ = 0;
 };
 
-// One caller of a store. One thread at a time uses it.
-class caller {
+// One caller of a store. One thread at a time uses it. Each call writes to its handle, so those of two threads don't share a line of a
+// cache.
+class alignas(128) caller {
 public:
     caller(caller &&other) noexcept : handle_(std::exchange(other.handle_, kcas_caller KCAS_CALLER_INIT)), bell_(std::move(other.bell_)) {}
     caller &operator=(caller &&other) noexcept {

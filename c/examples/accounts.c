@@ -33,13 +33,15 @@ static uint32_t sum(kcas_caller *caller) {
 
 static void *clerk(void *arg) {
     size_t me = (size_t)arg;
+    kcas_caller mine = callers[me]; /* moved here, where no other thread writes */
     uint32_t draw = (uint32_t)me + 1;
     for (int i = 0; i < MOVES; i++) {
         draw = draw * 1664525u + 1013904223u;
-        uint32_t answer = move(&callers[me], draw >> 29, draw >> 26 & 7, draw >> 8 & 1023);
+        uint32_t answer = move(&mine, draw >> 29, draw >> 26 & 7, draw >> 8 & 1023);
         if (answer != KCAS_DONE && answer != KCAS_LATER) abort();
-        if (i % 100 == 0 && sum(&callers[me]) != ACCOUNTS * OPENING) abort();
+        if (i % 100 == 0 && sum(&mine) != ACCOUNTS * OPENING) abort();
     }
+    callers[me] = mine;
     return NULL;
 }
 

@@ -166,9 +166,13 @@ struct Bell {
     changed: Condvar,
 }
 
+// Each call writes to its handle, so handles of two threads may not lie in one line of a cache.
+#[repr(align(128))]
+struct Alone(Handle);
+
 /// One caller of a store.
 pub struct Caller {
-    handle: Box<Handle>,
+    handle: Box<Alone>,
     bell: Arc<Bell>,
     _one_thread: PhantomData<Cell<()>>,
 }
@@ -178,7 +182,7 @@ unsafe impl Send for Caller {}
 
 impl Drop for Caller {
     fn drop(&mut self) {
-        unsafe { kcas_close(&mut *self.handle) };
+        unsafe { kcas_close(&mut self.handle.0) };
     }
 }
 
@@ -197,7 +201,7 @@ pub fn open(values: &[u32], callers: usize) -> Result<Vec<Caller>, Refused> {
             Ok(handles
                 .into_iter()
                 .map(|handle| Caller {
-                    handle: Box::new(handle),
+                    handle: Box::new(Alone(handle)),
                     bell: bell.clone(),
                     _one_thread: PhantomData,
                 })
@@ -215,7 +219,7 @@ impl Caller {
             let mut wakes = 0;
             match unsafe {
                 kcas_try(
-                    &mut *self.handle,
+                    &mut self.handle.0,
                     ops.as_ptr(),
                     ops.len(),
                     raw.as_mut_ptr(),
@@ -267,7 +271,7 @@ impl Caller {
     pub fn read(&mut self, location: u32) -> Result<u32, Refused> {
         let (mut value, mut version) = (0, 0);
         loop {
-            match unsafe { kcas_read(&mut *self.handle, location, &mut value, &mut version) } {
+            match unsafe { kcas_read(&mut self.handle.0, location, &mut value, &mut version) } {
                 DONE => return Ok(value),
                 BUSY => spin_loop(),
                 answer => return Err(Refused(answer)),

@@ -10,11 +10,13 @@ public:
     Store() {
         std::array<uint32_t, cells + capacity + 2> values{};
         kcas_opening(&ring, values.data() + cells, capacity + 2);
-        if (kcas_open(values.data(), values.size(), callers.data(), callers.size()) != KCAS_DONE) exit(1);
+        std::array<kcas_caller, most_threads + 1> opened{};
+        if (kcas_open(values.data(), values.size(), opened.data(), opened.size()) != KCAS_DONE) exit(1);
+        for (size_t i = 0; i < opened.size(); i++) callers[i].handle = opened[i];
     }
 
     ~Store() {
-        for (auto &caller : callers) kcas_close(&caller);
+        for (auto &caller : callers) kcas_close(&caller.handle);
     }
 
     void add(uint32_t place, uint32_t amount) {
@@ -67,18 +69,23 @@ public:
     }
 
 private:
+    // Each call writes to its handle, so handles of two threads lie in no line of a cache together.
+    struct alignas(128) Alone {
+        kcas_caller handle = KCAS_CALLER_INIT;
+    };
+
     kcas_caller *mine() {
         thread_local Store *of = nullptr;
         thread_local kcas_caller *handle = nullptr;
         if (of != this) {
             of = this;
-            handle = &callers[taken++];
+            handle = &callers[taken++].handle;
         }
         return handle;
     }
 
     const kcas_object ring = kcas_queue(cells, capacity);
-    std::array<kcas_caller, most_threads + 1> callers{};
+    std::array<Alone, most_threads + 1> callers{};
     std::atomic<uint32_t> taken{0};
     kcas_bell bell{};
 };
