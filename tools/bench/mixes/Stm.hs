@@ -109,7 +109,7 @@ check mix holds = unless holds (ioError (userError (mix ++ ": the sums don't hol
 values :: Store -> IO [Word32]
 values = mapM readTVarIO . elems
 
-storm, same, own, readings :: Int -> IO ()
+storm, same, own, transfers, readings :: Int -> IO ()
 storm threads = do
     store <- newStore
     took <- timed threads (stormOf store)
@@ -128,6 +128,12 @@ own threads = do
     found <- values store
     check "own" (all (== fromIntegral each) (take threads (drop locations found)))
     out "own" threads took (threads * each)
+transfers threads = do
+    store <- newStore
+    took <- timed threads (\_ -> times each (\_ -> atomically (add store 0 1 >> add store 1 (negate 1))))
+    found <- values store
+    check "transfers" (take 2 found == [fromIntegral (threads * each), negate (fromIntegral (threads * each))])
+    out "transfers" threads took (threads * each)
 readings threads = do
     store <- newStore
     forM_ [0 .. locations - 1] (\place -> atomically (add store place (fromIntegral place + 1)))
@@ -198,6 +204,6 @@ handOver place expected = do
 
 main :: IO ()
 main = replicateM_ rounds $ do
-    forM_ [1, 2, 4] (\threads -> storm threads >> same threads >> own threads >> readings threads)
+    forM_ [1, 2, 4] (\threads -> storm threads >> same threads >> own threads >> transfers threads >> readings threads)
     queue
     turns

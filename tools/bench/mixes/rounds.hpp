@@ -106,6 +106,16 @@ template <class Store> void same(const char *who, uint32_t threads) {
     print(who, "same", threads, took, threads * each);
 }
 
+template <class Store> void transfers(const char *who, uint32_t threads) {
+    Store store;
+    double took = timed(threads, [&](uint32_t) {
+        for (uint32_t n = 0; n < each; n++) store.transfer(0, 1, 1);
+    });
+    Values values = store.values();
+    check(values[0] == threads * each && values[1] == 0 - threads * each, "transfers");
+    print(who, "transfers", threads, took, threads * each);
+}
+
 template <class Store> void own(const char *who, uint32_t threads) {
     Store store;
     double took = timed(threads, [&](uint32_t number) {
@@ -156,6 +166,7 @@ template <class Store> void run_all(const char *who) {
             storm<Store>(who, threads);
             same<Store>(who, threads);
             own<Store>(who, threads);
+            transfers<Store>(who, threads);
             reads<Store>(who, threads);
         }
         if constexpr (Store::waits) {

@@ -22,6 +22,7 @@ MIXES = {
     "storm": "commands of a storm",
     "same": "all on one location",
     "own": "each on its own",
+    "transfers": "a transfer",
     "reads": "eight reads, one put",
     "queue": "a queue of 16",
     "turns": "a hand-over (µs)",
