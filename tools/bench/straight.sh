@@ -21,6 +21,7 @@ for _ in $(seq "${1:-3}"); do
     for puts in 1 2 4; do
         "$room/bare" "$puts" 1 own 400 5000
     done
+    "$room/bare" 1 1 own 400 5000 8
     for puts in 1 2; do
         for threads in 2 4; do
             for place in own same; do

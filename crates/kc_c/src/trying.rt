@@ -4,7 +4,10 @@ ghost use Rattle.std.specs.Prelude.{◌≡◌, ◌≤◌, ◌==◌, false, true,
 ghost use Rattle.kc_c.specs.declared.answers.TheConstants.{DONE};
 ghost use Rattle.kc_c.specs.Standings.{rests};
 ghost use Rattle.kc_c.specs.Tries.{IsTried, MayTry, number_of};
+ghost use Rattle.kc_calls.specs.Alone.{has_one_location};
 ghost use Rattle.kc_calls.specs.Meaning.{CallsAreFit, calls_end, calls_meaning};
+ghost use Rattle.kc_calls.specs.Silent.{silent};
+ghost use Rattle.kc_loc.specs.Meaning.{LocIsFit, loc_end, loc_meaning};
 ghost use Rattle.kc_model.specs.Footprint.{IsBelow};
 ghost use Rattle.kc_model.specs.declared.footprint.TheConstants.{MOST};
 ghost use Rattle.kc_store.specs.Knows.{IsTold, Remembers};
@@ -16,8 +19,10 @@ use crate::answers::{BAD_OPS, BUSY, DONE, LATER, LOST, NOT_NOW, POOL_WORN, TOO_L
 use crate::client::Client;
 use crate::standing::Standing;
 use kc_calls::{
-    Calls, KcasOp, KcasReply, Silent, alone_on_location, are_operations, tell, told_alone,
+    Calls, KcasOp, KcasReply, Silent, SilentAdd, alone_on_location, are_operations, tell,
+    told_alone,
 };
+use kc_loc::LocOp;
 use kc_model::Footprint;
 use kc_store::{Caller, Fate, Store};
 use kc_xt::{Trial, Went};
@@ -51,7 +56,7 @@ impl Client {
         if let Some(operation) = alone_on_location(ops, *locations) {
             // Its own trial, which is kept in registers.
             let mut trial = Trial::new();
-            let fate = store.try_in_place(caller, &Silent { operation }, &mut trial, footprint);
+            let fate = try_alone(store, caller, operation, &mut trial, footprint);
             *wakes = caller.take_wakes();
             if is_done(fate, &trial) {
                 replies[0] = told_alone(operation, footprint);
@@ -70,6 +75,52 @@ impl Client {
         }
         number_of(fate, trial)
     }
+}
+
+// One operation alone. An add, which programs make most often, has a way of its own from here on, in which nothing asks again what it is.
+#[inline(always)]
+fn try_alone(
+    store: &Store,
+    caller: &mut Caller,
+    operation: LocOp,
+    trial: &mut Trial,
+    footprint: &mut Footprint,
+) -> Fate
+    requires caller { caller.old.of ≡ store.now }
+    requires fit { LocIsFit operation }
+    requires one { has_one_location operation ≡ true }
+    requires within { loc_end operation ≤ store.now.locations }
+    ensures told { IsTold (limited MOST (silent (loc_meaning operation))) (verdict_as result (tried_of trial.new.went trial.new.reply)) caller.old footprint.new caller.new }
+    ensures remembers { Remembers caller.old caller.new }
+    ensures within { has_entry (verdict_as result (tried_of trial.new.went trial.new.reply)) ≡ true → IsBelow (loc_end operation) footprint.new }
+{
+    match operation {
+        LocOp::FetchAdd(at, number) => {
+            let add = SilentAdd { at, number };
+            store.try_in_place(caller, &add, trial, footprint)
+        }
+        _ => try_silently(store, caller, operation, trial, footprint),
+    }
+}
+
+// Kept apart from an add, for which its room would be wiped too.
+#[inline(never)]
+fn try_silently(
+    store: &Store,
+    caller: &mut Caller,
+    operation: LocOp,
+    trial: &mut Trial,
+    footprint: &mut Footprint,
+) -> Fate
+    requires caller { caller.old.of ≡ store.now }
+    requires fit { LocIsFit operation }
+    requires one { has_one_location operation ≡ true }
+    requires within { loc_end operation ≤ store.now.locations }
+    ensures told { IsTold (limited MOST (silent (loc_meaning operation))) (verdict_as result (tried_of trial.new.went trial.new.reply)) caller.old footprint.new caller.new }
+    ensures remembers { Remembers caller.old caller.new }
+    ensures within { has_entry (verdict_as result (tried_of trial.new.went trial.new.reply)) ≡ true → IsBelow (loc_end operation) footprint.new }
+{
+    store.try_in_place(caller, &Silent { operation }, trial, footprint)
 }
 
 // Kept apart from one operation alone, for which the room for more would be wiped too, and laid behind it.

@@ -45,7 +45,6 @@ impl Transact for Silent {
     fn run<P: Peek>(&self, xt: &mut Xt<P>) -> Result<Reply, Stop> {
         match self.operation {
             LocOp::Swap(_, _) => unreachable!("a swap has two locations"),
-            LocOp::FetchAdd(at, number) => add(at, number, xt),
             operation => {
                 operation.run(xt)?;
                 Ok(Reply::Unit)
@@ -54,7 +53,35 @@ impl Transact for Silent {
     }
 }
 
-// It looks its line up once, where `LocOp` looks it up to read and to put.
+/// What an add to a location does. It replies no more than that it is done, and looks its line up once, where `LocOp` looks it up to
+/// read and to put.
+#[derive(Clone, Copy)]
+pub struct SilentAdd {
+    pub at: Loc,
+    pub number: u32,
+}
+
+impl Transact for SilentAdd {
+    ghost meaning = { λ s. silent (loc_meaning (loc.FetchAdd s.at s.number)) };
+
+    ghost is_fit = { λ s. LocIsFit (loc.FetchAdd s.at s.number) };
+
+    ghost end = { λ s. loc_end (loc.FetchAdd s.at s.number) };
+
+    fn bound(&self) -> u32 {
+        LocOp::FetchAdd(self.at, self.number).bound()
+    }
+
+    fn limit(&self) -> u32 {
+        MOST as u32
+    }
+
+    #[inline(always)]
+    fn run<P: Peek>(&self, xt: &mut Xt<P>) -> Result<Reply, Stop> {
+        add(self.at, self.number, xt)
+    }
+}
+
 #[inline(always)]
 fn add<P: Peek>(at: Loc, number: u32, xt: &mut Xt<P>) -> Result<Reply, Stop>
     requires fit { LocIsFit (loc.FetchAdd at number) }

@@ -11,6 +11,7 @@ CASES = {
     "one": "one put",
     "two": "two puts",
     "eight": "eight reads and a put",
+    "plain_eight": "the same on a plain store: its log, transaction and footprint alone",
     "either": "an alternative that is given up, and another",
     "value": "one put, answered by value",
     "get": "a look, as a transaction",

@@ -24,6 +24,6 @@ for who, call, puts, mode, threads, place in list(times):
         continue
     ours = times["kcas", call, puts, mode, threads, place]
     bare = times.get(("C", call, puts, mode, threads, place))
-    name = "look" if call == "look" else f"commit of {puts}, {mode}"
+    name = "look" if call == "look" else f"commit of {puts}{' behind eight reads' if call == 'eight' else ''}, {mode}"
     ratio = f"{min(ours) / min(bare):.2f}" if bare else "-"
     print(f"| {name} | {threads} | {place} | {shown(ours)} | {shown(bare)} | {ratio} |")
