@@ -1,10 +1,14 @@
 -- From how a walk ended to what the text fails, and to the text.
-use Rattle.std.proofs.Common.{◌≡◌, ℕ, zero, suc, ◌+◌, ◌<◌, ◌≤◌, List, [], ◌∷◌, ◌++◌, All, length, take, get_or, slice_index_or, refl, sym, ap, subst, ◌∙◌, arith, Vec}
+use Rattle.std.proofs.Common.{◌≡◌, ℕ, zero, suc, ◌+◌, ◌<◌, ◌≤◌, List, [], ◌∷◌, ◌++◌, All, map, length, take, get_or, slice_index_or, refl, sym, ap, subst, ◌∙◌, arith, Vec}
+use Rattle.std.proofs.Math.Path.{fun_ext}
 use Rattle.std.proofs.lemmas.List.{length-map}
 use Rattle.std.proofs.lemmas.List.Sums.{sum_by-cons, sum_by-le}
 use Rattle.kc_history.specs.Counts.{records_in}
+use Rattle.kc_history.specs.Ends.{AreWellMade}
 use Rattle.kc_script_bundle.specs.On.{CommandsAreOn}
 use Rattle.std.specs.Global.{Global}
+use Rattle.std.specs.Option.{option_map}
+use Rattle.std.specs.Prelude.{slice_get}
 use Rattle.kc_history.specs.Order.{Footprints, IsCanonical}
 use Rattle.kc_history.specs.Records.{footprint_at, lists_of}
 use Rattle.kc_history.specs.RecordsValue.{RecordsValue}
@@ -15,19 +19,19 @@ use Rattle.kc_script_bundle.specs.Script.{LieFrom, Names, Script}
 use Rattle.kc_script_bundle.specs.declared.operation.Command.{Command}
 use Rattle.kc_script_runs.proofs.Replayed.{opened_zero}
 use Rattle.kc_script_bundle.specs.State.{opening_values}
-use Rattle.kc_script_runs.specs.Run.{IsText, opening_store}
+use Rattle.kc_script_runs.specs.Run.{opening_store}
 use Rattle.kc_xt.specs.Meaning.{values}
 use Rattle.kc_check.proofs.Counting.{all_stand, legal_of, stand_full}
 use Rattle.kc_check.proofs.Padded.{padded_whole}
 use Rattle.kc_check.proofs.Shown.{held_joined}
 use Rattle.kc_check.proofs.Whole.{whole_text}
-use Rattle.kc_check.specs.Faults.{Comes, ComesWhole, FailsIn, StopsAt}
+use Rattle.kc_check.specs.Faults.{Comes, ComesWhole, FailsIn, IsLegal, StopsAt}
 use Rattle.kc_check.specs.Judged.{IsSaid, nowhere, stop_number}
 use Rattle.kc_check.specs.Orders.{DiffersAt, IsLegalList}
 use Rattle.kc_check.specs.Parts.{IsPlace, Parts, joined, parts_text, place_number, places_in, reply_number}
-use Rattle.kc_check.specs.Replays.{HaveRoom, all_padded, commands_of, counts}
+use Rattle.kc_check.specs.Replays.{HaveRoom, all_kept, all_padded, commands_of, counts, kept_list, kept_record}
 use Rattle.kc_check.specs.Shown.{UnlikeAt, held_lines}
-use Rattle.kc_check.specs.Walks.{StopsFor}
+use Rattle.kc_check.specs.Walks.{ComesKept, StopsFor}
 use Rattle.kc_check.specs.declared.error.CheckWhy.{CheckWhy}
 use Rattle.kc_check.specs.declared.error.CheckWhy.TheVariants as why
 
@@ -95,10 +99,37 @@ records_counted limit j (cs ∷ threads) (v ∷ vs) h all =
     let d = all zero (omega arith) in
     omega (arith, a, b, c, d)
 
--- each record was made
-pub record AreMade (limit : ℕ) (threads : List (List Command)) (vs : List RecordsValue) : Type 0 where
-  pub same : all_padded 1 threads (lists_of vs) ≡ lists_of vs
-  pub counted : records_in vs ≡ places_in threads
+-- as many are kept
+records_kept : (vs : List RecordsValue) → records_in (all_kept vs) ≡ records_in vs
+records_kept [] = refl
+records_kept (v ∷ vs) =
+    let a = sum_by-cons (λ (w : RecordsValue). length w.items) v vs in
+    let b = sum_by-cons (λ (w : RecordsValue). length w.items) (kept_list v) (all_kept vs) in
+    let c = records_kept vs in
+    let d = length-map v.items kept_record in
+    omega (arith, a, b, c, d)
+
+-- and the footprints are the same
+prints_kept : (vs : List RecordsValue) → footprint_at (lists_of vs) ≡ footprint_at (lists_of (all_kept vs))
+prints_kept vs = fun_ext (λ t. fun_ext (λ k. at vs t k))
+  where
+    in_list : (rs : List Record) (k : ℕ) → option_map (λ (r : Record). r.footprint) (slice_get rs k) ≡ option_map (λ (r : Record). r.footprint) (slice_get (map kept_record rs) k)
+    in_list [] k = refl
+    in_list (r ∷ rs) zero = refl
+    in_list (r ∷ rs) (suc k) = in_list rs k
+
+    at : (vs : List RecordsValue) (t k : ℕ) → footprint_at (lists_of vs) t k ≡ footprint_at (lists_of (all_kept vs)) t k
+    at [] t k = refl
+    at (v ∷ vs) zero k = in_list v.items k
+    at (v ∷ vs) (suc t) k = at vs t k
+
+-- all come with records of which this is kept
+pub record Came (s : Script) (parts : Parts) (last : Store) (rs : List RecordsValue) : Type 0 where
+  pub records : List (List Record)
+  pub comes : ComesWhole s parts last records
+  pub same : footprint_at records ≡ footprint_at (lists_of rs)
+  pub made : AreWellMade (footprint_at (lists_of rs))
+  pub counted : records_in rs ≡ places_in s.threads
 
 -- ---- at what is given to the calls
 
@@ -121,13 +152,21 @@ module _ (s : Script) (parts : Parts) (limit : ℕ) (limited : limit ≡ s.limit
       record { stand = stand; comes = subst (λ (x : Store). Comes s.limit s.threads parts.replies x parts.places stand last records) h three }
 
   -- where all places come, all records were made
-  pub given_comes : (last : Store) (vs : List RecordsValue) → IsSaid s parts → HaveRoom limit 1 threads vs → Comes limit threads replies first places (counts (lists_of vs)) last (all_padded 1 threads (lists_of vs)) → AreMade limit threads vs × ComesWhole s parts last (lists_of vs)
-  given_comes last vs said room comes =
+  pub given_comes : (last : Store) (rs : List RecordsValue) → IsSaid s parts → ComesKept limit threads replies first places last rs → Came s parts last rs
+  given_comes last rs said k =
+      let vs : List RecordsValue = k.whole in
       let each : All (IsPlace threads) places = subst (λ (x : List (List Command)). All (IsPlace x) places) (sym e) (subst (All (IsPlace s.threads)) (sym g) said.places) in
       let count : length places ≡ places_in threads = ap length g ∙ said.count ∙ ap places_in (sym e) in
-      let all = stand_full threads places (counts (lists_of vs)) each comes.turns count in
-      let same : all_padded 1 threads (lists_of vs) ≡ lists_of vs = padded_whole limit 1 threads vs room all in
-      (record { same = same; counted = records_counted limit 1 threads vs room all }, given_whole last (counts (lists_of vs)) (lists_of vs) (subst (λ (x : List (List Record)). Comes limit threads replies first places (counts (lists_of vs)) last x) same comes))
+      let all = stand_full threads places (counts (lists_of vs)) each k.comes.turns count in
+      let whole : all_padded 1 threads (lists_of vs) ≡ lists_of vs = padded_whole limit 1 threads vs k.room all in
+      let same : footprint_at (lists_of vs) ≡ footprint_at (lists_of rs) = prints_kept vs ∙ ap (λ (xs : List RecordsValue). footprint_at (lists_of xs)) (sym k.kept) in
+      record {
+        records = lists_of vs;
+        comes = given_whole last (counts (lists_of vs)) (lists_of vs) (subst (λ (x : List (List Record)). Comes limit threads replies first places (counts (lists_of vs)) last x) whole k.comes);
+        same = same;
+        made = subst AreWellMade (ap footprint_at whole ∙ same) k.made;
+        counted = ap records_in k.kept ∙ records_kept vs ∙ records_counted limit 1 threads vs k.room all ∙ ap places_in e;
+      }
 
 differs_within : (places order : List Place) (index : ℕ) → DiffersAt places order index → index < length places
 differs_within places order index d = subst (λ (ps : List Place). index < length ps) (sym d.gives) (subst (λ (i : ℕ). i < length (d.front ++ d.given ∷ d.given_back)) d.at (front_within d.front d.given d.given_back))
@@ -135,9 +174,9 @@ differs_within places order index d = subst (λ (ps : List Place). index < lengt
 pub disorder_within : (a : Footprints) (places : List Place) (index : ℕ) → (order : List Place) × IsCanonical a order × DiffersAt places order index → index < length places
 disorder_within a places index (order, canonical, d) = differs_within places order index d
 
-pub disorder_fails : (s : Script) (parts : Parts) (last : Store) (records : List (List Record)) (places : List Place) (index line : ℕ) → places ≡ parts.places → ComesWhole s parts last records → (order : List Place) × IsCanonical (footprint_at records) order × DiffersAt places order index → line ≡ place_number s.threads index → FailsIn s parts line why.Order
-disorder_fails s parts last records places index line g whole (order, canonical, d) e =
-    (index, record { last = last; records = records; whole = whole; order = order; canonical = canonical; differs = subst (λ (x : List Place). DiffersAt x order index) g d }, e)
+pub disorder_fails : (s : Script) (parts : Parts) (last : Store) (rs : List RecordsValue) (places : List Place) (index line : ℕ) → places ≡ parts.places → Came s parts last rs → (order : List Place) × IsCanonical (footprint_at (lists_of rs)) order × DiffersAt places order index → line ≡ place_number s.threads index → FailsIn s parts line why.Order
+disorder_fails s parts last rs places index line g came (order, canonical, d) e =
+    (index, record { last = last; records = came.records; whole = came.comes; order = order; canonical = subst (λ (a : Footprints). IsCanonical a order) (sym came.same) canonical; differs = subst (λ (x : List Place). DiffersAt x order index) g d }, e)
 
 pub unlike_within : (lines : List (List ℕ)) (names : Names) (m : ℕ → ℕ) (index : ℕ) → UnlikeAt lines names m index → index < length lines
 unlike_within lines names m index u = subst (λ (ls : List (List ℕ)). index < length ls) (sym u.given) (subst (λ (i : ℕ). i < length (u.front ++ u.line ∷ u.back)) u.at (before_back u.front u.line u.back))
@@ -146,5 +185,5 @@ unlike_within lines names m index u = subst (λ (ls : List (List ℕ)). index < 
     before_back [] p back = omega arith
     before_back (q ∷ front) p back = let h = before_back front p back in omega arith
 
-pub judged_text : (s : Script) (parts : Parts) (last : Store) (records : List (List Record)) → LieFrom 1 s.objects → ((t : ℕ) → CommandsAreOn s.objects (slice_index_or s.threads t [])) → IsSaid s parts → ComesWhole s parts last records → IsCanonical (footprint_at records) parts.places → parts.state ≡ held_lines s.objects (values last) → IsText s records (parts_text s.threads parts)
-judged_text s parts last records lie on said whole canonical held = whole_text s parts last records whole canonical lie on said.many said.places (ap joined held ∙ held_joined s.objects (values last))
+pub judged_text : (s : Script) (parts : Parts) (last : Store) (rs : List RecordsValue) → LieFrom 1 s.objects → ((t : ℕ) → CommandsAreOn s.objects (slice_index_or s.threads t [])) → IsSaid s parts → (came : Came s parts last rs) → IsCanonical (footprint_at came.records) parts.places → parts.state ≡ held_lines s.objects (values last) → IsLegal s (parts_text s.threads parts)
+judged_text s parts last rs lie on said came canonical held = record { records = came.records; is = whole_text s parts last came.records came.comes canonical lie on said.many said.places (ap joined held ∙ held_joined s.objects (values last)) }

@@ -50,11 +50,11 @@ mapped_more : (xs : List (Vec Command Global)) (x : Vec Command Global) → comm
 mapped_more [] x = refl
 mapped_more (y ∷ xs) x = ap (λ (zs : List (List Command)). y.items ∷ zs) (mapped_more xs x)
 
-pub room_next : (limit : ℕ) (vs : List (Vec Command Global)) (i n : ℕ) (v : Vec Command Global) (r : RecordsValue) (rs others : List RecordsValue) → i < length vs → v ≡ get_or vs i v → n ≡ length v.items → HaveRoom limit 1 (commands_of (take i vs)) rs → r ≡ record { items = []; spare = n + 1; limit = limit } → others ≡ rs ++ r ∷ [] → HaveRoom limit 1 (commands_of (take (i + 1) vs)) others
+pub room_next : (limit : ℕ) (vs : List (Vec Command Global)) (i n : ℕ) (v : Vec Command Global) (r : RecordsValue) (rs others : List RecordsValue) → i < length vs → v ≡ get_or vs i v → n ≡ length v.items → HaveRoom limit 1 (commands_of (take i vs)) rs → r ≡ record { items = []; spare = 0; bare = n + 1; limit = limit } → others ≡ rs ++ r ∷ [] → HaveRoom limit 1 (commands_of (take (i + 1) vs)) others
 room_next limit vs i n v r rs others lt at long h made pushed =
-    let fresh : RecordsValue = record { items = []; spare = n + 1; limit = limit } in
+    let fresh : RecordsValue = record { items = []; spare = 0; bare = n + 1; limit = limit } in
     let k : ℕ = 1 + length (commands_of (take i vs)) in
-    let one : HasRoom limit k v.items fresh = (tt, omega (arith, long), refl) in
+    let one : HasRoom limit k v.items fresh = (tt, omega (arith, long), refl, refl) in
     let room : HasRoom limit k v.items r = subst (HasRoom limit k v.items) (sym made) one in
     let more = room_push limit 1 k (commands_of (take i vs)) rs v.items r refl h room in
     let taken : commands_of (take i vs) ++ v.items ∷ [] ≡ commands_of (take (i + 1) vs) = sym (ap commands_of (take_more vs i v lt) ∙ mapped_more (take i vs) (get_or vs i v) ∙ ap (λ (w : Vec Command Global). commands_of (take i vs) ++ w.items ∷ []) (sym at)) in

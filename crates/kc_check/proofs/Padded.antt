@@ -9,7 +9,7 @@ use Rattle.kc_history.proofs.Ready.{same_or, more_same, more_other}
 use Rattle.kc_history.specs.Ends.{AreWellMade, CanStand}
 use Rattle.kc_history.specs.Kept.{print}
 use Rattle.kc_history.specs.Order.{more}
-use Rattle.kc_history.specs.Records.{footprint_at, lists_of, record_at}
+use Rattle.kc_history.specs.Records.{footprint_at, lists_of}
 use Rattle.kc_history.specs.RecordsValue.{RecordsValue}
 use Rattle.kc_history.specs.declared.record.Record.{Record}
 use Rattle.kc_model.specs.declared.footprint.Footprint.{Footprint}
@@ -48,13 +48,14 @@ pub padded_more : (thread : ℕ) (cs : List Command) (rs : List Record) (r : Rec
 unfolding blanks
 padded_more thread cs rs r l h at = filled_in (labels thread 1 cs) rs r l h at
 
-pub room_more : (limit thread : ℕ) (cs : List Command) (v w : RecordsValue) (r : Record) (l : Label) → HasRoom limit thread cs v → 0 < v.spare → slice_get (labels thread 1 cs) (length v.items) ≡ Some l → label r ≡ l → w.items ≡ v.items ++ r ∷ [] → w.spare ≡ v.spare - 1 → w.limit ≡ v.limit → HasRoom limit thread cs w
-room_more limit thread cs v w r l h some at is items spare same =
+pub room_more : (limit thread : ℕ) (cs : List Command) (v w : RecordsValue) (r : Record) (l : Label) → HasRoom limit thread cs v → 0 < v.bare → slice_get (labels thread 1 cs) (length v.items) ≡ Some l → label r ≡ l → w.items ≡ v.items ++ r ∷ [] → w.bare ≡ v.bare - 1 → w.limit ≡ v.limit → w.spare ≡ v.spare → HasRoom limit thread cs w
+room_more limit thread cs v w r l h some at is items bare same spare =
     let long : length w.items ≡ length v.items + 1 = ap length items ∙ length_more v.items r in
     let count = h.1 in (
       subst (AreFirst (labels thread 1 cs)) (sym items) (first_more (labels thread 1 cs) v.items r l h.0 at is),
-      omega (arith, long, spare, some, count),
+      omega (arith, long, bare, some, count),
       same ∙ h.2,
+      spare ∙ h.3,
     )
   where
     length_more : (xs : List Record) (x : Record) → length (xs ++ x ∷ []) ≡ length xs + 1
@@ -109,18 +110,6 @@ padded_set j (cs ∷ threads) (v ∷ vs) zero k w lt le is =
     let e : j ≡ k = omega (arith, is) in
     ap (λ (i : ℕ). padded i cs w.items ∷ all_padded (j + 1) threads (lists_of vs)) e
 padded_set j (cs ∷ threads) (v ∷ vs) (suc t) k w lt le is = ap (λ (xs : List (List Record)). padded j cs v.items ∷ xs) (padded_set (j + 1) threads vs t k w (omega arith) (omega arith) (omega (arith, is)))
-
--- a record that was made stands among them
-pub stands_padded : (j : ℕ) (threads : List (List Command)) (vs : List RecordsValue) → length vs ≡ length threads → (t k : ℕ) (r : Record) → record_at (lists_of vs) t k ≡ Some r → record_at (all_padded j threads (lists_of vs)) t k ≡ Some r
-stands_padded j threads [] long t k r at = absurd (cc)
-stands_padded j [] (v ∷ vs) long t k r at = absurd (omega arith)
-stands_padded j (cs ∷ threads) (v ∷ vs) long zero k r at = in_front v.items _ k at
-  where
-    in_front : (xs ys : List Record) (k : ℕ) → slice_get xs k ≡ Some r → slice_get (xs ++ ys) k ≡ Some r
-    in_front [] ys k at = absurd (cc)
-    in_front (x ∷ xs) ys zero at = at
-    in_front (x ∷ xs) ys (suc k) at = in_front xs ys k at
-stands_padded j (cs ∷ threads) (v ∷ vs) long (suc t) k r at = stands_padded (j + 1) threads vs (omega arith) t k r at
 
 -- where all were made, there is no blank one
 pub padded_whole : (limit j : ℕ) (threads : List (List Command)) (vs : List RecordsValue) → HaveRoom limit j threads vs → ((u : ℕ) → u < length threads → counts (lists_of vs) u ≡ length (slice_index_or threads u []) + 1) → all_padded j threads (lists_of vs) ≡ lists_of vs

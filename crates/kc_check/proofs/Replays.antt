@@ -1,9 +1,9 @@
 -- What is meant at an index of a thread, and what a replay of it leaves.
-use Rattle.std.proofs.Common.{◌≡◌, ◌≢◌, ◌⊎◌, inl, inr, ℕ, zero, suc, ◌+◌, ◌<◌, ◌≤◌, List, [], ◌∷◌, ◌++◌, length, get_or, set, Option, Some, None, Contains, refl, sym, ap, ap₂, subst, ◌∙◌, arith, slice_index_or, Vec}
-use Rattle.std.proofs.lemmas.List.{length-map}
+use Rattle.std.proofs.Common.{◌≡◌, ◌≢◌, ◌⊎◌, inl, inr, ℕ, zero, suc, ◌+◌, ◌-◌, ◌<◌, ◌≤◌, List, [], ◌∷◌, ◌++◌, All, map, length, get_or, set, Option, Some, None, Contains, refl, sym, ap, ap₂, subst, ◌∙◌, arith, slice_index_or, Vec}
+use Rattle.std.proofs.lemmas.List.{length-map, map-append}
 use Rattle.kc_check.proofs.Whole.{labels_long}
 use Rattle.std.specs.Global.{Global}
-use Rattle.std.specs.Prelude.{IsSome, slice_get}
+use Rattle.std.specs.Prelude.{slice_get}
 use Rattle.kc_history.proofs.Choice.{some_is}
 use Rattle.kc_history.proofs.Ready.{same_or, more_same, more_other}
 use Rattle.kc_history.specs.Order.{more}
@@ -14,7 +14,8 @@ use Rattle.kc_history.specs.declared.record.Mark.TheVariants as mark
 use Rattle.kc_model.specs.declared.footprint.TheConstants.{MOST}
 use Rattle.kc_model.specs.declared.footprint.Footprint.{Footprint}
 use Rattle.std.specs.Option.{option_map}
-use Rattle.kc_history.specs.Text.{reply_line}
+use Rattle.kc_history.specs.Text.{bare, reply_line}
+use Rattle.kc_history.specs.declared.record.Head.{Head}
 use Rattle.kc_history.specs.declared.record.Place.{Place}
 use Rattle.kc_history.specs.declared.record.Record.{Record}
 use Rattle.kc_model.specs.Store.{Store, after}
@@ -24,11 +25,12 @@ use Rattle.kc_script_runs.specs.Labels.{AreThreads, Label, label, labels}
 use Rattle.kc_script_runs.specs.Run.{IsCommit, Replays, meaning_at}
 use Rattle.kc_script_runs.specs.Threads.{asked, meanings}
 use Rattle.kc_xt.specs.Meaning.{Meaning, limited}
-use Rattle.kc_check.proofs.Padded.{as_many, count_at, counts_set, padded_more, padded_row, padded_set, padded_threads, room_at, room_more, room_set, stands_padded}
+use Rattle.kc_check.proofs.Padded.{as_many, count_at, counts_set, padded_more, padded_row, padded_set, padded_threads, room_at, room_more, room_set}
+use Rattle.kc_check.proofs.Headed.{head_line}
 use Rattle.kc_check.proofs.Fronts.{replays_more, replays_same, turns_more}
 use Rattle.kc_check.specs.Faults.{Comes, InTurn}
 use Rattle.kc_check.specs.Parts.{IsPlace, said_at}
-use Rattle.kc_check.specs.Replays.{CommitsAt, CommitsIn, HasRoom, HaveRoom, WaitsAt, WaitsIn, all_padded, commands_of, counts, padded}
+use Rattle.kc_check.specs.Replays.{AddsAt, CommitsAt, HasRoom, HaveRoom, KeepFirst, TakesOne, WaitsAt, WaitsIn, all_kept, all_padded, commands_of, counts, kept_list, kept_record, padded}
 
 pub meanings_at : (limit thread : ℕ) (cs : List Command) (i : ℕ) (d : Command) → i < length cs → slice_get (meanings limit thread cs) i ≡ Some (asked limit thread (get_or cs i d))
 meanings_at limit thread [] i d lt = absurd (omega arith)
@@ -126,75 +128,139 @@ row_labels j (cs ∷ threads) (rs ∷ records) (suc t) lt h = row_labels (j + 1)
 pub commands_long : (vs : List (Vec Command Global)) → length (commands_of vs) ≡ length vs
 commands_long vs = length-map vs (λ (v : Vec Command Global). v.items)
 
--- what is known of the thread at a place
-pub record Row (limit : ℕ) (vs : List (Vec Command Global)) (rs : List RecordsValue) (p : Place) (v : Vec Command Global) (w : RecordsValue) : Type 0 where
-  pub below : p.thread < length vs
-  pub within : p.thread < length rs
-  pub commands : slice_index_or (commands_of vs) p.thread [] ≡ v.items
-  pub room : HasRoom limit (p.thread + 1) v.items w
-  pub index : p.index ≤ length v.items
-  pub turn : p.index ≡ counts (lists_of rs) p.thread → length w.items ≡ p.index
+-- ---- what is kept
 
-pub row_of : (limit : ℕ) (vs : List (Vec Command Global)) (rs : List RecordsValue) (p : Place) (v : Vec Command Global) (w : RecordsValue) → HaveRoom limit 1 (commands_of vs) rs → IsPlace (commands_of vs) p → v ≡ get_or vs p.thread v → w ≡ get_or rs p.thread w → Row limit vs rs p v w
-row_of limit vs rs p v w h is e f =
-    let a = as_many limit 1 (commands_of vs) rs h in
-    let b = commands_long vs in
-    let d = is.thread in
-    let below : p.thread < length vs = omega (arith, b, d) in
-    let within : p.thread < length rs = omega (arith, a, d) in
-    let commands = commands_are vs p.thread v below e in
-    let one : HasRoom limit (p.thread + 1) (slice_index_or (commands_of vs) p.thread []) w = room_at limit 1 (commands_of vs) rs p.thread (p.thread + 1) w h d (omega arith) f in
+pub kept_long : (vs : List RecordsValue) → length (all_kept vs) ≡ length vs
+kept_long vs = length-map vs kept_list
+
+pub kept_counts : (vs : List RecordsValue) (t : ℕ) → counts (lists_of (all_kept vs)) t ≡ counts (lists_of vs) t
+kept_counts [] t = refl
+kept_counts (v ∷ vs) zero = length-map v.items kept_record
+kept_counts (v ∷ vs) (suc t) = kept_counts vs t
+
+kept_at : (vs : List RecordsValue) (t : ℕ) (d e : RecordsValue) → t < length vs → get_or (all_kept vs) t d ≡ kept_list (get_or vs t e)
+kept_at [] t d e lt = absurd (omega arith)
+kept_at (v ∷ vs) zero d e lt = refl
+kept_at (v ∷ vs) (suc t) d e lt = kept_at vs t d e (omega arith)
+
+kept_set : (vs : List RecordsValue) (t : ℕ) (v : RecordsValue) → all_kept (set vs t v) ≡ set (all_kept vs) t (kept_list v)
+kept_set [] t v = refl
+kept_set (w ∷ vs) zero v = refl
+kept_set (w ∷ vs) (suc t) v = ap (λ (xs : List RecordsValue). kept_list w ∷ xs) (kept_set vs t v)
+
+-- where there is none yet, they are kept as they are
+pub kept_none : (vs : List RecordsValue) → All (λ (v : RecordsValue). v.items ≡ []) vs → vs ≡ all_kept vs
+kept_none [] h = refl
+kept_none (v ∷ vs) h = ap₂ (λ (x : RecordsValue) (xs : List RecordsValue). x ∷ xs) (none (h zero v (omega arith))) (kept_none vs (λ k d lt. h (suc k) d (omega arith)))
+  where
+    none : v.items ≡ [] → v ≡ kept_list v
+    none e = λ i. record { items = (e ∙ sym (ap (map kept_record) e)) i; spare = v.spare; bare = v.bare; limit = v.limit }
+
+same_at : {X : Type 0} (xs : List X) (t : ℕ) (d e : X) → t < length xs → get_or xs t d ≡ get_or xs t e
+same_at [] t d e lt = absurd (omega arith)
+same_at (x ∷ xs) zero d e lt = refl
+same_at (x ∷ xs) (suc t) d e lt = same_at xs t d e (omega arith)
+
+-- the list at a place, and what is kept of it
+pub record Row (limit : ℕ) (threads : List (List Command)) (whole : List RecordsValue) (p : Place) (kept : RecordsValue) : Type 0 where
+  pub list : RecordsValue
+  pub within : p.thread < length whole
+  pub at : list ≡ get_or whole p.thread list
+  pub is : kept ≡ kept_list list
+  pub long : length kept.items ≡ length list.items
+  pub room : HasRoom limit (p.thread + 1) (slice_index_or threads p.thread []) list
+  pub turn : p.index ≡ counts (lists_of whole) p.thread → length list.items ≡ p.index
+
+pub row_of : (limit : ℕ) (threads : List (List Command)) (rs : List RecordsValue) (p : Place) (w : RecordsValue) → (k : KeepFirst limit threads rs) → IsPlace threads p → w ≡ get_or rs p.thread w → Row limit threads k.whole p w
+row_of limit threads rs p w k is e =
+    let whole : List RecordsValue = k.whole in
+    let long = as_many limit 1 threads whole k.room in
+    let below = is.thread in
+    let within : p.thread < length whole = omega (arith, long, below) in
+    let list : RecordsValue = get_or whole p.thread w in
+    let at : list ≡ get_or whole p.thread list = same_at whole p.thread w list within in
+    let same : w ≡ kept_list list = e ∙ ap (λ (xs : List RecordsValue). get_or xs p.thread w) k.kept ∙ kept_at whole p.thread w w within in
     record {
-      below = below;
+      list = list;
       within = within;
-      commands = commands;
-      room = subst (λ (cs : List Command). HasRoom limit (p.thread + 1) cs w) commands one;
-      index = subst (λ (cs : List Command). p.index ≤ length cs) commands is.index;
-      turn = λ turn. sym (turn ∙ count_at rs p.thread w within f);
+      at = at;
+      is = same;
+      long = ap (λ (x : RecordsValue). length x.items) same ∙ length-map list.items kept_record;
+      room = room_at limit 1 threads whole p.thread (p.thread + 1) list k.room below (omega arith) at;
+      turn = λ turn. sym (turn ∙ count_at whole p.thread list within at);
     }
 
-pub fills_at : (limit : ℕ) (vs : List (Vec Command Global)) (rs : List RecordsValue) (p : Place) (s t : Store) (v : Vec Command Global) (w w' : RecordsValue) → HaveRoom limit 1 (commands_of vs) rs → IsPlace (commands_of vs) p → v ≡ get_or vs p.thread v → w ≡ get_or rs p.thread w → p.index ≡ counts (lists_of rs) p.thread
-    → CommitsIn limit (p.thread + 1) v.items s t w w' → HaveRoom limit 1 (commands_of vs) (set rs p.thread w') × CommitsAt limit (commands_of vs) p s t (all_padded 1 (commands_of vs) (lists_of rs)) (all_padded 1 (commands_of vs) (lists_of (set rs p.thread w')))
-fills_at limit vs rs p s t v w w' h is e f turn c =
-    let row = row_of limit vs rs p v w h is e f in
-    let threads : List (List Command) = commands_of vs in
+pub kept_turn : (limit : ℕ) (threads : List (List Command)) (rs : List RecordsValue) (p : Place) → (k : KeepFirst limit threads rs) → p.index ≡ counts (lists_of rs) p.thread → p.index ≡ counts (lists_of k.whole) p.thread
+kept_turn limit threads rs p k turn = turn ∙ ap (λ (vs : List RecordsValue). counts (lists_of vs) p.thread) k.kept ∙ kept_counts k.whole p.thread
+
+-- it takes one more
+pub row_takes : (limit : ℕ) (threads : List (List Command)) (whole : List RecordsValue) (p : Place) (w : RecordsValue) → Row limit threads whole p w → IsPlace threads p → p.index ≡ counts (lists_of whole) p.thread → TakesOne limit w
+row_takes limit threads whole p w row is turn =
+    let count = row.turn turn in
+    let le = is.index in
+    let room = row.room.1 in
+    subst (TakesOne limit) (sym row.is) (row.room.3, omega (arith, count, le, room), row.room.2)
+
+-- one more record, of which this is kept
+pub record Filled (limit : ℕ) (threads : List (List Command)) (p : Place) (s t : Store) (h : Head) (whole others : List RecordsValue) : Type 0 where
+  pub now : List RecordsValue
+  pub kept : others ≡ all_kept now
+  pub room : HaveRoom limit 1 threads now
+  pub grown : counts (lists_of now) ≡ more p.thread (counts (lists_of whole))
+  pub commits : CommitsAt limit threads p s t (all_padded 1 threads (lists_of whole)) (all_padded 1 threads (lists_of now))
+  pub line : reply_line (bare h) ≡ reply_line commits.commit
+
+pub fills_at : (limit : ℕ) (threads : List (List Command)) (rs others : List RecordsValue) (p : Place) (s t : Store) (h : Head) → (kept : KeepFirst limit threads rs) → IsPlace threads p → p.index ≡ counts (lists_of kept.whole) p.thread → AddsAt limit threads p s t h rs others → Filled limit threads p s t h kept.whole others
+unfolding commits_at
+fills_at limit threads rs others p s t h kept is turn a =
+    let whole : List RecordsValue = kept.whole in
+    let row = row_of limit threads rs p a.was kept is a.found in
     let k : ℕ = p.thread + 1 in
     let cs : List Command = slice_index_or threads p.thread [] in
+    let w : RecordsValue = row.list in
+    let c = a.commits in
     let r : Record = record { thread = k; mark = c.mark; answer = c.adds.answer; footprint = c.adds.footprint } in
-    let old : List (List Record) = all_padded 1 threads (lists_of rs) in
+    let l : Label = record { thread = k; mark = c.mark } in
+    let w' : RecordsValue = record { items = w.items ++ r ∷ []; spare = w.spare; bare = w.bare - 1; limit = w.limit } in
+    let now : List RecordsValue = set whole p.thread w' in
     let count : length w.items ≡ p.index = row.turn turn in
-    let room_is = row.room.1 in
-    let index = row.index in
-    let some : 0 < w.spare = omega (arith, count, room_is, index) in
-    let room' : HasRoom limit k v.items w' = room_more limit k v.items w w' r (record { thread = k; mark = c.mark }) row.room some c.labelled refl c.adds.items c.adds.spare c.adds.limit in
-    let room : HaveRoom limit 1 threads (set rs p.thread w') = room_set limit 1 threads rs p.thread k w' h (omega arith) (subst (λ (x : List Command). HasRoom limit k x w') (sym row.commands) room') in
-    let old_row : slice_index_or old p.thread [] ≡ padded k cs w.items = padded_row 1 threads rs p.thread k w is.thread row.within (omega arith) f in
-    let more : padded k v.items w'.items ≡ set (padded k v.items w.items) (length w.items) r = ap (padded k v.items) c.adds.items ∙ padded_more k v.items w.items r (record { thread = k; mark = c.mark }) row.room.0 c.labelled in
-    let new_row : padded k cs w'.items ≡ set (slice_index_or old p.thread []) p.index r =
-    subst (λ (x : List Command). padded k x w'.items ≡ set (padded k x w.items) (length w.items) r) (sym row.commands) more ∙ ap₂ (λ (xs : List Record) (i : ℕ). set xs i r) (sym old_row) count in
-    let new_is : all_padded 1 threads (lists_of (set rs p.thread w')) ≡ set old p.thread (set (slice_index_or old p.thread []) p.index r) = padded_set 1 threads rs p.thread k w' is.thread row.within (omega arith) ∙ ap (λ (xs : List Record). set old p.thread xs) new_row in
-    let labelled = padded_threads limit 1 threads rs h in
-    let long = threads_long 1 threads old labelled in
+    let means : slice_get (meanings limit k cs) p.index ≡ Some c.meaning = ap (slice_get (meanings limit k cs)) (sym count ∙ sym row.long) ∙ c.means in
+    let labelled : slice_get (labels k 1 cs) (length w.items) ≡ Some l = ap (slice_get (labels k 1 cs)) (sym row.long) ∙ c.labelled in
+    let items : a.now.items ≡ map kept_record (w.items ++ r ∷ []) = c.adds.items ∙ ap (λ (x : RecordsValue). x.items ++ kept_record r ∷ []) row.is ∙ sym (map-append kept_record w.items (r ∷ [])) in
+    let spare : a.now.spare ≡ w.spare = c.adds.spare ∙ ap (λ (x : RecordsValue). x.spare) row.is in
+    let bare_is : a.now.bare ≡ w.bare - 1 = c.adds.bare ∙ ap (λ (x : RecordsValue). x.bare - 1) row.is in
+    let limit_is : a.now.limit ≡ w.limit = c.adds.limit ∙ ap (λ (x : RecordsValue). x.limit) row.is in
+    let now_is : a.now ≡ kept_list w' = (λ i. record { items = items i; spare = spare i; bare = bare_is i; limit = limit_is i }) in
+    let some : 0 < w.bare = (let le = is.index in let room_is = row.room.1 in omega (arith, count, room_is, le)) in
+    let room' : HasRoom limit k cs w' = room_more limit k cs w w' r l row.room some labelled refl refl refl refl refl in
+    let room : HaveRoom limit 1 threads now = room_set limit 1 threads whole p.thread k w' kept.room (omega arith) room' in
+    let old : List (List Record) = all_padded 1 threads (lists_of whole) in
+    let old_row : slice_index_or old p.thread [] ≡ padded k cs w.items = padded_row 1 threads whole p.thread k w is.thread row.within (omega arith) row.at in
+    let new_row : padded k cs w'.items ≡ set (slice_index_or old p.thread []) p.index r = padded_more k cs w.items r l row.room.0 labelled ∙ ap₂ (λ (xs : List Record) (i : ℕ). set xs i r) (sym old_row) count in
+    let new_is : all_padded 1 threads (lists_of now) ≡ set old p.thread (set (slice_index_or old p.thread []) p.index r) = padded_set 1 threads whole p.thread k w' is.thread row.within (omega arith) ∙ ap (λ (xs : List Record). set old p.thread xs) new_row in
+    let all_labelled = padded_threads limit 1 threads whole kept.room in
+    let long = threads_long 1 threads old all_labelled in
     let lt = is.thread in
     let within : p.thread < length old = omega (arith, long, lt) in
-    let row_long = row_labels 1 threads old p.thread is.thread labelled in
+    let row_long = row_labels 1 threads old p.thread is.thread all_labelled in
     let le = is.index in
     let inside : p.index < length (slice_index_or old p.thread []) = omega (arith, row_long, le) in
-    let means : meaning_at limit threads p.thread p.index ≡ Some c.meaning = ap (λ (x : List Command). slice_get (meanings limit k x) p.index) row.commands ∙ ap (slice_get (meanings limit k v.items)) (sym count) ∙ c.means in
     let commits = c.adds.commits in
-    (room, commits_at limit threads p s t old (all_padded 1 threads (lists_of (set rs p.thread w'))) c.meaning r within inside means (record { finds = commits.finds; answers = commits.answers }) commits.made commits.store new_is (padded_threads limit 1 threads (set rs p.thread w') room))
-
-pub waits_at : (limit : ℕ) (vs : List (Vec Command Global)) (rs : List RecordsValue) (p : Place) (s : Store) (v : Vec Command Global) (w : RecordsValue) → HaveRoom limit 1 (commands_of vs) rs → IsPlace (commands_of vs) p → v ≡ get_or vs p.thread v → w ≡ get_or rs p.thread w → p.index ≡ counts (lists_of rs) p.thread → WaitsIn limit (p.thread + 1) v.items (length w.items) s → WaitsAt limit (commands_of vs) p s
-waits_at limit vs rs p s v w h is e f turn c =
-    let row = row_of limit vs rs p v w h is e f in
-    record { meaning = c.meaning; means = ap (λ (x : List Command). slice_get (meanings limit (p.thread + 1) x) p.index) row.commands ∙ ap (slice_get (meanings limit (p.thread + 1) v.items)) (sym (row.turn turn)) ∙ c.means; waits = c.waits }
-
-pub counts_at : (limit : ℕ) (vs : List (Vec Command Global)) (rs : List RecordsValue) (p : Place) (s t : Store) (v : Vec Command Global) (w w' : RecordsValue) → HaveRoom limit 1 (commands_of vs) rs → IsPlace (commands_of vs) p → v ≡ get_or vs p.thread v → w ≡ get_or rs p.thread w → CommitsIn limit (p.thread + 1) v.items s t w w' → counts (lists_of (set rs p.thread w')) ≡ more p.thread (counts (lists_of rs))
-counts_at limit vs rs p s t v w w' h is e f c = counts_set rs p.thread w w' (row_of limit vs rs p v w h is e f).within f (ap length c.adds.items ∙ length_more w.items _)
+    record {
+      now = now;
+      kept = a.sets ∙ ap₂ (λ (xs : List RecordsValue) (x : RecordsValue). set xs p.thread x) kept.kept now_is ∙ sym (kept_set whole p.thread w');
+      room = room;
+      grown = counts_set whole p.thread w w' row.within row.at (length_more w.items r);
+      commits = commits_at limit threads p s t old (all_padded 1 threads (lists_of now)) c.meaning r within inside means (record { finds = commits.finds; answers = commits.answers }) commits.made commits.store new_is (padded_threads limit 1 threads now room);
+      line = ap (λ (x : Head). reply_line (bare x)) c.adds.head ∙ head_line r;
+    }
   where
     length_more : (xs : List Record) (x : Record) → length (xs ++ x ∷ []) ≡ length xs + 1
     length_more [] x = refl
     length_more (y ∷ xs) x = let h = length_more xs x in omega (arith, h)
+
+pub waits_at : (limit : ℕ) (threads : List (List Command)) (whole : List RecordsValue) (p : Place) (s : Store) (w : RecordsValue) → Row limit threads whole p w → p.index ≡ counts (lists_of whole) p.thread → WaitsIn limit (p.thread + 1) (slice_index_or threads p.thread []) (length w.items) s → WaitsAt limit threads p s
+waits_at limit threads whole p s w row turn c = record { meaning = c.meaning; means = ap (slice_get (meanings limit (p.thread + 1) (slice_index_or threads p.thread []))) (sym (row.turn turn) ∙ sym row.long) ∙ c.means; waits = c.waits }
 
 some_in : (o : Option Record) (f : Footprint) → option_map (λ (r : Record). r.footprint) o ≡ Some f → (r : Record) × (o ≡ Some r) × (r.footprint ≡ f)
 some_in None f e = absurd (cc)
@@ -266,27 +332,12 @@ module _ (limit : ℕ) (threads : List (List Command)) (replies : List (List (Li
         ];
       }
 
-pub place_within : (limit : ℕ) (vs : List (Vec Command Global)) (rs : List RecordsValue) (p : Place) → HaveRoom limit 1 (commands_of vs) rs → IsPlace (commands_of vs) p → p.thread < length rs
-place_within limit vs rs p h is = let a = as_many limit 1 (commands_of vs) rs h in let d = is.thread in omega (arith, a, d)
-
--- what was made stands in its thread's list
-pub stands_at : (limit : ℕ) (vs : List (Vec Command Global)) (rs others : List RecordsValue) (p : Place) → HaveRoom limit 1 (commands_of vs) rs → IsPlace (commands_of vs) p → p.index ≡ counts (lists_of others) p.thread → counts (lists_of rs) ≡ more p.thread (counts (lists_of others)) → IsSome (record_at (lists_of rs) p.thread p.index)
-stands_at limit vs rs others p h is turn grown =
-    let count : counts (lists_of rs) p.thread ≡ counts (lists_of others) p.thread + 1 = ap (λ (n : ℕ → ℕ). n p.thread) grown ∙ more_same p.thread (counts (lists_of others)) p.thread refl in
-    below (slice_index_or (lists_of rs) p.thread []) p.index (omega (arith, count, turn))
-  where
-    below : (xs : List Record) (k : ℕ) → k < length xs → IsSome (slice_get xs k)
-    below [] k lt = absurd (omega arith)
-    below (x ∷ xs) zero lt = refl
-    below (x ∷ xs) (suc k) lt = below xs k (omega arith)
-
--- its record is the one that was filled
-pub same_commit : (limit : ℕ) (vs : List (Vec Command Global)) (rs : List RecordsValue) (p : Place) (r q : Record) → HaveRoom limit 1 (commands_of vs) rs → record_at (lists_of rs) p.thread p.index ≡ Some r → record_at (all_padded 1 (commands_of vs) (lists_of rs)) p.thread p.index ≡ Some q → r ≡ q
-same_commit limit vs rs p r q h at stands = some_is r q (sym (stands_padded 1 (commands_of vs) rs (as_many limit 1 (commands_of vs) rs h) p.thread p.index r at) ∙ stands)
-
-pub some_there : (o : Option Record) → IsSome o → (r : Record) × (o ≡ Some r)
-some_there None some = absurd (cc)
-some_there (Some r) some = (r, refl)
+pub place_within : (limit : ℕ) (threads : List (List Command)) (rs : List RecordsValue) (p : Place) → KeepFirst limit threads rs → IsPlace threads p → p.thread < length rs
+place_within limit threads rs p h is =
+    let a = as_many limit 1 threads h.whole h.room in
+    let b = ap length h.kept ∙ kept_long h.whole in
+    let d = is.thread in
+    omega (arith, a, b, d)
 
 -- how many records its thread has
 pub turn_is : (rs : List RecordsValue) (t : ℕ) (r : RecordsValue) (n : ℕ) → t < length rs → r ≡ get_or rs t r → n ≡ length (get_or rs t r).items → counts (lists_of rs) t ≡ n

@@ -1,10 +1,10 @@
 -- A walk over the places, as far as it has come.
-use Rattle.std.proofs.Common.{◌≡◌, ◌≢◌, ℕ, zero, suc, ◌+◌, ◌<◌, ◌≤◌, List, [], ◌∷◌, ◌++◌, All, length, take, drop, get_or, refl, sym, ap, subst, ◌∙◌, arith, slice_index_or, Some, Vec}
+use Rattle.std.proofs.Common.{◌≡◌, ◌≢◌, ℕ, zero, suc, ◌+◌, ◌<◌, ◌≤◌, List, [], ◌∷◌, ◌++◌, All, length, take, drop, get_or, refl, sym, ap, subst, ◌∙◌, arith, slice_index_or, Vec}
 use Rattle.std.proofs.lemmas.List.{drop_more, take_all}
 use Rattle.std.specs.Global.{Global}
 use Rattle.kc_history.specs.Order.{more}
 use Rattle.kc_history.specs.Ends.{AreWellMade}
-use Rattle.kc_history.specs.Records.{footprint_at, lists_of, record_at}
+use Rattle.kc_history.specs.Records.{footprint_at, lists_of}
 use Rattle.kc_history.specs.RecordsValue.{RecordsValue}
 use Rattle.kc_history.specs.Text.{reply_line}
 use Rattle.kc_history.specs.declared.record.Place.{Place}
@@ -13,11 +13,12 @@ use Rattle.kc_model.specs.Store.{Store}
 use Rattle.kc_script_bundle.specs.declared.operation.Command.{Command}
 use Rattle.kc_script_runs.proofs.Determined.{labelled_at}
 use Rattle.kc_check.proofs.Padded.{as_many, blank_made, counts_none, padded_threads}
-use Rattle.kc_check.proofs.Replays.{comes_more, comes_none, made_more, place_within, same_commit, some_there, stands_at, turn_is}
+use Rattle.kc_check.proofs.Replays.{comes_more, comes_none, kept_counts, kept_none, made_more, place_within, turn_is}
 use Rattle.kc_check.specs.Ages.{IsYoung}
 use Rattle.kc_check.specs.Faults.{Comes, HasToWait, IsOutOfTurn, RepliesElse, StopsAt}
 use Rattle.kc_check.specs.Parts.{IsPlace, said_at}
-use Rattle.kc_check.specs.Replays.{CommitsAt, HaveRoom, WaitsAt, all_padded, commands_of, counts}
+use Rattle.kc_check.specs.Replays.{CommitsAt, HaveRoom, WaitsAt, all_kept, all_padded, commands_of, counts}
+use Rattle.kc_check.specs.Walks.{ComesKept}
 
 halves : {X : Type 0} (xs : List X) (i : ℕ) → xs ≡ take i xs ++ drop i xs
 halves [] zero = refl
@@ -98,21 +99,29 @@ module _ (limit : ℕ) (threads : List (List Command)) (replies : List (List (Li
 
 -- ---- a turn of the walk
 
+-- so many places have come, with records of which this is kept
+pub record KeptTo (limit : ℕ) (threads : List (List Command)) (replies : List (List (List ℕ))) (first : Store) (places : List Place) (i : ℕ) (now : Store) (rs : List RecordsValue) : Type 0 where
+  pub whole : List RecordsValue
+  pub kept : rs ≡ all_kept whole
+  pub walked : WalkedTo limit threads replies first places i now whole
+
+pub keeps_none : (limit : ℕ) (threads : List (List Command)) (replies : List (List (List ℕ))) (first : Store) (places : List Place) (rs : List RecordsValue) → HaveRoom limit 1 threads rs → All (λ (v : RecordsValue). v.items ≡ []) rs → IsYoung 0 first → KeptTo limit threads replies first places 0 first rs
+keeps_none limit threads replies first places rs room empty young = record { whole = rs; kept = kept_none rs empty; walked = walked_none limit threads replies first places rs room empty young }
+
+pub keeps_all : (limit : ℕ) (threads : List (List Command)) (replies : List (List (List ℕ))) (first : Store) (places : List Place) (i : ℕ) (now : Store) (rs : List RecordsValue) → length places ≤ i → KeptTo limit threads replies first places i now rs → ComesKept limit threads replies first places now rs
+keeps_all limit threads replies first places i now rs le k = record { whole = k.whole; kept = k.kept; comes = walked_all limit threads replies first places i now k.whole le k.walked; room = k.walked.room; made = k.walked.made }
+
 -- the place at an index, and how many records its thread has
-pub record Stands (threads : List (Vec Command Global)) (vs : List RecordsValue) (p : Place) (long : ℕ) : Type 0 where
-  pub is : IsPlace (commands_of threads) p
-  pub within : p.thread < length vs
-  pub counted : counts (lists_of vs) p.thread ≡ long
+pub record Stands (limit : ℕ) (threads : List (List Command)) (rs : List RecordsValue) (p : Place) (long : ℕ) (whole : List RecordsValue) : Type 0 where
+  pub is : IsPlace threads p
+  pub first : HaveRoom limit 1 threads whole
+  pub kept : rs ≡ all_kept whole
+  pub counted : counts (lists_of rs) p.thread ≡ long
+  pub whole_counted : counts (lists_of whole) p.thread ≡ long
 
-pub place_stands : (limit : ℕ) (threads : List (Vec Command Global)) (places : List Place) (i : ℕ) (d : Place) (vs : List RecordsValue) (row : RecordsValue) (long : ℕ) → All (IsPlace (commands_of threads)) places → i < length places → HaveRoom limit 1 (commands_of threads) vs → row ≡ get_or vs (get_or places i d).thread row → long ≡ length (get_or vs (get_or places i d).thread row).items → Stands threads vs (get_or places i d) long
-place_stands limit threads places i d vs row long each lt room at is =
+pub place_stands : (limit : ℕ) (threads : List (List Command)) (places : List Place) (i : ℕ) (d : Place) (rs whole : List RecordsValue) (row : RecordsValue) (long : ℕ) → All (IsPlace threads) places → i < length places → HaveRoom limit 1 threads whole → rs ≡ all_kept whole → row ≡ get_or rs (get_or places i d).thread row → long ≡ length (get_or rs (get_or places i d).thread row).items → Stands limit threads rs (get_or places i d) long whole
+place_stands limit threads places i d rs whole row long each lt room kept at is =
     let p : Place = get_or places i d in
-    let within = place_within limit threads vs p room (each i d lt) in
-    record { is = each i d lt; within = within; counted = turn_is vs p.thread row long within at is }
-
--- the record that a replay added is the commit
-pub replayed : (limit : ℕ) (threads : List (Vec Command Global)) (vs ws : List RecordsValue) (p : Place) (now then : Store) → IsPlace (commands_of threads) p → p.index ≡ counts (lists_of vs) p.thread → HaveRoom limit 1 (commands_of threads) ws → counts (lists_of ws) ≡ more p.thread (counts (lists_of vs))
-    → (c : CommitsAt limit (commands_of threads) p now then (all_padded 1 (commands_of threads) (lists_of vs)) (all_padded 1 (commands_of threads) (lists_of ws))) → (r : Record) × (record_at (lists_of ws) p.thread p.index ≡ Some r) × (r ≡ c.commit)
-replayed limit threads vs ws p now then is turn room grown c =
-    let (r, at) = some_there (record_at (lists_of ws) p.thread p.index) (stands_at limit threads ws vs p room is turn grown) in
-    (r, at, same_commit limit threads ws p r c.commit room at c.stands)
+    let within = place_within limit threads rs p (record { whole = whole; kept = kept; room = room }) (each i d lt) in
+    let counted = turn_is rs p.thread row long within at is in
+    record { is = each i d lt; first = room; kept = kept; counted = counted; whole_counted = sym (ap (λ (vs : List RecordsValue). counts (lists_of vs) p.thread) kept ∙ kept_counts whole p.thread) ∙ counted }

@@ -26,7 +26,7 @@ use Rattle.kc_check.specs.declared.error.CheckWhy.TheVariants as why
 abbrev pub parts_of : List ℕ → List (Vec ℕ Global) → List Place → List (Bor (List ℕ)) → Parts
 parts_of text replies places state = record { replies = lines_in text replies; places = places; state = now_of state }
 
--- the store has opened, and there is room for each record
+-- the store has opened, and there is room for the footprint of each record
 pub record IsSound (s : Script) (threads : List (Vec Command Global)) (cells : List Cell) (records : List RecordsValue) : Type 0 where
   pub opens : store_of cells ≡ opening_store s
   pub size : length cells ≡ next_from 1 s.objects

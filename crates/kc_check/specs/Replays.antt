@@ -1,10 +1,12 @@
 -- What a replay of one place does.
-use Rattle.std.specs.Prelude.{◌≡◌, ◌≢◌, ℕ, ◌+◌, ◌-◌, ◌≤◌, List, [], ◌∷◌, ◌++◌, All, Some, drop, length, map, slice_get, slice_index_or, Vec}
+use Rattle.std.specs.Prelude.{◌≡◌, ◌≢◌, ℕ, ◌+◌, ◌-◌, ◌<◌, ◌≤◌, List, [], ◌∷◌, ◌++◌, All, Some, drop, get_or, length, map, set, slice_get, slice_index_or, Vec}
 use Rattle.std.specs.Global.{Global}
 use Rattle.kc_history.specs.Ends.{CanStand}
+use Rattle.kc_history.specs.Joined.{blank_head, record_of}
 use Rattle.kc_history.specs.Kept.{print}
 use Rattle.kc_history.specs.Records.{record_at}
 use Rattle.kc_history.specs.RecordsValue.{RecordsValue}
+use Rattle.kc_history.specs.declared.record.Head.{Head}
 use Rattle.kc_history.specs.declared.record.Mark.{Mark}
 use Rattle.kc_history.specs.declared.record.Place.{Place}
 use Rattle.kc_history.specs.declared.record.Record.{Record}
@@ -53,15 +55,39 @@ AreFirst ls [] = Unit {0}
 AreFirst [] (r ∷ rs) = ⊥
 AreFirst (l ∷ ls) (r ∷ rs) = (label r ≡ l) × AreFirst ls rs
 
--- the records so far are of the threads' first commands, and there is room for the others, of so many locations each
+-- the records so far are of the threads' first commands, and there is room for the footprints of the others, of so many locations each
 abbrev pub HasRoom : ℕ → ℕ → List Command → RecordsValue → Type 0
-HasRoom limit thread cs v = AreFirst (labels thread 1 cs) v.items × (length v.items + v.spare ≡ length cs + 1) × (v.limit ≡ limit)
+HasRoom limit thread cs v = AreFirst (labels thread 1 cs) v.items × (length v.items + v.bare ≡ length cs + 1) × (v.limit ≡ limit) × (v.spare ≡ 0)
 
 abbrev pub HaveRoom : ℕ → ℕ → List (List Command) → List RecordsValue → Type 0
 HaveRoom limit thread [] [] = Unit {0}
 HaveRoom limit thread (cs ∷ threads) (v ∷ vs) = HasRoom limit thread cs v × HaveRoom limit (thread + 1) threads vs
 HaveRoom limit thread [] (v ∷ vs) = ⊥
 HaveRoom limit thread (cs ∷ threads) [] = ⊥
+
+-- ---- what is kept of records
+
+-- of one: its footprint, with the blank head
+abbrev pub kept_record : Record → Record
+kept_record r = record_of blank_head r.footprint
+
+-- of those of a thread
+abbrev pub kept_list : RecordsValue → RecordsValue
+kept_list v = record { items = map kept_record v.items; spare = v.spare; bare = v.bare; limit = v.limit }
+
+-- of all
+abbrev pub all_kept : List RecordsValue → List RecordsValue
+all_kept vs = map kept_list vs
+
+-- they are what is kept of the records so far
+pub record KeepFirst (limit : ℕ) (threads : List (List Command)) (rs : List RecordsValue) : Type 0 where
+  pub whole : List RecordsValue
+  pub kept : rs ≡ all_kept whole
+  pub room : HaveRoom limit 1 threads whole
+
+-- there is room for one more footprint, of so many locations
+abbrev pub TakesOne : ℕ → RecordsValue → Type 0
+TakesOne limit v = (v.spare ≡ 0) × (0 < v.bare) × (v.limit ≡ limit)
 
 -- ---- a replay
 
@@ -76,22 +102,24 @@ pub record Commits (m : Meaning) (s t : Store) (a : Answer) (f : Footprint) : Ty
 abbrev pub TouchesFew : ℕ → Meaning → Type 0
 TouchesFew limit m = (s : Store) → length (touched_after [] (run_on m s).touches) ≤ limit
 
--- the commit's record stands behind the others
-pub record Adds (m : Meaning) (s t : Store) (thread : ℕ) (mark : Mark) (old new : RecordsValue) : Type 0 where
+-- the commit's footprint stands behind the others, and this is the head of its record
+pub record Adds (m : Meaning) (s t : Store) (thread : ℕ) (mark : Mark) (h : Head) (old new : RecordsValue) : Type 0 where
   pub answer : Answer
   pub footprint : Footprint
   pub commits : Commits m s t answer footprint
-  pub items : new.items ≡ old.items ++ record { thread = thread; mark = mark; answer = answer; footprint = footprint } ∷ []
-  pub spare : new.spare ≡ old.spare - 1
+  pub head : h ≡ record { thread = thread; mark = mark; answer = answer }
+  pub items : new.items ≡ old.items ++ record_of blank_head footprint ∷ []
+  pub spare : new.spare ≡ old.spare
+  pub bare : new.bare ≡ old.bare - 1
   pub limit : new.limit ≡ old.limit
 
--- the next record of a thread's list is now the commit of what is meant there
-pub record CommitsIn (limit thread : ℕ) (commands : List Command) (s t : Store) (old new : RecordsValue) : Type 0 where
+-- what is kept of a thread's next record is now of the commit of what is meant there, which has this head
+pub record CommitsIn (limit thread : ℕ) (commands : List Command) (s t : Store) (h : Head) (old new : RecordsValue) : Type 0 where
   pub meaning : Meaning
   pub means : slice_get (meanings limit thread commands) (length old.items) ≡ Some meaning
   pub mark : Mark
   pub labelled : slice_get (labels thread 1 commands) (length old.items) ≡ Some (record { thread = thread; mark = mark })
-  pub adds : Adds meaning s t thread mark old new
+  pub adds : Adds meaning s t thread mark h old new
 
 -- what is meant at an index has to wait
 pub record WaitsIn (limit thread : ℕ) (commands : List Command) (index : ℕ) (s : Store) : Type 0 where
@@ -106,6 +134,14 @@ counts records thread = length (slice_index_or records thread [])
 -- the commands in vectors
 abbrev pub commands_of : List (Vec Command Global) → List (List Command)
 commands_of threads = map (λ (v : Vec Command Global). v.items) threads
+
+-- the list of the place's thread has what is kept of the commit of what is meant there, which has this head
+pub record AddsAt (limit : ℕ) (threads : List (List Command)) (p : Place) (s t : Store) (h : Head) (old new : List RecordsValue) : Type 0 where
+  pub was : RecordsValue
+  pub now : RecordsValue
+  pub found : was ≡ get_or old p.thread was
+  pub commits : CommitsIn limit (p.thread + 1) (slice_index_or threads p.thread []) s t h was now
+  pub sets : new ≡ set old p.thread now
 
 -- the record at a place is now the commit of what is meant there, and the others are as they were
 pub record CommitsAt (limit : ℕ) (threads : List (List Command)) (p : Place) (s t : Store) (old new : List (List Record)) : Type 0 where

@@ -3,10 +3,14 @@ use Rattle.std.specs.Prelude.{◌≡◌, ℕ, List, drop, map, length, Vec}
 use Rattle.std.specs.Borrow.{Bor}
 use Rattle.std.specs.Global.{Global}
 use Rattle.std.specs.Io.BufRead.{take_through}
+use Rattle.kc_history.specs.Ends.{AreWellMade}
+use Rattle.kc_history.specs.Records.{footprint_at, lists_of}
+use Rattle.kc_history.specs.RecordsValue.{RecordsValue}
 use Rattle.kc_history.specs.declared.record.Place.{Place}
 use Rattle.kc_model.specs.Store.{Store}
 use Rattle.kc_script_bundle.specs.declared.operation.Command.{Command}
-use Rattle.kc_check.specs.Faults.{HasToWait, IsOutOfTurn, RepliesElse, StopsAt}
+use Rattle.kc_check.specs.Faults.{Comes, HasToWait, IsOutOfTurn, RepliesElse, StopsAt}
+use Rattle.kc_check.specs.Replays.{HaveRoom, all_kept, all_padded, counts}
 use Rattle.kc_check.specs.declared.error.CheckWhy.{CheckWhy}
 use Rattle.kc_check.specs.declared.error.CheckWhy.TheVariants as why
 
@@ -28,3 +32,11 @@ StopsFor limit threads replies first places index why.Turn = (p : Place) × (fro
 StopsFor limit threads replies first places index why.Waits = (p : Place) × (front : List Place) × StopsAt limit threads replies first places (HasToWait limit threads replies first) p front × (length front ≡ index)
 StopsFor limit threads replies first places index why.Reply = (p : Place) × (front : List Place) × StopsAt limit threads replies first places (RepliesElse limit threads replies first) p front × (length front ≡ index)
 StopsFor limit threads replies first places index other = ⊥
+
+-- the places come with records of which this is kept
+pub record ComesKept (limit : ℕ) (threads : List (List Command)) (replies : List (List (List ℕ))) (first : Store) (places : List Place) (last : Store) (rs : List RecordsValue) : Type 0 where
+  pub whole : List RecordsValue
+  pub kept : rs ≡ all_kept whole
+  pub comes : Comes limit threads replies first places (counts (lists_of whole)) last (all_padded 1 threads (lists_of whole))
+  pub room : HaveRoom limit 1 threads whole
+  pub made : AreWellMade (footprint_at (all_padded 1 threads (lists_of whole)))

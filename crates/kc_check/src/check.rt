@@ -8,7 +8,7 @@ ghost use Rattle.kc_model.specs.Store.{store_of};
 ghost use Rattle.kc_model.specs.declared.footprint.TheConstants.{LAST_VERSION};
 ghost use Rattle.kc_script_bundle.specs.Script.{script_of, names_of, CellsWithin};
 ghost use Rattle.kc_script_runs.specs.Labels.{AreThreads};
-ghost use Rattle.kc_script_runs.specs.Run.{IsText, opening_store};
+ghost use Rattle.kc_script_runs.specs.Run.{opening_store};
 ghost use Rattle.kc_check.specs.Ages.{IsYoung};
 ghost use Rattle.kc_script.specs.Spells.{Spells};
 ghost use Rattle.kc_check.specs.Faults.{FailsFor, FailsIn, IsFault, IsLegal};
@@ -90,7 +90,7 @@ fn judge(
     requires said { IsSaid (script_of bundle.now) (parts_of text.now said.now.replies.items said.now.places.items said.now.state.items) }
     requires threads { length records.old ≤ room.old.threads }
     requires room { places_in (script_of bundle.now).threads ≤ room.old.records }
-    ensures legal { IfOk result (λ _. IsText (script_of bundle.now) (lists_of records.new) (parts_text (script_of bundle.now).threads (parts_of text.now said.now.replies.items said.now.places.items said.now.state.items))) }
+    ensures legal { IfOk result (λ _. IsLegal (script_of bundle.now) (parts_text (script_of bundle.now).threads (parts_of text.now said.now.replies.items said.now.places.items said.now.state.items))) }
     ensures fails { IfErr result (FailsWith (script_of bundle.now) (parts_of text.now said.now.replies.items said.now.places.items said.now.state.items)) }
 {
     let commands = commands_in(&bundle.threads);

@@ -27,7 +27,7 @@ pub(crate) fn open_store(alloc: Global, values: &[u32]) -> Result<PlainStore, No
     }
 }
 
-/// Room for a record for each command and each end, of at most so many locations each.
+/// Room for the footprint of each command and each end, of at most so many locations each.
 pub(crate) fn rooms(
     alloc: Global,
     threads: &[Vec<Command>],
@@ -41,7 +41,7 @@ pub(crate) fn rooms(
     let mut all = Vec::with_capacity(alloc, threads.len())?;
     for i in 0..threads.len() {
         let commands = threads[i].len();
-        let list = Records::open(alloc, commands as u32 + 1, limit)?;
+        let list = Records::open_prints(alloc, commands as u32 + 1, limit)?;
         all.push(list)?;
     }
     Ok(all)

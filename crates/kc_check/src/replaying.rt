@@ -1,4 +1,4 @@
-//! The records that the places of a text make, one after another on a plain store.
+//! The records that the places of a text make, one after another on a plain store. Of each the footprint is kept.
 
 ghost use Rattle.std.specs.Prelude.{◌≡◌, ◌+◌, ◌<◌, ◌≤◌, ℕ, [], true, false, All, IfNone, IfSome, length, slice_index_or};
 ghost use Rattle.kc_history.specs.Records.{lists_of};
@@ -10,10 +10,9 @@ ghost use Rattle.kc_xt.specs.Commit.{run_on};
 ghost use Rattle.kc_xt.specs.Meaning.{limited, retried};
 ghost use Rattle.kc_check.specs.Ages.{IsYoung};
 ghost use Rattle.kc_check.specs.Parts.{IsPlace};
-ghost use Rattle.kc_check.specs.Replays.{Adds, AllCanAsk, CanAsk, Commits, CommitsAt, CommitsIn, HasRoom, HaveRoom, TouchesFew, WaitsAt, WaitsIn, all_padded, commands_of, counts};
-ghost use Rattle.kc_history.specs.Order.{more};
+ghost use Rattle.kc_check.specs.Replays.{Adds, AddsAt, AllCanAsk, CanAsk, Commits, CommitsIn, KeepFirst, TakesOne, TouchesFew, WaitsAt, WaitsIn, commands_of, counts};
 
-use kc_history::{Mark, Place, Records};
+use kc_history::{Head, Mark, Place, Records};
 use kc_loc::LocOp;
 use kc_model::{Answer, Footprint, Loc, MOST_LOCATIONS, PlainStore};
 use kc_script_bundle::Command;
@@ -23,12 +22,13 @@ use kc_xt::{Room, Transact, Trial, Went, commit_over};
 // The location of live threads.
 const LIVE: Loc = Loc(0);
 
-/// Room for one commit, what came of it, and its footprint.
+/// Room for one commit, what came of it, its footprint, and the head of its record.
 #[derive(Drop)]
 pub(crate) struct Desk {
     room: Room,
     trial: Trial,
     footprint: Footprint,
+    pub head: Head,
 }
 
 impl Desk {
@@ -37,6 +37,11 @@ impl Desk {
             room: Room::new(),
             trial: Trial::new(),
             footprint: Footprint::new(),
+            head: Head {
+                thread: 0,
+                mark: Mark::End,
+                answer: Answer::TooLarge,
+            },
         }
     }
 }
@@ -75,7 +80,8 @@ fn commit_to<T: Transact>(
     }
 }
 
-// Commits the transaction and adds its record. Where it has to wait, nothing was put or added, and the answer is `false`.
+// Commits the transaction and adds its footprint; the head of its record is left on the desk. Where it has to wait,
+// nothing was put or added, and the answer is `false`.
 fn add_commit<T: Transact>(
     store: &mut PlainStore,
     desk: &mut Desk,
@@ -89,24 +95,30 @@ fn add_commit<T: Transact>(
     requires within { T.end transaction.now ≤ length store.old }
     requires young { IsYoung age (store_of store.old) }
     requires few { age < LAST_VERSION }
-    requires spare { 0 < records.old.spare }
+    requires spare { records.old.spare ≡ 0 }
+    requires bare { 0 < records.old.bare }
     requires lines { TouchesFew records.old.limit (limited (T.most transaction.now) (T.meaning transaction.now)) }
-    ensures adds { result ≡ true → Adds (limited (T.most transaction.now) (T.meaning transaction.now)) (store_of store.old) (store_of store.new) thread mark records.old records.new }
+    ensures adds { result ≡ true → Adds (limited (T.most transaction.now) (T.meaning transaction.now)) (store_of store.old) (store_of store.new) thread mark desk.new.head records.old records.new }
     ensures young { result ≡ true → IsYoung (age + 1) (store_of store.new) }
     ensures waits { result ≡ false → (run_on (limited (T.most transaction.now) (T.meaning transaction.now)) (store_of store.old)).outcome ≡ retried }
     ensures size { length store.new ≡ length store.old }
 {
     match commit_to(store, desk, transaction, age) {
         Some(answer) => {
-            records.add(thread, mark, answer, &desk.footprint);
+            records.add_print(&desk.footprint);
+            desk.head = Head {
+                thread,
+                mark,
+                answer,
+            };
             true
         }
         None => false,
     }
 }
 
-// Commits the next command of a thread, or its end behind them, and adds its record. Where it has to wait, nothing was
-// put or added, and the answer is `false`.
+// Commits the next command of a thread, or its end behind them, and adds its footprint; the head of its record is left
+// on the desk. Where it has to wait, nothing was put or added, and the answer is `false`.
 fn replay_in(
     commands: &[Command],
     limit: u32,
@@ -122,10 +134,10 @@ fn replay_in(
     requires thread { IsThreadNumber thread }
     requires short { length commands.now ≤ MOST_COMMANDS }
     requires index { length records.old.items ≤ length commands.now }
-    requires room { HasRoom limit thread commands.now records.old }
+    requires room { TakesOne limit records.old }
     requires young { IsYoung age (store_of store.old) }
     requires few { age < LAST_VERSION }
-    ensures commits { result ≡ true → CommitsIn limit thread commands.now (store_of store.old) (store_of store.new) records.old records.new }
+    ensures commits { result ≡ true → CommitsIn limit thread commands.now (store_of store.old) (store_of store.new) desk.new.head records.old records.new }
     ensures waits { result ≡ false → WaitsIn limit thread commands.now (length records.old.items) (store_of store.old) }
     ensures young { result ≡ true → IsYoung (age + 1) (store_of store.new) }
     ensures size { length store.new ≡ length store.old }
@@ -145,8 +157,8 @@ fn replay_in(
     add_commit(store, desk, &ask, thread, mark, records, age)
 }
 
-/// Commits what a place names, the next of its thread, and adds its record. Where it has to wait, nothing was put, and
-/// the answer is `false`.
+/// Commits what a place names, the next of its thread, and adds its footprint; the head of its record is left on the desk.
+/// Where it has to wait, nothing was put, and the answer is `false`.
 pub(crate) fn replay_at(
     threads: &[Vec<Command>],
     limit: u32,
@@ -163,12 +175,10 @@ pub(crate) fn replay_at(
     requires short { All (λ v. length v.items ≤ MOST_COMMANDS) threads.now }
     requires place { IsPlace (commands_of threads.now) place }
     requires turn { place.index ≡ counts (lists_of records.old) place.thread }
-    requires room { HaveRoom limit 1 (commands_of threads.now) records.old }
+    requires room { KeepFirst limit (commands_of threads.now) records.old }
     requires young { IsYoung age (store_of store.old) }
     requires few { age < LAST_VERSION }
-    ensures commits { result ≡ true → CommitsAt limit (commands_of threads.now) place (store_of store.old) (store_of store.new) (all_padded 1 (commands_of threads.now) (lists_of records.old)) (all_padded 1 (commands_of threads.now) (lists_of records.new)) }
-    ensures counts { result ≡ true → counts (lists_of records.new) ≡ more place.thread (counts (lists_of records.old)) }
-    ensures room { result ≡ true → HaveRoom limit 1 (commands_of threads.now) records.new }
+    ensures adds { result ≡ true → AddsAt limit (commands_of threads.now) place (store_of store.old) (store_of store.new) desk.new.head records.old records.new }
     ensures waits { result ≡ false → WaitsAt limit (commands_of threads.now) place (store_of store.old) }
     ensures young { result ≡ true → IsYoung (age + 1) (store_of store.new) }
     ensures size { length store.new ≡ length store.old }

@@ -1,25 +1,21 @@
 //! The places of a text in their order.
 
-ghost use Rattle.std.specs.Prelude.{◌≡◌, ◌<◌, ◌≤◌, ◌↔◌, [], All, IfErr, IfOk, IsSome, IsTrue, Some, drop, length};
+ghost use Rattle.std.specs.Prelude.{◌≡◌, ◌<◌, ◌≤◌, ◌↔◌, [], All, IfErr, IfOk, IsTrue, drop, length};
 ghost use Rattle.std.specs.Io.BufRead.{take_through};
-ghost use Rattle.kc_history.specs.Ends.{AreWellMade};
-ghost use Rattle.kc_history.specs.Records.{footprint_at, lists_of, record_at};
-ghost use Rattle.kc_history.specs.Text.{reply_line};
-ghost use Rattle.kc_history.specs.declared.record.Record.{Record as Commit};
+ghost use Rattle.kc_history.specs.Text.{bare, reply_line};
 ghost use Rattle.kc_model.specs.Store.{store_of};
 ghost use Rattle.kc_model.specs.declared.footprint.TheConstants.{LAST_VERSION, MOST};
 ghost use Rattle.kc_script_bundle.specs.declared.bundle.TheConstants.{MOST_COMMANDS, MOST_THREADS};
 ghost use Rattle.kc_check.specs.Ages.{IsYoung};
-ghost use Rattle.kc_check.specs.Faults.{Comes};
 ghost use Rattle.kc_check.specs.Parts.{IsPlace, said_at};
-ghost use Rattle.kc_check.specs.Replays.{AllCanAsk, HaveRoom, all_padded, commands_of, counts};
-ghost use Rattle.kc_check.specs.Walks.{StopsFor, lines_in};
+ghost use Rattle.kc_check.specs.Replays.{AllCanAsk, HaveRoom, commands_of};
+ghost use Rattle.kc_check.specs.Walks.{ComesKept, StopsFor, lines_in};
 
 use crate::error::CheckWhy;
 use crate::lines::first_of;
 use crate::matching::is_reply;
 use crate::replaying::{Desk, replay_at};
-use kc_history::{Place, Records};
+use kc_history::{Head, Place, Records};
 use kc_model::PlainStore;
 use kc_script_bundle::Command;
 
@@ -56,19 +52,17 @@ fn line_at<'a>(text: &'a [u8], replies: &[Vec<u32>], place: Place) -> &'a [u8]
     }
 }
 
-// Whether the text says what the record at a place replies.
-fn says(text: &[u8], replies: &[Vec<u32>], place: Place, records: &[Records]) -> bool
-    requires lines { place.thread < length replies.now }
-    requires stands { IsSome (record_at (lists_of records.now) place.thread place.index) }
-    ensures { (commit : Commit) → record_at (lists_of records.now) place.thread place.index ≡ Some commit → (IsTrue result ↔ (said_at (lines_in text.now replies.now) place ≡ reply_line commit)) }
+// Whether the text says what the record at a place replies, which has this head.
+fn says(text: &[u8], replies: &[Vec<u32>], place: Place, head: &Head) -> bool
+    requires { place.thread < length replies.now }
+    ensures { IsTrue result ↔ (said_at (lines_in text.now replies.now) place ≡ reply_line (bare head.now)) }
 {
     let line = line_at(text, replies, place);
-    let list = &records[place.thread as usize];
-    is_reply(line, list.head(place.index as usize))
+    is_reply(line, head)
 }
 
-/// Replays the places, one after another, and adds their records. It stops at the first that is not the next of its
-/// thread, or has to wait, or replies something else than the text says.
+/// Replays the places, one after another, and keeps the footprints of their records. It stops at the first that is not the
+/// next of its thread, or has to wait, or replies something else than the text says.
 pub(crate) fn walk(
     threads: &[Vec<Command>],
     limit: u32,
@@ -89,9 +83,7 @@ pub(crate) fn walk(
     requires room { HaveRoom limit 1 (commands_of threads.now) records.old }
     requires empty { All (λ v. v.items ≡ []) records.old }
     requires young { IsYoung 0 (store_of store.old) }
-    ensures comes { IfOk result (λ _. Comes limit (commands_of threads.now) (lines_in text.now replies.now) (store_of store.old) places.now (counts (lists_of records.new)) (store_of store.new) (all_padded 1 (commands_of threads.now) (lists_of records.new))) }
-    ensures room { IfOk result (λ _. HaveRoom limit 1 (commands_of threads.now) records.new) }
-    ensures made { IfOk result (λ _. AreWellMade (footprint_at (all_padded 1 (commands_of threads.now) (lists_of records.new)))) }
+    ensures comes { IfOk result (λ _. ComesKept limit (commands_of threads.now) (lines_in text.now replies.now) (store_of store.old) places.now (store_of store.new) records.new) }
     ensures stops { IfErr result (λ stop. StopsFor limit (commands_of threads.now) (lines_in text.now replies.now) (store_of store.old) places.now stop.index stop.why) }
     ensures size { length store.new ≡ length store.old }
 {
@@ -110,7 +102,7 @@ pub(crate) fn walk(
                 why: CheckWhy::Waits,
             });
         }
-        if !says(text, replies, place, records) {
+        if !says(text, replies, place, &desk.head) {
             return Err(Stopped {
                 index: i,
                 why: CheckWhy::Reply,

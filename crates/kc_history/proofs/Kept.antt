@@ -3,7 +3,7 @@ use Rattle.std.proofs.Common.{◌≡◌, ℕ, zero, suc, ◌+◌, ◌<◌, ◌�
 use Rattle.std.specs.Option.{option_map}
 use Rattle.std.proofs.lemmas.List.Sums.{sum_by_more}
 use Rattle.kc_history.specs.Counts.{footprints}
-use Rattle.kc_history.specs.Joined.{joined, record_of}
+use Rattle.kc_history.specs.Joined.{blank_head, joined, record_of}
 use Rattle.kc_history.specs.Kept.{print, puts_kept, reads_kept}
 use Rattle.kc_history.specs.Records.{head_in, print_of, puts_of, reads_of}
 use Rattle.kc_history.specs.declared.record.Head.{Head}
@@ -38,31 +38,48 @@ print_more F rs k lt = sum_by_more (λ (r : Record). F r.footprint) rs k blank l
 
 -- ---- heads and footprints
 
-pub length-joined : (hs : List Head) (fs : List Footprint) → length fs ≤ length hs → length (joined hs fs) ≡ length fs
-length-joined hs [] le = refl
-length-joined [] (f ∷ fs) le = absurd (omega arith)
-length-joined (h ∷ hs) (f ∷ fs) le = ap suc (length-joined hs fs (omega arith))
+pub length-joined : (hs : List Head) (fs : List Footprint) → length (joined hs fs) ≡ length fs
+length-joined hs [] = refl
+length-joined [] (f ∷ fs) = ap suc (length-joined [] fs)
+length-joined (h ∷ hs) (f ∷ fs) = ap suc (length-joined hs fs)
 
-pub joined_head : (hs : List Head) (fs : List Footprint) (k : ℕ) (h : Head) → length fs ≤ length hs → k < length fs → h ≡ slice_index_or hs k h → option_map head_in (slice_get (joined hs fs) k) ≡ Some h
+pub joined_head : (hs : List Head) (fs : List Footprint) (k : ℕ) (h : Head) → k < length hs → k < length fs → h ≡ slice_index_or hs k h → option_map head_in (slice_get (joined hs fs) k) ≡ Some h
 joined_head hs [] k h le lt is = absurd (omega arith)
 joined_head [] (f ∷ fs) k h le lt is = absurd (omega arith)
 joined_head (g ∷ hs) (f ∷ fs) zero h le lt is = ap Some (sym is)
 joined_head (g ∷ hs) (f ∷ fs) (suc k) h le lt is = joined_head hs fs k h (omega arith) (omega arith) is
 
-pub joined_reads : (hs : List Head) (fs : List Footprint) (k : ℕ) → length fs ≤ length hs → reads_kept fs k ≡ reads_of (joined hs fs) k
-joined_reads hs [] k le = refl
-joined_reads [] (f ∷ fs) k le = absurd (omega arith)
-joined_reads (h ∷ hs) (f ∷ fs) zero le = refl
-joined_reads (h ∷ hs) (f ∷ fs) (suc k) le = joined_reads hs fs k (omega arith)
+-- behind the heads stands the blank one
+pub joined_blank : (hs : List Head) (fs : List Footprint) (k : ℕ) → length hs ≤ k → k < length fs → option_map head_in (slice_get (joined hs fs) k) ≡ Some blank_head
+joined_blank hs [] k le lt = absurd (omega arith)
+joined_blank [] (f ∷ fs) zero le lt = refl
+joined_blank [] (f ∷ fs) (suc k) le lt = joined_blank [] fs k (omega arith) (omega arith)
+joined_blank (h ∷ hs) (f ∷ fs) zero le lt = absurd (omega arith)
+joined_blank (h ∷ hs) (f ∷ fs) (suc k) le lt = joined_blank hs fs k (omega arith) (omega arith)
 
-pub joined_puts : (hs : List Head) (fs : List Footprint) (k : ℕ) → length fs ≤ length hs → puts_kept fs k ≡ puts_of (joined hs fs) k
-joined_puts hs [] k le = refl
-joined_puts [] (f ∷ fs) k le = absurd (omega arith)
-joined_puts (h ∷ hs) (f ∷ fs) zero le = refl
-joined_puts (h ∷ hs) (f ∷ fs) (suc k) le = joined_puts hs fs k (omega arith)
+pub joined_reads : (hs : List Head) (fs : List Footprint) (k : ℕ) → reads_kept fs k ≡ reads_of (joined hs fs) k
+joined_reads hs [] k = refl
+joined_reads [] (f ∷ fs) zero = refl
+joined_reads [] (f ∷ fs) (suc k) = joined_reads [] fs k
+joined_reads (h ∷ hs) (f ∷ fs) zero = refl
+joined_reads (h ∷ hs) (f ∷ fs) (suc k) = joined_reads hs fs k
+
+pub joined_puts : (hs : List Head) (fs : List Footprint) (k : ℕ) → puts_kept fs k ≡ puts_of (joined hs fs) k
+joined_puts hs [] k = refl
+joined_puts [] (f ∷ fs) zero = refl
+joined_puts [] (f ∷ fs) (suc k) = joined_puts [] fs k
+joined_puts (h ∷ hs) (f ∷ fs) zero = refl
+joined_puts (h ∷ hs) (f ∷ fs) (suc k) = joined_puts hs fs k
 
 -- the head behind those that have a footprint gets one
 pub joined_more : (hs : List Head) (fs : List Footprint) (h : Head) (f : Footprint) → length fs < length hs → joined (slice_set hs (length fs) h) (fs ++ f ∷ []) ≡ joined hs fs ++ record_of h f ∷ []
 joined_more [] fs h f lt = absurd (omega arith)
 joined_more (g ∷ hs) [] h f lt = refl
 joined_more (g ∷ hs) (e ∷ fs) h f lt = ap (λ rs. record_of g e ∷ rs) (joined_more hs fs h f (omega arith))
+
+-- a footprint behind the heads has the blank one
+pub joined_alone : (hs : List Head) (fs : List Footprint) (f : Footprint) → length hs ≤ length fs → joined hs (fs ++ f ∷ []) ≡ joined hs fs ++ record_of blank_head f ∷ []
+joined_alone [] [] f le = refl
+joined_alone [] (e ∷ fs) f le = ap (λ rs. record_of blank_head e ∷ rs) (joined_alone [] fs f (omega arith))
+joined_alone (g ∷ hs) [] f le = absurd (omega arith)
+joined_alone (g ∷ hs) (e ∷ fs) f le = ap (λ rs. record_of g e ∷ rs) (joined_alone hs fs f (omega arith))

@@ -35,7 +35,7 @@ pub struct Place {
     pub index: u32,
 }
 
-// A head that is still to be filled.
+// The head of a record of which the footprint alone is kept, and of one that is still to be filled.
 pub(crate) const BLANK: Head = Head {
     thread: 0,
     mark: Mark::End,

@@ -3,6 +3,7 @@
 ghost use Rattle.std.specs.Prelude.{◌≡◌, ◌-◌, ◌<◌, ◌≤◌, ◌++◌, ◌∷◌, [], ◌^◌, Some, IfOk, length, slice_get};
 ghost use Rattle.std.specs.Option.{option_map};
 ghost use Rattle.kc_model.specs.declared.footprint.TheConstants.{MOST};
+ghost use Rattle.kc_history.specs.Joined.{blank_head, record_of};
 ghost use Rattle.kc_history.specs.Records.{head_in, print_of, puts_of, reads_of};
 
 use crate::prints::Prints;
@@ -11,24 +12,26 @@ use kc_model::{Answer, Footprint, MOST, Put, Seen};
 use std::alloc::{AllocError, Global};
 use std::marker::Model;
 
-/// The records of a thread, in the order in which they were added, in room that was taken before. Contracts see them,
-/// how many more there is room for, and how many locations each may touch.
+/// The records of a thread, in the order in which they were added, in room that was taken before. Of some the footprint
+/// alone is kept: they have the blank head. Contracts see them, how many more there is room for, how many more footprints
+/// alone behind those, and how many locations each may touch.
 #[derive(Drop)]
 pub struct Records {
     heads: Vec<Head>,
+    blank: Head,
     prints: Prints,
 }
 
 impl Model for Records {
-    ghost use Rattle.std.specs.Prelude.{◌+◌, ◌≤◌, length, vec_len};
+    ghost use Rattle.std.specs.Prelude.{◌≡◌, ◌+◌, ◌-◌, ◌≤◌, length, vec_len};
     ghost use Rattle.kc_history.specs.RecordsValue.{RecordsValue};
-    ghost use Rattle.kc_history.specs.Joined.{joined};
+    ghost use Rattle.kc_history.specs.Joined.{blank_head, joined};
 
     ghost Value = { RecordsValue };
 
-    ghost view = { λ r. record { items = joined r.heads.items r.prints.prints; spare = r.prints.spare; limit = r.prints.limit } };
+    ghost view = { λ r. record { items = joined r.heads.items r.prints.prints; spare = vec_len r.heads - length r.prints.prints; bare = r.prints.spare - (vec_len r.heads - length r.prints.prints); limit = r.prints.limit } };
 
-    ghost invariant = { λ r. length r.prints.prints + r.prints.spare ≤ vec_len r.heads };
+    ghost invariant = { λ r. (r.blank ≡ blank_head) × (vec_len r.heads ≤ length r.prints.prints + r.prints.spare) };
 }
 
 impl Records {
@@ -36,11 +39,24 @@ impl Records {
     /// what records fill.
     pub fn open(alloc: Global, records: u32, limit: u32) -> Result<Records, AllocError>
         requires { limit ≤ MOST }
-        ensures { IfOk result (λ r. r ≡ record { items = []; spare = records; limit = limit }) }
+        ensures { IfOk result (λ r. r ≡ record { items = []; spare = records; bare = 0; limit = limit }) }
     {
         Ok(Records {
             heads: blank_heads(alloc, records as usize)?,
+            blank: BLANK,
             prints: Prints::open(alloc, records, limit)?,
+        })
+    }
+
+    /// Room for so many footprints alone, of at most so many locations each.
+    pub fn open_prints(alloc: Global, prints: u32, limit: u32) -> Result<Records, AllocError>
+        requires { limit ≤ MOST }
+        ensures { IfOk result (λ r. r ≡ record { items = []; spare = 0; bare = prints; limit = limit }) }
+    {
+        Ok(Records {
+            heads: Vec::new(alloc),
+            blank: BLANK,
+            prints: Prints::open(alloc, prints, limit)?,
         })
     }
 
@@ -51,12 +67,27 @@ impl Records {
         requires puts { length footprint.now.puts.items ≤ self.old.limit }
         ensures items { self.new.items ≡ self.old.items ++ record { thread = thread; mark = mark; answer = answer; footprint = footprint.now } ∷ [] }
         ensures spare { self.new.spare ≡ self.old.spare - 1 }
+        ensures bare { self.new.bare ≡ self.old.bare }
         ensures limit { self.new.limit ≡ self.old.limit }
     {
         let head = &mut self.heads[self.prints.len()];
         head.thread = thread;
         head.mark = mark;
         head.answer = answer;
+        self.prints.add(footprint);
+    }
+
+    /// Adds a record of which the footprint alone is kept, with a copy of its lines.
+    pub fn add_print(&mut self, footprint: &Footprint)
+        requires spare { self.old.spare ≡ 0 }
+        requires bare { 0 < self.old.bare }
+        requires reads { length footprint.now.reads.items ≤ self.old.limit }
+        requires puts { length footprint.now.puts.items ≤ self.old.limit }
+        ensures items { self.new.items ≡ self.old.items ++ record_of blank_head footprint.now ∷ [] }
+        ensures spare { self.new.spare ≡ self.old.spare }
+        ensures bare { self.new.bare ≡ self.old.bare - 1 }
+        ensures limit { self.new.limit ≡ self.old.limit }
+    {
         self.prints.add(footprint);
     }
 
@@ -67,12 +98,16 @@ impl Records {
         self.prints.len()
     }
 
-    /// What a record says but for its footprint.
+    /// What a record says but for its footprint; the blank head where that alone is kept.
     pub fn head(&self, index: usize) -> &Head
         requires { index < length self.now.items }
         ensures { option_map head_in (slice_get self.now.items index) ≡ Some result.now }
     {
-        &self.heads[index]
+        if index < self.heads.len() {
+            &self.heads[index]
+        } else {
+            &self.blank
+        }
     }
 
     /// What it read.

@@ -11,7 +11,7 @@ use std::test::Fail;
 
 // Room for the records of a thread.
 fn open(alloc: Global) -> Result<Records, Fail>
-    ensures { IfOk result (λ r. r ≡ record { items = []; spare = 4; limit = MOST }) }
+    ensures { IfOk result (λ r. r ≡ record { items = []; spare = 4; bare = 0; limit = MOST }) }
 {
     Ok(Records::open(alloc, 4, MOST as u32)?)
 }
@@ -73,12 +73,8 @@ fn items_and_too_large_in_words(rt: HostRuntime) -> Result<(), Fail> {
     shows(&rt, rt.alloc(), Answer::TooLarge, b"1.1 toolarge\norder\n")
 }
 
-// Adds a record that reads location 0 at this version, and puts it or not.
-fn add_version(list: &mut Records, thread: u32, number: u32, version: u32, puts: bool)
-    requires { (0 < list.old.spare) × (list.old.limit ≡ MOST) }
-    ensures items { length list.new.items ≡ length list.old.items + 1 }
-    ensures room { (list.new.spare ≡ list.old.spare - 1) × (list.new.limit ≡ MOST) }
-{
+// What reads location 0 at this version, and puts it or not.
+fn print(version: u32, puts: bool) -> Footprint {
     let mut footprint = Footprint::new();
     let loc = Loc(0);
     let _ = footprint.reads.try_push(Seen {
@@ -93,8 +89,17 @@ fn add_version(list: &mut Records, thread: u32, number: u32, version: u32, puts:
             after: 7,
         });
     }
+    footprint
+}
+
+// Adds a record of it.
+fn add_version(list: &mut Records, thread: u32, number: u32, version: u32, puts: bool)
+    requires { (0 < list.old.spare) × (list.old.limit ≡ MOST) }
+    ensures items { length list.new.items ≡ length list.old.items + 1 }
+    ensures room { (list.new.spare ≡ list.old.spare - 1) × (list.new.limit ≡ MOST) }
+{
     let unit = Answer::Reply(Reply::Unit);
-    list.add(thread, Mark::Command(number), unit, &footprint);
+    list.add(thread, Mark::Command(number), unit, &print(version, puts));
 }
 
 // The records of two threads, in their order, or where that is stuck.
@@ -131,6 +136,19 @@ fn a_later_reader_of_what_a_put_ends_stands_before_it(rt: HostRuntime) -> Result
     let (room, ended) = arranged(rt.alloc(), first, second)?;
     assert_eq!(rt; ended, Ok(()));
     assert_eq!(rt; room.order(), [at(1, 0), at(0, 0), at(1, 1)].as_slice());
+    Ok(())
+}
+
+#[test]
+fn a_footprint_alone_stands_as_its_record_would(rt: HostRuntime) -> Result<(), Fail> {
+    let mut first = Records::open_prints(rt.alloc(), 1, MOST as u32)?;
+    first.add_print(&print(0, true));
+    assert_eq!(rt; first.head(0).thread, 0);
+    let mut second = open(rt.alloc())?;
+    add_version(&mut second, 2, 1, 0, false);
+    let (room, ended) = arranged(rt.alloc(), first, second)?;
+    assert_eq!(rt; ended, Ok(()));
+    assert_eq!(rt; room.order(), [at(1, 0), at(0, 0)].as_slice());
     Ok(())
 }
 

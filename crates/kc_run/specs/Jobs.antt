@@ -17,7 +17,7 @@ row_at (v ∷ vs) (suc i) = row_at vs i
 
 -- no record, and room for one for each of a thread's commands and its end, of at most so many locations
 abbrev pub empty_records : ℕ → List Command → RecordsValue
-empty_records limit commands = record { items = []; spare = length commands + 1; limit = limit }
+empty_records limit commands = record { items = []; spare = length commands + 1; bare = 0; limit = limit }
 
 -- for each thread
 abbrev pub Rooms : ℕ → List (Vec Command) → List RecordsValue → Type 0

@@ -1,6 +1,5 @@
 use Rattle.std.proofs.Common.{◌≤◌, length, sym, ap, ◌∙◌, subst, arith, All, Vec}
 use Rattle.std.specs.Global.{Global}
-use Rattle.kc_history.specs.Records.{lists_of}
 use Rattle.kc_script_bundle.specs.Script.{Script, script_of}
 use Rattle.kc_script_bundle.specs.declared.operation.Command.{Command}
 use Rattle.kc_script.proofs.Spelled.{spelled_lies, spelled_threads_few}
@@ -90,7 +89,7 @@ pub returns-clause-legal : goal.returns-clause-legal
 returns-clause-legal c =
     let s : Script = script_of c.args.bundle.now in
     let parts : Parts = parts_of c.args.text.now c.read_text.new.said.replies.items c.read_text.new.said.places.items c.read_text.new.said.state.items in
-    judged_legal s c.args.text.now parts (lists_of c.judge.new.records) c.judge.result c.in_ok-read_text.ensures.formed c.judge.ensures.legal
+    judged_legal s c.args.text.now parts c.judge.result c.in_ok-read_text.ensures.formed c.judge.ensures.legal
 
 pub returns-clause-fault : goal.returns-clause-fault
 returns-clause-fault c =

@@ -1,4 +1,4 @@
-use Rattle.std.proofs.Common.{◌≡◌, ◌<◌, ◌++◌, ◌∷◌, [], length, slice_set, sym, subst, arith}
+use Rattle.std.proofs.Common.{◌≡◌, ◌-◌, ◌<◌, ◌++◌, ◌∷◌, [], length, slice_set, vec_len, sym, subst, arith}
 use Rattle.kc_history.proofs.Kept.{joined_more}
 use Rattle.kc_history.specs.Joined.{joined, record_of}
 use Rattle.kc_history.specs.RecordsValue.{RecordsValue}
@@ -12,7 +12,7 @@ returns-clause-items c =
     let f = c.args.footprint.now in
     let h : Head = record { thread = c.args.thread; mark = c.args.mark; answer = c.args.answer } in
     let view = c.self.view_is in
-    let spare : 0 < c.self.inside.prints.spare = subst (λ (v : RecordsValue). 0 < v.spare) (sym view) c.requires.spare in
+    let spare : 0 < vec_len c.self.inside.heads - length fs = subst (λ (v : RecordsValue). 0 < v.spare) (sym view) c.requires.spare in
     let o = c.self.inside.heads.ok.0 in
-    let room : length fs < length hs = (let a = c.self.invariant in omega arith) in
+    let room : length fs < length hs = omega arith in
     rw (c.add.ensures, c.len.ensures) (subst (λ (v : RecordsValue). joined (slice_set hs (length fs) h) (fs ++ f ∷ []) ≡ v.items ++ record_of h f ∷ []) view (joined_more hs fs h f room))
