@@ -1,35 +1,50 @@
 -- Reading lines one after the other, as a loop does.
-use Rattle.std.proofs.Common.{◌≡◌, ℕ, ◌+◌, ◌<◌, ◌≤◌, List, length, get_or, drop, Result, Ok, sym, ap, ◌∙◌}
-use Rattle.std.specs.Prelude.{map}
-use Rattle.std.proofs.lemmas.List.{drop_more, drop_all}
-use Rattle.kc_script_lines.specs.Words.{words}
+use Rattle.std.proofs.Common.{◌≡◌, ℕ, ◌+◌, ◌<◌, List, [], ◌∷◌, length, Option, Some, None, Result, Ok, sym, ap, ◌∙◌, arith}
+use Rattle.std.specs.Option.{IfSome, IfNone}
+use Rattle.kc_script_lines.specs.Words.{words, lines}
 use Rattle.kc_script_lines.specs.declared.fault.ScriptError.{ScriptError}
 use Rattle.kc_script_lines.specs.declared.fault.ScriptError.TheVariants as error
 use Rattle.kc_script.specs.FirstFault.{Fault}
 use Rattle.kc_script.specs.Reading.{State, any_line, ended, nearest, atomics_next, at_line, then_read, read_from, Stops}
 
-module _ {X : Type 0} (seen : X → List ℕ) (texts : List X) (i n : ℕ) (d : X) (s : State) (atomics : List ℕ) (total : Result State Fault) (so_far : read_from s atomics n (map seen (drop i texts)) ≡ total) where
-  abbrev line : List (List ℕ)
-  line = words (seen (get_or texts i d))
+-- the lines of what is left, where something is
+abbrev pub lines_left : {X : Type 0} → (X → List ℕ) → Option X → List (List ℕ)
+lines_left seen None = []
+lines_left seen (Some x) = lines (seen x)
 
+-- at least as many as these lines
+abbrev pub most_left : {X : Type 0} → (X → List ℕ) → Option X → ℕ
+most_left seen None = 0
+most_left seen (Some x) = length (seen x) + 1
+
+-- a line was cut off
+pub cut : {X : Type 0} (seen : X → List ℕ) (bytes first : List ℕ) (rest : Option X) → IfSome rest (λ x. lines bytes ≡ first ∷ lines (seen x)) → IfNone rest (lines bytes ≡ first ∷ []) → lines bytes ≡ first ∷ lines_left seen rest
+cut seen bytes first None more last = last
+cut seen bytes first (Some x) more last = more
+
+pub fewer : {X : Type 0} (seen : X → List ℕ) (bytes : List ℕ) (rest : Option X) → IfSome rest (λ x. length (seen x) < length bytes) → most_left seen rest < length bytes + 1
+fewer seen bytes None h = omega arith
+fewer seen bytes (Some x) h = omega (arith, h)
+
+module _ (bytes first : List ℕ) (rest line : List (List ℕ)) (n : ℕ) (s : State) (atomics : List ℕ) (total : Result State Fault) (is_cut : lines bytes ≡ first ∷ rest) (is_split : line ≡ words first) (so_far : read_from s atomics n (lines bytes) ≡ total) where
   abbrev later : State → Result State Fault
-  later next = read_from next (atomics_next s.begun atomics n line) (n + 1) (map seen (drop (i + 1) texts))
+  later next = read_from next (atomics_next s.begun atomics n line) (n + 1) rest
 
-  -- the line at the index, and the rest
-  here : i < length texts → total ≡ then_read (at_line (nearest atomics) n (any_line s line)) later
+  -- the first line, and the rest
+  here : total ≡ then_read (at_line (nearest atomics) n (any_line s line)) later
   unfolding read_from
-  here lt = sym so_far ∙ ap (λ (rest : List X). read_from s atomics n (map seen rest)) (drop_more texts i d lt)
+  here = sym so_far ∙ ap (read_from s atomics n) is_cut ∙ ap (λ (ws : List (List ℕ)). then_read (at_line (nearest atomics) n (any_line s ws)) (λ next. read_from next (atomics_next s.begun atomics n ws) (n + 1) rest)) (sym is_split)
 
   -- a line was read, and the rest is still to be read
-  pub goes_on : (next : State) → i < length texts → at_line (nearest atomics) n (any_line s line) ≡ Ok next → later next ≡ total
-  goes_on next lt e = sym (here lt ∙ ap (λ (r : Result State Fault). then_read r later) e)
+  pub goes_on : (next : State) → at_line (nearest atomics) n (any_line s line) ≡ Ok next → later next ≡ total
+  goes_on next e = sym (here ∙ ap (λ (r : Result State Fault). then_read r later) e)
 
   -- what is wrong with a line is what is wrong with all
-  pub ends : (e : ScriptError) → i < length texts → Stops e (at_line (nearest atomics) n (any_line s line)) → Stops e total
-  ends error.NoMemory lt h = tt
-  ends (error.Fault at why) lt h = here lt ∙ ap (λ (r : Result State Fault). then_read r later) h
+  pub ends : (e : ScriptError) → Stops e (at_line (nearest atomics) n (any_line s line)) → Stops e total
+  ends error.NoMemory h = tt
+  ends (error.Fault at why) h = here ∙ ap (λ (r : Result State Fault). then_read r later) h
 
-  -- no line is left
-  pub is_done : length texts ≤ i → total ≡ at_line (nearest atomics) 1 (ended s)
-  unfolding read_from
-  is_done le = sym so_far ∙ ap (λ (rest : List X). read_from s atomics n (map seen rest)) (drop_all i texts le)
+-- no line is left
+pub is_done : (n : ℕ) (s : State) (atomics : List ℕ) (total : Result State Fault) → read_from s atomics n [] ≡ total → total ≡ at_line (nearest atomics) 1 (ended s)
+unfolding read_from
+is_done n s atomics total so_far = sym so_far

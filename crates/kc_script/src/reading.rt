@@ -2,7 +2,7 @@
 
 ghost use Rattle.std.specs.Prelude.{◌≡◌, ◌≤◌, ◌<◌, ◌+◌, length, map, reverse, All, None, IfOk, OnOk};
 ghost use Rattle.kc_script_bundle.specs.Script.{script_of, names_of};
-ghost use Rattle.kc_script_lines.specs.Words.{words};
+ghost use Rattle.kc_script_lines.specs.Words.{lines};
 ghost use Rattle.kc_script_lines.specs.Gives.{Arrives, Reaches};
 ghost use Rattle.kc_script_verbs.specs.Objects.{object_of};
 ghost use Rattle.kc_script_verbs.specs.Declaring.{IsAt};
@@ -16,12 +16,12 @@ use crate::part_error::PartError;
 use crate::reader::{FIRST_LIMIT, Reader, Version};
 use indexmap::IndexMap;
 use kc_model::MOST;
-use kc_script_bundle::{Bundle, MOST_THREADS, Object, cells};
+use kc_script_bundle::{Bundle, MOST_THREADS, cells};
 use kc_script_lines::{
-    Complaint, Limit, ScriptError, Why, counted, is_skipped, lines_of, positive_to, wants, word_at,
-    words_of,
+    Complaint, Limit, ScriptError, Why, counted, first_line, is_skipped, positive_to, split_into,
+    wants, word_at,
 };
-use kc_script_verbs::{Kind, Verb, Word, add, declare, say, word_of};
+use kc_script_verbs::{Kind, Verb, Word, declare, say, word_of};
 use std::alloc::{AllocError, Global};
 use std::mem;
 
@@ -42,23 +42,13 @@ fn open(alloc: Global, whole: bool) -> Reader
     }
 }
 
-fn with_object(reader: &mut Reader, name: &str, object: Object) -> Result<(), AllocError>
-    requires new { object_of (names_of reader.old.objects) name.now ≡ None }
-    requires placed { IsAt reader.old.next object }
-    ensures { OnOk result (state_of reader.new ≡ with_object (state_of reader.old) (name.now, object)) }
-{
-    add(reader.alloc, &mut reader.objects, name, object)?;
-    reader.next += cells(object);
-    Ok(())
-}
-
 #[tactic(auto, unfolding(crate::specs::Reading::declared_line))]
 fn declared_line(reader: &mut Reader, kind: Kind, args: &[&[u8]]) -> Result<(), Complaint>
     ensures { Reaches (state_of reader.new) result (declared_line (state_of reader.old) kind (map (λ word. word.now) args.now)) }
 {
     wants(reader.thread.is_none(), Why::StrayWord)?;
-    let (name, object) = declare(&reader.objects, reader.next, kind, args)?;
-    with_object(reader, name, object)?;
+    let object = declare(reader.alloc, &mut reader.objects, reader.next, kind, args)?;
+    reader.next += cells(object);
     Ok(())
 }
 
@@ -340,32 +330,32 @@ fn text_line(
     reader: &mut Reader,
     atomics: &mut Vec<u32>,
     line: u32,
-    text: &[u8],
+    words: &[&[u8]],
 ) -> Result<(), ScriptError>
-    ensures state { Comes (state_of reader.new) result (at_line (nearest (reverse atomics.old.items)) line (any_line (state_of reader.old) (words text.now))) }
-    ensures atomics { OnOk result (reverse atomics.new.items ≡ atomics_next reader.old.begun (reverse atomics.old.items) line (words text.now)) }
+    ensures state { Comes (state_of reader.new) result (at_line (nearest (reverse atomics.old.items)) line (any_line (state_of reader.old) (map (λ word. word.now) words.now))) }
+    ensures atomics { OnOk result (reverse atomics.new.items ≡ atomics_next reader.old.begun (reverse atomics.old.items) line (map (λ word. word.now) words.now)) }
 {
     let nearest = nearest(atomics);
-    let words = words_of(reader.alloc, text)?;
-    match any_line(reader, atomics, line, &words) {
+    match any_line(reader, atomics, line, words) {
         Ok(()) => Ok(()),
         Err(complaint) => Err(complained(nearest, line, complaint)),
     }
 }
 
 // Reads the lines in turn. They are numbered from 1.
-fn all_lines(
-    reader: &mut Reader,
-    atomics: &mut Vec<u32>,
-    texts: &[&[u8]],
-) -> Result<(), ScriptError>
-    requires { length texts.now ≤ 4294967295 }
-    ensures { Ends (state_of reader.new) (reverse atomics.new.items) result (read_from (state_of reader.old) (reverse atomics.old.items) 1 (map (λ text. text.now) texts.now)) }
+fn all_lines(reader: &mut Reader, atomics: &mut Vec<u32>, bytes: &[u8]) -> Result<(), ScriptError>
+    requires { length bytes.now ≤ MOST_BYTES }
+    ensures { Ends (state_of reader.new) (reverse atomics.new.items) result (read_from (state_of reader.old) (reverse atomics.old.items) 1 (lines bytes.now)) }
 {
+    let mut found = Vec::new(reader.alloc);
     let mut line = 0;
-    for text in texts {
+    let mut left = Some(bytes);
+    while let Some(here) = left {
+        let (text, rest) = first_line(here);
         line += 1;
-        text_line(reader, atomics, line, text)?;
+        split_into(text, &mut found)?;
+        text_line(reader, atomics, line, &found)?;
+        left = rest;
     }
     Ok(())
 }
@@ -386,8 +376,7 @@ fn read_part(reader: &mut Reader, bytes: &[u8]) -> Result<(), ScriptError>
     ensures { Comes (state_of reader.new) result (part_read (state_of reader.old) bytes.now) }
 {
     let mut atomics = Vec::new(reader.alloc);
-    let texts = lines_of(reader.alloc, bytes)?;
-    all_lines(reader, &mut atomics, &texts)?;
+    all_lines(reader, &mut atomics, bytes)?;
     match ended(reader) {
         Ok(()) => Ok(()),
         Err(why) => Err(complained(nearest(&atomics), 1, Complaint::Here(why))),

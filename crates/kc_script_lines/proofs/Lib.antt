@@ -1,3 +1,5 @@
 pub mod NameText
 pub mod Given
 pub mod Faults
+mod FirstLine
+mod Extended

@@ -9,4 +9,4 @@ mod words;
 pub use complaint::Complaint;
 pub use fault::{LONGEST_WORDS, Limit, ScriptError, Why};
 pub use line::{counted, number_to, positive_to, wants, word_at};
-pub use words::{as_name, is_skipped, lines_of, number_of, words_of};
+pub use words::{as_name, first_line, is_skipped, lines_of, number_of, split_into};

@@ -1,9 +1,10 @@
 //! Lines, words, names and numbers of a script.
 
-ghost use Rattle.std.specs.Prelude.{◌≡◌, ◌≤◌, ◌+◌, length, vec_len, map, Some, None, IfOk, IfSome, IfNone, false, true};
+ghost use Rattle.std.specs.Prelude.{◌≡◌, ◌≤◌, ◌+◌, ◌<◌, ◌∷◌, [], length, vec_len, map, Some, None, IfOk, OnOk, IfSome, IfNone, false, true};
 ghost use Rattle.kc_script_lines.specs.Words.{is_blank, words, lines, is_skipped, is_letter, is_name_byte, is_name, is_digit, is_numeral, value_on, number};
 ghost use Rattle.std.specs.List.{list_all};
 
+use memchr::memchr;
 use std::alloc::{AllocError, Global};
 
 fn is_blank(b: u8) -> bool
@@ -12,13 +13,24 @@ fn is_blank(b: u8) -> bool
     b == b' ' || b == b'\t' || b == b'\r'
 }
 
-/// The words of a line.
-pub fn words_of(alloc: Global, line: &[u8]) -> Result<Vec<&[u8]>, AllocError>
-    ensures { IfOk result (λ found. map (λ word. word.now) found.items ≡ words line.now) }
+/// Puts the words of a line into a vector, in place of what it had.
+pub fn split_into<'a>(line: &'a [u8], found: &mut Vec<&'a [u8]>) -> Result<(), AllocError>
+    ensures { OnOk result (map (λ word. word.now) found.new.items ≡ words line.now) }
 {
-    line.split(|b| is_blank(*b))
-        .filter(|word| !word.is_empty())
-        .collect(alloc)
+    found.clear();
+    found.extend(line.split(|b| is_blank(*b)).filter(|word| !word.is_empty()))
+}
+
+/// The first line of the bytes, and what stands behind its newline, where it has one.
+pub fn first_line(bytes: &[u8]) -> (&[u8], Option<&[u8]>)
+    ensures more { IfSome result.1 (λ rest. lines bytes.now ≡ result.0.now ∷ lines rest.now) }
+    ensures shorter { IfSome result.1 (λ rest. length rest.now < length bytes.now) }
+    ensures last { IfNone result.1 (lines bytes.now ≡ result.0.now ∷ []) }
+{
+    match memchr(b'\n', bytes) {
+        Some(end) => (&bytes[..end], Some(&bytes[end + 1..])),
+        None => (bytes, None),
+    }
 }
 
 /// The lines of the bytes.
@@ -71,10 +83,7 @@ pub fn as_name(word: &[u8]) -> Option<&str>
     if !is_name(word) {
         return None;
     }
-    match str::from_utf8(word) {
-        Ok(name) => Some(name),
-        Err(_) => unreachable!("a name is text"),
-    }
+    Some(unsafe { str::from_utf8_unchecked(word) })
 }
 
 fn has_digits(word: &[u8]) -> bool

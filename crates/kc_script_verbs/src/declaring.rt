@@ -1,12 +1,12 @@
 //! Lines that declare an object.
 
-ghost use Rattle.std.specs.Prelude.{◌≡◌, ◌≤◌, map, length, None, IfOk};
+ghost use Rattle.std.specs.Prelude.{◌≡◌, ◌≤◌, ◌++◌, ◌∷◌, [], map, length, IfOk, OnErr};
 ghost use Rattle.kc_script_bundle.specs.Script.{names_of, next_from};
-ghost use Rattle.kc_script_lines.specs.Gives.{Reads};
-ghost use Rattle.kc_script_verbs.specs.Objects.{object_of, new_name};
+ghost use Rattle.kc_script_lines.specs.Gives.{Gives};
+ghost use Rattle.kc_script_lines.specs.Tests.{word_at};
 ghost use Rattle.kc_script_verbs.specs.Declaring.{fields, loc_at, stack_at, queue_at, table_at, grow_at, cache_at, mvar_at, promise_at, acc_at, object_at, declare, IsAt};
 
-use crate::objects::find;
+use crate::objects::{add_new, find};
 use crate::word::Kind;
 use indexmap::IndexMap;
 use kc_cache::Cache;
@@ -16,9 +16,10 @@ use kc_hash::Hash;
 use kc_model::{Loc, MOST_LOCATIONS};
 use kc_queue::Queue;
 use kc_script_bundle::Object;
-use kc_script_lines::{Limit, Why, as_name, counted, number_to, positive_to, word_at};
+use kc_script_lines::{Complaint, Limit, Why, as_name, counted, number_to, positive_to, word_at};
 use kc_stack::Stack;
 use kc_xt::{MOST_BUCKETS, MOST_ITEMS};
+use std::alloc::Global;
 
 /// The number behind the last location.
 const END: u32 = MOST_LOCATIONS as u32;
@@ -31,21 +32,6 @@ fn fields(kind: Kind) -> usize
         Kind::Table | Kind::Cache => 3,
         Kind::Mvar | Kind::Promise => 1,
     }
-}
-
-// The name that the word is, if no object has it.
-#[tactic(auto, unfolding(crate::specs::Objects::new_name))]
-fn new_name<'a>(objects: &IndexMap<String, Object>, word: &'a [u8]) -> Result<&'a str, Why>
-    ensures gives { Reads (λ name. name.now) result (new_name (names_of objects.now) word.now) }
-    ensures new { IfOk result (λ name. object_of (names_of objects.now) name.now ≡ None) }
-{
-    let Some(name) = as_name(word) else {
-        return Err(Why::BadName);
-    };
-    if find(objects, name).is_some() {
-        return Err(Why::RepeatedName);
-    }
-    Ok(name)
 }
 
 fn loc_at(at: Loc, value: u32) -> Result<Object, Why>
@@ -190,22 +176,37 @@ fn object_at(at: Loc, kind: Kind, args: &[&[u8]]) -> Result<Object, Why>
     }
 }
 
-/// The object that a line declares behind others, with its name. The next location is the first that no object has.
-#[tactic(auto, unfolding(crate::specs::Declaring::declare))]
-pub fn declare<'a>(
-    objects: &IndexMap<String, Object>,
+/// Adds the object that a line declares behind others, at the first location that no object has. Where it fails, the objects
+/// are as they were.
+#[tactic(auto, unfolding(crate::specs::Declaring::declare, crate::specs::Objects::new_name))]
+pub fn declare(
+    alloc: Global,
+    objects: &mut IndexMap<String, Object>,
     next: u32,
     kind: Kind,
-    args: &[&'a [u8]],
-) -> Result<(&'a str, Object), Why>
-    requires follows { next ≡ next_from 1 (names_of objects.now) }
+    args: &[&[u8]],
+) -> Result<Object, Complaint>
+    requires follows { next ≡ next_from 1 (names_of objects.old) }
     requires within { next ≤ MOST_LOCATIONS }
-    ensures gives { Reads (λ entry. (entry.0.now, entry.1)) result (declare (names_of objects.now) kind (map (λ word. word.now) args.now)) }
-    ensures new { IfOk result (λ entry. object_of (names_of objects.now) entry.0.now ≡ None) }
-    ensures placed { IfOk result (λ entry. IsAt next entry.1) }
+    ensures gives { Gives (λ object. (word_at (map (λ word. word.now) args.now) 0, object)) result (declare (names_of objects.old) kind (map (λ word. word.now) args.now)) }
+    ensures added { IfOk result (λ object. names_of objects.new ≡ names_of objects.old ++ (word_at (map (λ word. word.now) args.now) 0, object) ∷ []) }
+    ensures placed { IfOk result (IsAt next) }
+    ensures err { OnErr result (names_of objects.new ≡ names_of objects.old) }
 {
     counted(fields(kind), args)?;
-    let name = new_name(objects, word_at(args, 0))?;
-    let object = object_at(Loc(next), kind, args)?;
-    Ok((name, object))
+    let Some(name) = as_name(word_at(args, 0)) else {
+        return Err(Complaint::Here(Why::BadName));
+    };
+    match object_at(Loc(next), kind, args) {
+        Ok(object) => {
+            add_new(alloc, objects, name, object)?;
+            Ok(object)
+        }
+        Err(why) => {
+            if find(objects, name).is_some() {
+                return Err(Complaint::Here(Why::RepeatedName));
+            }
+            Err(Complaint::Here(why))
+        }
+    }
 }

@@ -1,10 +1,14 @@
 //! Objects by their names.
 
-ghost use Rattle.std.specs.Prelude.{◌≡◌, ◌++◌, ◌∷◌, [], None, OnOk, OnErr};
+ghost use Rattle.std.specs.Prelude.{◌≡◌, ◌++◌, ◌∷◌, [], None, OnOk, OnErr, is_some, not};
 ghost use Rattle.kc_script_bundle.specs.Script.{names_of};
+ghost use Rattle.kc_script_lines.specs.Gives.{Gives};
+ghost use Rattle.kc_script_lines.specs.Tests.{wants};
+ghost use Rattle.kc_script_lines.specs.declared.fault.Why.TheVariants.{RepeatedName};
 ghost use Rattle.kc_script_verbs.specs.Objects.{object_of, used, as_loc, as_stack, as_queue, as_table, as_cache, as_mvar, as_promise, as_acc};
 
 use indexmap::IndexMap;
+use indexmap::map::Entry;
 use kc_cache::Cache;
 use kc_cells::{Accumulator, Mvar, Promise};
 use kc_grow::Grow;
@@ -12,7 +16,7 @@ use kc_hash::Hash;
 use kc_model::Loc;
 use kc_queue::Queue;
 use kc_script_bundle::Object;
-use kc_script_lines::{Why, as_name};
+use kc_script_lines::{Complaint, Why, as_name};
 use kc_stack::Stack;
 use std::alloc::{AllocError, Global};
 
@@ -45,6 +49,26 @@ pub fn add(
 {
     objects.insert(String::from_str(alloc, name)?, object)?;
     Ok(())
+}
+
+/// Adds an object at the end, unless an object has its name. Where it fails, the objects are as they were.
+pub(crate) fn add_new(
+    alloc: Global,
+    objects: &mut IndexMap<String, Object>,
+    name: &str,
+    object: Object,
+) -> Result<(), Complaint>
+    ensures new { Gives (λ _. tt) result (wants (not (is_some (object_of (names_of objects.old) name.now))) RepeatedName) }
+    ensures added { OnOk result (names_of objects.new ≡ names_of objects.old ++ (name.now, object) ∷ []) }
+    ensures err { OnErr result (names_of objects.new ≡ names_of objects.old) }
+{
+    match objects.entry(String::from_str(alloc, name)?)? {
+        Entry::Vacant(place) => {
+            let _placed = place.insert_entry(object);
+            Ok(())
+        }
+        Entry::Occupied(_) => Err(Complaint::Here(Why::RepeatedName)),
+    }
 }
 
 /// The object that the word names.

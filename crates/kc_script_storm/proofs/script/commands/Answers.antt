@@ -3,7 +3,7 @@ use Rattle.kc_script_storm.proofs.Making.{drawn_next, drawn_all}
 use Rattle.kc_script_storm.proofs.script.commands.Goals as goal
 
 pub loop-init : goal.loop-init
-loop-init c = rw c.new-commands.ensures.items refl
+loop-init c = rw c.in_ok-commands.ensures.items refl
 
 pub loop-preserved : goal.loop-preserved
 loop-preserved c = rw c.next_draw-draw.ensures (drawn_next c.args.thread c.loop.counter c.loop.draw c.loop.commands.items c.push.new.self.items _ c.in_ok-command.field-0 c.loop-test.true c.loop.invariant c.in_ok-push.ensures.items (rw c.next_draw-draw.ensures at c.in_ok-command.ensures))
