@@ -1,14 +1,17 @@
 -- What a try of C's operations answers.
-use Rattle.std.specs.Prelude.{◌≡◌, ◌≤◌, ℕ, true, List, ◌++◌, drop, length}
+use Rattle.std.specs.Prelude.{◌≡◌, ◌≢◌, ◌≤◌, ℕ, true, List, [], ◌∷◌, ◌++◌, drop, length, slice_set}
 use Rattle.kc_c.specs.declared.answers.TheConstants.{DONE, LATER, TOO_LARGE, WORN, POOL_WORN, LOST, BUSY}
 use Rattle.kc_c.specs.declared.client.Client.{Client}
 use Rattle.kc_c.specs.declared.standing.Standing.TheVariants as standing
+use Rattle.kc_calls.specs.Alone.{first_value, reply_on}
 use Rattle.kc_calls.specs.Meaning.{calls_end, calls_meaning}
 use Rattle.kc_calls.specs.Operations.{AreOperations}
 use Rattle.kc_calls.specs.Told.{told}
 use Rattle.kc_calls.specs.declared.operation.KcasOp.{KcasOp}
 use Rattle.kc_calls.specs.declared.reply.KcasReply.{KcasReply}
+use Rattle.kc_loc.specs.declared.operation.LocOp.{LocOp}
 use Rattle.kc_model.specs.Footprint.{IsBelow}
+use Rattle.kc_model.specs.declared.footprint.Footprint.{Footprint}
 use Rattle.kc_model.specs.declared.footprint.TheConstants.{MOST}
 use Rattle.kc_store.specs.Knows.{IsTold, Remembers}
 use Rattle.kc_store.specs.Verdicts.{has_entry}
@@ -16,7 +19,7 @@ use Rattle.kc_store.specs.Views.{CallerView}
 use Rattle.kc_store.specs.declared.verdict.Verdict.{Verdict}
 use Rattle.kc_store.specs.declared.verdict.Verdict.TheVariants as verdict
 use Rattle.kc_term.specs.Meaning.{items_of}
-use Rattle.kc_xt.specs.Meaning.{limited}
+use Rattle.kc_xt.specs.Meaning.{Meaning, limited}
 
 -- they are operations of one transaction of a store of so many locations, and there is room for a reply to each
 abbrev pub MayTry : ℕ → List KcasOp → List KcasReply → Type 0
@@ -49,3 +52,13 @@ pub record IsTried (ops : List KcasOp) (c : Client) (n : ℕ) (d : Client) (befo
   pub remembers : Remembers caller then_caller
   pub within : has_entry verdict ≡ true → IsBelow (calls_end ops) d.footprint
   pub replies : after ≡ written ops verdict before
+
+-- one try was made of what means this, and the first reply is what the operation replies by what was read
+pub record IsTriedSilently (m : Meaning) (end : ℕ) (o : LocOp) (n : ℕ) (c d : CallerView) (f : Footprint) (before after : List KcasReply) : Type 0 where
+  pub verdict : Verdict
+  pub number : n ≡ number_of verdict
+  pub tells : IsTold m verdict c f d
+  pub remembers : Remembers c d
+  pub within : has_entry verdict ≡ true → IsBelow end f
+  pub done : n ≡ DONE → (x : KcasReply) × (after ≡ slice_set before 0 x) × (told (items_of (reply_on o (first_value f.reads.items))) 1 ≡ x ∷ [])
+  pub stays : n ≢ DONE → after ≡ before

@@ -1,14 +1,15 @@
 //! One try of C's operations.
 
-ghost use Rattle.std.specs.Prelude.{◌≡◌, ◌≤◌, ◌==◌, false, true, length};
+ghost use Rattle.std.specs.Prelude.{◌≡◌, ◌<◌, ◌≤◌, ◌==◌, false, true, length};
 ghost use Rattle.kc_c.specs.declared.answers.TheConstants.{DONE};
 ghost use Rattle.kc_c.specs.Standings.{rests};
-ghost use Rattle.kc_c.specs.Tries.{IsTried, MayTry, number_of};
+ghost use Rattle.kc_c.specs.Tries.{IsTried, IsTriedSilently, MayTry, number_of};
 ghost use Rattle.kc_calls.specs.Alone.{has_one_location};
 ghost use Rattle.kc_calls.specs.Meaning.{CallsAreFit, calls_end, calls_meaning};
 ghost use Rattle.kc_calls.specs.Silent.{silent};
 ghost use Rattle.kc_loc.specs.Meaning.{LocIsFit, loc_end, loc_meaning};
 ghost use Rattle.kc_model.specs.Footprint.{IsBelow};
+ghost use Rattle.kc_model.specs.declared.reply.Reply.{Reply};
 ghost use Rattle.kc_model.specs.declared.footprint.TheConstants.{MOST};
 ghost use Rattle.kc_store.specs.Knows.{IsTold, Remembers};
 ghost use Rattle.kc_store.specs.Verdicts.{has_entry, verdict_as};
@@ -25,7 +26,7 @@ use kc_calls::{
 use kc_loc::LocOp;
 use kc_model::Footprint;
 use kc_store::{Caller, Fate, Store};
-use kc_xt::{Trial, Went};
+use kc_xt::{Transact, Trial, Went};
 
 impl Client {
     /// One try of the operations as one transaction. What it read lies in the footprint; at DONE the replies are written.
@@ -54,15 +55,14 @@ impl Client {
             return BAD_OPS;
         }
         if let Some(operation) = alone_on_location(ops, *locations) {
-            // Its own trial, which is kept in registers.
-            let mut trial = Trial::new();
-            let fate = try_alone(store, caller, operation, &mut trial, footprint);
-            *wakes = caller.take_wakes();
-            if is_done(fate, &trial) {
-                replies[0] = told_alone(operation, footprint);
-                return DONE;
-            }
-            return number_of(fate, &trial);
+            return match operation {
+                LocOp::FetchAdd(at, number) => {
+                    let add = SilentAdd { at, number };
+                    let loud = LocOp::FetchAdd(at, number);
+                    try_silently(store, caller, &add, loud, footprint, replies, wakes)
+                }
+                _ => try_other(store, caller, operation, footprint, replies, wakes),
+            };
         }
         if !are_operations(ops, *locations) {
             return BAD_OPS;
@@ -73,54 +73,57 @@ impl Client {
             tell(&trial.reply, &mut replies[..ops.len()]);
             return DONE;
         }
-        number_of(fate, trial)
+        number_of(fate, trial.went)
     }
 }
 
-// One operation alone. An add, which programs make most often, has a way of its own from here on, in which nothing asks again what it is.
+// One operation alone, by a transaction that does not say what it replies.
 #[inline(always)]
-fn try_alone(
+fn try_silently<T: Transact>(
     store: &Store,
     caller: &mut Caller,
+    transaction: &T,
     operation: LocOp,
-    trial: &mut Trial,
     footprint: &mut Footprint,
-) -> Fate
+    replies: &mut [KcasReply],
+    wakes: &mut u64,
+) -> u32
     requires caller { caller.old.of ≡ store.now }
-    requires fit { LocIsFit operation }
-    requires one { has_one_location operation ≡ true }
-    requires within { loc_end operation ≤ store.now.locations }
-    ensures told { IsTold (limited MOST (silent (loc_meaning operation))) (verdict_as result (tried_of trial.new.went trial.new.reply)) caller.old footprint.new caller.new }
-    ensures remembers { Remembers caller.old caller.new }
-    ensures within { has_entry (verdict_as result (tried_of trial.new.went trial.new.reply)) ≡ true → IsBelow (loc_end operation) footprint.new }
+    requires fit { T.is_fit transaction.now }
+    requires within { T.end transaction.now ≤ store.now.locations }
+    requires room { 0 < length replies.old }
+    ensures { IsTriedSilently (limited (T.most transaction.now) (T.meaning transaction.now)) (T.end transaction.now) operation result caller.old caller.new footprint.new replies.old replies.new }
 {
-    match operation {
-        LocOp::FetchAdd(at, number) => {
-            let add = SilentAdd { at, number };
-            store.try_in_place(caller, &add, trial, footprint)
-        }
-        _ => try_silently(store, caller, operation, trial, footprint),
+    // Its own trial, which is kept in registers.
+    let mut trial = Trial::new();
+    let fate = store.try_in_place(caller, transaction, &mut trial, footprint);
+    *wakes = caller.take_wakes();
+    if is_done(fate, &trial) {
+        replies[0] = told_alone(operation, footprint);
+        return DONE;
     }
+    number_of(fate, trial.went)
 }
 
-// Kept apart from an add, for which its room would be wiped too.
+// Kept apart from an add, which programs make most often: there nothing asks again what is done, and no room is wiped but its own.
 #[inline(never)]
-fn try_silently(
+fn try_other(
     store: &Store,
     caller: &mut Caller,
     operation: LocOp,
-    trial: &mut Trial,
     footprint: &mut Footprint,
-) -> Fate
+    replies: &mut [KcasReply],
+    wakes: &mut u64,
+) -> u32
     requires caller { caller.old.of ≡ store.now }
     requires fit { LocIsFit operation }
     requires one { has_one_location operation ≡ true }
     requires within { loc_end operation ≤ store.now.locations }
-    ensures told { IsTold (limited MOST (silent (loc_meaning operation))) (verdict_as result (tried_of trial.new.went trial.new.reply)) caller.old footprint.new caller.new }
-    ensures remembers { Remembers caller.old caller.new }
-    ensures within { has_entry (verdict_as result (tried_of trial.new.went trial.new.reply)) ≡ true → IsBelow (loc_end operation) footprint.new }
+    requires room { 0 < length replies.old }
+    ensures { IsTriedSilently (limited MOST (silent (loc_meaning operation))) (loc_end operation) operation result caller.old caller.new footprint.new replies.old replies.new }
 {
-    store.try_in_place(caller, &Silent { operation }, trial, footprint)
+    let silent = Silent { operation };
+    try_silently(store, caller, &silent, operation, footprint, replies, wakes)
 }
 
 // Kept apart from one operation alone, for which the room for more would be wiped too, and laid behind it.
@@ -149,11 +152,14 @@ fn is_done(fate: Fate, trial: &Trial) -> bool
     matches!(fate, Fate::Entered { .. }) && matches!(trial.went, Went::Done)
 }
 
-fn number_of(fate: Fate, trial: &Trial) -> u32
-    ensures { result ≡ number_of (verdict_as fate (tried_of trial.now.went trial.now.reply)) }
+// Kept apart, and told what became of the trial alone, so that the trial's reply need not lie in memory.
+#[cold]
+#[inline(never)]
+fn number_of(fate: Fate, went: Went) -> u32
+    ensures { (reply : Reply) → result ≡ number_of (verdict_as fate (tried_of went reply)) }
 {
     match fate {
-        Fate::Entered { .. } => match trial.went {
+        Fate::Entered { .. } => match went {
             Went::Done => DONE,
             Went::Later => LATER,
             Went::TooLarge => TOO_LARGE,
