@@ -14,7 +14,7 @@ bench="$room/kcas/crates/kc_bench"
 mkdir -p "$bench/src" "$bench/c"
 cp "$top/tools/bench/single/main.rt.txt" "$bench/src/main.rt"
 cp "$top/tools/bench/single/anything.c" "$bench/c/anything.c"
-echo 'kc_bench: kc_await kc_loc kc_locked kc_model kc_queue kc_store kc_term kc_xt' >> "$room/kcas/crates.txt"
+echo 'kc_bench: kc_await kc_loc kc_locked kc_model kc_store kc_term kc_xt' >> "$room/kcas/crates.txt"
 (cd "$bench" && RT_ALLOW_C=kc_bench rt run > "$room/built" 2>&1) || { cat "$room/built" >&2; exit 1; }
 peers=("$bench/out/kc_bench")
 build_peer() {

@@ -12,7 +12,6 @@ CASES = {
     "two": "two puts",
     "eight": "eight reads and a put",
     "plain_eight": "the same on a plain store: its log, transaction and footprint alone",
-    "queue": "an item into a queue or out of it",
     "either": "an alternative that is given up, and another",
     "value": "one put, answered by value",
     "get": "a look, as a transaction",
