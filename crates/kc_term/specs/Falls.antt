@@ -9,5 +9,6 @@ use Rattle.kc_term.specs.declared.term.Term.TheDeep.{deep-Node}
 
 pub falls : {O : Type 0} (n : Node O) → max (deep-Node O n) 0 ≤ tree_size (tree_of n)
 falls (node.Op n) = omega arith
+falls (node.Pair a b) = omega arith
 falls (node.Seq parts) = omega (arith, most_le-trees_size parts.items)
 falls (node.First a b) = omega arith

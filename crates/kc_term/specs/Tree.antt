@@ -19,6 +19,10 @@ abbrev pub trees : {O : Type 0} → List (Tree O) → Trees O
 trees [] = none
 trees (t ∷ ts) = more t (trees ts)
 
+-- two operations, one after another
+abbrev pub pair : {O : Type 0} → O → O → Tree O
+pair a b = seq (more (op a) (more (op b) none))
+
 -- the operations, in order
 abbrev mutual
   pub operations : {O : Type 0} → Tree O → List O

@@ -14,6 +14,7 @@ pub(crate) fn term_bound<O: Transact>(term: &Term<O>) -> u32
 {
     match &term.node {
         Node::Op(operation) => operation.bound(),
+        Node::Pair(a, b) => a.bound().max(b.bound()),
         Node::Seq(parts) => parts_bound(parts.as_slice()),
         Node::First(a, b) => term_bound(a).max(term_bound(b)),
     }

@@ -4,7 +4,7 @@ ghost use Rattle.std.specs.Prelude.{◌≡◌, ◌≤◌, ◌↔◌, [], length,
 ghost use Rattle.kc_model.specs.declared.footprint.TheConstants.{MOST};
 ghost use Rattle.kc_xt.specs.Law.{Obeys};
 ghost use Rattle.kc_xt.specs.declared.xt.TheConstants.{FEW};
-ghost use Rattle.kc_term.specs.Tree.{first, trees, operations, all_operations};
+ghost use Rattle.kc_term.specs.Tree.{pair, first, trees, operations, all_operations};
 ghost use Rattle.kc_term.specs.Meaning.{term_meaning, parts_meaning, greatest_end, items_of};
 ghost use Rattle.kc_term.specs.Fit.{AreFit};
 
@@ -45,9 +45,26 @@ fn run_term<O: Transact, P: Peek>(term: &Term<O>, xt: &mut Xt<P>) -> Result<Repl
 {
     match &term.node {
         Node::Op(operation) => operation.run(xt),
+        Node::Pair(a, b) => run_pair(a, b, xt),
         Node::Seq(parts) => run_parts(parts.as_slice(), xt),
         Node::First(a, b) => run_first(a, b, xt),
     }
+}
+
+// A function of its own, so that the room of its items stands only where there are two operations.
+fn run_pair<O: Transact, P: Peek>(a: &O, b: &O, xt: &mut Xt<P>) -> Result<Reply, Stop>
+    requires fit { AreFit O.is_fit O.meaning (operations (pair a.now b.now)) }
+    requires within { greatest_end O.end (operations (pair a.now b.now)) ≤ P.locations xt.old.peek }
+    ensures law { Obeys P.peek_gives (term_meaning O.meaning (pair a.now b.now)) (greatest_end O.end (operations (pair a.now b.now))) xt.old result xt.new }
+    ensures items { IfOk result (λ r. length (items_of r) ≤ length (operations (pair a.now b.now))) }
+    ensures size { P.locations xt.new.peek ≡ P.locations xt.old.peek }
+{
+    let mut items = Items::new();
+    let first = a.run(xt)?;
+    add(&mut items, first);
+    let second = b.run(xt)?;
+    add(&mut items, second);
+    Ok(Reply::Many(items))
 }
 
 // A function of its own, so that a snapshot stands only where there are alternatives.

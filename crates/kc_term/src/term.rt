@@ -1,7 +1,7 @@
 //! What a term is, and how it is made.
 
 ghost use Rattle.std.specs.Prelude.{◌≡◌, ◌≤◌, ◌↔◌, length, IsTrue};
-ghost use Rattle.kc_term.specs.Tree.{op, operations};
+ghost use Rattle.kc_term.specs.Tree.{op, pair, operations};
 ghost use Rattle.kc_term.specs.declared.term.TheConstants.{MOST_OPERATIONS};
 ghost use Rattle.kc_term.specs.Shape.{tree_of};
 ghost use Rattle.kc_term.specs.Made.{seq_made, MakesFirst};
@@ -31,6 +31,8 @@ pub struct Term<O> {
 #[cycle(term)]
 pub enum Node<O> {
     Op(O),
+    /// Two operations, one after another, without memory. Contracts see the tree of a sequence of the two.
+    Pair(O, O),
     /// The parts in order, up to one that stops.
     Seq(Vec<Term<O>>),
     /// The first; where it would wait, the second in its place.
@@ -71,6 +73,17 @@ impl<O> Term<O> {
         Term {
             node: Node::Op(operation),
             operations: 1,
+            nesting: 0,
+        }
+    }
+
+    /// Two operations, one after another, without memory: what a `Term::seq` of the two does, without the vector.
+    pub fn pair(a: O, b: O) -> Term<O>
+        ensures { result ≡ pair a b }
+    {
+        Term {
+            node: Node::Pair(a, b),
+            operations: 2,
             nesting: 0,
         }
     }

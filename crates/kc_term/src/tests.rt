@@ -163,6 +163,38 @@ fn a_sequence_ends_where_a_part_would_wait(rt: HostRuntime) -> Result<(), Fail> 
 }
 
 #[test]
+fn a_pair_replies_as_the_sequence_of_the_two_and_ends_where_one_waits(
+    rt: HostRuntime,
+) -> Result<(), Fail> {
+    let store = store_of(rt.alloc(), &[5, 6, 7])?;
+    let mut room = Room::new();
+    let mut xt = Xt::new(PlainPeek::new(&store), &mut room, MOST as u32);
+    let add = |at, n| Add { at, least: 0, n };
+    let inner = Term::pair(add(0, 3), add(0, 1));
+    let term = one_after_another(vec![in rt.alloc(); adding(1, 1), inner, adding(0, 0)]?)?;
+    let items = [
+        Item::Value(6),
+        Item::Value(5),
+        Item::Value(8),
+        Item::Value(9),
+    ];
+    assert_eq!(rt; answer(&term, &store, &mut xt)?, Ok(many(&items)));
+    let waits = Add {
+        at: 1,
+        least: 9,
+        n: 1,
+    };
+    let first_waits = Term::pair(waits, add(2, 1));
+    assert_eq!(rt; answer(&first_waits, &store, &mut xt)?, Err(Stop::Retry));
+    let second_waits = Term::pair(add(0, 0), waits);
+    assert_eq!(rt; answer(&second_waits, &store, &mut xt)?, Err(Stop::Retry));
+    let (_, footprint) = xt.into_parts();
+    assert_eq!(rt; footprint.reads.len(), 2);
+    assert_eq!(rt; footprint.puts.len(), 2);
+    Ok(())
+}
+
+#[test]
 fn an_alternative_that_would_wait_is_rolled_back_and_its_reads_stay(
     rt: HostRuntime,
 ) -> Result<(), Fail> {
