@@ -1,7 +1,7 @@
 #!/usr/bin/env bash
 # Refuses the calls of the program one after another, on each store, for each of its commands, a check and a run on texts among them:
 # every allocation, read and write of a run in turn, and makes every read and write in turn move one byte alone. The script has a block,
-# a stack, and a command that waits, and its text is the same at each run. Of a storm, which makes many allocations, each of the first
+# a stack, and a command that waits, and its text is the same at each run. Of a run that makes many allocations, each of the first
 # 200 is refused, and then fewer. A library that stands before the C library refuses them, in the program as it is built. Where the
 # memory to start a thread is refused, the kit runs the threads one after another, and those that wait for each other don't end: that
 # is counted, and isn't wrong.
