@@ -2,7 +2,7 @@
 
 ghost use Rattle.std.specs.Prelude.{◌++◌, ◌∷◌, [], map};
 ghost use Rattle.kc_model.specs.Pen.{Puts};
-ghost use Rattle.kc_term.specs.Tree.{first, trees};
+ghost use Rattle.kc_term.specs.Tree.{pair, first, trees};
 ghost use Rattle.kc_script_bundle.specs.Script.{names_of, LieFrom, AreSized};
 ghost use Rattle.kc_script_bundle.specs.declared.operation.Command.TheVariants as command;
 ghost use Rattle.kc_script.specs.Spells.{atomic_line, end_line};
@@ -23,6 +23,15 @@ fn put_op_line<K: Sink>(pen: &mut Pen<K>, objects: &IndexMap<String, Object>, op
     pen.put(b"\n");
 }
 
+fn put_pair<K: Sink>(pen: &mut Pen<K>, objects: &IndexMap<String, Object>, a: Op, b: Op)
+    requires lie { LieFrom 1 (names_of objects.now) }
+    requires sized { AreSized (names_of objects.now) }
+    ensures { Puts K.written K.faults K.write_gives pen.old pen.new (text_of_lines (block_lines (names_of objects.now) (pair a b))) }
+{
+    put_op_line(pen, objects, a);
+    put_op_line(pen, objects, b);
+}
+
 // A block between its `atomic` and its `end`.
 #[cycle(put)]
 fn put_block<K: Sink>(pen: &mut Pen<K>, objects: &IndexMap<String, Object>, block: &Term<Op>)
@@ -32,6 +41,7 @@ fn put_block<K: Sink>(pen: &mut Pen<K>, objects: &IndexMap<String, Object>, bloc
 {
     match block.node() {
         Node::Op(operation) => put_op_line(pen, objects, *operation),
+        Node::Pair(a, b) => put_pair(pen, objects, *a, *b),
         Node::Seq(parts) => put_parts(pen, objects, parts),
         Node::First(a, b) => put_alternatives(pen, objects, a, b),
     }
