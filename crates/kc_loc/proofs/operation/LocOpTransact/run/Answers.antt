@@ -11,5 +11,8 @@ returns-in-Swap-clause-law g c = loc_law _ _ _ c.requires.fit (subst (λ o. Does
 pub returns-in-Put-clause-law : goal.returns-in-Put-clause-law
 returns-in-Put-clause-law g c = loc_law _ _ _ c.requires.fit (subst (λ o. Does g.P.Peek.peek_gives (loc_program o) c.args.xt.now c.set.result c.set.new.xt) (is_set c.args.self.now _ _ (sym (rw c.in-Put.is at c.act.ensures))) c.set.ensures.goes)
 
+pub returns-in-Add-clause-law : goal.returns-in-Add-clause-law
+returns-in-Add-clause-law g c = loc_law _ _ _ c.requires.fit c.add.ensures.goes
+
 pub returns-in-Read-clause-law : goal.returns-in-Read-clause-law
 returns-in-Read-clause-law g c = loc_law _ _ _ c.requires.fit c.change.ensures.goes
