@@ -1,6 +1,6 @@
 -- One operation alone: what it replies, where it was made and said nothing.
 use Rattle.std.proofs.Common.{◌≡◌, ℕ, ◌||◌, Bool, true, false, cond, List, [], ◌∷◌, Some, None, refl, sym, ap, ◌∙◌, arith, eq-eqb}
-use Rattle.std.specs.Prelude.{if◌then◌else◌, Result, Ok, Err, IsErrAnd}
+use Rattle.std.specs.Prelude.{if◌then◌else◌}
 use Rattle.std.proofs.lemmas.Bool.{cond-true}
 use Rattle.kc_calls.specs.Alone.{first_value, has_one_location, reply_on}
 use Rattle.kc_calls.specs.Silent.{silent, silenced}
@@ -15,24 +15,16 @@ use Rattle.kc_loc.specs.declared.operation.LocOp.TheVariants as loc
 use Rattle.kc_model.specs.Footprint.{read_at}
 use Rattle.kc_model.specs.Store.{Finds, Store}
 use Rattle.kc_model.specs.declared.footprint.Footprint.{Footprint}
-use Rattle.kc_model.specs.declared.footprint.Loc.{Loc}
 use Rattle.kc_model.specs.declared.footprint.Seen.{Seen}
 use Rattle.kc_model.specs.declared.footprint.TheConstants.{MOST}
 use Rattle.kc_model.specs.declared.reply.Answer.TheVariants as answer
 use Rattle.kc_model.specs.declared.reply.Item.{Item}
 use Rattle.kc_model.specs.declared.reply.Reply.{Reply}
 use Rattle.kc_model.specs.declared.reply.Reply.TheVariants as reply
-use Rattle.kc_xt.proofs.Chain.{then_call, stop_call, does_reply}
 use Rattle.kc_xt.proofs.Stay.{stays_touches}
 use Rattle.kc_xt.specs.Commit.{Answers, Waits, Wears, answer_of, run_on}
-use Rattle.kc_xt.specs.Meaning.{Meaning, Outcome, replied, retried, too_large, Touch, is_touched, limited, values}
-use Rattle.kc_xt.specs.Law.{Obeys}
-use Rattle.kc_xt.specs.Log.{Log}
-use Rattle.kc_xt.specs.Peeks.{Gives}
-use Rattle.kc_xt.specs.Program.{fetches_and_adds, replies}
-use Rattle.kc_xt.specs.Steps.{Does, stopping}
-use Rattle.kc_xt.specs.declared.stop.Stop.{Stop}
-use Rattle.kc_xt.specs.declared.stop.Stop.TheVariants.{Retry, TooLarge, Busy}
+use Rattle.kc_xt.specs.Meaning.{Outcome, replied, retried, too_large, Touch, is_touched, limited, values}
+use Rattle.kc_xt.specs.Program.{replies}
 
 -- ---- the one reply
 
@@ -157,49 +149,3 @@ module _ (o : LocOp) (one : has_one_location o ≡ true) (f : Footprint) where
 
   pub wears_aloud : (l : ℕ) → Wears (limited MOST (silent (loc_meaning o))) l f → Wears (limited MOST (loc_meaning o)) l f
   wears_aloud l h = record { well_made = h.well_made; run = λ s finds. (was_replied _ _ (h.run s finds).0.1, (h.run s finds).1); makes = λ s finds. h.makes s finds }
-
--- ---- a run that says nothing
-
-silenced_stop : (e : Stop) → silenced (stopping e) ≡ stopping e
-silenced_stop Retry = refl
-silenced_stop TooLarge = refl
-silenced_stop Busy = refl
-
-module _ {P : Type 0} {gives : Gives P} {m : Meaning} {b : ℕ} {x y : Log P} where
-  pub silently : {a : Reply} → Obeys gives m b x (Ok a) y → Obeys gives (silent m) b x (Ok reply.Unit) y
-  silently h = record {
-    limit = h.limit;
-    over = h.over;
-    keeps = h.keeps;
-    looks = h.looks;
-    looked = h.looked;
-    grown = h.grown;
-    room = h.room;
-    law = λ n under s agrees. let i = h.law n under s agrees in record { answer = ap silenced i.answer; lines = i.lines; looked = i.looked; below = i.below; waits = λ e. i.waits (was_retried _ e) };
-  }
-
-  stops_silently : {e : Stop} → Obeys gives m b x (Err e) y → Obeys gives (silent m) b x (Err e) y
-  stops_silently {e} h = record {
-    limit = h.limit;
-    over = h.over;
-    keeps = h.keeps;
-    looks = h.looks;
-    looked = h.looked;
-    grown = h.grown;
-    room = h.room;
-    law = λ n under s agrees. let i = h.law n under s agrees in record { answer = ap silenced i.answer ∙ silenced_stop e; lines = i.lines; looked = i.looked; below = i.below; waits = λ e. i.waits (was_retried _ e) };
-  }
-
-  pub stopped_silently : (e : Stop) (r : Result Reply Stop) → IsErrAnd r (λ d. d ≡ e) → Obeys gives m b x r y → Obeys gives (silent m) b x r y
-  stopped_silently e (Ok a) is h = absurd is
-  stopped_silently e (Err d) is h = stops_silently h
-
--- an add by one look-up
-module _ {P : Type 0} {gives : Gives P} {x y : Log P} (l : Loc) (n : ℕ) where
-  pub adds : {v : ℕ} → Does gives (fetches_and_adds l.0 n) x (Ok v) y → Does gives (loc_program (loc.FetchAdd l n)) x (Ok (reply.Value v)) y
-  unfolding loc_program
-  adds h = then_call {g = λ v k. k (reply.Value v)} h does_reply
-
-  pub adds_nothing : {e : Stop} → Does gives (fetches_and_adds l.0 n) x (Err e) y → Does gives (loc_program (loc.FetchAdd l n)) x (Err e) y
-  unfolding loc_program
-  adds_nothing h = stop_call {g = λ v k. k (reply.Value v)} h

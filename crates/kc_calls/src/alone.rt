@@ -8,10 +8,8 @@ ghost use Rattle.kc_calls.specs.Alone.{IsAlone, first_value, has_one_location, r
 ghost use Rattle.kc_calls.specs.Silent.{silent};
 ghost use Rattle.kc_calls.specs.Told.{told};
 ghost use Rattle.kc_loc.specs.Meaning.{LocIsFit, loc_end, loc_last, loc_meaning};
-ghost use Rattle.kc_loc.specs.declared.operation.LocOp.TheVariants as loc;
 ghost use Rattle.kc_model.specs.declared.plain_store.TheConstants.{MOST_LOCATIONS};
 ghost use Rattle.kc_term.specs.Meaning.{items_of};
-ghost use Rattle.kc_xt.specs.Law.{Obeys};
 
 use crate::operation::KcasOp;
 use crate::reply::{KcasReply, told};
@@ -51,46 +49,6 @@ impl Transact for Silent {
             }
         }
     }
-}
-
-/// What an add to a location does. It replies no more than that it is done, and looks its line up once, where `LocOp` looks it up to
-/// read and to put.
-#[derive(Clone, Copy)]
-pub struct SilentAdd {
-    pub at: Loc,
-    pub number: u32,
-}
-
-impl Transact for SilentAdd {
-    ghost meaning = { λ s. silent (loc_meaning (loc.FetchAdd s.at s.number)) };
-
-    ghost is_fit = { λ s. LocIsFit (loc.FetchAdd s.at s.number) };
-
-    ghost end = { λ s. loc_end (loc.FetchAdd s.at s.number) };
-
-    fn bound(&self) -> u32 {
-        LocOp::FetchAdd(self.at, self.number).bound()
-    }
-
-    fn limit(&self) -> u32 {
-        MOST as u32
-    }
-
-    #[inline(always)]
-    fn run<P: Peek>(&self, xt: &mut Xt<P>) -> Result<Reply, Stop> {
-        add(self.at, self.number, xt)
-    }
-}
-
-#[inline(always)]
-fn add<P: Peek>(at: Loc, number: u32, xt: &mut Xt<P>) -> Result<Reply, Stop>
-    requires fit { LocIsFit (loc.FetchAdd at number) }
-    requires within { loc_end (loc.FetchAdd at number) ≤ P.locations xt.old.peek }
-    ensures law { Obeys P.peek_gives (silent (loc_meaning (loc.FetchAdd at number))) (loc_end (loc.FetchAdd at number)) xt.old result xt.new }
-    ensures size { P.locations xt.new.peek ≡ P.locations xt.old.peek }
-{
-    xt.fetch_add(at, number)?;
-    Ok(Reply::Unit)
 }
 
 /// The operation, where there is one alone, on one location of a store of so many.
@@ -140,8 +98,9 @@ pub fn told_alone(operation: LocOp, footprint: &Footprint) -> KcasReply
     told(item_on(operation, first_value(footprint.reads.as_slice())))
 }
 
+/// The value of the first of these reads; 0 where there is none.
 #[inline(always)]
-fn first_value(reads: &[Seen]) -> u32
+pub fn first_value(reads: &[Seen]) -> u32
     ensures { result ≡ first_value reads.now }
 {
     match reads {

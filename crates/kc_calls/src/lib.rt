@@ -15,7 +15,7 @@ mod reply;
 mod said;
 mod verbs;
 
-pub use alone::{Silent, SilentAdd, alone_on_location, told_alone};
+pub use alone::{Silent, alone_on_location, first_value, told_alone};
 pub use call::Call;
 pub use calls::{Calls, MOST_ALTERNATIVES, MOST_CALLS};
 pub use checks::are_operations;
