@@ -1,3 +1,4 @@
+pub mod Adding
 pub mod Boxes
 pub mod Closed
 pub mod Copying

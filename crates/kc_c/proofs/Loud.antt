@@ -1,6 +1,6 @@
 -- One operation alone, which was made silently.
 use Rattle.std.proofs.Common.{◌≡◌, ◌≢◌, ◌≤◌, ◌==◌, ℕ, Bool, true, false, List, [], ◌∷◌, ◌++◌, length, drop, slice_set, refl, sym, ap, ◌∙◌, subst, arith, eq-eqb, eqb-true}
-use Rattle.kc_c.specs.Tries.{IsTried, IsTriedSilently, number_of, written}
+use Rattle.kc_c.specs.Tries.{IsToldBy, IsTried, IsTriedSilently, number_of, written}
 use Rattle.kc_c.specs.declared.answers.TheConstants.{DONE}
 use Rattle.kc_c.specs.declared.client.Client.{Client}
 use Rattle.kc_c.specs.declared.standing.Standing.TheVariants as standing
@@ -104,9 +104,9 @@ tried_alone locations ops o alone c d k j n v before after rested rests number t
   replies = replies;
 }
 
-pub tried_silently : (locations : ℕ) (ops : List KcasOp) (o : LocOp) → IsAlone locations ops o → (c d : Client) (k j : CallerView) (n : ℕ) (before after : List KcasReply) → c.standing ≡ standing.Rests k → d.standing ≡ standing.Rests j → length ops ≤ length before → IsTriedSilently (limited MOST (silent (loc_meaning o))) (loc_end o) o n k j d.footprint before after → IsTried ops c n d before after
-tried_silently locations ops o alone c d k j n before after rested rests room h = tried_alone locations ops o alone c d k j n h.verdict before after rested rests h.number h.tells h.remembers h.within (by (n == DONE) refl)
+pub tried_silently : (locations : ℕ) (ops : List KcasOp) (o : LocOp) → IsAlone locations ops o → (c d : Client) (k j : CallerView) (n : ℕ) (before after : List KcasReply) → c.standing ≡ standing.Rests k → d.standing ≡ standing.Rests j → length ops ≤ length before → IsTriedSilently (limited MOST (silent (loc_meaning o))) (loc_end o) n k j d.footprint → IsToldBy o d.footprint n before after → IsTried ops c n d before after
+tried_silently locations ops o alone c d k j n before after rested rests room h t = tried_alone locations ops o alone c d k j n h.verdict before after rested rests h.number h.tells h.remembers h.within (by (n == DONE) refl)
   where
     by : (b : Bool) → (n == DONE) ≡ b → after ≡ written ops (loud o d.footprint h.verdict) before
-    by true e = let is = eqb-true n DONE e in let w = h.done is in w.1 ∙ loud_written locations ops o alone d.footprint h.verdict before w.0 (sym h.number ∙ is) room w.2
-    by false e = let no : n ≢ DONE = λ is. absurd (let t : (n == DONE) ≡ true = eq-eqb n DONE is in let g = e in cc) in h.stays no ∙ none_written locations ops o alone d.footprint h.verdict before (λ v. no (h.number ∙ v))
+    by true e = let is = eqb-true n DONE e in let w = t.done is in w.1 ∙ loud_written locations ops o alone d.footprint h.verdict before w.0 (sym h.number ∙ is) room w.2
+    by false e = let no : n ≢ DONE = λ is. absurd (let t : (n == DONE) ≡ true = eq-eqb n DONE is in let g = e in cc) in t.stays no ∙ none_written locations ops o alone d.footprint h.verdict before (λ v. no (h.number ∙ v))

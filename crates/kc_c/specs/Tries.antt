@@ -6,13 +6,16 @@ use Rattle.kc_c.specs.declared.standing.Standing.TheVariants as standing
 use Rattle.kc_calls.specs.Alone.{first_value, reply_on}
 use Rattle.kc_calls.specs.Meaning.{calls_end, calls_meaning}
 use Rattle.kc_calls.specs.Operations.{AreOperations}
-use Rattle.kc_calls.specs.Told.{told}
+use Rattle.kc_calls.specs.Told.{told, told_item}
+use Rattle.kc_calls.specs.Words.{loc_op_words}
 use Rattle.kc_calls.specs.declared.operation.KcasOp.{KcasOp}
 use Rattle.kc_calls.specs.declared.reply.KcasReply.{KcasReply}
 use Rattle.kc_loc.specs.declared.operation.LocOp.{LocOp}
+use Rattle.kc_loc.specs.declared.operation.LocOp.TheVariants as loc
 use Rattle.kc_model.specs.Footprint.{IsBelow}
 use Rattle.kc_model.specs.declared.footprint.Footprint.{Footprint}
 use Rattle.kc_model.specs.declared.footprint.TheConstants.{MOST}
+use Rattle.kc_model.specs.declared.reply.Item.TheVariants as item
 use Rattle.kc_store.specs.Knows.{IsTold, Remembers}
 use Rattle.kc_store.specs.Verdicts.{has_entry}
 use Rattle.kc_store.specs.Views.{CallerView}
@@ -53,12 +56,25 @@ pub record IsTried (ops : List KcasOp) (c : Client) (n : ℕ) (d : Client) (befo
   pub within : has_entry verdict ≡ true → IsBelow (calls_end ops) d.footprint
   pub replies : after ≡ written ops verdict before
 
--- one try was made of what means this, and the first reply is what the operation replies by what was read
-pub record IsTriedSilently (m : Meaning) (end : ℕ) (o : LocOp) (n : ℕ) (c d : CallerView) (f : Footprint) (before after : List KcasReply) : Type 0 where
+-- one try was made of what means this
+pub record IsTriedSilently (m : Meaning) (end : ℕ) (n : ℕ) (c d : CallerView) (f : Footprint) : Type 0 where
   pub verdict : Verdict
   pub number : n ≡ number_of verdict
   pub tells : IsTold m verdict c f d
   pub remembers : Remembers c d
   pub within : has_entry verdict ≡ true → IsBelow end f
+
+-- where it was done, the first reply is what the operation replies by what was read
+pub record IsToldBy (o : LocOp) (f : Footprint) (n : ℕ) (before after : List KcasReply) : Type 0 where
   pub done : n ≡ DONE → (x : KcasReply) × (after ≡ slice_set before 0 x) × (told (items_of (reply_on o (first_value f.reads.items))) 1 ≡ x ∷ [])
   pub stays : n ≢ DONE → after ≡ before
+
+-- ---- an add
+
+-- an add of this number to this location, as C says it by kcas_try
+abbrev pub add_words : ℕ → ℕ → KcasOp
+add_words location number = loc_op_words (loc.FetchAdd (record { 0 = location }) number)
+
+-- this value, as kcas_try replies it
+abbrev pub value_told : ℕ → KcasReply
+value_told v = told_item (item.Value v)

@@ -1,9 +1,9 @@
 //! One try of C's operations.
 
-ghost use Rattle.std.specs.Prelude.{◌≡◌, ◌<◌, ◌≤◌, ◌==◌, false, true, length};
+ghost use Rattle.std.specs.Prelude.{◌≡◌, ◌<◌, ◌≤◌, ◌==◌, ◌∷◌, [], false, true, length};
 ghost use Rattle.kc_c.specs.declared.answers.TheConstants.{DONE};
 ghost use Rattle.kc_c.specs.Standings.{rests};
-ghost use Rattle.kc_c.specs.Tries.{IsTried, IsTriedSilently, MayTry, number_of};
+ghost use Rattle.kc_c.specs.Tries.{IsToldBy, IsTried, IsTriedSilently, MayTry, add_words, number_of, value_told};
 ghost use Rattle.kc_calls.specs.Alone.{has_one_location};
 ghost use Rattle.kc_calls.specs.Meaning.{CallsAreFit, calls_end, calls_meaning};
 ghost use Rattle.kc_calls.specs.Silent.{silent};
@@ -20,11 +20,11 @@ use crate::answers::{BAD_OPS, BUSY, DONE, LATER, LOST, NOT_NOW, POOL_WORN, TOO_L
 use crate::client::Client;
 use crate::standing::Standing;
 use kc_calls::{
-    Calls, KcasOp, KcasReply, Silent, SilentAdd, alone_on_location, are_operations, tell,
+    Calls, KcasOp, KcasReply, Silent, alone_on_location, are_operations, first_value, tell,
     told_alone,
 };
 use kc_loc::LocOp;
-use kc_model::Footprint;
+use kc_model::{Footprint, Loc};
 use kc_store::{Caller, Fate, Store};
 use kc_xt::{Transact, Trial, Went};
 
@@ -57,9 +57,8 @@ impl Client {
         if let Some(operation) = alone_on_location(ops, *locations) {
             return match operation {
                 LocOp::FetchAdd(at, number) => {
-                    let add = SilentAdd { at, number };
-                    let loud = LocOp::FetchAdd(at, number);
-                    try_silently(store, caller, &add, loud, footprint, replies, wakes)
+                    let add = LocOp::FetchAdd(at, number);
+                    try_alone(store, caller, add, footprint, replies, wakes)
                 }
                 _ => try_other(store, caller, operation, footprint, replies, wakes),
             };
@@ -75,34 +74,94 @@ impl Client {
         }
         number_of(fate, trial.went)
     }
+
+    /// One try to add to a location, as one transaction. What it read lies in the footprint; at DONE the value before is written.
+    #[inline(always)]
+    pub(crate) fn add(
+        &mut self,
+        location: u32,
+        number: u32,
+        before: &mut u32,
+        wakes: &mut u64,
+    ) -> u32
+        ensures not_now { rests self.old.standing ≡ false → (result ≡ NOT_NOW) × (self.new ≡ self.old) × (before.new ≡ before.old) × (wakes.new ≡ wakes.old) }
+        ensures bad_ops { rests self.old.standing ≡ true → self.old.locations ≤ location → (result ≡ BAD_OPS) × (self.new ≡ self.old) × (before.new ≡ before.old) × (wakes.new ≡ wakes.old) }
+        ensures tried { rests self.old.standing ≡ true → location < self.old.locations → IsTried (add_words location number ∷ []) self.old result self.new (value_told before.old ∷ []) (value_told before.new ∷ []) }
+    {
+        let Client {
+            store,
+            standing,
+            footprint,
+            locations,
+            ..
+        } = self;
+        let Standing::Rests(caller) = standing else {
+            return NOT_NOW;
+        };
+        if location >= *locations {
+            return BAD_OPS;
+        }
+        let add = Silent {
+            operation: LocOp::FetchAdd(Loc(location), number),
+        };
+        let answer = try_silently(store, caller, &add, footprint, wakes);
+        if answer != DONE {
+            return answer;
+        }
+        *before = first_value(footprint.reads.as_slice());
+        DONE
+    }
 }
 
-// One operation alone, by a transaction that does not say what it replies.
+// A transaction that does not say what it replies.
 #[inline(always)]
 fn try_silently<T: Transact>(
     store: &Store,
     caller: &mut Caller,
     transaction: &T,
-    operation: LocOp,
     footprint: &mut Footprint,
-    replies: &mut [KcasReply],
     wakes: &mut u64,
 ) -> u32
     requires caller { caller.old.of ≡ store.now }
     requires fit { T.is_fit transaction.now }
     requires within { T.end transaction.now ≤ store.now.locations }
-    requires room { 0 < length replies.old }
-    ensures { IsTriedSilently (limited (T.most transaction.now) (T.meaning transaction.now)) (T.end transaction.now) operation result caller.old caller.new footprint.new replies.old replies.new }
+    ensures { IsTriedSilently (limited (T.most transaction.now) (T.meaning transaction.now)) (T.end transaction.now) result caller.old caller.new footprint.new }
 {
     // Its own trial, which is kept in registers.
     let mut trial = Trial::new();
     let fate = store.try_in_place(caller, transaction, &mut trial, footprint);
     *wakes = caller.take_wakes();
     if is_done(fate, &trial) {
-        replies[0] = told_alone(operation, footprint);
         return DONE;
     }
     number_of(fate, trial.went)
+}
+
+// One operation alone, whose reply is told by what was read.
+#[inline(always)]
+fn try_alone(
+    store: &Store,
+    caller: &mut Caller,
+    operation: LocOp,
+    footprint: &mut Footprint,
+    replies: &mut [KcasReply],
+    wakes: &mut u64,
+) -> u32
+    requires caller { caller.old.of ≡ store.now }
+    requires fit { LocIsFit operation }
+    requires one { has_one_location operation ≡ true }
+    requires within { loc_end operation ≤ store.now.locations }
+    requires room { 0 < length replies.old }
+    ensures tried { IsTriedSilently (limited MOST (silent (loc_meaning operation))) (loc_end operation) result caller.old caller.new footprint.new }
+    ensures told { IsToldBy operation footprint.new result replies.old replies.new }
+{
+    let silent = Silent { operation };
+    let answer = try_silently(store, caller, &silent, footprint, wakes);
+    if answer != DONE {
+        return answer;
+    }
+    replies[0] = told_alone(operation, footprint);
+    DONE
 }
 
 // Kept apart from an add, which programs make most often: there nothing asks again what is done, and no room is wiped but its own.
@@ -120,10 +179,10 @@ fn try_other(
     requires one { has_one_location operation ≡ true }
     requires within { loc_end operation ≤ store.now.locations }
     requires room { 0 < length replies.old }
-    ensures { IsTriedSilently (limited MOST (silent (loc_meaning operation))) (loc_end operation) operation result caller.old caller.new footprint.new replies.old replies.new }
+    ensures tried { IsTriedSilently (limited MOST (silent (loc_meaning operation))) (loc_end operation) result caller.old caller.new footprint.new }
+    ensures told { IsToldBy operation footprint.new result replies.old replies.new }
 {
-    let silent = Silent { operation };
-    try_silently(store, caller, &silent, operation, footprint, replies, wakes)
+    try_alone(store, caller, operation, footprint, replies, wakes)
 }
 
 // Kept apart from one operation alone, for which the room for more would be wiped too, and laid behind it.
