@@ -196,6 +196,11 @@ uint32_t kcas_number(kcas_caller *caller);
  * whose hang this try has ended, at every answer of a try: who waits by hangs has to wake them. */
 uint32_t kcas_try(kcas_caller *caller, const kcas_op *ops, size_t count, kcas_reply *replies, size_t room, uint64_t *wakes);
 
+/* Tries once, as one transaction, to add a number to one location, which wraps: as kcas_try of one KCAS_ADD, for less. At KCAS_DONE
+ * *before gets the value that stood there; else it stays. KCAS_BAD_OPS for a location outside of the store. It never answers
+ * KCAS_LATER or KCAS_TOO_LARGE. */
+uint32_t kcas_add(kcas_caller *caller, uint32_t location, uint32_t number, uint32_t *before, uint64_t *wakes);
+
 /* One location and its version, without a transaction: KCAS_DONE; KCAS_BUSY; KCAS_BAD_OPS for a location outside. */
 uint32_t kcas_read(kcas_caller *caller, uint32_t location, uint32_t *value, uint32_t *version);
 
@@ -316,6 +321,22 @@ static inline void kcas_pause(void) {
 #endif
 }
 
+/* Wakes those whose hangs a try has ended. */
+static inline void kcas_wake(kcas_bell *bell, uint64_t wakes) {
+    for (uint32_t i = 0; wakes != 0 && bell; wakes >>= 1, i++) {
+        if (wakes & 1) kcas_rouse(&bell->seats[i]);
+    }
+}
+/* Lets others go on before the next try, longer each time. */
+static inline void kcas_back_off(uint32_t *pauses) {
+    for (uint32_t i = 0; i < *pauses; i++) kcas_pause();
+    if (*pauses < 1024) *pauses *= 2;
+}
+/* Wakes who waits by the bell, where something was done. */
+static inline void kcas_ring(kcas_bell *bell, uint32_t answer) {
+    if (answer == KCAS_DONE && bell && kcas_load(&bell->waiters) != 0) kcas_rouse(&bell->changes);
+}
+
 /* Tries until a try was neither lost nor given up, and wakes those whose hangs it ended. */
 static inline uint32_t kcas_commit_quietly(kcas_bell *bell, kcas_caller *caller, const kcas_op *ops, size_t count, kcas_reply *replies, size_t room) {
     uint32_t answer, pauses = 16;
@@ -323,12 +344,9 @@ static inline uint32_t kcas_commit_quietly(kcas_bell *bell, kcas_caller *caller,
     for (;;) {
         uint64_t wakes = 0;
         answer = kcas_try(caller, ops, count, replies, room, &wakes);
-        for (uint32_t i = 0; wakes != 0 && bell; wakes >>= 1, i++) {
-            if (wakes & 1) kcas_rouse(&bell->seats[i]);
-        }
+        kcas_wake(bell, wakes);
         if (answer != KCAS_LOST && answer != KCAS_BUSY) break;
-        for (uint32_t i = 0; i < pauses; i++) kcas_pause();
-        if (pauses < 1024) pauses *= 2;
+        kcas_back_off(&pauses);
     }
     kcas_exit(caller);
     return answer;
@@ -338,7 +356,23 @@ static inline uint32_t kcas_commit_quietly(kcas_bell *bell, kcas_caller *caller,
  * KCAS_BUSY. The bell may be NULL where nobody waits. */
 static inline uint32_t kcas_commit(kcas_bell *bell, kcas_caller *caller, const kcas_op *ops, size_t count, kcas_reply *replies, size_t room) {
     uint32_t answer = kcas_commit_quietly(bell, caller, ops, count, replies, room);
-    if (answer == KCAS_DONE && bell && kcas_load(&bell->waiters) != 0) kcas_rouse(&bell->changes);
+    kcas_ring(bell, answer);
+    return answer;
+}
+
+/* The same of kcas_add: KCAS_DONE, with the value before, unless the store is worn or the call is wrong. */
+static inline uint32_t kcas_commit_add(kcas_bell *bell, kcas_caller *caller, uint32_t location, uint32_t number, uint32_t *before) {
+    uint32_t answer, pauses = 16;
+    kcas_enter(caller);
+    for (;;) {
+        uint64_t wakes = 0;
+        answer = kcas_add(caller, location, number, before, &wakes);
+        kcas_wake(bell, wakes);
+        if (answer != KCAS_LOST && answer != KCAS_BUSY) break;
+        kcas_back_off(&pauses);
+    }
+    kcas_exit(caller);
+    kcas_ring(bell, answer);
     return answer;
 }
 

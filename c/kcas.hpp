@@ -77,6 +77,13 @@ public:
         return told;
     }
 
+    // Adds to one location, which wraps, and answers the value before. It costs less than an operation.
+    std::uint32_t add(std::uint32_t location, std::uint32_t number) {
+        std::uint32_t before = 0;
+        checked(kcas_commit_add(bell_.get(), &handle_, location, number, &before));
+        return before;
+    }
+
     // A body that is called with a log, as by kcas_run: false where it stopped.
     template <class Body>
     bool run(Body &&body) {

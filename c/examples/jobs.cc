@@ -34,7 +34,7 @@ void work(kcas::caller caller, const desk &on) {
             keep.add(on.cache, KCAS_CPUT, job, answer).add(on.worked, KCAS_INCR);
             caller.commit(keep);
         }
-        caller.commit(on.answered, KCAS_INCR);
+        caller.add(on.answered.base, 1);
     }
 }
 

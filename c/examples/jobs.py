@@ -15,7 +15,7 @@ jobs, done, total = layout.queue(16), layout.loc(), layout.loc()
 def work(caller):
     for _ in range(JOBS):
         job, _ = caller.commit_waiting(jobs.deqw(), done.incr())
-        caller.commit(total.add(job))
+        caller.add(total, job)
 
 
 with kcas.open(layout, callers=2) as (foreman, worker):

@@ -24,7 +24,7 @@ VERBS = {
 KINDS = {name: number for number, name in enumerate("loc stack queue table grow cache mvar promise acc".split(), 1)}
 FUNCTIONS = {name: number for number, name in enumerate("add max min and or xor".split(), 1)}
 RELATIONS = {name: number for number, name in enumerate("eq ne lt le gt ge".split(), 1)}
-DONE, LATER, LOST, BUSY = 0, 1, 5, 6
+DONE, LATER, LOST, BUSY, BAD_OPS = 0, 1, 5, 6, 18
 MOST_OPS = 16
 
 
@@ -74,6 +74,7 @@ def _library():
     size = ctypes.c_size_t
     lib.kcas_open.argtypes = [ctypes.POINTER(ctypes.c_uint32), size, ctypes.POINTER(_Handle), size]
     lib.kcas_try.argtypes = [ctypes.POINTER(_Handle), ctypes.POINTER(_Op), size, ctypes.POINTER(_Reply), size, ctypes.POINTER(ctypes.c_uint64)]
+    lib.kcas_add.argtypes = [ctypes.POINTER(_Handle), ctypes.c_uint32, ctypes.c_uint32, ctypes.POINTER(ctypes.c_uint32), ctypes.POINTER(ctypes.c_uint64)]
     lib.kcas_opening.argtypes = [ctypes.POINTER(_Object), ctypes.POINTER(ctypes.c_uint32), size]
     return lib
 
@@ -186,6 +187,7 @@ class Caller:
         self._bell = bell
         self._replies = (_Reply * MOST_OPS)()
         self._wakes = ctypes.c_uint64()
+        self._before = ctypes.c_uint32()
 
     def close(self):
         _lib.kcas_close(ctypes.byref(self._handle))
@@ -207,6 +209,20 @@ class Caller:
             raise Refused(answer)
         self._bell.ring()
         return [reply.told() for reply in self._replies[: len(ops)] if reply.kind != 0]
+
+    def add(self, location, number):
+        """Adds to a location, which wraps, and answers the value before. It costs less than an operation."""
+        on = location._raw
+        if on.kind != KINDS["loc"]:
+            raise Refused(BAD_OPS)
+        while True:
+            answer = _lib.kcas_add(ctypes.byref(self._handle), on.base, number & 0xFFFFFFFF, ctypes.byref(self._before), ctypes.byref(self._wakes))
+            if answer not in (LOST, BUSY):
+                break
+        if answer != DONE:
+            raise Refused(answer)
+        self._bell.ring()
+        return self._before.value
 
     def first(self, *alternatives):
         """The first of these lists of operations that doesn't wait."""

@@ -1,7 +1,7 @@
 #!/usr/bin/env bash
-# Times one add, set and get by the library for C beside Rattle's own call of the same, in turn, each in a program of its own, and counts the
-# instructions where valgrind is installed. Rattle's own call is made twice: of an operation that the compiler knows, and of one that is
-# chosen as the program runs, as C's is. Builds the programs in Rattle anew, in a clone of its own. The library is made
+# Times one add, set and get by the library for C, and an add by kcas_add, beside Rattle's own call of the same, in turn, each in a program
+# of its own, and counts the instructions where valgrind is installed. Rattle's own call is made twice: of an operation that the compiler
+# knows, and of one that is chosen as the program runs, as that of kcas_commit is. Builds the programs in Rattle anew, in a clone of its own. The library is made
 # first: tools/c/build.sh. What is proved already goes along where KCAS_PROVED names a tree that has it.
 # Usage: tools/c/one.sh [RUNS]
 set -eu
@@ -32,6 +32,7 @@ build() {
 build add "LocOp::FetchAdd(at, number)" KCAS_ADD
 build set "LocOp::Set(at, number)" KCAS_SET
 build get "LocOp::Get(at)" KCAS_GET
+gcc -std=gnu11 -O2 -I "$top/c" -DNAME='"kcas_add"' -DBY_ADD "$one/one.c" "$to/libkcas.a" -o "$room/c_kcas_add"
 instructions() {
     valgrind --tool=callgrind --callgrind-out-file=/dev/null "$1" "$2" 2>&1 > /dev/null | awk '/Collected/ { print $NF }'
 }
@@ -42,13 +43,12 @@ instructions() {
             "$room/data_$way"
             "$room/c_$way"
         done
+        "$room/c_kcas_add"
     done
     if command -v valgrind > /dev/null; then
-        for way in add set get; do
-            for who in own data c; do
-                few=$(instructions "$room/${who}_$way" 1000)
-                echo "$who $way $((($(instructions "$room/${who}_$way" 3000) - few) / 2000))"
-            done
+        for program in {own,data,c}_{add,set,get} c_kcas_add; do
+            few=$(instructions "$room/$program" 1000)
+            echo "${program/_/ } $((($(instructions "$room/$program" 3000) - few) / 2000))"
         done
     fi
 } > "$room/times"

@@ -19,7 +19,7 @@ try() {
         echo "no $name here: left out"
         return
     fi
-    for test in calls refused sums waits soak; do
+    for test in calls refused adds sums waits soak; do
         wrap=()
         [ "$test" = refused ] && wrap=(-Wl,--wrap=malloc,--wrap=realloc,--wrap=free)
         gcc -std=c11 -g -O1 -Wall -Wextra "$@" -I "$top/c" "$top/tools/c/tests/$test.c" "$to/libkcas.a" "${wrap[@]}" -pthread -o "$room/$test"

@@ -1,5 +1,8 @@
-//! Two threads move money between four accounts, and a third waits until one account has enough.
+//! Two threads move money between four accounts and count their tries, and a third waits until one account has enough.
 use kcas::{Object, Op, Refused, Reply, ADD, CHECK, GE, GET, MOST_OPS};
+
+// Where the tries are counted.
+const TRIES: u32 = 4;
 
 fn moved(from: u32, to: u32, amount: u32) -> [Op; 3] {
     [
@@ -23,7 +26,7 @@ fn total(replies: [Reply; MOST_OPS]) -> u32 {
 }
 
 fn main() -> Result<(), Refused> {
-    let mut callers = kcas::open(&[1000, 1000, 1000, 0], 3)?;
+    let mut callers = kcas::open(&[1000, 1000, 1000, 0, 0], 3)?;
     let mut last = callers.pop().expect("there are three");
     let clerks: Vec<_> = callers
         .into_iter()
@@ -32,6 +35,7 @@ fn main() -> Result<(), Refused> {
             std::thread::spawn(move || {
                 for i in 0..10_000 {
                     caller.commit(&moved((i + me) % 3, (i * 7 + me) % 3, i % 50))?;
+                    caller.add(TRIES, 1)?;
                 }
                 caller.commit_waiting(&moved(me, 3, 1))
             })
@@ -43,8 +47,9 @@ fn main() -> Result<(), Refused> {
     }
     let looks: [Op; 4] = std::array::from_fn(|at| Object::location(at as u32).op(GET, 0, 0));
     println!(
-        "the accounts have {}",
-        last.commit(&looks)?.map_or(0, total)
+        "the accounts have {} after {} tries",
+        last.commit(&looks)?.map_or(0, total),
+        last.read(TRIES)?
     );
     Ok(())
 }

@@ -86,6 +86,13 @@ extern "C" {
         room: usize,
         wakes: *mut u64,
     ) -> u32;
+    fn kcas_add(
+        caller: *mut Handle,
+        location: u32,
+        number: u32,
+        before: *mut u32,
+        wakes: *mut u64,
+    ) -> u32;
     fn kcas_read(caller: *mut Handle, location: u32, value: *mut u32, version: *mut u32) -> u32;
     fn kcas_cells(object: *const Object) -> u32;
     fn kcas_opening(object: *const Object, values: *mut u32, room: usize) -> u32;
@@ -265,6 +272,28 @@ impl Caller {
     /// One operation, and its reply.
     pub fn one(&mut self, op: Op) -> Result<Option<Reply>, Refused> {
         Ok(self.commit(&[op])?.map(|replies| replies[0]))
+    }
+
+    /// Adds to one location, which wraps, and answers the value before. It costs less than an operation.
+    pub fn add(&mut self, location: u32, number: u32) -> Result<u32, Refused> {
+        let (mut before, mut wakes) = (0, 0);
+        loop {
+            match unsafe {
+                kcas_add(
+                    &mut self.handle.0,
+                    location,
+                    number,
+                    &mut before,
+                    &mut wakes,
+                )
+            } {
+                DONE => break,
+                LOST | BUSY => spin_loop(),
+                answer => return Err(Refused(answer)),
+            }
+        }
+        self.ring();
+        Ok(before)
     }
 
     /// The value of a location, without a transaction.
