@@ -6,8 +6,8 @@ use Rattle.std.proofs.lemmas.List.Sums.{sum_by-cons, sum_by_more}
 use Rattle.kc_history.specs.RecordsValue.{RecordsValue}
 use Rattle.kc_history.proofs.Choice.{some_is}
 use Rattle.kc_history.proofs.Tallies.{climbs}
-use Rattle.kc_history.proofs.Totals.{total_all, record_is, list_is}
-use Rattle.kc_history.specs.Counts.{foot_at, footprints, total, readers_of, putters_of, slot, width, Slots, Counted}
+use Rattle.kc_history.proofs.Totals.{unplaced_all, record_is, list_is}
+use Rattle.kc_history.specs.Counts.{foot_at, footprints, sum_unplaced, readers_of, putters_of, slot, width, Slots, Counted}
 use Rattle.kc_history.specs.declared.record.Record.{Record}
 use Rattle.kc_model.specs.declared.footprint.Footprint.{Footprint}
 
@@ -85,8 +85,8 @@ none_left_at vs t v n k f lt e h r =
     let b = in_items v.items k f (ap (λ xs. slice_get xs k) (sym (list_is vs t v lt e)) ∙ r) in
     omega arith
 
-total_at_zero : (w : Footprint → ℕ) (vs : List RecordsValue) (next : List ℕ) → ((u : ℕ) → slice_index next u ≡ 0) → total w vs (slice_index next) ≡ sum_by (λ (v : RecordsValue). sum_by (λ (r : Record). w r.footprint) v.items) vs
-total_at_zero w vs next h = ap (total w vs) (fun_ext h) ∙ total_all w vs
+unplaced_at_zero : (w : Footprint → ℕ) (vs : List RecordsValue) (next : List ℕ) → ((u : ℕ) → slice_index next u ≡ 0) → sum_unplaced w vs (slice_index next) ≡ sum_by (λ (v : RecordsValue). sum_by (λ (r : Record). w r.footprint) v.items) vs
+unplaced_at_zero w vs next h = ap (sum_unplaced w vs) (fun_ext h) ∙ unplaced_all w vs
 
 pub opening_counts : (vs : List RecordsValue) (next versions starts widths left : List ℕ) →
     length starts ≡ length versions + 1 → length starts ≡ length widths → ((k : ℕ) → k < length widths → slice_index starts k ≡ sum (take k widths)) → Slots starts (length left) →
@@ -97,11 +97,11 @@ pub opening_counts : (vs : List RecordsValue) (next versions starts widths left 
 opening_counts vs next versions starts widths left lens len h slots none zeros puts reads = record {
   slots = slots;
   lengths = lens;
-  counts = λ l v lt vt. reads l v (omega arith) vt ∙ sym (total_at_zero (readers_of l v) vs next none);
+  counts = λ l v lt vt. reads l v (omega arith) vt ∙ sym (unplaced_at_zero (readers_of l v) vs next none);
   widths = λ l lt.
       let a = width_is starts widths len h l (omega arith) in
       let b = puts l (omega arith) in
-      let c = total_at_zero (putters_of l) vs next none in
+      let c = unplaced_at_zero (putters_of l) vs next none in
       let d = zeros l in
       omega arith;
 }

@@ -5,8 +5,8 @@ use Rattle.kc_history.specs.RecordsValue.{RecordsValue}
 use Rattle.kc_history.proofs.Exchange.{more_least}
 use Rattle.kc_history.proofs.Ready.{same_or, more_same, still}
 use Rattle.kc_history.proofs.Tallies.{other_loc, other_version}
-use Rattle.kc_history.proofs.Totals.{total_step, zero_each, each_zero, no_readers, reader_in, one_reader}
-use Rattle.kc_history.specs.Counts.{foot_at, total, readers, readers_of, slot, WellMade, AllWellMade, Passes, Counted}
+use Rattle.kc_history.proofs.Totals.{unplaced_step, zero_each, each_zero, no_readers, reader_in, one_reader}
+use Rattle.kc_history.specs.Counts.{foot_at, sum_unplaced, readers, readers_of, slot, WellMade, AllWellMade, Passes, Counted}
 use Rattle.kc_history.specs.Order.{more, IsNext, Ready}
 use Rattle.kc_history.specs.declared.record.Place.{Place}
 use Rattle.kc_model.specs.Footprint.{Reads, Puts, PutsWhatItReads}
@@ -50,14 +50,14 @@ module _ (vs : List RecordsValue) (next versions starts left : List ℕ) (well :
       }
 
   -- the count at a put is one more than that of the records behind
-  count_at : (t : ℕ) (f : Footprint) → a t (n t) ≡ Some f → (q : Put) → ReadsPut f q → slice_index left (slot starts q.loc.0 (v q.loc.0)) ≡ 1 + total (readers_of q.loc.0 q.version) vs (more t n)
+  count_at : (t : ℕ) (f : Footprint) → a t (n t) ≡ Some f → (q : Put) → ReadsPut f q → slice_index left (slot starts q.loc.0 (v q.loc.0)) ≡ 1 + sum_unplaced (readers_of q.loc.0 q.version) vs (more t n)
   count_at t f at q h =
       let w = counted.widths q.loc.0 h.below in
       let e = counted.counts q.loc.0 (v q.loc.0) h.below (omega arith) in
-      let s = total_step (readers_of q.loc.0 (v q.loc.0)) vs n t f at in
+      let s = unplaced_step (readers_of q.loc.0 (v q.loc.0)) vs n t f at in
       let one = one_reader q.loc.0 (v q.loc.0) f.reads.items (well t (n t) f at).reads_rise in
       let some = reader_in q.loc.0 (v q.loc.0) f.reads.items h.read h.stands h.there (h.same ∙ sym h.now) in
-      let x : total (readers_of q.loc.0 (v q.loc.0)) vs (more t n) ≡ total (readers_of q.loc.0 q.version) vs (more t n) = ap (λ k. total (readers_of q.loc.0 k) vs (more t n)) h.now in
+      let x : sum_unplaced (readers_of q.loc.0 (v q.loc.0)) vs (more t n) ≡ sum_unplaced (readers_of q.loc.0 q.version) vs (more t n) = ap (λ k. sum_unplaced (readers_of q.loc.0 k) vs (more t n)) h.now in
       omega arith
 
   pub passes_ready : (p : Place) (f : Footprint) → p.index ≡ n p.thread → Passes vs next versions starts left p.thread f → Ready a n v p f
@@ -95,7 +95,7 @@ module _ (vs : List RecordsValue) (next versions starts left : List ℕ) (well :
             let hq = Contains-get_or f.puts.items k d lt in
             let put = reads_put p.thread f is h.reads q hq in
             let e = count_at p.thread f is q put in
-            let z : total (readers_of q.loc.0 q.version) vs (more p.thread n) ≡ 0 = each_zero (readers_of q.loc.0 q.version) vs (more p.thread n) (λ u j g at below.
+            let z : sum_unplaced (readers_of q.loc.0 q.version) vs (more p.thread n) ≡ 0 = each_zero (readers_of q.loc.0 q.version) vs (more p.thread n) (λ u j g at below.
             let o = others p f h.next u j below in
             no_readers q.loc.0 q.version g.reads.items (λ i d lt.
             let r = slice_index_or g.reads.items i d in

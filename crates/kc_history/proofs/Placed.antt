@@ -9,8 +9,8 @@ use Rattle.kc_history.proofs.Opening.{in_items}
 use Rattle.kc_history.proofs.Passing.{passes_ready, ready_passes}
 use Rattle.kc_history.proofs.Ready.{same_or, more_same, more_other, Skips, skips_or, ends_what_stands}
 use Rattle.kc_history.proofs.Tallies.{all_taken}
-use Rattle.kc_history.proofs.Totals.{total_step, zero_each, reader_in, raised_as_put, same_record, list_is, foot_is}
-use Rattle.kc_history.specs.Counts.{Slots, Forgets, footprints, foot_at, total, readers, readers_of, putters_of, slot, width, records_in, WellMade, AllWellMade, Passes, Counted}
+use Rattle.kc_history.proofs.Totals.{unplaced_step, zero_each, reader_in, raised_as_put, same_record, list_is, foot_is}
+use Rattle.kc_history.specs.Counts.{Slots, Forgets, footprints, foot_at, sum_unplaced, readers, readers_of, putters_of, slot, width, records_in, WellMade, AllWellMade, Passes, Counted}
 use Rattle.kc_history.specs.Order.{Footprints, version_after, more, raised, NoneReady, Ready, Chosen, Chooses}
 use Rattle.kc_history.specs.Records.{print_of}
 use Rattle.kc_history.specs.Tested.{Finds, IsTested, AllTested, untested, Placing}
@@ -51,7 +51,7 @@ length_is : (xs : List Record) → sum_by (λ _. 1) (footprints xs) ≡ length x
 length_is [] = refl
 length_is (x ∷ xs) = let a = sum_by-cons (λ (_ : Footprint). 1) x.footprint (footprints xs) in let b = length_is xs in omega arith
 
-pub all_records : (vs : List RecordsValue) → total (λ _. 1) vs (λ _. 0) ≡ records_in vs
+pub all_records : (vs : List RecordsValue) → sum_unplaced (λ _. 1) vs (λ _. 0) ≡ records_in vs
 all_records [] = refl
 all_records (v ∷ vs) =
     let a = length_is v.items in
@@ -70,8 +70,8 @@ pub nothing_tested : (versions starts left : List ℕ) (f : Footprint) → IsTes
 nothing_tested versions starts left f = record { finds = λ i d lt. absurd (omega arith); alone = λ i d lt. absurd (omega arith); behind = λ lt. absurd (omega arith) }
 
 -- where a record that doesn't stand yet counts, the sum does
-total_some : (w : Footprint → ℕ) (vs : List RecordsValue) (n : ℕ → ℕ) (u k : ℕ) (g : Footprint) → foot_at vs u k ≡ Some g → n u ≤ k → 1 ≤ w g → 1 ≤ total w vs n
-total_some w vs n u k g at le some = elim (same_or (total w vs n) 0) [
+unplaced_some : (w : Footprint → ℕ) (vs : List RecordsValue) (n : ℕ → ℕ) (u k : ℕ) (g : Footprint) → foot_at vs u k ≡ Some g → n u ≤ k → 1 ≤ w g → 1 ≤ sum_unplaced w vs n
+unplaced_some w vs n u k g at le some = elim (same_or (sum_unplaced w vs n) 0) [
   | inl none ↦ absurd (let z = zero_each w vs n none u k g at le in omega arith)
   | inr ne ↦ omega arith
 ]
@@ -93,7 +93,7 @@ module _ (vs : List RecordsValue) (next versions starts left : List ℕ) (well :
   reads_counted l v lt vt =
       let a = counted.lengths in
       let b = counted.counts l v (omega arith) vt in
-      let c = total_step (readers_of l v) vs n t f passes.is in
+      let c = unplaced_step (readers_of l v) vs n t f passes.is in
       omega arith
 
   pub puts_room : All (λ (p : Put). slice_index versions p.loc.0 + 1 < 2 ^ 32) f.puts.items
@@ -113,14 +113,14 @@ module _ (vs : List RecordsValue) (next versions starts left : List ℕ) (well :
         let len = counted.lengths in
         let a = forget l v (omega arith) vt in
         let b = counted.counts l v (omega arith) vt in
-        let c = total_step (readers_of l v) vs n t f passes.is in
-        let d : total (readers_of l v) vs (slice_index next') ≡ total (readers_of l v) vs (more t n) = ap (total (readers_of l v) vs) e in
+        let c = unplaced_step (readers_of l v) vs n t f passes.is in
+        let d : sum_unplaced (readers_of l v) vs (slice_index next') ≡ sum_unplaced (readers_of l v) vs (more t n) = ap (sum_unplaced (readers_of l v) vs) e in
         omega arith;
     widths = λ l lt.
         let a = raise l in
         let b = raised_as_put l (slice_index versions l) f.puts.items made.puts_rise in
-        let c = total_step (putters_of l) vs n t f passes.is in
-        let d : total (putters_of l) vs (slice_index next') ≡ total (putters_of l) vs (more t n) = ap (total (putters_of l) vs) e in
+        let c = unplaced_step (putters_of l) vs n t f passes.is in
+        let d : sum_unplaced (putters_of l) vs (slice_index next') ≡ sum_unplaced (putters_of l) vs (more t n) = ap (sum_unplaced (putters_of l) vs) e in
         let g = counted.widths l (omega arith) in
         omega arith;
   }
@@ -146,8 +146,8 @@ module _ (vs : List RecordsValue) (next versions starts left : List ℕ) (well :
         known = known';
         room =
             let a = placing.room in
-            let b = total_step (λ _. 1) vs n t f passes.is in
-            let d : total (λ _. 1) vs (slice_index next') ≡ total (λ _. 1) vs (more t n) = ap (total (λ _. 1) vs) e in
+            let b = unplaced_step (λ _. 1) vs n t f passes.is in
+            let d : sum_unplaced (λ _. 1) vs (slice_index next') ≡ sum_unplaced (λ _. 1) vs (more t n) = ap (sum_unplaced (λ _. 1) vs) e in
             omega arith;
       }
 
@@ -195,7 +195,7 @@ module _ (vs : List RecordsValue) (next versions starts left : List ℕ) (well :
         let left_of : n u ≤ n u = omega arith in
         let waits : slice_index next' u ≤ n u = (let m = more_other t n u ne in let x : slice_index next' u ≡ more t n u = ap (λ (n : ℕ → ℕ). n u) e in omega arith) in
         let one : 1 ≤ readers_of q.loc.0 (slice_index versions q.loc.0) g = reader_in q.loc.0 (slice_index versions q.loc.0) g.reads.items r d' there (sym stands) in
-        let some = total_some (readers_of q.loc.0 (slice_index versions q.loc.0)) vs (slice_index next') u (n u) g at waits one in
+        let some = unplaced_some (readers_of q.loc.0 (slice_index versions q.loc.0)) vs (slice_index next') u (n u) g at waits one in
         let alone = known.alone i d lt in
         let slot' : slice_index left' (slot starts q.loc.0 (slice_index versions' q.loc.0)) ≡ slice_index left' (slot starts q.loc.0 (slice_index versions q.loc.0)) = ap (λ v. slice_index left' (slot starts q.loc.0 v)) stays in
         omega arith;

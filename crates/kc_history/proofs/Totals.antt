@@ -14,7 +14,7 @@ use Rattle.kc_history.proofs.Choice.{some_is}
 use Rattle.kc_history.proofs.Kept.{print_at}
 use Rattle.kc_history.proofs.Ready.{no_some, same_or, more_same, more_other}
 use Rattle.kc_history.proofs.Tallies.{one_read, other_loc}
-use Rattle.kc_history.specs.Counts.{AllWellMade, list_at, footprints, foot_at, total, reads_at, readers, putters, puts_at}
+use Rattle.kc_history.specs.Counts.{AllWellMade, list_at, footprints, foot_at, sum_unplaced, reads_at, readers, putters, puts_at}
 use Rattle.kc_history.specs.Order.{Footprints, more, version_after}
 use Rattle.kc_history.specs.declared.record.Record.{Record}
 use Rattle.kc_model.specs.Footprint.{put_at}
@@ -43,23 +43,23 @@ more_behind t n u = elim (same_or u t) [
 ]
 
 -- one more record stands
-pub total_step : (w : Footprint → ℕ) (vs : List RecordsValue) (n : ℕ → ℕ) (t : ℕ) (f : Footprint) → foot_at vs t (n t) ≡ Some f → total w vs n ≡ w f + total w vs (more t n)
-total_step w [] n t f e = absurd (no_some f e)
-total_step w (v ∷ vs) n zero f e =
+pub unplaced_step : (w : Footprint → ℕ) (vs : List RecordsValue) (n : ℕ → ℕ) (t : ℕ) (f : Footprint) → foot_at vs t (n t) ≡ Some f → sum_unplaced w vs n ≡ w f + sum_unplaced w vs (more t n)
+unplaced_step w [] n t f e = absurd (no_some f e)
+unplaced_step w (v ∷ vs) n zero f e =
     let a = rest_step w (footprints v.items) (n zero) f e in
     let b : sum_by w (drop (more zero n zero) (footprints v.items)) ≡ sum_by w (drop (n zero + 1) (footprints v.items)) = ap (λ k. sum_by w (drop k (footprints v.items))) (more_same zero n zero refl) in
-    let d : total w vs (λ u. more zero n (suc u)) ≡ total w vs (λ u. n (suc u)) = ap (total w vs) (fun_ext (more_zero_behind n)) in
+    let d : sum_unplaced w vs (λ u. more zero n (suc u)) ≡ sum_unplaced w vs (λ u. n (suc u)) = ap (sum_unplaced w vs) (fun_ext (more_zero_behind n)) in
     omega arith
-total_step w (v ∷ vs) n (suc t) f e =
-    let a = total_step w vs (λ u. n (suc u)) t f e in
+unplaced_step w (v ∷ vs) n (suc t) f e =
+    let a = unplaced_step w vs (λ u. n (suc u)) t f e in
     let b : sum_by w (drop (more (suc t) n zero) (footprints v.items)) ≡ sum_by w (drop (n zero) (footprints v.items)) = ap (λ k. sum_by w (drop k (footprints v.items))) (more_zero t n) in
-    let d : total w vs (λ u. more (suc t) n (suc u)) ≡ total w vs (more t (λ u. n (suc u))) = ap (total w vs) (fun_ext (more_behind t n)) in
+    let d : sum_unplaced w vs (λ u. more (suc t) n (suc u)) ≡ sum_unplaced w vs (more t (λ u. n (suc u))) = ap (sum_unplaced w vs) (fun_ext (more_behind t n)) in
     omega arith
 
 -- where none stands, over all
-pub total_all : (w : Footprint → ℕ) (vs : List RecordsValue) → total w vs (λ _. 0) ≡ sum_by (λ (v : RecordsValue). sum_by (λ (r : Record). w r.footprint) v.items) vs
-total_all w [] = refl
-total_all w (v ∷ vs) = ap₂ (λ (j k : ℕ). j + k) (sum_footprints w v.items) (total_all w vs) ∙ sym (sum_by-cons (λ (v : RecordsValue). sum_by (λ (r : Record). w r.footprint) v.items) v vs)
+pub unplaced_all : (w : Footprint → ℕ) (vs : List RecordsValue) → sum_unplaced w vs (λ _. 0) ≡ sum_by (λ (v : RecordsValue). sum_by (λ (r : Record). w r.footprint) v.items) vs
+unplaced_all w [] = refl
+unplaced_all w (v ∷ vs) = ap₂ (λ (j k : ℕ). j + k) (sum_footprints w v.items) (unplaced_all w vs) ∙ sym (sum_by-cons (λ (v : RecordsValue). sum_by (λ (r : Record). w r.footprint) v.items) v vs)
   where
     sum_footprints : (w : Footprint → ℕ) (rs : List Record) → sum_by w (footprints rs) ≡ sum_by (λ (r : Record). w r.footprint) rs
     sum_footprints w [] = refl
@@ -72,7 +72,7 @@ zero_in w (x ∷ xs) zero (suc k) g z h e = let a = sum_by-cons w x xs in zero_i
 zero_in w (x ∷ xs) (suc j) zero g z h e = absurd (omega arith)
 zero_in w (x ∷ xs) (suc j) (suc k) g z h e = zero_in w xs j k g z (omega arith) e
 
-pub zero_each : (w : Footprint → ℕ) (vs : List RecordsValue) (n : ℕ → ℕ) → total w vs n ≡ 0 → (u k : ℕ) (g : Footprint) → foot_at vs u k ≡ Some g → n u ≤ k → w g ≡ 0
+pub zero_each : (w : Footprint → ℕ) (vs : List RecordsValue) (n : ℕ → ℕ) → sum_unplaced w vs n ≡ 0 → (u k : ℕ) (g : Footprint) → foot_at vs u k ≡ Some g → n u ≤ k → w g ≡ 0
 zero_each w [] n z u k g e h = absurd (no_some g e)
 zero_each w (v ∷ vs) n z zero k g e h = zero_in w (footprints v.items) (n zero) k g (omega arith) h e
 zero_each w (v ∷ vs) n z (suc u) k g e h = zero_each w vs (λ u. n (suc u)) (omega arith) u k g e h
@@ -87,7 +87,7 @@ in_zero w (x ∷ xs) zero h =
     omega arith
 in_zero w (x ∷ xs) (suc j) h = in_zero w xs j (λ k g e l. h (suc k) g e (omega arith))
 
-pub each_zero : (w : Footprint → ℕ) (vs : List RecordsValue) (n : ℕ → ℕ) → ((u k : ℕ) (g : Footprint) → foot_at vs u k ≡ Some g → n u ≤ k → w g ≡ 0) → total w vs n ≡ 0
+pub each_zero : (w : Footprint → ℕ) (vs : List RecordsValue) (n : ℕ → ℕ) → ((u k : ℕ) (g : Footprint) → foot_at vs u k ≡ Some g → n u ≤ k → w g ≡ 0) → sum_unplaced w vs n ≡ 0
 each_zero w [] n h = refl
 each_zero w (v ∷ vs) n h =
     let a = in_zero w (footprints v.items) (n zero) (h zero) in

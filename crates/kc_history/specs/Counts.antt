@@ -53,9 +53,9 @@ abbrev pub foot_at : List RecordsValue → ℕ → ℕ → Option Footprint
 foot_at vs u k = slice_get (list_at vs u) k
 
 -- the sum over all records that don't stand yet
-abbrev pub total : (Footprint → ℕ) → List RecordsValue → (ℕ → ℕ) → ℕ
-total w [] n = 0
-total w (v ∷ vs) n = sum_by w (drop (n zero) (footprints v.items)) + total w vs (λ u. n (suc u))
+abbrev pub sum_unplaced : (Footprint → ℕ) → List RecordsValue → (ℕ → ℕ) → ℕ
+sum_unplaced w [] n = 0
+sum_unplaced w (v ∷ vs) n = sum_by w (drop (n zero) (footprints v.items)) + sum_unplaced w vs (λ u. n (suc u))
 
 abbrev pub readers_of : ℕ → ℕ → Footprint → ℕ
 readers_of l v f = readers l v f.reads.items
@@ -84,5 +84,5 @@ pub record Passes (vs : List RecordsValue) (next versions starts left : List ℕ
 pub record Counted (vs : List RecordsValue) (next versions starts left : List ℕ) : Type 0 where
   pub slots : Slots starts (length left)
   pub lengths : length starts ≡ length versions + 1
-  pub counts : (l v : ℕ) → l < length versions → v < width starts l → slice_index left (slot starts l v) ≡ total (readers_of l v) vs (slice_index next)
-  pub widths : (l : ℕ) → l < length versions → slice_index versions l + total (putters_of l) vs (slice_index next) + 1 ≡ width starts l
+  pub counts : (l v : ℕ) → l < length versions → v < width starts l → slice_index left (slot starts l v) ≡ sum_unplaced (readers_of l v) vs (slice_index next)
+  pub widths : (l : ℕ) → l < length versions → slice_index versions l + sum_unplaced (putters_of l) vs (slice_index next) + 1 ≡ width starts l

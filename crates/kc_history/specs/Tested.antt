@@ -1,7 +1,7 @@
 -- What is known of the records that come next, and what holds while records are placed. It serves private functions and proofs.
 use Rattle.std.specs.Prelude.{◌≡◌, ℕ, ◌+◌, ◌<◌, ◌≤◌, List, Some, All, take, length, slice_index, slice_index_or}
 use Rattle.kc_history.specs.RecordsValue.{RecordsValue}
-use Rattle.kc_history.specs.Counts.{Counted, foot_at, records_in, slot, total}
+use Rattle.kc_history.specs.Counts.{Counted, foot_at, records_in, slot, sum_unplaced}
 use Rattle.kc_history.specs.Order.{Chooses}
 use Rattle.kc_history.specs.declared.placing.Tested.{Tested}
 use Rattle.kc_history.specs.declared.record.Place.{Place}
@@ -35,4 +35,4 @@ pub record Placing (vs : List RecordsValue) (order : List Place) (placed : ℕ) 
   pub chooses : Chooses (foot_at vs) (λ _. 0) (λ _. 0) (take placed order) (slice_index next) (slice_index versions)
   pub counted : Counted vs next versions starts left
   pub known : AllTested vs next versions starts left tested
-  pub room : placed + total (λ _. 1) vs (slice_index next) ≡ records_in vs
+  pub room : placed + sum_unplaced (λ _. 1) vs (slice_index next) ≡ records_in vs

@@ -4,7 +4,7 @@ use Rattle.std.specs.Prelude.{IfOk, OnErr}
 use Rattle.atomic_table.specs.Table.{Me, rest}
 use Rattle.kc_locked.proofs.Sound.{sound_more}
 use Rattle.kc_locked.specs.Held.{HeldView, IsSound, Adds, Commits}
-use Rattle.kc_locked.specs.Locked.{Grown, part, free_view}
+use Rattle.kc_locked.specs.Locked.{Grown, pass_part, free_view}
 use Rattle.kc_locked.specs.Locked.{made_by, own_first}
 use Rattle.kc_locked.specs.declared.held.Waits.{Waits}
 use Rattle.kc_locked.specs.declared.rule.View.{View}
@@ -41,5 +41,5 @@ pub back : (me after : Mine) (h now : HeldView) → me.1 ≡ (0, h) ∷ [] → a
 back me after h now holds is = is ∙ ap (λ (l : List (ℕ × HeldView)). (me.0, (0, now) ∷ rest l)) holds
 
 -- a free pass is its number, what is left and its own list
-pub pass_is : (me : Mine) (k left : ℕ) (own : List Entry) → me ≡ (free_view (part k left own ∷ []), []) → me ≡ (free_view (part k left (own_first me.0.parts) ∷ []), [])
-pass_is me k left own is = is ∙ ap (λ l. (free_view (part k left l ∷ []), [])) (sym (ap (λ (m : Mine). own_first m.0.parts) is))
+pub pass_is : (me : Mine) (k left : ℕ) (own : List Entry) → me ≡ (free_view (pass_part k left own ∷ []), []) → me ≡ (free_view (pass_part k left (own_first me.0.parts) ∷ []), [])
+pass_is me k left own is = is ∙ ap (λ l. (free_view (pass_part k left l ∷ []), [])) (sym (ap (λ (m : Mine). own_first m.0.parts) is))

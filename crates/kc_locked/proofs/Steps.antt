@@ -1,6 +1,7 @@
 -- Taking the lock, and letting it go with what was entered.
 use Rattle.std.proofs.Common.{◌≡◌, ◌≢◌, ℕ, ◌-◌, ◌<◌, ◌≤◌, Bool, true, false, true≢false, List, [], ◌∷◌, ◌++◌, length, set, refl, sym, ap, ◌∙◌, ◌⊎◌, inl, inr, ⊎_elim, arith, subst, ◌==◌, length-set, get_or-set_same, get_or-set_other}
 use Rattle.std.specs.Prelude.{slice_index}
+use Rattle.std.specs.List.{sum_by, count_by}
 use Rattle.std.proofs.lemmas.List.Elements.{All-append}
 use mathlib.Core.Option.{some}
 use lib.ListN.{get_elem?}
@@ -10,17 +11,18 @@ use Rattle.atomic_table.specs.Table as table
 use Rattle.atomic_table.specs.Table.{Me, Allows, keeps, takes, gives, stepped}
 use Rattle.atomic_table.proofs.Lists.{at_set, set_here, set_again}
 use Rattle.kc_history.specs.Callers.{of_caller, IsBelowCallers}
-use Rattle.kc_locked.proofs.Views.{total_set, total_one, total_two, own_more, times-hit, all_other, all_below, held_here}
+use Rattle.kc_locked.proofs.Views.{own_more, pass_here, all_other, all_below, held_here}
 use Rattle.kc_locked.specs.Held.{HeldView}
-use Rattle.kc_locked.specs.Locked.{AllFit, part, free_view, lock_view, times, left_of, total, FitsView, Kept, Took, Gave, Grown, Holds, committed}
-use Rattle.kc_locked.specs.Origin.{Origin}
+use Rattle.kc_locked.specs.Locked.{PassesFit, pass_part, free_view, lock_view, is_pass, left_of, LockFits, LockKept, Took, Gave, Grown, Holds, committed}
+use Rattle.kc_locked.specs.Origin.{LockOrigin}
 use Rattle.kc_locked.specs.declared.rule.View.{View}
+use Rattle.kc_model.proofs.Sums.{sum_set, sum_one, sum_two}
 use Rattle.kc_model.specs.declared.footprint.Entry.{Entry}
 
 abbrev Mine : Type 0
 Mine = Me HeldView View
 
-module _ (o : Origin) (s : table.State HeldView View) (id : ℕ) (me : Mine) (kept : Kept o s) (at : get_elem? s.views id ≡ some me.0) where
+module _ (o : LockOrigin) (s : table.State HeldView View) (id : ℕ) (me : Mine) (kept : LockKept o s) (at : get_elem? s.views id ≡ some me.0) where
   long : 0 < length s.words
   long = let w = kept.two_words in omega arith
 
@@ -29,7 +31,7 @@ module _ (o : Origin) (s : table.State HeldView View) (id : ℕ) (me : Mine) (ke
     nobody_holds : (j : ℕ) (u : View) → get_elem? s.views j ≡ some u → u.holds ≡ true → ⊥
     nobody_holds j u there h = let l = ((kept.views j u there).lock h).2 in omega arith
 
-    kept_taken : Kept o (stepped s 0 n id me.1 (lock_view me.0.parts kept.now) (takes 0 kept.now))
+    kept_taken : LockKept o (stepped s 0 n id me.1 (lock_view me.0.parts kept.now) (takes 0 kept.now))
     kept_taken =
         let w = lock_view me.0.parts kept.now in
         let word : slice_index (set s.words 0 n) 0 ≡ n = get_or-set_same s.words 0 n 0 long in
@@ -44,18 +46,18 @@ module _ (o : Origin) (s : table.State HeldView View) (id : ℕ) (me : Mine) (ke
           opening = kept.opening;
           callers = kept.callers;
           views = λ j u e. ⊎_elim
-              (λ (x : (j ≡ id) × (w ≡ u)). subst (FitsView o kept.now (slice_index (set s.words 0 n) 0) id j) x.1 (record { parts = (kept.views id me.0 at).parts; lock = λ h. (x.0, refl, omega arith) }))
+              (λ (x : (j ≡ id) × (w ≡ u)). subst (LockFits o kept.now (slice_index (set s.words 0 n) 0) id j) x.1 (record { parts = (kept.views id me.0 at).parts; lock = λ h. (x.0, refl, omega arith) }))
               (λ (x : (j ≢ id) × (get_elem? s.views j ≡ some u)). record { parts = (kept.views j u x.1).parts; lock = λ h. absurd (nobody_holds j u x.1 h) })
               (at_set s.views id j w u e);
-          once = λ k. let one = kept.once k in let t = total_set (λ u. times k u.parts) s.views id me.0 w at in omega arith;
-          space = (let sp = kept.space in let t = total_set (λ u. left_of u.parts) s.views id me.0 w at in omega arith);
+          once = λ k. let one = kept.once k in let t = sum_set (λ (u : View). count_by (is_pass k) u.parts) s.views id me.0 w at in omega arith;
+          space = (let sp = kept.space in let t = sum_set (λ (u : View). left_of u.parts) s.views id me.0 w at in omega arith);
         }
 
   -- A word changed, and nobody's view: where it is the lock's, it was taken and is.
-  kept_beside : (i n : ℕ) → (slice_index (set s.words i n) 0 ≡ slice_index s.words 0) ⊎ ((0 < slice_index s.words 0) × (0 < slice_index (set s.words i n) 0)) → Kept o (stepped s i n id me.1 me.0 keeps)
+  kept_beside : (i n : ℕ) → (slice_index (set s.words i n) 0 ≡ slice_index s.words 0) ⊎ ((0 < slice_index s.words 0) × (0 < slice_index (set s.words i n) 0)) → LockKept o (stepped s i n id me.1 me.0 keeps)
   kept_beside i n word =
       let vs : set s.views id me.0 ≡ s.views = set_again s.views id me.0 at in
-      subst (λ views. Kept o (record { words = set s.words i n; homes = s.homes; views = views })) (sym vs) (record {
+      subst (λ views. LockKept o (record { words = set s.words i n; homes = s.homes; views = views })) (sym vs) (record {
         now = kept.now;
         holder = kept.holder;
         one_slot = kept.one_slot;
@@ -82,16 +84,16 @@ above word lt n = by_test (n == 0) refl
     by_test false e = let ne = eqb-false n 0 e in omega arith
 
 -- The lock is taken by a step that leaves a number above 0, whatever it finds.
-pub takes_lock : (o : Origin) (slots id : ℕ) (me : Mine) (f : ℕ → ℕ) → ((n : ℕ) → 0 < f n) → Allows (Kept o) slots id me 0 f (Took o me)
+pub takes_lock : (o : LockOrigin) (slots id : ℕ) (me : Mine) (f : ℕ → ℕ) → ((n : ℕ) → 0 < f n) → Allows (LockKept o) slots id me 0 f (Took o me)
 takes_lock o slots id me f above s kept count at small = by_test (slice_index s.words 0 == 0) refl
   where
     n : ℕ
     n = slice_index s.words 0
 
-    by_test : (b : Bool) → (n == 0) ≡ b → (w : View) × (a : table.Act HeldView) × table.Valid s.homes me.1 a × Kept o (stepped s 0 (f n) id me.1 w a) × Took o me n (w, table.carried_after me.1 a)
+    by_test : (b : Bool) → (n == 0) ≡ b → (w : View) × (a : table.Act HeldView) × table.Valid s.homes me.1 a × LockKept o (stepped s 0 (f n) id me.1 w a) × Took o me n (w, table.carried_after me.1 a)
     by_test true e =
         let z : n ≡ 0 = eqb-true _ 0 e in
-        let left : left_of me.0.parts ≤ total (λ u. left_of u.parts) s.views = total_one (λ u. left_of u.parts) s.views id me.0 at in
+        let left : left_of me.0.parts ≤ sum_by (λ (u : View). left_of u.parts) s.views = sum_one (λ (u : View). left_of u.parts) s.views id me.0 at in
         let sp = kept.space in (
           lock_view me.0.parts kept.now,
           takes 0 kept.now,
@@ -106,12 +108,12 @@ takes_lock o slots id me f above s kept count at small = by_test (slice_index s.
         (me.0, keeps, tt, kept_beside o s id me kept at 0 (f n) (inr (omega arith, omega arith)), ((λ z. absurd (ne z)), (λ _. refl)))
 
 -- a step on the other word changes nothing that is known
-pub notes : (o : Origin) (slots id : ℕ) (me : Mine) (n : ℕ) → Allows (Kept o) slots id me 1 (λ _. n) (λ _ after. after ≡ me)
+pub notes : (o : LockOrigin) (slots id : ℕ) (me : Mine) (n : ℕ) → Allows (LockKept o) slots id me 1 (λ _. n) (λ _ after. after ≡ me)
 notes o slots id me n s kept count at small = (me.0, keeps, tt, kept_beside o s id me kept at 1 n (inl (get_or-set_other s.words 1 0 n 0 (λ e. omega arith))), refl)
 
 -- one with the lock lets it go, with the entries of its own
-module _ (o : Origin) (s : table.State HeldView View) (id : ℕ) (k left : ℕ) (own es : List Entry) (found now : HeldView) (kept : Kept o s)
-    (at : get_elem? s.views id ≡ some (lock_view (part k left own ∷ []) found)) (room : length es ≤ left) (grown : Grown k es found now) where
+module _ (o : LockOrigin) (s : table.State HeldView View) (id : ℕ) (k left : ℕ) (own es : List Entry) (found now : HeldView) (kept : LockKept o s)
+    (at : get_elem? s.views id ≡ some (lock_view (pass_part k left own ∷ []) found)) (room : length es ≤ left) (grown : Grown k es found now) where
   lock_facts : (id ≡ kept.holder) × (found ≡ kept.now) × (0 < slice_index s.words 0)
   lock_facts = (kept.views id _ at).lock refl
 
@@ -121,10 +123,10 @@ module _ (o : Origin) (s : table.State HeldView View) (id : ℕ) (k left : ℕ) 
   fits_here : (k < length o.shares) × (own ++ es ≡ of_caller k (kept.now.history ++ es))
   fits_here = let f = (kept.views id _ at).parts in (f.0, own_more k kept.now.history own es grown.mine f.1)
 
-  kept_free : Kept o (stepped s 0 0 id ((0, now) ∷ []) (free_view (part k (left - length es) (own ++ es) ∷ [])) gives)
+  kept_free : LockKept o (stepped s 0 0 id ((0, now) ∷ []) (free_view (pass_part k (left - length es) (own ++ es) ∷ [])) gives)
   kept_free =
-      let v = lock_view (part k left own ∷ []) found in
-      let w = free_view (part k (left - length es) (own ++ es) ∷ []) in
+      let v = lock_view (pass_part k left own ∷ []) found in
+      let w = free_view (pass_part k (left - length es) (own ++ es) ∷ []) in
       let word : slice_index (set s.words 0 0) 0 ≡ 0 = get_or-set_same s.words 0 0 0 (let c = kept.two_words in omega arith) in
       record {
         now = now;
@@ -137,36 +139,36 @@ module _ (o : Origin) (s : table.State HeldView View) (id : ℕ) (k left : ℕ) 
         opening = grown.opening ∙ ap (λ (h : HeldView). h.opening) lock_facts.1 ∙ kept.opening;
         callers = subst (IsBelowCallers (length o.shares)) (sym history_after) (All-append (λ (e : Entry). e.caller < length o.shares) kept.now.history es kept.callers (all_below (length o.shares) k es fits_here.0 grown.mine));
         views = λ j u e. ⊎_elim
-            (λ (x : (j ≡ id) × (w ≡ u)). subst (FitsView o now (slice_index (set s.words 0 0) 0) id j) x.1 (record { parts = (fits_here.0, fits_here.1 ∙ ap (of_caller k) (sym history_after), tt); lock = λ q. absurd (true≢false (sym q)) }))
+            (λ (x : (j ≡ id) × (w ≡ u)). subst (LockFits o now (slice_index (set s.words 0 0) 0) id j) x.1 (record { parts = (fits_here.0, fits_here.1 ∙ ap (of_caller k) (sym history_after), tt); lock = λ q. absurd (true≢false (sym q)) }))
             (λ (x : (j ≢ id) × (get_elem? s.views j ≡ some u)). record {
-              parts = subst (λ (h : List Entry). AllFit (length o.shares) h u.parts) (sym history_after) (all_other (length o.shares) k kept.now.history es u.parts grown.mine (alone j u x.0 x.1) (kept.views j u x.1).parts);
+              parts = subst (λ (h : List Entry). PassesFit (length o.shares) h u.parts) (sym history_after) (all_other (length o.shares) k kept.now.history es u.parts grown.mine (alone j u x.0 x.1) (kept.views j u x.1).parts);
               lock = λ q. absurd (x.0 (((kept.views j u x.1).lock q).0 ∙ sym lock_facts.0));
             })
             (at_set s.views id j w u e);
-        once = λ j. let one = kept.once j in let t = total_set (λ u. times j u.parts) s.views id v w at in omega arith;
+        once = λ j. let one = kept.once j in let t = sum_set (λ (u : View). count_by (is_pass j) u.parts) s.views id v w at in omega arith;
         space = (
             let sp = kept.space in
-            let t = total_set (λ u. left_of u.parts) s.views id v w at in
-            let one = total_one (λ u. left_of u.parts) s.views id v at in
+            let t = sum_set (λ (u : View). left_of u.parts) s.views id v w at in
+            let one = sum_one (λ (u : View). left_of u.parts) s.views id v at in
             let less = grown.spare in
             let was = ap (λ (h : HeldView). h.spare) lock_facts.1 in omega arith);
       }
     where
-      alone : (j : ℕ) (u : View) → j ≢ id → get_elem? s.views j ≡ some u → times k u.parts ≡ 0
+      alone : (j : ℕ) (u : View) → j ≢ id → get_elem? s.views j ≡ some u → count_by (is_pass k) u.parts ≡ 0
       alone j u ne there =
-          let two = total_two (λ x. times k x.parts) s.views id j (lock_view (part k left own ∷ []) found) u ne at there in
+          let two = sum_two (λ (x : View). count_by (is_pass k) x.parts) s.views id j (lock_view (pass_part k left own ∷ []) found) u ne at there in
           let one = kept.once k in
-          let hit = times-hit k (part k left own) [] refl in omega arith
+          let hit = pass_here k (pass_part k left own) [] refl in omega arith
 
-pub gives_lock : (o : Origin) (slots id : ℕ) (me : Mine) (es : List Entry) → Holds es me → Allows (Kept o) slots id me 0 (λ _. 0) (λ _. Gave es me 0)
+pub gives_lock : (o : LockOrigin) (slots id : ℕ) (me : Mine) (es : List Entry) → Holds es me → Allows (LockKept o) slots id me 0 (λ _. 0) (λ _. Gave es me 0)
 gives_lock o slots id me es h =
-    let v = lock_view (part h.caller h.left h.own ∷ []) h.found in
-    let w = free_view (part h.caller (h.left - length es) (h.own ++ es) ∷ []) in
+    let v = lock_view (pass_part h.caller h.left h.own ∷ []) h.found in
+    let w = free_view (pass_part h.caller (h.left - length es) (h.own ++ es) ∷ []) in
     λ s kept count at small.
     let at' : get_elem? s.views id ≡ some v = at ∙ ap (λ (m : Mine). some m.0) h.is in (
       w,
       gives,
       tt,
-      subst (λ (m : Mine). Kept o (stepped s 0 0 id m.1 w gives)) (sym h.is) (kept_free o s id h.caller h.left h.own es h.found h.now kept at' h.room h.grown),
+      subst (λ (m : Mine). LockKept o (stepped s 0 0 id m.1 w gives)) (sym h.is) (kept_free o s id h.caller h.left h.own es h.found h.now kept at' h.room h.grown),
       ap (λ (m : Mine). (w, table.rest m.1)) h.is ∙ ap (λ (m : Mine). (free_view (committed m.0.parts es), [])) (sym h.is),
     )

@@ -6,5 +6,5 @@ use Rattle.kc_model.specs.declared.footprint.Entry.{Entry}
 abbrev pub told : List ℕ → List Entry → Told
 told opening entries = record { opening = opening; entries = entries }
 
-abbrev pub nothing : Told
-nothing = told [] []
+abbrev pub nothing_told : Told
+nothing_told = told [] []

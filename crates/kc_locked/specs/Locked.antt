@@ -1,12 +1,13 @@
 -- The rule of the table: what the slot holds while the lock is free, and what the passes know of it.
-use Rattle.std.specs.Prelude.{◌≡◌, ◌≢◌, ℕ, ◌+◌, ◌-◌, ◌<◌, ◌≤◌, List, [], ◌∷◌, ◌++◌, true, false, Result, Ok, Err, length, slice_index, if◌then◌else◌, ◌==◌}
+use Rattle.std.specs.Prelude.{◌≡◌, ◌≢◌, ℕ, ◌+◌, ◌-◌, ◌<◌, ◌≤◌, List, [], ◌∷◌, ◌++◌, Bool, true, false, Result, Ok, Err, length, slice_index, ◌==◌, take, drop}
+use Rattle.std.specs.List.{sum_by, count_by}
 use mathlib.Core.Option.{some}
 use lib.ListN.{get_elem?}
 use Rattle.atomic_table.specs.Table as table
 use Rattle.atomic_table.specs.Table.{Me}
 use Rattle.kc_history.specs.Callers.{of_caller, IsBelowCallers}
 use Rattle.kc_locked.specs.Held.{HeldView, held, IsSound}
-use Rattle.kc_locked.specs.Origin.{Origin}
+use Rattle.kc_locked.specs.Origin.{LockOrigin}
 use Rattle.kc_locked.specs.Passes.{PassView}
 use Rattle.kc_locked.specs.declared.held.Waits.{Waits}
 use Rattle.kc_locked.specs.declared.rule.Part.{Part}
@@ -18,8 +19,8 @@ abbrev pub AllOf : ℕ → List Entry → Type 0
 AllOf k [] = Unit {0}
 AllOf k (e ∷ es) = (e.caller ≡ k) × AllOf k es
 
-abbrev pub part : ℕ → ℕ → List Entry → Part
-part caller left own = record { caller = caller; left = left; own = own }
+abbrev pub pass_part : ℕ → ℕ → List Entry → Part
+pass_part caller left own = record { caller = caller; left = left; own = own }
 
 abbrev pub nothing_found : HeldView
 nothing_found = held [] [] [] 0
@@ -34,31 +35,27 @@ lock_view parts found = record { parts = parts; holds = true; found = found }
 -- the parts of these shares, from this caller on
 abbrev pub shared_out : ℕ → List ℕ → List Part
 shared_out k [] = []
-shared_out k (n ∷ ns) = part k n [] ∷ shared_out (k + 1) ns
+shared_out k (n ∷ ns) = pass_part k n [] ∷ shared_out (k + 1) ns
 
-abbrev pub first_view : Origin → View
+abbrev pub first_view : LockOrigin → View
 first_view o = free_view (shared_out 0 o.shares)
 
-abbrev pub times : ℕ → List Part → ℕ
-times k [] = 0
-times k (p ∷ ps) = (if p.caller == k then 1 else 0) + times k ps
+-- whether it is caller k's
+abbrev pub is_pass : ℕ → Part → Bool
+is_pass k p = p.caller == k
 
+-- how many commits they may still make
 abbrev pub left_of : List Part → ℕ
-left_of [] = 0
-left_of (p ∷ ps) = p.left + left_of ps
-
-abbrev pub total : (View → ℕ) → List View → ℕ
-total f [] = 0
-total f (v ∷ vs) = f v + total f vs
+left_of ps = sum_by (λ (p : Part). p.left) ps
 
 -- each pass's own list is its part of the history, and it is one of so many callers
-abbrev pub AllFit : ℕ → List Entry → List Part → Type 0
-AllFit callers history [] = Unit {0}
-AllFit callers history (p ∷ ps) = (p.caller < callers) × (p.own ≡ of_caller p.caller history) × AllFit callers history ps
+abbrev pub PassesFit : ℕ → List Entry → List Part → Type 0
+PassesFit callers history [] = Unit {0}
+PassesFit callers history (p ∷ ps) = (p.caller < callers) × (p.own ≡ of_caller p.caller history) × PassesFit callers history ps
 
 -- who has the lock knows what is in the slot
-pub record FitsView (o : Origin) (now : HeldView) (word holder i : ℕ) (v : View) : Type 0 where
-  pub parts : AllFit (length o.shares) now.history v.parts
+pub record LockFits (o : LockOrigin) (now : HeldView) (word holder i : ℕ) (v : View) : Type 0 where
+  pub parts : PassesFit (length o.shares) now.history v.parts
   pub lock : v.holds ≡ true → (i ≡ holder) × (v.found ≡ now) × (0 < word)
 
 -- the seat at this place has the lock
@@ -66,7 +63,7 @@ abbrev pub IsHeldBy : ℕ → List View → Type 0
 IsHeldBy holder views = (v : View) × (get_elem? views holder ≡ some v) × (v.holds ≡ true)
 
 -- What the slot held when the lock was last let go is what all views speak of. While the lock's word is above 0 somebody has it.
-pub record Kept (o : Origin) (s : table.State HeldView View) : Type 0 where
+pub record LockKept (o : LockOrigin) (s : table.State HeldView View) : Type 0 where
   pub now : HeldView
   pub holder : ℕ
   pub one_slot : length s.homes ≡ 1
@@ -76,12 +73,12 @@ pub record Kept (o : Origin) (s : table.State HeldView View) : Type 0 where
   pub sound : IsSound now
   pub opening : now.opening ≡ o.values
   pub callers : IsBelowCallers (length o.shares) now.history
-  pub views : (i : ℕ) (v : View) → get_elem? s.views i ≡ some v → FitsView o now (slice_index s.words 0) holder i v
-  pub once : (k : ℕ) → total (λ v. times k v.parts) s.views ≤ 1
-  pub space : total (λ v. left_of v.parts) s.views ≤ now.spare
+  pub views : (i : ℕ) (v : View) → get_elem? s.views i ≡ some v → LockFits o now (slice_index s.words 0) holder i v
+  pub once : (k : ℕ) → sum_by (λ (v : View). count_by (is_pass k) v.parts) s.views ≤ 1
+  pub space : sum_by (λ (v : View). left_of v.parts) s.views ≤ now.spare
 
 -- The lock was free, and one has it, with what was in the slot; or nothing changed.
-abbrev pub Took : Origin → Me HeldView View → ℕ → Me HeldView View → Type 0
+abbrev pub Took : LockOrigin → Me HeldView View → ℕ → Me HeldView View → Type 0
 Took o me found after =
     (found ≡ 0 → (h : HeldView) × (after ≡ (lock_view me.0.parts h, (0, h) ∷ me.1)) × IsSound h × (h.opening ≡ o.values) × (left_of me.0.parts ≤ h.spare))
     × (found ≢ 0 → after ≡ me)
@@ -97,7 +94,7 @@ pub record Grown (k : ℕ) (es : List Entry) (before now : HeldView) : Type 0 wh
 -- the pass with these commits more
 abbrev pub committed : List Part → List Entry → List Part
 committed [] es = []
-committed (p ∷ ps) es = part p.caller (p.left - length es) (p.own ++ es) ∷ ps
+committed (p ∷ ps) es = pass_part p.caller (p.left - length es) (p.own ++ es) ∷ ps
 
 -- the lock is free again, with these commits of the pass
 abbrev pub Gave : List Entry → Me HeldView View → ℕ → Me HeldView View → Type 0
@@ -110,39 +107,32 @@ pub record Holds (es : List Entry) (me : Me HeldView View) : Type 0 where
   pub own : List Entry
   pub found : HeldView
   pub now : HeldView
-  pub is : me ≡ (lock_view (part caller left own ∷ []) found, (0, now) ∷ [])
+  pub is : me ≡ (lock_view (pass_part caller left own ∷ []) found, (0, now) ∷ [])
   pub room : length es ≤ left
   pub grown : Grown caller es found now
 
-abbrev pub first_part : List Part → List Part
-first_part [] = []
-first_part (p ∷ ps) = p ∷ []
+-- the first pass goes out, the others stay
+abbrev pub pass_dealt : View → View
+pass_dealt v = free_view (take 1 v.parts)
 
-abbrev pub other_parts : List Part → List Part
-other_parts [] = []
-other_parts (p ∷ ps) = ps
+abbrev pub passes_left : View → View
+passes_left v = record { parts = drop 1 v.parts; holds = v.holds; found = v.found }
 
-abbrev pub dealt : View → View
-dealt v = free_view (first_part v.parts)
-
-abbrev pub undealt : View → View
-undealt v = record { parts = other_parts v.parts; holds = v.holds; found = v.found }
-
-abbrev pub gathered : View → View → View
-gathered v w = record { parts = v.parts ++ w.parts; holds = v.holds; found = v.found }
+abbrev pub passes_gathered : View → View → View
+passes_gathered v w = record { parts = v.parts ++ w.parts; holds = v.holds; found = v.found }
 
 -- what is left of a view whose parts were taken in
-abbrev pub spent : View
-spent = free_view []
+abbrev pub no_passes : View
+no_passes = free_view []
 
 -- what the slot held when the lock was last let go was seen: the passes' own lists are parts of that history
-pub record Ended (o : Origin) (me after : Me HeldView View) : Type 0 where
+pub record LockEnded (o : LockOrigin) (me after : Me HeldView View) : Type 0 where
   pub now : HeldView
   pub is : after ≡ (record { parts = me.0.parts; holds = me.0.holds; found = now }, me.1)
   pub opening : now.opening ≡ o.values
   pub sound : IsSound now
   pub below : IsBelowCallers (length o.shares) now.history
-  pub fit : AllFit (length o.shares) now.history me.0.parts
+  pub fit : PassesFit (length o.shares) now.history me.0.parts
 
 -- what was entered: one commit, or where it waits none
 abbrev pub made_by : {A : Type 0} → Result A Waits → Entry → List Entry
@@ -150,7 +140,7 @@ made_by (Ok a) e = e ∷ []
 made_by (Err w) e = []
 
 -- one has the lock now, with what was in the slot
-abbrev pub Taken : Origin → Me HeldView View → Me HeldView View → Type 0
+abbrev pub Taken : LockOrigin → Me HeldView View → Me HeldView View → Type 0
 Taken o me after = (h : HeldView) × (after ≡ (lock_view me.0.parts h, (0, h) ∷ me.1)) × IsSound h × (h.opening ≡ o.values) × (left_of me.0.parts ≤ h.spare)
 
 -- the parts of a view

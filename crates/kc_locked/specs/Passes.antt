@@ -53,7 +53,7 @@ abbrev pub IsLegalPast : PastView → Type 0
 IsLegalPast p = IsLegalFrom p.opening p.history
 
 -- The one history: it is legal from the opening values at versions 0, each pass's own list is its caller's part of it, and nobody else has an entry in it.
-pub record IsPast (store : StoreView) (passes : List PassView) (past : PastView) : Type 0 where
+pub record IsLockPast (store : StoreView) (passes : List PassView) (past : PastView) : Type 0 where
   pub opening : past.opening ≡ store.opening
   pub legal : IsLegalPast past
   pub own : All (λ (p : PassView). of_caller p.caller past.history ≡ p.own) passes

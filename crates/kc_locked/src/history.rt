@@ -21,11 +21,11 @@ pub struct Told {
 struct Free;
 
 impl TableRule<(), Told, ()> for Free {
-    ghost use Rattle.kc_locked.specs.History.{nothing};
+    ghost use Rattle.kc_locked.specs.History.{nothing_told};
 
     ghost holds = { λ key state. Unit {0} };
 
-    ghost first = { λ key. nothing };
+    ghost first = { λ key. nothing_told };
 }
 
 /// What is told next.
@@ -36,9 +36,9 @@ pub trait Tells {
 }
 
 impl Tells for Brand {
-    ghost use Rattle.kc_locked.specs.History.{nothing};
+    ghost use Rattle.kc_locked.specs.History.{nothing_told};
 
-    ghost next = { nothing };
+    ghost next = { nothing_told };
 }
 
 struct Becomes<N: Tells>(PhantomData<N>);

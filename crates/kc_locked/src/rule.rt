@@ -1,5 +1,5 @@
 //! What passes know, and the rule.
-ghost use Rattle.kc_locked.specs.Locked.{Kept, first_view};
+ghost use Rattle.kc_locked.specs.Locked.{LockKept, first_view};
 
 use crate::held::Held;
 use atomic_table::{Join, Play, Seat, Shared, Split, TableRule};
@@ -29,9 +29,9 @@ pub struct Origin {
 }
 
 impl Model for Origin {
-    ghost use Rattle.kc_locked.specs.Origin.{Origin};
+    ghost use Rattle.kc_locked.specs.Origin.{LockOrigin};
 
-    ghost Value = { Origin };
+    ghost Value = { LockOrigin };
 
     ghost view = { λ o. record { values = o.values.items; shares = o.shares.items } };
 }
@@ -43,16 +43,16 @@ pub type Token = Seat<Held, View>;
 pub(crate) type Memory = Shared<Held, View, Origin, Rule>;
 
 impl TableRule<Held, View, Origin> for Rule {
-    ghost holds = { Kept };
+    ghost holds = { LockKept };
 
     ghost first = { first_view };
 }
 
 /// What the store was opened with, for steps that speak of it.
 pub trait Knows {
-    ghost use Rattle.kc_locked.specs.Origin.{Origin};
+    ghost use Rattle.kc_locked.specs.Origin.{LockOrigin};
 
-    ghost origin: { Origin };
+    ghost origin: { LockOrigin };
 }
 
 impl Knows for Brand {
@@ -106,22 +106,22 @@ impl Play<Held, View> for Notes {
 pub struct Deals;
 
 impl Split<View> for Deals {
-    ghost use Rattle.kc_locked.specs.Locked.{dealt, undealt};
+    ghost use Rattle.kc_locked.specs.Locked.{pass_dealt, passes_left};
 
-    ghost left = { undealt };
+    ghost left = { passes_left };
 
-    ghost right = { dealt };
+    ghost right = { pass_dealt };
 }
 
 /// A pass comes back.
 pub struct Gathers;
 
 impl Join<View> for Gathers {
-    ghost use Rattle.kc_locked.specs.Locked.{gathered, spent};
+    ghost use Rattle.kc_locked.specs.Locked.{passes_gathered, no_passes};
 
-    ghost both = { gathered };
+    ghost both = { passes_gathered };
 
-    ghost spent = { spent };
+    ghost spent = { no_passes };
 }
 
 /// A new seat that has no pass.
@@ -129,16 +129,16 @@ pub struct Empty;
 
 impl Play<Held, View> for Empty {
     ghost use Rattle.std.specs.Prelude.{◌≡◌};
-    ghost use Rattle.kc_locked.specs.Locked.{spent};
+    ghost use Rattle.kc_locked.specs.Locked.{no_passes};
 
-    ghost then = { λ step me found after. after.0 ≡ spent };
+    ghost then = { λ step me found after. after.0 ≡ no_passes };
 }
 
 /// A load that shows the one history.
 pub struct Ends<K: Knows>(PhantomData<K>);
 
 impl<K: Knows> Play<Held, View> for Ends<K> {
-    ghost use Rattle.kc_locked.specs.Locked.{Ended};
+    ghost use Rattle.kc_locked.specs.Locked.{LockEnded};
 
-    ghost then = { λ step me found after. Ended K.origin me after };
+    ghost then = { λ step me found after. LockEnded K.origin me after };
 }

@@ -5,10 +5,10 @@ use Rattle.kc_machine_invariants.proofs.kc_machine.Functions.{put_cases}
 use Rattle.kc_machine_invariants.specs.kc_machine.Machine.{World, put}
 use Rattle.kc_machine_invariants.specs.kc_machine.Words.{control}
 use Rattle.kc_machine_invariants.proofs.Counted.{cells}
-use Rattle.kc_machine_invariants.proofs.Sums.{total_put}
+use Rattle.kc_machine_invariants.proofs.Sums.{sum_below_put}
 use Rattle.kc_machine_invariants.proofs.Worn.{Placed, Scanning_at, place}
 use Rattle.kc_machine_invariants.specs.Effects
-use Rattle.kc_machine_invariants.specs.Holds.{total}
+use Rattle.kc_machine_invariants.specs.Holds.{sum_below}
 use Rattle.kc_machine_invariants.specs.Stands.{Stand}
 use Rattle.kc_machine_invariants.specs.kc_machine_steps.Lines.{one_more}
 use Rattle.kc_machine_invariants.specs.kc_machine_steps.declared.swap.TheConstants.{MOST_SWAPS}
@@ -40,9 +40,9 @@ control_moves k (Effects.take s d g e z l) = inr (inl (record { d = d; g = g; at
 control_moves k (Effects.swap_takes s q l) = inr (inr (record { same = refl; low = l; calls = refl }))
 control_moves k _ = inl (record { same = λ d. grind cells; calls = refl })
 
-total_same : (f g : ℕ → ℕ) (n : ℕ) → ((i : ℕ) → f i ≡ g i) → total f n ≡ total g n
-total_same f g zero h = refl
-total_same f g (suc n) h = let a = h n in let b = total_same f g n h in omega arith
+sum_below_same : (f g : ℕ → ℕ) (n : ℕ) → ((i : ℕ) → f i ≡ g i) → sum_below f n ≡ sum_below g n
+sum_below_same f g zero h = refl
+sum_below_same f g (suc n) h = let a = h n in let b = sum_below_same f g n h in omega arith
 
 one_more_most : (n : ℕ) → one_more n ≤ n + 1
 one_more_most n = go (nat_lt n 18446744073709551615)
@@ -55,7 +55,7 @@ one_more_most n = go (nat_lt n 18446744073709551615)
 pub record Counts (b n m : ℕ) (w : World) (at : ℕ → Stand) : Type 0 where
   pub fit : (d : ℕ) → b ≤ LAST_GENERATION → (w.control d).generation ≤ LAST_GENERATION
   pub grown : (d : ℕ) → b ≤ (w.control d).generation
-  pub calls : total (λ k. (at k).calls - MOST_SWAPS) n ≤ total (λ d. (w.control d).generation - b) m
+  pub calls : sum_below (λ k. (at k).calls - MOST_SWAPS) n ≤ sum_below (λ d. (w.control d).generation - b) m
 
 module _ (b n m k : ℕ) (l : k < n) {w w' : World} (at : ℕ → Stand) {s' : Stand} (e : Effects.Effect k w (at k) w' s') (y : Placed m (at k).scan) (p : Counts b n m w at) where
   keeps_counts : Keeps w w' (at k) s' → Counts b n m w' (put at k s')
@@ -63,8 +63,8 @@ module _ (b n m k : ℕ) (l : k < n) {w w' : World} (at : ℕ → Stand) {s' : S
     fit = λ d c. let u = p.fit d c in let v = h.same d in omega arith;
     grown = λ d. let u = p.grown d in let v = h.same d in omega arith;
     calls =
-        let t = total_put (λ (s : Stand). s.calls - MOST_SWAPS) at k s' n l in
-        let u = total_same (λ d. (w'.control d).generation - b) (λ d. (w.control d).generation - b) m (λ d. ap (λ x. x - b) (h.same d)) in
+        let t = sum_below_put (λ (s : Stand). s.calls - MOST_SWAPS) at k s' n l in
+        let u = sum_below_same (λ d. (w'.control d).generation - b) (λ d. (w.control d).generation - b) m (λ d. ap (λ x. x - b) (h.same d)) in
         let c = p.calls in
         let q = ap (λ x. x - MOST_SWAPS) h.calls in
         omega arith;
@@ -76,8 +76,8 @@ module _ (b n m k : ℕ) (l : k < n) {w w' : World} (at : ℕ → Stand) {s' : S
     fit = λ d c. subst (λ (f : ℕ → Control). (f d).generation ≤ LAST_GENERATION) (sym h.same) (p.fit d c);
     grown = λ d. subst (λ (f : ℕ → Control). b ≤ (f d).generation) (sym h.same) (p.grown d);
     calls =
-        let t = total_put (λ (s : Stand). s.calls - MOST_SWAPS) at k s' n l in
-        let v = ap (λ (f : ℕ → Control). total (λ d. (f d).generation - b) m) h.same in
+        let t = sum_below_put (λ (s : Stand). s.calls - MOST_SWAPS) at k s' n l in
+        let v = ap (λ (f : ℕ → Control). sum_below (λ d. (f d).generation - b) m) h.same in
         let c = p.calls in
         let q = h.calls in
         let o = one_more_most (at k).calls in
@@ -90,9 +90,9 @@ module _ (b n m k : ℕ) (l : k < n) {w w' : World} (at : ℕ → Stand) {s' : S
     fit = λ d c. subst (λ (f : ℕ → Control). (f d).generation ≤ LAST_GENERATION) (sym h.now) (put_cases (λ (x : Control). x.generation ≤ LAST_GENERATION) w.control h.d (control (h.g + 1) 1) d (λ q. let u = h.low in omega arith) (λ ne. p.fit d c));
     grown = λ d. subst (λ (f : ℕ → Control). b ≤ (f d).generation) (sym h.now) (put_cases (λ (x : Control). b ≤ x.generation) w.control h.d (control (h.g + 1) 1) d (λ q. let u = p.grown h.d in let v = h.was in omega arith) (λ ne. p.grown d));
     calls =
-        let t = total_put (λ (s : Stand). s.calls - MOST_SWAPS) at k s' n l in
-        let u = total_put (λ (c : Control). c.generation - b) w.control h.d (control (h.g + 1) 1) m (y h.d 0 h.at) in
-        let v = ap (λ (f : ℕ → Control). total (λ d. (f d).generation - b) m) h.now in
+        let t = sum_below_put (λ (s : Stand). s.calls - MOST_SWAPS) at k s' n l in
+        let u = sum_below_put (λ (c : Control). c.generation - b) w.control h.d (control (h.g + 1) 1) m (y h.d 0 h.at) in
+        let v = ap (λ (f : ℕ → Control). sum_below (λ d. (f d).generation - b) m) h.now in
         let c = p.calls in
         let q = h.calls in
         let o = one_more_most (at k).calls in

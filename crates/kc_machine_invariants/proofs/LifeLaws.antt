@@ -5,7 +5,7 @@ use Rattle.kc_machine_invariants.proofs.PoolLaws.{opened_pool, holds_kept}
 use Rattle.kc_machine_invariants.proofs.Pools.{Pool, pool_effect}
 use Rattle.kc_machine_invariants.proofs.Runs.{holds_after}
 use Rattle.kc_machine_invariants.specs.Effects.{Effect}
-use Rattle.kc_machine_invariants.specs.Holds.{total}
+use Rattle.kc_machine_invariants.specs.Holds.{sum_below}
 use Rattle.kc_machine_invariants.specs.Stands.{Stand, stand}
 use Rattle.kc_machine_invariants.proofs.AtMostThree.{three_at_most}
 use Rattle.kc_machine_invariants.proofs.Counts.{Counts, counts_effect}
@@ -99,7 +99,7 @@ record Bounds (b n m : ℕ) (w : World) (at : ℕ → Stand) : Type 0 where
 bounds_effect : (b n m k : ℕ) → k < n → (w w' : World) (at : ℕ → Stand) (s' : Stand) → Effect k w (at k) w' s' → Bounds b n m w at → Bounds b n m w' (put at k s')
 bounds_effect b n m k l w w' at s' e p = record { pool = pool_effect n m k l at e p.pool; counts = counts_effect b n m k l at e (p.pool.search k l).place p.counts }
 
-none_called : (f : ℕ → ℕ) (n t : ℕ) → ((k : ℕ) → f k ≡ 0) → total f n ≤ t
+none_called : (f : ℕ → ℕ) (n t : ℕ) → ((k : ℕ) → f k ≡ 0) → sum_below f n ≤ t
 none_called f zero t h = omega arith
 none_called f (suc n) t h = let a = h n in let b = none_called f n t h in omega arith
 

@@ -4,7 +4,7 @@ use Rattle.kc_machine_invariants.proofs.kc_machine.Functions.{put_here, put_case
 use Rattle.kc_machine_invariants.specs.kc_machine.Machine.{World, put}
 use Rattle.kc_machine_invariants.proofs.Held.{Fits}
 use Rattle.kc_machine_invariants.proofs.Pools.{Pool, pool_effect}
-use Rattle.kc_machine_invariants.proofs.Sums.{total_part}
+use Rattle.kc_machine_invariants.proofs.Sums.{sum_below_part}
 use Rattle.kc_machine_invariants.specs.Effects.{Effect}
 use Rattle.kc_machine_invariants.specs.Holds.{Proper, own_hold, holds_on}
 use Rattle.kc_machine_invariants.specs.Stands.{Stand}
@@ -77,7 +77,7 @@ module _ (n m k : ℕ) (l : k < n) {w w' : World} (at : ℕ → Stand) {s' : Sta
       (λ x. ne (p.differ i k d h g b l r x))
       (λ z.
       let c = p.pool.counted d in
-      let t = total_part (λ j. holds_on d (at j)) n i b in
+      let t = sum_below_part (λ j. holds_on d (at j)) n i b in
       let o = owned_held (at i) d h r in
       absurd (omega arith))
       (owned_before k e d g q)

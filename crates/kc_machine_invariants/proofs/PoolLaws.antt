@@ -12,7 +12,7 @@ use Rattle.kc_machine_invariants.proofs.Held.{Fits}
 use Rattle.kc_machine_invariants.proofs.Left.{commit_leaves}
 use Rattle.kc_machine_invariants.proofs.Pools.{Fit, Pool, pool_effect}
 use Rattle.kc_machine_invariants.proofs.Runs.{holds_after}
-use Rattle.kc_machine_invariants.proofs.Sums.{total_none}
+use Rattle.kc_machine_invariants.proofs.Sums.{sum_below_none}
 use Rattle.kc_machine_invariants.proofs.Worn.{place}
 use Rattle.kc_machine_invariants.specs.Claims.{HoldsAreCounted, HoldsKeepGenerations, StraysAreOthers, WornScansHold, WornIsTrue}
 use Rattle.kc_machine_invariants.specs.Holds.{Hold, Proper, Stray, Has}
@@ -20,7 +20,7 @@ use Rattle.kc_machine_invariants.specs.Stands.{Stand, stand, works, resting, han
 
 pub opened_pool : (o : Opening) → Pool o.callers (opened o).descriptors (opened o).world (λ k. stand ((opened o).seats k))
 opened_pool o = record {
-  counted = λ d. total_none o.callers;
+  counted = λ d. sum_below_none o.callers;
   fit = λ k l. record { own = tt; check = tt; aid = tt; look = tt };
   search = λ k l. record { round = (refl, omega arith); place = λ d worn q. absurd (cc); scans = λ d worn e q m b. absurd (cc); ends = λ e q m. absurd (cc) };
 }

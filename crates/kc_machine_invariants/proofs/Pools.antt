@@ -4,10 +4,10 @@ use Rattle.kc_machine_invariants.proofs.kc_machine.Functions.{put_cases}
 use Rattle.kc_machine_invariants.specs.kc_machine.Machine.{World, put}
 use Rattle.kc_machine_invariants.proofs.Counted.{balance}
 use Rattle.kc_machine_invariants.proofs.Held.{Fits, kept, own_fits, check_fits, aid_fits, look_fits}
-use Rattle.kc_machine_invariants.proofs.Sums.{total_put, total_part}
+use Rattle.kc_machine_invariants.proofs.Sums.{sum_below_put, sum_below_part}
 use Rattle.kc_machine_invariants.proofs.Worn.{InRound, Placed, Scanned, ToldWorn, worn_stays, in_round, placed, scanned, told_worn}
 use Rattle.kc_machine_invariants.specs.Effects.{Effect}
-use Rattle.kc_machine_invariants.specs.Holds.{holds_on, total, own_hold, check_hold, aid_hold, look_hold}
+use Rattle.kc_machine_invariants.specs.Holds.{holds_on, sum_below, own_hold, check_hold, aid_hold, look_hold}
 use Rattle.kc_machine_invariants.specs.Stands.{Stand}
 
 -- each hold of a seat fits
@@ -62,7 +62,7 @@ search_own n k e f = record {
 
 -- n seats stand so, at m descriptors
 pub record Pool (n m : ℕ) (w : World) (at : ℕ → Stand) : Type 0 where
-  pub counted : (d : ℕ) → (w.control d).holds ≡ total (λ k. holds_on d (at k)) n
+  pub counted : (d : ℕ) → (w.control d).holds ≡ sum_below (λ k. holds_on d (at k)) n
   pub fit : (k : ℕ) → k < n → Fit w (at k)
   pub search : (k : ℕ) → k < n → Search m w (at k)
 
@@ -70,7 +70,7 @@ pub pool_effect : (n m k : ℕ) → k < n → {w w' : World} (at : ℕ → Stand
 pool_effect n m k l {w} {w'} at {s'} e p = record {
   counted = λ d.
       let b = balance k e (λ i. enough k i l) d in
-      let t = total_put (holds_on d) at k s' n l in
+      let t = sum_below_put (holds_on d) at k s' n l in
       let c = p.counted d in
       omega arith;
   fit = λ j b. put_cases (Fit w') at k s' j (λ q. fit_own k e (λ d. enough k d l) (p.fit k l)) (λ ne. fit_kept k e (at j) (λ d. enough j d b) (p.fit j b));
@@ -78,4 +78,4 @@ pool_effect n m k l {w} {w'} at {s'} e p = record {
 }
   where
     enough : (j d : ℕ) → j < n → holds_on d (at j) ≤ (w.control d).holds
-    enough j d b = let c = p.counted d in let t = total_part (λ i. holds_on d (at i)) n j b in omega arith
+    enough j d b = let c = p.counted d in let t = sum_below_part (λ i. holds_on d (at i)) n j b in omega arith

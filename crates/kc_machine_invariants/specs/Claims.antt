@@ -3,13 +3,13 @@ use Rattle.std.specs.Prelude.{◌≡◌, ◌≢◌, ◌<◌, ◌≤◌, ◌+◌,
 use Rattle.kc_machine_invariants.specs.kc_machine_words.declared.words.TheConstants.{LAST_GENERATION}
 use Rattle.kc_machine_invariants.specs.kc_machine_steps.declared.task.Told.TheVariants as told
 use Rattle.kc_machine_invariants.specs.kc_machine.Machine.{State, World}
-use Rattle.kc_machine_invariants.specs.Holds.{Holds, Strays, holds_on, total}
+use Rattle.kc_machine_invariants.specs.Holds.{Holds, Strays, holds_on, sum_below}
 use Rattle.kc_machine_invariants.specs.Stands.{Scans, stand}
 use Rattle.kc_machine_invariants.specs.kc_machine_steps.declared.line.Intent.{Intent}
 
 -- the holds of all seats on descriptor d, stray ones counted
 abbrev pub held_by_seats : State → ℕ → ℕ
-held_by_seats m d = total (λ k. holds_on d (stand (m.seats k))) m.callers
+held_by_seats m d = sum_below (λ k. holds_on d (stand (m.seats k))) m.callers
 
 abbrev pub HoldsAreCounted : State → Type 0
 HoldsAreCounted m = (d : ℕ) → (m.world.control d).holds ≡ held_by_seats m d

@@ -1,7 +1,7 @@
 -- The bounds of generations, calls and holds.
 use Rattle.std.specs.Prelude.{◌≤◌, ◌+◌, ◌-◌, ℕ}
 use Rattle.kc_machine_invariants.specs.kc_machine.Machine.{State, Opening}
-use Rattle.kc_machine_invariants.specs.Holds.{Hold, NoHold, Proper, Stray, own_hold, check_hold, aid_hold, look_hold, total}
+use Rattle.kc_machine_invariants.specs.Holds.{Hold, NoHold, Proper, Stray, own_hold, check_hold, aid_hold, look_hold, sum_below}
 use Rattle.kc_machine_invariants.specs.Stands.{Stand, stand}
 use Rattle.kc_machine_invariants.specs.kc_machine_steps.declared.swap.TheConstants.{MOST_SWAPS}
 use Rattle.kc_machine_invariants.specs.kc_machine_words.declared.words.TheConstants.{LAST_GENERATION}
@@ -16,11 +16,11 @@ GenerationsGrow o m = (d : ℕ) → o.generation ≤ (m.world.control d).generat
 
 -- the lives that descriptors began since the opening
 abbrev pub lives_begun : Opening → State → ℕ
-lives_begun o m = total (λ d. (m.world.control d).generation - o.generation) m.descriptors
+lives_begun o m = sum_below (λ d. (m.world.control d).generation - o.generation) m.descriptors
 
 -- the calls of all seats, but for those that may be swaps
 abbrev pub calls_made : State → ℕ
-calls_made m = total (λ k. (stand (m.seats k)).calls - MOST_SWAPS) m.callers
+calls_made m = sum_below (λ k. (stand (m.seats k)).calls - MOST_SWAPS) m.callers
 
 abbrev pub CallsFit : Opening → State → Type 0
 CallsFit o m = calls_made m ≤ lives_begun o m

@@ -86,9 +86,9 @@ abbrev pub holds_on : ℕ → Stand → ℕ
 holds_on d s = on d (own_hold s.own) + on d (check_hold s.pass) + on d (aid_hold s.aid) + on d (look_hold s.look)
 
 -- f 0 + .. + f (n - 1)
-abbrev pub total : (ℕ → ℕ) → ℕ → ℕ
-total f zero = 0
-total f (suc n) = f n + total f n
+abbrev pub sum_below : (ℕ → ℕ) → ℕ → ℕ
+sum_below f zero = 0
+sum_below f (suc n) = f n + sum_below f n
 
 -- ---- whether d is held at generation g
 

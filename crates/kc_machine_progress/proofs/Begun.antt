@@ -11,7 +11,7 @@ use Rattle.kc_machine_progress.proofs.Within.{owned_at, work_hold}
 use Rattle.kc_machine_progress.specs.Attempts.{makes}
 use Rattle.kc_machine_answers.specs.kc_machine_traces.Claims.{steps}
 use Rattle.kc_machine_answers.proofs.kc_machine_invariants.PoolLaws.{holds_counted}
-use Rattle.kc_machine_answers.specs.kc_machine_invariants.Holds.{NoHold, holds_on, total}
+use Rattle.kc_machine_answers.specs.kc_machine_invariants.Holds.{NoHold, holds_on, sum_below}
 use Rattle.kc_machine_answers.specs.kc_machine_invariants.Stands.{resting, stand, works}
 use Rattle.kc_machine_answers.specs.kc_machine_steps.declared.task.Event.TheVariants.{Begin}
 use Rattle.kc_machine_answers.specs.kc_machine_steps.declared.task.Event.{Event}
@@ -90,7 +90,7 @@ module _ (o : Opening) (k : ℕ) (l : k < o.callers) where
 
   -- where all seats hold what they held, no more holds are counted
   pub holds_rest : (es fs : List Event) (y : ℕ) → is_idle ((run o es).seats k).work ≡ true → is_idle ((run o fs).seats k).work ≡ true → OthersRest es fs → ((run o fs).world.control y).holds ≡ ((run o es).world.control y).holds
-  holds_rest es fs y i f r = holds_counted o fs y ∙ ap (total (λ j. holds_on y (stand ((run o fs).seats j)))) ((run_shape o fs).2 ∙ sym (run_shape o es).2) ∙ ap (λ g. total g (run o es).callers) (λ n j. same j n) ∙ sym (holds_counted o es y)
+  holds_rest es fs y i f r = holds_counted o fs y ∙ ap (sum_below (λ j. holds_on y (stand ((run o fs).seats j)))) ((run_shape o fs).2 ∙ sym (run_shape o es).2) ∙ ap (λ g. sum_below g (run o es).callers) (λ n j. same j n) ∙ sym (holds_counted o es y)
     where
       same : (j : ℕ) → holds_on y (stand ((run o fs).seats j)) ≡ holds_on y (stand ((run o es).seats j))
       same j = by (j == k) refl

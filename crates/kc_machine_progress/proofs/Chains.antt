@@ -3,8 +3,8 @@ use Rattle.kc_machine_answers.specs.kc_machine.Machine.{World, touched}
 use Rattle.kc_machine_answers.specs.kc_machine.Words.{status_is}
 use Rattle.kc_machine_progress.proofs.Covers.{cas_cases, or_cases, or_left, or_mono}
 use Rattle.kc_machine_progress.proofs.Rounds.{chain, in_line, is_above, is_live, place_of, refers_line, stands_to}
-use Rattle.kc_machine_progress.proofs.Tallies.{cond_le, cond_most, cond_one, every, every_all, every_at, total_le, total_lt, total_most}
-use Rattle.kc_machine_answers.proofs.kc_machine_invariants.Sums.{total_part}
+use Rattle.kc_machine_progress.proofs.Tallies.{cond_le, cond_most, cond_one, every, every_all, every_at, sum_below_le, sum_below_lt, sum_below_most}
+use Rattle.kc_machine_answers.proofs.kc_machine_invariants.Sums.{sum_below_part}
 use Rattle.kc_machine_answers.proofs.kc_machine_invariants.Tests.{both}
 use Rattle.kc_machine_answers.specs.kc_machine_invariants.Holds.{Hold, NoHold, Proper, Stray}
 use Rattle.kc_machine_answers.specs.kc_machine_traces.Lines.{IsInstalledLine}
@@ -80,21 +80,21 @@ met_behind w l p d t e low y s r = by (nat_lt l p) refl
 
 module _ (n : ℕ) (at : ℕ → Hold) where
   pub chain_most : (w : World) (l : ℕ) → chain n at w l ≤ n
-  chain_most w l = let a = total_most (λ j. cond (is_above w l (at j)) 1 0) 1 n (λ i. cond_most (is_above w l (at i))) in omega arith
+  chain_most w l = let a = sum_below_most (λ j. cond (is_above w l (at j)) 1 0) 1 n (λ i. cond_most (is_above w l (at i))) in omega arith
 
   pub above_is : (w : World) (l d g : ℕ) → w.status d ≡ status g Active → every (stands_to w l d) MOST ≡ true → is_above w l (Proper d g) ≡ true
   above_is w l d g a e = rw (live_is w d g a, e) refl
 
   pub chain_some : (w : World) (l d g j : ℕ) → j < n → at j ≡ Proper d g → w.status d ≡ status g Active → every (stands_to w l d) MOST ≡ true → 1 ≤ chain n at w l
   chain_some w l d g j b q a e =
-      let p = total_part (λ j. cond (is_above w l (at j)) 1 0) n j b in
+      let p = sum_below_part (λ j. cond (is_above w l (at j)) 1 0) n j b in
       let z = cond_one (is_above w l (at j)) (ap (is_above w l) q ∙ above_is w l d g a e) in
       omega (arith, p, z)
 
   -- an install of the life whose lines stand up to l
   pub chain_installs : (w : World) (l : ℕ) (h : Handle) (k : ℕ) (p : Loc) (old : Word) → k < MOST → every (stands_to w l h.descriptor) MOST ≡ true
       → chain n at (touched w (access.Location p (touch.CompareExchange old (word_of h k)))) l ≤ chain n at w l
-  chain_installs w l h k p old low e = total_le _ _ n (λ j b. cond_le _ _ (above (at j)))
+  chain_installs w l h k p old low e = sum_below_le _ _ n (λ j b. cond_le _ _ (above (at j)))
     where
       v : World
       v = touched w (access.Location p (touch.CompareExchange old (word_of h k)))
@@ -121,7 +121,7 @@ module _ (n : ℕ) (at : ℕ → Hold) where
 
   -- the chain is shorter from a location at which a life's line doesn't stand
   pub chain_shorter : (w : World) (l p d g t j : ℕ) → j < n → at j ≡ Proper d g → w.status d ≡ status g Active → every (stands_to w l d) MOST ≡ true → t < MOST → in_line w d t ≡ true → place_of w d t ≡ p → refers_line d t (w.word p) ≡ false → chain n at w p < chain n at w l
-  chain_shorter w l p d g t j b q a e low y s r = total_lt (λ j. cond (is_above w p (at j)) 1 0) (λ j. cond (is_above w l (at j)) 1 0) n j b here (λ i c. cond_le _ _ (above (at i)))
+  chain_shorter w l p d g t j b q a e low y s r = sum_below_lt (λ j. cond (is_above w p (at j)) 1 0) (λ j. cond (is_above w l (at j)) 1 0) n j b here (λ i c. cond_le _ _ (above (at i)))
     where
       behind : l < p
       behind = met_behind w l p d t e low y s r

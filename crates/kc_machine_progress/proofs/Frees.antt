@@ -5,10 +5,10 @@ use Rattle.kc_machine_progress.proofs.Chains.{live_is, refers_same}
 use Rattle.kc_machine_progress.proofs.Covers.{or_false, or_left, or_right, status_cases}
 use Rattle.kc_machine_progress.proofs.Left.{is_active}
 use Rattle.kc_machine_progress.proofs.Rounds.{Calm, in_line, is_left, is_live, is_pending, life_le, life_left, line_left, lines_le, live_still, lives, nothing, own_le, own_line_left, place_of, refers_line, rounds, weight}
-use Rattle.kc_machine_progress.proofs.Tallies.{cond_le, cond_lt, total_le, total_lt, sum_lt_first, sum_lt_second}
+use Rattle.kc_machine_progress.proofs.Tallies.{cond_le, cond_lt, sum_below_le, sum_below_lt, sum_lt_first, sum_lt_second}
 use Rattle.kc_machine_answers.proofs.kc_machine_traces.ByPlace.{low}
 use Rattle.kc_machine_answers.proofs.kc_machine_invariants.Tests.{both, status_active}
-use Rattle.kc_machine_answers.specs.kc_machine_invariants.Holds.{Hold, Proper, total}
+use Rattle.kc_machine_answers.specs.kc_machine_invariants.Holds.{Hold, Proper, sum_below}
 use Rattle.kc_machine_answers.specs.kc_machine_steps.Passes.{decide_access, status}
 use Rattle.kc_machine_answers.specs.kc_machine_words.declared.words.Handle.{Handle}
 use Rattle.kc_machine_answers.specs.kc_machine_words.declared.words.Phase.{Phase}
@@ -26,7 +26,7 @@ use borrow.Author.Tests.{ltb-true}
 module _ (n : ℕ) (at : ℕ → Hold) (w : World) (h : Handle) (p : Phase) (ne : p ≢ Active) where
   -- an Active life is one less
   pub lives_fall : (j : ℕ) → j < n → at j ≡ Proper h.descriptor h.generation → w.status h.descriptor ≡ status h.generation Active → lives n at (touched w (decide_access h p)) < lives n at w
-  lives_fall j l q a = total_lt (λ j. cond (is_live v (at j)) 1 0) (λ j. cond (is_live w (at j)) 1 0) n j l here (λ i b. cond_le _ _ (live_still w v (at i) still))
+  lives_fall j l q a = sum_below_lt (λ j. cond (is_live v (at j)) 1 0) (λ j. cond (is_live w (at j)) 1 0) n j l here (λ i b. cond_le _ _ (live_still w v (at i) still))
     where
       v : World
       v = touched w (decide_access h p)
@@ -64,15 +64,15 @@ module _ (n : ℕ) (at : ℕ → Hold) (w : World) (f k l : ℕ) (a b : ℕ) whe
 
   own_less : (i : ℕ) → i < MOST → own_line_left (freed w l (Plain a b)) nothing f k i < own_line_left w nothing f k i → Fewer
   own_less i low e =
-      let x = total_lt (own_line_left (freed w l (Plain a b)) nothing f k) (own_line_left w nothing f k) MOST i low e (λ t z. own_le w (freed w l (Plain a b)) nothing nothing f free_calm k t) in
-      let y = total_le (λ j. life_left (freed w l (Plain a b)) nothing f (at j)) (λ j. life_left w nothing f (at j)) n (λ j z. life_le w (freed w l (Plain a b)) nothing nothing f free_calm (at j)) in
+      let x = sum_below_lt (own_line_left (freed w l (Plain a b)) nothing f k) (own_line_left w nothing f k) MOST i low e (λ t z. own_le w (freed w l (Plain a b)) nothing nothing f free_calm k t) in
+      let y = sum_below_le (λ j. life_left (freed w l (Plain a b)) nothing f (at j)) (λ j. life_left w nothing f (at j)) n (λ j z. life_le w (freed w l (Plain a b)) nothing nothing f free_calm (at j)) in
       sum_lt_second _ _ _ _ y x
 
   -- a line of an Active life waits there
   pub life_frees : (j d g t : ℕ) → j < n → at j ≡ Proper d g → w.status d ≡ status g Active → t < MOST → in_line w d t ≡ true → place_of w d t ≡ l → is_left w nothing f (w.word l) ≡ true → Fewer
   life_frees j d g t bound q s low y p r =
-      let x = total_lt (λ j. life_left v nothing f (at j)) (λ j. life_left w nothing f (at j)) n j bound here (λ i c. life_le w v nothing nothing f free_calm (at i)) in
-      let z = total_le (own_line_left v nothing f k) (own_line_left w nothing f k) MOST (λ t c. own_le w v nothing nothing f free_calm k t) in
+      let x = sum_below_lt (λ j. life_left v nothing f (at j)) (λ j. life_left w nothing f (at j)) n j bound here (λ i c. life_le w v nothing nothing f free_calm (at i)) in
+      let z = sum_below_le (own_line_left v nothing f k) (own_line_left w nothing f k) MOST (λ t c. own_le w v nothing nothing f free_calm k t) in
       sum_lt_first _ _ _ _ x z
     where
       v : World
@@ -87,8 +87,8 @@ module _ (n : ℕ) (at : ℕ → Hold) (w : World) (f k l : ℕ) (a b : ℕ) whe
       line : line_left v nothing f d t < line_left w nothing f d t
       line = rw (y, before, behind) (omega arith)
 
-      lines : total (line_left v nothing f d) MOST < total (line_left w nothing f d) MOST
-      lines = total_lt (line_left v nothing f d) (line_left w nothing f d) MOST t low line (λ i c. lines_le w v nothing nothing f free_calm d i)
+      lines : sum_below (line_left v nothing f d) MOST < sum_below (line_left w nothing f d) MOST
+      lines = sum_below_lt (line_left v nothing f d) (line_left w nothing f d) MOST t low line (λ i c. lines_le w v nothing nothing f free_calm d i)
 
       here : life_left v nothing f (at j) < life_left w nothing f (at j)
       here = subst (λ h. life_left v nothing f h < life_left w nothing f h) (sym q) (rw (live_is w d g s) lines)

@@ -6,7 +6,7 @@ use Rattle.kc_machine_progress.proofs.Frees.{freed}
 use Rattle.kc_machine_progress.proofs.Left.{aid_left, is_active}
 use Rattle.kc_machine_progress.proofs.Rounds.{Calm, Cover, chain, is_live, lives, lives_le, nothing, rounds, rounds_le, stands_to}
 use Rattle.kc_machine_progress.proofs.Tallies.{cond_one, every}
-use Rattle.kc_machine_answers.proofs.kc_machine_invariants.Sums.{total_part}
+use Rattle.kc_machine_answers.proofs.kc_machine_invariants.Sums.{sum_below_part}
 use Rattle.kc_machine_answers.specs.kc_machine_invariants.Holds.{Hold, Proper}
 use Rattle.kc_machine_answers.specs.kc_machine_traces.Lines.{IsInstalledLine, IsLastLife}
 use Rattle.kc_machine_answers.specs.kc_machine_steps.Lines.{word_of}
@@ -170,7 +170,7 @@ module _ (n : ℕ) (at : ℕ → Hold) (f : ℕ) where
     pub lives_one : (r : Reference) → IsLive w r → 1 ≤ lives n at w
     lives_one r a =
         let o = ground.owners r.handle.descriptor r.handle.generation a in
-        let p = total_part (λ j. cond (is_live w (at j)) 1 0) n o.0 o.1 in
+        let p = sum_below_part (λ j. cond (is_live w (at j)) 1 0) n o.0 o.1 in
         let q = cond_one (is_live w (at o.0)) (ap (is_live w) o.2 ∙ live_is w r.handle.descriptor r.handle.generation a) in
         omega (arith, p, q)
 

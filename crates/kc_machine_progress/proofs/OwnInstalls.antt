@@ -9,7 +9,7 @@ use Rattle.kc_machine_progress.proofs.Left.{aid_left, is_active}
 use Rattle.kc_machine_progress.proofs.Modes.{Frees, Ground, IsLive, Stance, each, goes_to, lives_paid, paid, price_le, price_round}
 use Rattle.kc_machine_progress.proofs.PassFalls.{next_from, one_after}
 use Rattle.kc_machine_progress.proofs.Rounds.{chain, in_line, is_left, is_pending, life_by, life_left, lives, nothing, own_line_left, place_of, refers_line, rounds, weight, weight_le}
-use Rattle.kc_machine_progress.proofs.Tallies.{cond_most, total_le, sum_le, above_none, none_le}
+use Rattle.kc_machine_progress.proofs.Tallies.{cond_most, sum_below_le, sum_le, above_none, none_le}
 use Rattle.kc_machine_answers.proofs.kc_machine_invariants.Tests.{both, some_line}
 use Rattle.kc_machine_answers.specs.kc_machine_invariants.Holds.{Hold}
 use Rattle.kc_machine_answers.proofs.kc_machine_traces.Gone.{Next, next_skips}
@@ -115,8 +115,8 @@ module _ (n : ℕ) (at : ℕ → Hold) (w : World) (h : Handle) (ground : Ground
 
     pub own_paid : paid n at f (record w { word = g }) nothing j ≤ paid n at f w nothing k
     own_paid =
-        let a = total_le (λ i. life_left v nothing f (at i)) (λ i. life_left w nothing f (at i)) n (λ i l. life_by w v nothing nothing f refl refl refl (λ d g e. e) left_still (at i)) in
-        let b = total_le (own_line_left v nothing f j) (own_line_left w nothing f k) MOST (λ i l. line_still i l) in
+        let a = sum_below_le (λ i. life_left v nothing f (at i)) (λ i. life_left w nothing f (at i)) n (λ i l. life_by w v nothing nothing f refl refl refl (λ d g e. e) left_still (at i)) in
+        let b = sum_below_le (own_line_left v nothing f j) (own_line_left w nothing f k) MOST (λ i l. line_still i l) in
         price_le (each n at f) _ _ _ _ (sum_le _ _ _ _ a b) (omega arith)
 
   -- to the next install, over words that are still or refer to this line

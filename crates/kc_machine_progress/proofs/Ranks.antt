@@ -8,14 +8,14 @@ use Rattle.kc_machine_progress.proofs.Modes.{Ground, Stance, StanceGoes, each, p
 use Rattle.kc_machine_progress.proofs.OwnInstalls.{OwnEnds, OwnPaid, own_installs, own_meets, passes, stops}
 use Rattle.kc_machine_progress.proofs.Rounds.{Cover, in_line, is_left, is_live, is_pending, life_left, line_left, lives, nothing, own_line_left, place_of, rounds, weight}
 use Rattle.kc_machine_progress.proofs.StanceSteps.{hold_most, stance_step}
-use Rattle.kc_machine_progress.proofs.Tallies.{cond_most, total_most}
+use Rattle.kc_machine_progress.proofs.Tallies.{cond_most, sum_below_most}
 use Rattle.kc_machine_progress.specs.Stretches.{step_begins}
 use Rattle.kc_machine_answers.specs.kc_machine_commits.Commits.{after_own_pass, aid_or_back, copy_by_own, fill_next, fill_or_start, finished, onward_or_back, owed_next, own_access, own_next, wake_access, wake_next, wake_or_drop, wake_or_signal}
 use Rattle.kc_machine_answers.specs.kc_machine_commits.declared.commit.Commit.{Commit}
 use Rattle.kc_machine_answers.specs.kc_machine_commits.declared.commit.OwnStep.{OwnStep}
 use Rattle.kc_machine_answers.specs.kc_machine_commits.declared.commit.Stage.{Stage}
 use Rattle.kc_machine_answers.specs.kc_machine_commits.declared.commit.Stage.TheVariants.{Own, Scan, Take}
-use Rattle.kc_machine_answers.specs.kc_machine_invariants.Holds.{Hold, NoHold, Proper, Stray, total}
+use Rattle.kc_machine_answers.specs.kc_machine_invariants.Holds.{Hold, NoHold, Proper, Stray, sum_below}
 use Rattle.kc_machine_answers.proofs.kc_machine_traces.Targets.{Target}
 use Rattle.kc_machine_answers.specs.kc_machine_traces.Phases.{StepKnows}
 use Rattle.kc_machine_answers.specs.kc_machine_invariants.Fits.{AidFits, IsInstalledAt, OwnFits, StepFits}
@@ -54,14 +54,14 @@ top n = price ((3 * MOST + 5) * n + 7) (MOST * n + 3 * MOST) n + 14 * MOST
 
 -- ---- what there may be to pay at most
 
-line_most : (w : World) (x : Cover) (f d : ℕ) → total (line_left w x f d) MOST ≤ MOST
-line_most w x f d = let a = total_most (line_left w x f d) 1 MOST (λ t. cond_most (in_line w d t && is_left w x f (w.word (place_of w d t)))) in omega (arith, a)
+line_most : (w : World) (x : Cover) (f d : ℕ) → sum_below (line_left w x f d) MOST ≤ MOST
+line_most w x f d = let a = sum_below_most (line_left w x f d) 1 MOST (λ t. cond_most (in_line w d t && is_left w x f (w.word (place_of w d t)))) in omega (arith, a)
 
 pub life_most : (w : World) (x : Cover) (f : ℕ) (h : Hold) → life_left w x f h ≤ MOST
 life_most w x f NoHold = omega arith
 life_most w x f (Proper d g) = go (is_live w (Proper d g))
   where
-    go : (b : Bool) → cond b (total (line_left w x f d) MOST) 0 ≤ MOST
+    go : (b : Bool) → cond b (sum_below (line_left w x f d) MOST) 0 ≤ MOST
     go true = line_most w x f d
     go false = omega arith
 life_most w x f (Stray d g) = omega arith
@@ -78,9 +78,9 @@ own_most w x f k t = go (in_line w f t)
 
 pub paid_most : (n : ℕ) (at : ℕ → Hold) (f : ℕ) (w : World) (x : Cover) (k : ℕ) → paid n at f w x k + 14 * MOST ≤ top n
 paid_most n at f w x k =
-    let a = total_most (λ j. life_left w x f (at j)) MOST n (λ j. life_most w x f (at j)) in
-    let b = total_most (own_line_left w x f k) 3 MOST (λ t. own_most w x f k t) in
-    let c = total_most (λ j. cond (is_live w (at j)) 1 0) 1 n (λ j. cond_most (is_live w (at j))) in
+    let a = sum_below_most (λ j. life_left w x f (at j)) MOST n (λ j. life_most w x f (at j)) in
+    let b = sum_below_most (own_line_left w x f k) 3 MOST (λ t. own_most w x f k t) in
+    let c = sum_below_most (λ j. cond (is_live w (at j)) 1 0) 1 n (λ j. cond_most (is_live w (at j))) in
     let p = price_le (each n at f) (rounds n at w x f k) (MOST * n + 3 * MOST) (lives n at w) n (omega (arith, a, b)) (omega (arith, c)) in
     omega (arith, p)
 

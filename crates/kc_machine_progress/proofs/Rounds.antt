@@ -2,9 +2,9 @@
 use Rattle.kc_machine_answers.specs.kc_machine.Machine.{World}
 use Rattle.kc_machine_answers.specs.kc_machine.Words.{status_is}
 use Rattle.kc_machine_progress.proofs.Left.{is_active}
-use Rattle.kc_machine_progress.proofs.Tallies.{cond_le, every, total_le, sum_le}
+use Rattle.kc_machine_progress.proofs.Tallies.{cond_le, every, sum_below_le, sum_le}
 use Rattle.kc_machine_answers.proofs.kc_machine_invariants.Tests.{both, status_active}
-use Rattle.kc_machine_answers.specs.kc_machine_invariants.Holds.{Hold, NoHold, Proper, Stray, total}
+use Rattle.kc_machine_answers.specs.kc_machine_invariants.Holds.{Hold, NoHold, Proper, Stray, sum_below}
 use Rattle.kc_machine_answers.specs.kc_machine_invariants.Started.{line_of_words}
 use Rattle.kc_machine_answers.specs.kc_machine_steps.Lines.{is_installed, joined}
 use Rattle.kc_machine_answers.specs.kc_machine_steps.Passes.{status}
@@ -55,7 +55,7 @@ line_left w x f d t = cond (in_line w d t && is_left w x f (w.word (place_of w d
 
 abbrev pub life_left : World → Cover → ℕ → Hold → ℕ
 life_left w x f NoHold = 0
-life_left w x f (Proper d g) = cond (is_live w (Proper d g)) (total (line_left w x f d) MOST) 0
+life_left w x f (Proper d g) = cond (is_live w (Proper d g)) (sum_below (line_left w x f d) MOST) 0
 life_left w x f (Stray d g) = 0
 
 -- its reference stands, or may come to stand
@@ -70,10 +70,10 @@ own_line_left w x f k t = cond (in_line w f t) (weight (not (nat_lt t k)) (is_le
 
 -- n seats, and what they own
 abbrev pub rounds : ℕ → (ℕ → Hold) → World → Cover → ℕ → ℕ → ℕ
-rounds n at w x f k = total (λ j. life_left w x f (at j)) n + total (own_line_left w x f k) MOST
+rounds n at w x f k = sum_below (λ j. life_left w x f (at j)) n + sum_below (own_line_left w x f k) MOST
 
 abbrev pub lives : ℕ → (ℕ → Hold) → World → ℕ
-lives n at w = total (λ j. cond (is_live w (at j)) 1 0) n
+lives n at w = sum_below (λ j. cond (is_live w (at j)) 1 0) n
 
 -- ---- a chain of aids: the lives whose lines up to location l are all installed
 
@@ -86,7 +86,7 @@ is_above w l (Proper d g) = is_live w (Proper d g) && every (stands_to w l d) MO
 is_above w l (Stray d g) = false
 
 abbrev pub chain : ℕ → (ℕ → Hold) → World → ℕ → ℕ
-chain n at w l = total (λ j. cond (is_above w l (at j)) 1 0) n
+chain n at w l = sum_below (λ j. cond (is_above w l (at j)) 1 0) n
 
 -- ---- what falls, falls
 
@@ -127,8 +127,8 @@ module _ (w v : World) (x y : Cover) (f : ℕ) (owner : v.owner ≡ w.owner) (fi
   life_by NoHold = omega arith
   life_by (Proper d g) = go (is_live v (Proper d g)) (is_live w (Proper d g)) (live_still w v (Proper d g) live)
     where
-      go : (a b : Bool) → (a ≡ true → b ≡ true) → cond a (total (line_left v y f d) MOST) 0 ≤ cond b (total (line_left w x f d) MOST) 0
-      go true true h = total_le (line_left v y f d) (line_left w x f d) MOST (λ t l. lines_by d t)
+      go : (a b : Bool) → (a ≡ true → b ≡ true) → cond a (sum_below (line_left v y f d) MOST) 0 ≤ cond b (sum_below (line_left w x f d) MOST) 0
+      go true true h = sum_below_le (line_left v y f d) (line_left w x f d) MOST (λ t l. lines_by d t)
       go true false h = let q = h refl in absurd (cc)
       go false b h = omega arith
   life_by (Stray d g) = omega arith
@@ -163,9 +163,9 @@ module _ (w v : World) (x y : Cover) (f : ℕ) (c : Calm w v x y f) where
 
   pub rounds_le : (n : ℕ) (at : ℕ → Hold) (k : ℕ) → rounds n at v y f k ≤ rounds n at w x f k
   rounds_le n at k =
-      let a = total_le (λ j. life_left v y f (at j)) (λ j. life_left w x f (at j)) n (λ j l. life_le (at j)) in
-      let b = total_le (own_line_left v y f k) (own_line_left w x f k) MOST (λ t l. own_le k t) in
+      let a = sum_below_le (λ j. life_left v y f (at j)) (λ j. life_left w x f (at j)) n (λ j l. life_le (at j)) in
+      let b = sum_below_le (own_line_left v y f k) (own_line_left w x f k) MOST (λ t l. own_le k t) in
       sum_le _ _ _ _ a b
 
   pub lives_le : (n : ℕ) (at : ℕ → Hold) → lives n at v ≤ lives n at w
-  lives_le n at = total_le (λ j. cond (is_live v (at j)) 1 0) (λ j. cond (is_live w (at j)) 1 0) n (λ j l. cond_le _ _ (live_still w v (at j) c.live))
+  lives_le n at = sum_below_le (λ j. cond (is_live v (at j)) 1 0) (λ j. cond (is_live w (at j)) 1 0) n (λ j l. cond_le _ _ (live_still w v (at j) c.live))

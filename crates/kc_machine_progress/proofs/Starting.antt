@@ -6,9 +6,9 @@ use Rattle.kc_machine_progress.proofs.Left.{is_active}
 use Rattle.kc_machine_progress.proofs.Modes.{each, paid, price, price_le}
 use Rattle.kc_machine_progress.proofs.Ranks.{life_most}
 use Rattle.kc_machine_progress.proofs.Rounds.{Cover, in_line, is_left, is_live, is_pending, life_left, line_left, lives, nothing, own_line_left, place_of, refers_line, rounds, weight, weight_le}
-use Rattle.kc_machine_progress.proofs.Tallies.{cond_le, cond_most, total_le, total_most, sum_le, sum_le_more, none_le}
+use Rattle.kc_machine_progress.proofs.Tallies.{cond_le, cond_most, sum_below_le, sum_below_most, sum_le, sum_le_more, none_le}
 use Rattle.kc_machine_answers.proofs.kc_machine_invariants.Tests.{both, status_active}
-use Rattle.kc_machine_answers.specs.kc_machine_invariants.Holds.{Hold, NoHold, Proper, Stray, total}
+use Rattle.kc_machine_answers.specs.kc_machine_invariants.Holds.{Hold, NoHold, Proper, Stray, sum_below}
 use Rattle.kc_machine_answers.specs.kc_machine_steps.Lines.{is_installed, joined}
 use Rattle.kc_machine_answers.specs.kc_machine_steps.Passes.{status}
 use Rattle.kc_machine_answers.specs.kc_machine_words.declared.words.First.{First}
@@ -25,14 +25,14 @@ use Rattle.std.proofs.lemmas.Bool.{lt-ltb}
 
 -- ---- sums that differ at one place alone
 
-pub total_but : (f g : ℕ → ℕ) (c n k : ℕ) → f k ≤ g k + c → ((i : ℕ) → i < n → i ≢ k → f i ≤ g i) → total f n ≤ total g n + c
-total_but f g c zero k h r = omega arith
-total_but f g c (suc n) k h r = go (n == k) refl (total_but f g c n k h (λ i l ne. r i (omega arith) ne))
+pub sum_below_but : (f g : ℕ → ℕ) (c n k : ℕ) → f k ≤ g k + c → ((i : ℕ) → i < n → i ≢ k → f i ≤ g i) → sum_below f n ≤ sum_below g n + c
+sum_below_but f g c zero k h r = omega arith
+sum_below_but f g c (suc n) k h r = go (n == k) refl (sum_below_but f g c n k h (λ i l ne. r i (omega arith) ne))
   where
-    go : (b : Bool) → (n == k) ≡ b → total f n ≤ total g n + c → f n + total f n ≤ g n + total g n + c
+    go : (b : Bool) → (n == k) ≡ b → sum_below f n ≤ sum_below g n + c → f n + sum_below f n ≤ g n + sum_below g n + c
     go true e z =
         let s = eqb-true n k e in
-        let a = total_le f g n (λ i l. r i (omega arith) (λ q. let u = s in absurd (omega (arith, u, q, l)))) in
+        let a = sum_below_le f g n (λ i l. r i (omega arith) (λ q. let u = s in absurd (omega (arith, u, q, l)))) in
         let b : f n ≤ g n + c = subst (λ x. f x ≤ g x + c) (sym s) h in
         omega (arith, a, b)
     go false e z = let a = r n (omega arith) (eqb-false n k e) in omega (arith, a, z)
@@ -61,8 +61,8 @@ module _ (n : ℕ) (at bt : ℕ → Hold) (w : World) (other : (j : ℕ) → (bt
 
   pub paid_moves : (f : ℕ) (x : Cover) (k : ℕ) → paid n bt f w x k ≤ paid n at f w x k
   paid_moves f x k =
-      let a = total_le (λ j. life_left w x f (bt j)) (λ j. life_left w x f (at j)) n (λ j l. owned_life x f j) in
-      let b = total_le (λ j. cond (is_live w (bt j)) 1 0) (λ j. cond (is_live w (at j)) 1 0) n (λ j l. owned_live j) in
+      let a = sum_below_le (λ j. life_left w x f (bt j)) (λ j. life_left w x f (at j)) n (λ j l. owned_life x f j) in
+      let b = sum_below_le (λ j. cond (is_live w (bt j)) 1 0) (λ j. cond (is_live w (at j)) 1 0) n (λ j l. owned_live j) in
       price_le (each n at f) _ _ _ _ (omega (arith, a)) b
 
 -- ---- the words of a descriptor that isn't Active
@@ -98,10 +98,10 @@ module _ (n : ℕ) (at : ℕ → Hold) (w : World) (e f : ℕ) (idle : is_active
             let z : is_live w (Proper d g) ≡ false = ap (λ x. is_live w (Proper x g)) s ∙ idle_dead w e g idle in
             rw z (omega arith)
         go false q =
-            let l = total_le (line_left v x f d) (line_left w x f d) MOST (λ t b. let z = filled_line x d t (eqb-false d e q) in omega (arith, z)) in
+            let l = sum_below_le (line_left v x f d) (line_left w x f d) MOST (λ t b. let z = filled_line x d t (eqb-false d e q) in omega (arith, z)) in
             by (is_live w (Proper d g)) l
           where
-            by : (b : Bool) → total (line_left v x f d) MOST ≤ total (line_left w x f d) MOST → cond b (total (line_left v x f d) MOST) 0 ≤ cond b (total (line_left w x f d) MOST) 0
+            by : (b : Bool) → sum_below (line_left v x f d) MOST ≤ sum_below (line_left w x f d) MOST → cond b (sum_below (line_left v x f d) MOST) 0 ≤ cond b (sum_below (line_left w x f d) MOST) 0
             by true l = l
             by false l = none_le 0
     filled_life x (Stray d g) = omega arith
@@ -112,8 +112,8 @@ module _ (n : ℕ) (at : ℕ → Hold) (w : World) (e f : ℕ) (idle : is_active
     -- to fill them leaves no more to pay
     pub paid_filled : (x : Cover) (k : ℕ) → paid n at f v x k ≤ paid n at f w x k
     paid_filled x k =
-        let p = total_le (λ j. life_left v x f (at j)) (λ j. life_left w x f (at j)) n (λ j l. filled_life x (at j)) in
-        let q = total_le (own_line_left v x f k) (own_line_left w x f k) MOST (λ t l. let z = filled_own x k t in omega (arith, z)) in
+        let p = sum_below_le (λ j. life_left v x f (at j)) (λ j. life_left w x f (at j)) n (λ j l. filled_life x (at j)) in
+        let q = sum_below_le (own_line_left v x f k) (own_line_left w x f k) MOST (λ t l. let z = filled_own x k t in omega (arith, z)) in
         price_le (each n at f) _ _ _ _ (sum_le _ _ _ _ p q) (omega arith)
 
   -- ---- its start
@@ -137,14 +137,14 @@ module _ (n : ℕ) (at : ℕ → Hold) (w : World) (e f : ℕ) (idle : is_active
     start_life : (h : Hold) → ((g : ℕ) → h ≡ Proper e g → ⊥) → life_left started here f h ≤ life_left w nothing f h
     start_life NoHold r = omega arith
     start_life (Proper d g) r =
-        let l = total_le (line_left started here f d) (line_left w nothing f d) MOST (λ t b. start_line d t) in
+        let l = sum_below_le (line_left started here f d) (line_left w nothing f d) MOST (λ t b. start_line d t) in
         let z = live_else d g (λ q. r g (λ i. Proper (q i) g)) in
         rw z (by (is_live w (Proper d g)) l)
       where
         live_else : (d g : ℕ) → d ≢ e → is_live started (Proper d g) ≡ is_live w (Proper d g)
         live_else d g q i = is_live (record w { status = λ x. status_else d q i }) (Proper d g)
 
-        by : (b : Bool) → total (line_left started here f d) MOST ≤ total (line_left w nothing f d) MOST → cond b (total (line_left started here f d) MOST) 0 ≤ cond b (total (line_left w nothing f d) MOST) 0
+        by : (b : Bool) → sum_below (line_left started here f d) MOST ≤ sum_below (line_left w nothing f d) MOST → cond b (sum_below (line_left started here f d) MOST) 0 ≤ cond b (sum_below (line_left w nothing f d) MOST) 0
         by true l = l
         by false l = none_le 0
     start_life (Stray d g) r = omega arith
@@ -170,9 +170,9 @@ module _ (n : ℕ) (at : ℕ → Hold) (w : World) (e f : ℕ) (idle : is_active
 
     pub paid_started : paid n at f started here MOST ≤ price (each n at f) (rounds n at w nothing f MOST + MOST) (lives n at w + 1)
     paid_started =
-        let p = total_but (λ j. life_left started here f (at j)) (λ j. life_left w nothing f (at j)) MOST n k (let z = life_most started here f (at k) in omega (arith, z)) (λ j l q. start_life (at j) (other_life j l q)) in
-        let o = total_le (own_line_left started here f MOST) (own_line_left w nothing f MOST) MOST (λ t l. start_own t) in
-        let u = total_but (λ j. cond (is_live started (at j)) 1 0) (λ j. cond (is_live w (at j)) 1 0) 1 n k (let z = cond_most (is_live started (at k)) in omega (arith, z)) (λ j l q. cond_le _ _ (start_live (at j) (other_life j l q))) in
+        let p = sum_below_but (λ j. life_left started here f (at j)) (λ j. life_left w nothing f (at j)) MOST n k (let z = life_most started here f (at k) in omega (arith, z)) (λ j l q. start_life (at j) (other_life j l q)) in
+        let o = sum_below_le (own_line_left started here f MOST) (own_line_left w nothing f MOST) MOST (λ t l. start_own t) in
+        let u = sum_below_but (λ j. cond (is_live started (at j)) 1 0) (λ j. cond (is_live w (at j)) 1 0) 1 n k (let z = cond_most (is_live started (at k)) in omega (arith, z)) (λ j l q. cond_le _ _ (start_live (at j) (other_life j l q))) in
         price_le (each n at f) _ _ _ _ (sum_le_more _ _ _ _ MOST p o) u
 
 -- ---- what a commit brings to be paid
@@ -199,8 +199,8 @@ own_few w x f t l = go (in_line w f t) (nat_lt t MOST) (lt-ltb t MOST l)
 
 pub paid_few : (n : ℕ) (at : ℕ → Hold) (f : ℕ) (w : World) (x : Cover) → paid n at f w x MOST ≤ price ((3 * MOST + 5) * n + 7) (MOST * n + MOST) n
 paid_few n at f w x =
-    let a = total_most (λ j. life_left w x f (at j)) MOST n (λ j. life_most w x f (at j)) in
-    let b = total_le (own_line_left w x f MOST) (λ t. 1) MOST (λ t l. own_few w x f t l) in
-    let b' : total (λ t. 1) MOST ≡ MOST = refl in
-    let c = total_most (λ j. cond (is_live w (at j)) 1 0) 1 n (λ j. cond_most (is_live w (at j))) in
+    let a = sum_below_most (λ j. life_left w x f (at j)) MOST n (λ j. life_most w x f (at j)) in
+    let b = sum_below_le (own_line_left w x f MOST) (λ t. 1) MOST (λ t l. own_few w x f t l) in
+    let b' : sum_below (λ t. 1) MOST ≡ MOST = refl in
+    let c = sum_below_most (λ j. cond (is_live w (at j)) 1 0) 1 n (λ j. cond_most (is_live w (at j))) in
     price_le (each n at f) (rounds n at w x f MOST) (MOST * n + MOST) (lives n at w) n (omega (arith, a, b, b')) (omega (arith, c))

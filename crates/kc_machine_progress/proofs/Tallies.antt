@@ -1,27 +1,27 @@
 -- Sums of what is left, and tests of all numbers below another.
 use Rattle.kc_machine_answers.proofs.kc_machine_invariants.Tests.{both}
-use Rattle.kc_machine_answers.specs.kc_machine_invariants.Holds.{total}
+use Rattle.kc_machine_answers.specs.kc_machine_invariants.Holds.{sum_below}
 use Rattle.std.proofs.Common.{Bool, ap, arith, cond, false, mul-suc, refl, subst, suc, true, zero, ℕ, ◌&&◌, ◌*◌, ◌+◌, ◌<◌, ◌==◌, ◌∙◌, ◌≡◌, ◌≤◌}
 use borrow.Author.Tests.{eqb-false, eqb-true}
 
-pub total_le : (f g : ℕ → ℕ) (n : ℕ) → ((i : ℕ) → i < n → f i ≤ g i) → total f n ≤ total g n
-total_le f g zero h = omega arith
-total_le f g (suc n) h = let a = h n (omega arith) in let b = total_le f g n (λ i l. h i (omega arith)) in omega arith
+pub sum_below_le : (f g : ℕ → ℕ) (n : ℕ) → ((i : ℕ) → i < n → f i ≤ g i) → sum_below f n ≤ sum_below g n
+sum_below_le f g zero h = omega arith
+sum_below_le f g (suc n) h = let a = h n (omega arith) in let b = sum_below_le f g n (λ i l. h i (omega arith)) in omega arith
 
-pub total_lt : (f g : ℕ → ℕ) (n k : ℕ) → k < n → f k < g k → ((i : ℕ) → i < n → f i ≤ g i) → total f n < total g n
-total_lt f g zero k l s h = absurd (omega arith)
-total_lt f g (suc n) k l s h = go (k == n) refl (λ r. total_lt f g n k r s (λ i l. h i (omega arith)))
+pub sum_below_lt : (f g : ℕ → ℕ) (n k : ℕ) → k < n → f k < g k → ((i : ℕ) → i < n → f i ≤ g i) → sum_below f n < sum_below g n
+sum_below_lt f g zero k l s h = absurd (omega arith)
+sum_below_lt f g (suc n) k l s h = go (k == n) refl (λ r. sum_below_lt f g n k r s (λ i l. h i (omega arith)))
   where
-    go : (b : Bool) → (k == n) ≡ b → (k < n → total f n < total g n) → f n + total f n < g n + total g n
+    go : (b : Bool) → (k == n) ≡ b → (k < n → sum_below f n < sum_below g n) → f n + sum_below f n < g n + sum_below g n
     go true e r =
-        let a = total_le f g n (λ i l. h i (omega arith)) in
+        let a = sum_below_le f g n (λ i l. h i (omega arith)) in
         let b : f n < g n = subst (λ x. f x < g x) (eqb-true k n e) s in
         omega arith
     go false e r = let ne = eqb-false k n e in let a = r (omega arith) in let b = h n (omega arith) in omega arith
 
-pub total_most : (f : ℕ → ℕ) (c n : ℕ) → ((i : ℕ) → f i ≤ c) → total f n ≤ c * n
-total_most f c zero h = omega arith
-total_most f c (suc n) h = let a = total_most f c n h in let b = h n in omega (arith, a, b, times c n)
+pub sum_below_most : (f : ℕ → ℕ) (c n : ℕ) → ((i : ℕ) → f i ≤ c) → sum_below f n ≤ c * n
+sum_below_most f c zero h = omega arith
+sum_below_most f c (suc n) h = let a = sum_below_most f c n h in let b = h n in omega (arith, a, b, times c n)
   where
     times : (c n : ℕ) → c * suc n ≡ c * n + c
     times c n = mul-suc c n

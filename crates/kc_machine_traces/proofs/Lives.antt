@@ -3,7 +3,7 @@ use Rattle.std.proofs.Common.{◌≡◌, ℕ, ◌<◌, ◌≤◌, ◌∙◌, ⊎
 use Rattle.kc_machine_traces.specs.kc_machine.Machine.{World}
 use Rattle.kc_machine_traces.proofs.kc_machine_invariants.Counted.{one_here}
 use Rattle.kc_machine_traces.proofs.kc_machine_invariants.Held.{Fits, stays}
-use Rattle.kc_machine_traces.proofs.kc_machine_invariants.Sums.{total_part}
+use Rattle.kc_machine_traces.proofs.kc_machine_invariants.Sums.{sum_below_part}
 use Rattle.kc_machine_traces.specs.kc_machine_invariants.Effects.{Effect}
 use Rattle.kc_machine_traces.specs.kc_machine_invariants.Holds.{Proper, Has, on, holds_on}
 use Rattle.kc_machine_traces.specs.kc_machine_invariants.Stands.{Stand}
@@ -40,7 +40,7 @@ line_stays w v d k s h =
 pub held_counts : (w : World) (n m : ℕ) (at : ℕ → Stand) → Lives n m w at → (j : ℕ) → j < n → (d g : ℕ) → Has (at j) (Proper d g) → 1 ≤ (w.control d).holds
 held_counts w n m at p j l d g h =
     let c = p.pool.counted d in
-    let t = total_part (λ i. holds_on d (at i)) n j l in
+    let t = sum_below_part (λ i. holds_on d (at i)) n j l in
     let o = one_here d in
     let s = at j in
     let a : 1 ≤ holds_on d s = ⊎_elim (λ q. let x = ap (on d) q in omega arith) (λ a. ⊎_elim (λ q. let x = ap (on d) q in omega arith) (λ b. ⊎_elim (λ q. let x = ap (on d) q in omega arith) (λ q. let x = ap (on d) q in omega arith) b) a) h in

@@ -36,9 +36,9 @@ use Rattle.kc_machine_traces.specs.kc_machine.Hangs.{hang_access_of, leave_acces
 use Rattle.kc_machine_traces.specs.kc_machine.Machine.{State}
 use Rattle.kc_machine_traces.specs.kc_machine.Seats.{work_access, access_of}
 use Rattle.kc_machine_traces.specs.kc_machine_commits.Commits.{own_access, stage_access, fill_first, fill_second, wake_access}
-use Rattle.kc_machine_traces.proofs.kc_machine_invariants.Sums.{total_part}
+use Rattle.kc_machine_traces.proofs.kc_machine_invariants.Sums.{sum_below_part}
 use Rattle.kc_machine_traces.specs.kc_machine_invariants.Claims.{HoldsAreCounted}
-use Rattle.kc_machine_traces.specs.kc_machine_invariants.Holds.{Hold, NoHold, Proper, Stray, on, one_at, dropping, holds_on, own_hold, check_hold, aid_hold, look_hold, total, step_hold, look_step_hold}
+use Rattle.kc_machine_traces.specs.kc_machine_invariants.Holds.{Hold, NoHold, Proper, Stray, on, one_at, dropping, holds_on, own_hold, check_hold, aid_hold, look_hold, sum_below, step_hold, look_step_hold}
 use Rattle.kc_machine_traces.specs.kc_machine_invariants.Stands.{Stand, stand, works, resting, Waits, aids, owns, hangs, commits}
 use Rattle.kc_machine_traces.specs.kc_machine_invariants.Counts.{one_if_held, holds_of, AtMostThree}
 use Rattle.kc_machine_traces.specs.Room.{AddsHaveRoom, SubtractsHaveRoom}
@@ -66,14 +66,14 @@ on_three d s l =
     let a = on_one d (own_hold s.own) in let b = on_one d (check_hold s.pass) in let c = on_one d (aid_hold s.aid) in let e = on_one d (look_hold s.look) in
     omega arith
 
-pub total_most : (f : ℕ → ℕ) (b n : ℕ) → ((k : ℕ) → f k ≤ b) → total f n ≤ b * n
-total_most f b zero h = omega arith
-total_most f b (suc n) h = let a = h n in let c = total_most f b n h in omega arith
+pub sum_below_most : (f : ℕ → ℕ) (b n : ℕ) → ((k : ℕ) → f k ≤ b) → sum_below f n ≤ b * n
+sum_below_most f b zero h = omega arith
+sum_below_most f b (suc n) h = let a = h n in let c = sum_below_most f b n h in omega arith
 
 holds_most : (m : State) → HoldsAreCounted m → AtMostThree m → (d : ℕ) → (m.world.control d).holds ≤ 3 * m.callers
 holds_most m c t d =
     let e = c d in
-    let b = total_most (λ k. holds_on d (stand (m.seats k))) 3 m.callers (λ k. on_three d (stand (m.seats k)) (t k)) in
+    let b = sum_below_most (λ k. holds_on d (stand (m.seats k))) 3 m.callers (λ k. on_three d (stand (m.seats k)) (t k)) in
     omega arith
 
 -- ---- who gives one back has it
@@ -194,7 +194,7 @@ gives_back : (m : State) (k d : ℕ) → HoldsAreCounted m → k < m.callers →
 gives_back m k d c l e =
     let s = m.seats k in
     let one = work_back d s.caller s.calls (resting s) s.work e in
-    let part = total_part (λ j. holds_on d (stand (m.seats j))) m.callers k l in
+    let part = sum_below_part (λ j. holds_on d (stand (m.seats j))) m.callers k l in
     let q = c d in
     omega arith
 

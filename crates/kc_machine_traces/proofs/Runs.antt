@@ -33,12 +33,12 @@ use Rattle.kc_machine_traces.specs.kc_machine_commits.declared.commit.Stage.TheV
 use Rattle.kc_machine_traces.specs.kc_machine.declared.hang.HangStep.TheVariants as hang
 use Rattle.kc_machine_traces.specs.Claims.{owed_by, owed_by_swap}
 use Rattle.kc_machine_traces.proofs.kc_machine_invariants.PoolLaws.{holds_counted}
-use Rattle.kc_machine_traces.proofs.kc_machine_invariants.Sums.{total_part}
+use Rattle.kc_machine_traces.proofs.kc_machine_invariants.Sums.{sum_below_part}
 use Rattle.kc_machine_traces.specs.kc_machine_invariants.Stands.{Stand, Waits, resting, aids, owns, commits, hangs, works, stand}
 use Rattle.kc_machine_traces.proofs.kc_machine_invariants.LifeLaws.{generations_fit, calls_fit, three_holds}
 use Rattle.kc_machine_traces.proofs.Accesses.{work_touches}
 use Rattle.kc_machine_traces.proofs.Callers.{caller_of, owed_in, owed_in_swap}
-use Rattle.kc_machine_traces.proofs.Room.{total_most, lt_is, adds_room, subtracts_room}
+use Rattle.kc_machine_traces.proofs.Room.{sum_below_most, lt_is, adds_room, subtracts_room}
 use Rattle.kc_machine_traces.proofs.Steps.{answer_in, begun_in, halted_in}
 use Rattle.kc_machine_traces.proofs.Words.{touched_in, found_in, opened_in}
 use Rattle.kc_machine_traces.specs.Callers.{AwaitersAreCallers, OwedAreCallers}
@@ -85,9 +85,9 @@ module _ (o : Opening) where
       let m = run o es in
       let s = run_shape o es in
       let n : k < m.callers = (let c = s.2 in omega arith) in
-      let part = total_part (λ j. (stand (m.seats j)).calls - MOST_SWAPS) m.callers k n in
+      let part = sum_below_part (λ j. (stand (m.seats j)).calls - MOST_SWAPS) m.callers k n in
       let all = calls_fit o es in
-      let lives = total_most (λ d. (m.world.control d).generation - o.generation) 1099511627775 m.descriptors (λ d. let g = generations_fit o es d w.0.generation in omega arith) in
+      let lives = sum_below_most (λ d. (m.world.control d).generation - o.generation) 1099511627775 m.descriptors (λ d. let g = generations_fit o es d w.0.generation in omega arith) in
       let d = s.1 in
       let c = w.0.callers in
       let same = works_calls (resting (m.seats k)) (m.seats k).work in

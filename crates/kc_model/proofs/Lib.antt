@@ -7,4 +7,5 @@ pub mod Pens
 pub mod Stores
 pub mod Footprints
 pub mod Lists
+pub mod Sums
 pub mod Rises

@@ -23,7 +23,7 @@ use Rattle.kc_table_laws.specs.kc_machine_commits.declared.commit.Stage.TheVaria
 use Rattle.kc_table_laws.specs.kc_machine_commits.declared.commit.Stage.{Stage}
 use Rattle.kc_table_laws.proofs.kc_machine_invariants.PoolLaws.{holds_counted}
 use Rattle.kc_table_laws.specs.kc_machine_invariants.Claims.{IsWorn}
-use Rattle.kc_table_laws.specs.kc_machine_invariants.Holds.{holds_on, total}
+use Rattle.kc_table_laws.specs.kc_machine_invariants.Holds.{holds_on, sum_below}
 use Rattle.kc_table_laws.specs.kc_machine_invariants.Stands as stands
 use Rattle.kc_table_laws.specs.kc_machine_invariants.Stands.{resting, stand, works}
 use Rattle.kc_table_laws.proofs.kc_machine_traces.Runs.{steps_happen}
@@ -246,7 +246,7 @@ module _ (o : Opening) (sole : o.callers ≡ 1) (k : ℕ) (within : k < o.caller
       unheld : (y : ℕ) → (w0.control y).holds ≡ 0
       unheld y =
           let first : k ≡ 0 = omega (arith, within, sole) in
-          holds_counted o base y ∙ ap (total (λ j. holds_on y (stand ((run o base).seats j)))) (callers ∙ sole)
+          holds_counted o base y ∙ ap (sum_below (λ j. holds_on y (stand ((run o base).seats j)))) (callers ∙ sole)
           ∙ (let h : holds_on y (stand ((run o base).seats 0)) ≡ 0 = subst (λ i. holds_on y (stand ((run o base).seats i)) ≡ 0) first (searching_holds ((run o base).seats k) c d 0 y is at) in omega (arith, h))
 
       go : ((d : ℕ) × (d < pool_size o.callers) × ((w0.control d).generation < LAST_GENERATION)) ⊎ ((d : ℕ) → d < pool_size o.callers → IsWorn w0 d) → j < stretch 1 MOST

@@ -1,6 +1,7 @@
 -- A step of a seat keeps the rule, however its word is touched.
 use Rattle.std.proofs.Common.{◌≡◌, ◌≢◌, ℕ, ◌<◌, Bool, true, false, List, [], ◌∷◌, ◌++◌, set, refl, sym, ap, ◌∙◌, ⊎_elim, arith, subst, append_assoc, append-nil}
 use Rattle.std.specs.Prelude.{slice_index}
+use Rattle.std.specs.List.{count_by}
 use Rattle.std.proofs.lemmas.List.Elements.{All-push}
 use mathlib.Core.Option.{some}
 use lib.ListN.{get_elem?}
@@ -30,9 +31,10 @@ use Rattle.kc_table_layout.specs.Cells.{AllFit, CellFits, HasRoom, IsThere, Stor
 use Rattle.kc_table_layout.specs.Changes.{change_of, changed, aim_of}
 use Rattle.kc_table_layout.specs.declared.change.Aim.{Aim}
 use Rattle.kc_table_layout.specs.declared.change.Change.{Change}
-use Rattle.kc_table_moves.proofs.Views.{total_set, total_two, times-hit, view_on}
+use Rattle.kc_model.proofs.Sums.{sum_set, sum_two}
+use Rattle.kc_table_moves.proofs.Views.{seat_here, view_on}
 use Rattle.kc_table_moves.specs.Origins.{Origin, opening_of}
-use Rattle.kc_table_moves.specs.Rule.{loads_of, number_of, past_of, part, view, Fits, FitsView, times, Kept, Ready, Steps, Moved}
+use Rattle.kc_table_moves.specs.Rule.{loads_of, number_of, past_of, part, view, Fits, FitsView, is_seat, Kept, Ready, Steps, Moved}
 use Rattle.kc_table_moves.specs.declared.view.View.{View}
 use Rattle.kc_table_views.proofs.Knowing.{begins_later}
 use Rattle.kc_table_views.proofs.Pendings.{none_append, waits_none, waits_world, waits_seat, honest_waits, honest_later}
@@ -181,11 +183,11 @@ module _ (agrees : Agrees) (q : Origin) (st : table.State Unit View) (id k : ℕ
   only_mine j ne = none_append j pending (Step k ∷ []) (waits_none j k pending ne pends.waits) ((λ e. ne (sym e)), tt)
 
   -- no other view has this seat
-  alone : (j : ℕ) (u : View) → j ≢ id → get_elem? st.views j ≡ some u → times k u.parts ≡ 0
+  alone : (j : ℕ) (u : View) → j ≢ id → get_elem? st.views j ≡ some u → count_by (is_seat k) u.parts ≡ 0
   alone j u ne there =
-      let two = total_two (λ x. times k x.parts) st.views id j (view q (part k past loads ∷ []) []) u ne at there in
+      let two = sum_two (λ (x : View). count_by (is_seat k) x.parts) st.views id j (view q (part k past loads ∷ []) []) u ne at there in
       let one = kept.once k in
-      let hit = times-hit k (part k past loads) [] refl in
+      let hit = seat_here k (part k past loads) [] refl in
       omega arith
 
   late_is : before ++ (pending ++ Step k ∷ []) ≡ late
@@ -206,7 +208,7 @@ module _ (agrees : Agrees) (q : Origin) (st : table.State Unit View) (id k : ℕ
     views = views_late;
     once = λ j.
         let one = kept.once j in
-        let same = total_set (λ u. times j u.parts) st.views id (view q (part k past loads ∷ []) []) view_late at in
+        let same = sum_set (λ (u : View). count_by (is_seat j) u.parts) st.views id (view q (part k past loads ∷ []) []) view_late at in
         omega arith;
   }
 

@@ -1,7 +1,9 @@
 -- What moves no seat of the machine: opening, dealing, notes, joins, and loads that show the schedule.
-use Rattle.std.proofs.Common.{◌≡◌, ◌≢◌, ℕ, zero, suc, ◌+◌, ◌*◌, ◌/◌, ◌%◌, ◌^◌, ◌<◌, ◌≤◌, ◌-◌, get_or, Bool, true, false, List, [], ◌∷◌, ◌++◌, set, refl, sym, ap, ◌∙◌, ⊎_elim, arith, subst, if◌then◌else◌, eqb, append-nil}
+use Rattle.std.proofs.Common.{◌≡◌, ◌≢◌, ℕ, zero, suc, ◌+◌, ◌*◌, ◌/◌, ◌%◌, ◌^◌, ◌<◌, ◌≤◌, ◌-◌, get_or, Bool, true, false, List, [], ◌∷◌, ◌++◌, set, refl, sym, ap, ◌∙◌, ⊎_elim, arith, subst, if◌then◌else◌, eqb, append-nil, take, drop}
 use Rattle.std.specs.Prelude.{slice_index, nat_lt}
+use Rattle.std.specs.List.{count_by}
 use Rattle.std.proofs.lemmas.List.{set-get_or}
+use Rattle.std.proofs.lemmas.List.Sums.{sum_by-append, sum_by-take-drop, sum_by_push}
 use Rattle.std.proofs.lemmas.Bool.Decides.{nat_tests}
 use mathlib.Core.Option.{some, some-injective, some-ne-none}
 use lib.ListN.{get_elem?}
@@ -14,15 +16,15 @@ use Rattle.kc_machine.specs.Schedules.{IsInRange}
 use Rattle.kc_machine_steps.specs.declared.task.Event.{Event}
 use Rattle.kc_table_layout.specs.kc_machine_traces.Parts.{NoneOf}
 use Rattle.kc_machine_words.specs.declared.words.TheConstants.{LAST_GENERATION}
+use Rattle.kc_model.proofs.Sums.{counted_cons, sum_set, sum_two}
 use Rattle.kc_model.specs.Word.{packed, unpacked, unpacked_reference}
 use Rattle.kc_model.specs.declared.footprint.TheConstants.{LAST_VERSION}
 use Rattle.kc_model.specs.declared.word.Word.TheVariants.{Plain}
 use Rattle.kc_table_layout.specs.Cells.{AllFit, Cell, IsThere, place, bits, signal_bit, Stores}
 use Rattle.kc_table_layout.specs.Cells.Cell.{none, word, awaiters, control, status, owner, first, second, signal}
 use Rattle.kc_table_layout.specs.Opened.{opening_at}
-use Rattle.kc_table_moves.proofs.Views.{total_set, total_two, total_snoc}
 use Rattle.kc_table_moves.specs.Origins.{Origin, version_in, value_in, word_in, opening_of}
-use Rattle.kc_table_moves.specs.Rule.{part, view, fresh_parts, everyone, Fits, EachFits, FitsView, times, Kept, loads_of, number_of, past_of, glanced, first_part, other_parts, dealt, undealt, noted, spent, nothing, hearing, gathered, Merged, Heard, Ended}
+use Rattle.kc_table_moves.specs.Rule.{part, view, fresh_parts, everyone, Fits, EachFits, FitsView, is_seat, Kept, loads_of, number_of, past_of, glanced, seat_dealt, seats_left, noted, no_seats, nothing_known, hearing, seats_gathered, Merged, Heard, Ended}
 use Rattle.kc_table_moves.specs.declared.view.Part.{Part}
 use Rattle.kc_table_moves.specs.declared.view.View.{View}
 use Rattle.kc_table_views.specs.Known.{IsMeant, IsPrefix}
@@ -38,7 +40,7 @@ views_snoc : (q : Origin) (es : List Event) (views : List View) (w : View) → (
 views_snoc q es views w all mine j u e = ⊎_elim (all j u) (λ same. subst (FitsView q es) same mine) (at_snoc views w u j e)
 
 -- views cut in two, and put together
-split_kept : (q : Origin) (id : ℕ) (v left right : View) → ((es : List Event) → FitsView q es v → FitsView q es left × FitsView q es right) → ((k : ℕ) → times k left.parts + times k right.parts ≡ times k v.parts) → Splits (Kept q) id v left right
+split_kept : (q : Origin) (id : ℕ) (v left right : View) → ((es : List Event) → FitsView q es v → FitsView q es left × FitsView q es right) → ((k : ℕ) → count_by (is_seat k) left.parts + count_by (is_seat k) right.parts ≡ count_by (is_seat k) v.parts) → Splits (Kept q) id v left right
 split_kept q id v left right fits same st kept at =
     let both = fits kept.schedule (kept.views id v at) in
     record {
@@ -50,24 +52,20 @@ split_kept q id v left right fits same st kept at =
       once = λ k.
           let one = kept.once k in
           let e = same k in
-          let t = total_set (λ u. times k u.parts) st.views id v left at in
-          let t' = total_snoc (λ u. times k u.parts) (set st.views id left) right in omega arith;
+          let t = sum_set (λ (u : View). count_by (is_seat k) u.parts) st.views id v left at in
+          let t' = sum_by_push (λ (u : View). count_by (is_seat k) u.parts) (set st.views id left) right in omega arith;
     }
 
-pub deals : (q : Origin) (id : ℕ) (v : View) → Splits (Kept q) id v (undealt v) (dealt v)
-deals q id v = split_kept q id v (undealt v) (dealt v) (λ es f. (record { parts = others es v.parts f.parts; heard = f.heard }, record { parts = first es v.parts f.parts; heard = (es, refl) })) (λ k. counts k v.parts)
+pub deals : (q : Origin) (id : ℕ) (v : View) → Splits (Kept q) id v (seats_left v) (seat_dealt v)
+deals q id v = split_kept q id v (seats_left v) (seat_dealt v) (λ es f. (record { parts = others es v.parts f.parts; heard = f.heard }, record { parts = first es v.parts f.parts; heard = (es, refl) })) (λ k. let e = sum_by-take-drop (λ p. if is_seat k p then 1 else 0) v.parts 1 in omega arith)
   where
-    others : (es : List Event) (ps : List Part) → EachFits (opening_of q) es ps → EachFits (opening_of q) es (other_parts ps)
+    others : (es : List Event) (ps : List Part) → EachFits (opening_of q) es ps → EachFits (opening_of q) es (drop 1 ps)
     others es [] f = tt
     others es (p ∷ ps) f = f.1
 
-    first : (es : List Event) (ps : List Part) → EachFits (opening_of q) es ps → EachFits (opening_of q) es (first_part ps)
+    first : (es : List Event) (ps : List Part) → EachFits (opening_of q) es ps → EachFits (opening_of q) es (take 1 ps)
     first es [] f = tt
     first es (p ∷ ps) f = (f.0, tt)
-
-    counts : (k : ℕ) (ps : List Part) → times k (other_parts ps) + times k (first_part ps) ≡ times k ps
-    counts k [] = refl
-    counts k (p ∷ ps) = omega arith
 
 pub notes : (q : Origin) (id : ℕ) (v : View) → Splits (Kept q) id v v (noted v)
 notes q id v = split_kept q id v v (noted v) (λ es f. (f, record { parts = tt; heard = knows es v.parts f.parts })) (λ k. omega arith)
@@ -130,17 +128,19 @@ fresh_fits : (o : Opening) (k n : ℕ) → k + n ≤ o.callers → EachFits o []
 fresh_fits o k zero l = tt
 fresh_fits o k (suc n) l = (record { on = ([], refl, tt); within = omega arith }, fresh_fits o (suc k) n (omega arith))
 
-times-below : (j k n : ℕ) → j < k → times j (fresh_parts k n) ≡ 0
-times-below j k zero lt = refl
-times-below j k (suc n) lt = let rest = times-below j (suc k) n (omega arith) in let no : eqb k j ≡ false = ne_eqb k j (λ e. omega arith) in rw no (omega arith)
+none_below : (j k n : ℕ) → j < k → count_by (is_seat j) (fresh_parts k n) ≡ 0
+none_below j k zero lt = refl
+none_below j k (suc n) lt = let c = counted_cons (is_seat j) (part k [] 0) (fresh_parts (suc k) n) false (ne_eqb k j (λ e. omega arith)) in let rest = none_below j (suc k) n (omega arith) in omega arith
 
-times-fresh : (j k n : ℕ) → times j (fresh_parts k n) ≤ 1
-times-fresh j k zero = omega arith
-times-fresh j k (suc n) = by_test (eqb k j) refl (times-fresh j (suc k) n)
+one_fresh : (j k n : ℕ) → count_by (is_seat j) (fresh_parts k n) ≤ 1
+one_fresh j k zero = omega arith
+one_fresh j k (suc n) = by_test (eqb k j) refl (one_fresh j (suc k) n)
   where
-    by_test : (b : Bool) → eqb k j ≡ b → times j (fresh_parts (suc k) n) ≤ 1 → (if b then 1 else 0) + times j (fresh_parts (suc k) n) ≤ 1
-    by_test true e r = let z = times-below j (suc k) n (let q = eqb-true k j e in omega arith) in omega arith
-    by_test false e r = omega arith
+    by_test : (b : Bool) → eqb k j ≡ b → count_by (is_seat j) (fresh_parts (suc k) n) ≤ 1 → count_by (is_seat j) (fresh_parts k (suc n)) ≤ 1
+    by_test true e r =
+        let c = counted_cons (is_seat j) (part k [] 0) (fresh_parts (suc k) n) true e in
+        let z = none_below j (suc k) n (let q = eqb-true k j e in omega arith) in omega arith
+    by_test false e r = let c = counted_cons (is_seat j) (part k [] 0) (fresh_parts (suc k) n) false e in omega arith
 
 opened_fits : (q : Origin) → q.generation ≤ LAST_GENERATION → AllFit q.locations (pool_size q.callers) (opened (opening_of q)).world
 opened_fits q g none p = tt
@@ -161,7 +161,7 @@ opens q l c g s = record {
   words = s;
   fits = opened_fits q g;
   views = λ i v at. one i v at;
-  once = λ k. let t = times-fresh k 0 q.callers in omega arith;
+  once = λ k. let t = one_fresh k 0 q.callers in omega arith;
 }
   where
     one : (i : ℕ) (v : View) → get_elem? (everyone q ∷ []) i ≡ some v → FitsView q [] v
@@ -170,7 +170,7 @@ opens q l c g s = record {
 
 -- ---- joins, and loads that show the schedule
 
-join_kept : (q : Origin) (id : ℕ) (v : View) (other : ℕ) (w both : View) → ((es : List Event) → FitsView q es v → FitsView q es w → FitsView q es both) → ((k : ℕ) → times k both.parts ≤ times k v.parts + times k w.parts) → Joins (Kept q) id v other w both nothing
+join_kept : (q : Origin) (id : ℕ) (v : View) (other : ℕ) (w both : View) → ((es : List Event) → FitsView q es v → FitsView q es w → FitsView q es both) → ((k : ℕ) → count_by (is_seat k) both.parts ≤ count_by (is_seat k) v.parts + count_by (is_seat k) w.parts) → Joins (Kept q) id v other w both nothing_known
 join_kept q id v other w both fits same st kept at apart there =
     let es = kept.schedule in
     let theirs = ⊎_elim (λ (x : (other ≡ id) × (both ≡ w)). absurd (apart x.0)) (λ (x : (other ≢ id) × (get_elem? st.views other ≡ some w)). x.1) (at_set st.views id other both w there) in
@@ -180,13 +180,13 @@ join_kept q id v other w both fits same st kept at apart there =
       meant = kept.meant;
       words = kept.words;
       fits = kept.fits;
-      views = views_set q es (set st.views id both) other nothing (views_set q es st.views id both kept.views f) (record { parts = tt; heard = (es, refl) });
+      views = views_set q es (set st.views id both) other nothing_known (views_set q es st.views id both kept.views f) (record { parts = tt; heard = (es, refl) });
       once = λ k.
           let one = kept.once k in
           let le = same k in
-          let t = total_set (λ u. times k u.parts) st.views id v both at in
-          let t' = total_set (λ u. times k u.parts) (set st.views id both) other w nothing there in
-          let two = total_two (λ u. times k u.parts) st.views id other v w apart at theirs in
+          let t = sum_set (λ (u : View). count_by (is_seat k) u.parts) st.views id v both at in
+          let t' = sum_set (λ (u : View). count_by (is_seat k) u.parts) (set st.views id both) other w nothing_known there in
+          let two = sum_two (λ (u : View). count_by (is_seat k) u.parts) st.views id other v w apart at theirs in
           omega arith;
     }
 
@@ -194,26 +194,22 @@ EachFits-append : (o : Opening) (es : List Event) (ps qs : List Part) → EachFi
 EachFits-append o es [] qs f g = g
 EachFits-append o es (p ∷ ps) qs f g = (f.0, EachFits-append o es ps qs f.1 g)
 
-times-append : (k : ℕ) (ps qs : List Part) → times k (ps ++ qs) ≡ times k ps + times k qs
-times-append k [] qs = omega arith
-times-append k (p ∷ ps) qs = let h = times-append k ps qs in omega arith
+pub gathers : (q : Origin) (id : ℕ) (v : View) (other : ℕ) (w : View) → Joins (Kept q) id v other w (seats_gathered v w) nothing_known
+gathers q id v other w = join_kept q id v other w (seats_gathered v w) (λ es f g. record { parts = EachFits-append (opening_of q) es v.parts w.parts f.parts g.parts; heard = f.heard }) (λ k. let e = sum_by-append (λ p. if is_seat k p then 1 else 0) v.parts w.parts in omega arith)
 
-pub gathers : (q : Origin) (id : ℕ) (v : View) (other : ℕ) (w : View) → Joins (Kept q) id v other w (gathered v w) nothing
-gathers q id v other w = join_kept q id v other w (gathered v w) (λ es f g. record { parts = EachFits-append (opening_of q) es v.parts w.parts f.parts g.parts; heard = f.heard }) (λ k. let e = times-append k v.parts w.parts in omega arith)
-
-pub hears : (q : Origin) (id : ℕ) (v : View) (other : ℕ) (w : View) → Joins (Kept q) id v other w (hearing v w) nothing
+pub hears : (q : Origin) (id : ℕ) (v : View) (other : ℕ) (w : View) → Joins (Kept q) id v other w (hearing v w) nothing_known
 hears q id v other w = join_kept q id v other w (hearing v w) (λ es f g. record { parts = f.parts; heard = g.heard }) (λ k. omega arith)
 
 -- a load after which the seat has the view w
 looked : (q : Origin) (st : table.State Unit View) (id i : ℕ) (v w : View) (c : List (ℕ × Unit)) (kept : Kept q st) → get_elem? st.views id ≡ some v
-    → FitsView q kept.schedule w → ((k : ℕ) → times k w.parts ≡ times k v.parts) → Kept q (stepped st i (slice_index st.words i) id c w keeps)
+    → FitsView q kept.schedule w → ((k : ℕ) → count_by (is_seat k) w.parts ≡ count_by (is_seat k) v.parts) → Kept q (stepped st i (slice_index st.words i) id c w keeps)
 looked q st id i v w c kept at fits same = record {
   schedule = kept.schedule;
   meant = kept.meant;
   words = subst (Stores q.locations (pool_size q.callers) (run (opening_of q) kept.schedule).world) (sym (set-get_or st.words i 0)) kept.words;
   fits = kept.fits;
   views = views_set q kept.schedule st.views id w kept.views fits;
-  once = λ k. let one = kept.once k in let e = same k in let t = total_set (λ u. times k u.parts) st.views id v w at in omega arith;
+  once = λ k. let one = kept.once k in let e = same k in let t = sum_set (λ (u : View). count_by (is_seat k) u.parts) st.views id v w at in omega arith;
 }
 
 -- a load that is no step
@@ -224,7 +220,7 @@ glances q st id i n k past loads me kept at is =
     let f = (subst (EachFits (opening_of q) es) is (kept.views id me.0 at).parts).0 in
     let same = λ (ps : List Part). part (number_of ps) (past_of ps) (loads_of me.0.parts + n) ∷ [] in
     looked q st id i me.0 (glanced n me).0 me.1 kept at (record { parts = subst (λ ps. EachFits (opening_of q) es (same ps)) (sym is) (record { on = f.on; within = f.within }, tt); heard = (es, refl) })
-    (λ j. ap (λ ps. times j (same ps)) is ∙ ap (times j) (sym is))
+    (λ j. ap (λ ps. count_by (is_seat j) (same ps)) is ∙ ap (count_by (is_seat j)) (sym is))
 
 pub merges : (q : Origin) (slots id : ℕ) (me : Me Unit View) (i k : ℕ) (past : List Event) (loads : ℕ) → me.0.parts ≡ part k past loads ∷ [] → me.0.origin ≡ q → Allows (Kept q) slots id me i (λ x. x) (λ found after. Merged me after)
 merges q slots id me i k past loads is from st kept count at small =
@@ -236,7 +232,7 @@ merges q slots id me i k past loads is from st kept count at small =
       w,
       keeps,
       tt,
-      looked q st id i me.0 w me.1 kept at (record { parts = (record { on = ([], sym (append-nil es), tt); within = f.within }, tt); heard = (es, refl) }) (λ j. ap (times j) (sym is)),
+      looked q st id i me.0 w me.1 kept at (record { parts = (record { on = ([], sym (append-nil es), tt); within = f.within }, tt); heard = (es, refl) }) (λ j. ap (count_by (is_seat j)) (sym is)),
       λ j past' loads' is'.
           let same : part k past loads ≡ part j past' loads' = cc in
           let same_number : k ≡ j = ap (λ (p : Part). p.number) same in
@@ -263,16 +259,16 @@ ends q slots id me i from st kept count at small =
     )
 
 -- a new seat that has no seat of the machine
-pub arrives : (q : Origin) (slots i : ℕ) → Enters (Kept q) slots i (λ x w. w ≡ spent q)
+pub arrives : (q : Origin) (slots i : ℕ) → Enters (Kept q) slots i (λ x w. w ≡ no_seats q)
 arrives q slots i st kept count small = (
-  spent q,
+  no_seats q,
   record {
     schedule = kept.schedule;
     meant = kept.meant;
     words = kept.words;
     fits = kept.fits;
-    views = views_snoc q kept.schedule st.views (spent q) kept.views (record { parts = tt; heard = (kept.schedule, refl) });
-    once = λ k. let one = kept.once k in let t = total_snoc (λ u. times k u.parts) st.views (spent q) in omega arith;
+    views = views_snoc q kept.schedule st.views (no_seats q) kept.views (record { parts = tt; heard = (kept.schedule, refl) });
+    once = λ k. let one = kept.once k in let t = sum_by_push (λ (u : View). count_by (is_seat k) u.parts) st.views (no_seats q) in omega arith;
   },
   refl,
 )
@@ -290,7 +286,7 @@ hears_signal q slots id me i k past loads is from here st kept count at small =
       w,
       keeps,
       tt,
-      looked q st id i me.0 w me.1 kept at (record { parts = (record { on = ([], sym (append-nil es), tt); within = f.within }, tt); heard = (es, refl) }) (λ j. ap (times j) (sym is)),
+      looked q st id i me.0 w me.1 kept at (record { parts = (record { on = ([], sym (append-nil es), tt); within = f.within }, tt); heard = (es, refl) }) (λ j. ap (count_by (is_seat j)) (sym is)),
       λ j past' loads' is' at'.
           let same : part k past loads ≡ part j past' loads' = cc in
           let same_number : k ≡ j = ap (λ (p : Part). p.number) same in

@@ -1,5 +1,6 @@
 -- What ties the words and the views to a state of the machine, by some schedule.
-use Rattle.std.specs.Prelude.{◌≡◌, ℕ, zero, suc, ◌+◌, ◌≤◌, ◌<◌, ◌++◌, List, [], ◌∷◌, Bool, if◌then◌else◌, ◌==◌}
+use Rattle.std.specs.Prelude.{◌≡◌, ℕ, zero, suc, ◌+◌, ◌≤◌, ◌<◌, ◌++◌, List, [], ◌∷◌, Bool, ◌==◌, take, drop}
+use Rattle.std.specs.List.{sum_by, count_by}
 use mathlib.Core.Option.{some}
 use lib.ListN.{get_elem?}
 use Rattle.atomic_table.specs.Table as table
@@ -47,14 +48,9 @@ pub record FitsView (q : Origin) (es : List Event) (v : View) : Type 0 where
   pub parts : EachFits (opening_of q) es v.parts
   pub heard : IsPrefix v.heard es
 
--- how often seat k stands among these
-abbrev pub times : ℕ → List Part → ℕ
-times k [] = 0
-times k (p ∷ ps) = (if p.number == k then 1 else 0) + times k ps
-
-abbrev pub total : (View → ℕ) → List View → ℕ
-total f [] = 0
-total f (v ∷ vs) = f v + total f vs
+-- whether it is seat k
+abbrev pub is_seat : ℕ → Part → Bool
+is_seat k p = p.number == k
 
 -- some honest schedule of well-made tasks leads the machine to these words, and goes on from what each view knows
 pub record Kept (q : Origin) (s : table.State Unit View) : Type 0 where
@@ -63,7 +59,7 @@ pub record Kept (q : Origin) (s : table.State Unit View) : Type 0 where
   pub words : Stores q.locations (pool_size q.callers) (run (opening_of q) schedule).world s.words
   pub fits : AllFit q.locations (pool_size q.callers) (run (opening_of q) schedule).world
   pub views : (i : ℕ) (v : View) → get_elem? s.views i ≡ some v → FitsView q schedule v
-  pub once : (k : ℕ) → total (λ v. times k v.parts) s.views ≤ 1
+  pub once : (k : ℕ) → sum_by (λ (v : View). count_by (is_seat k) v.parts) s.views ≤ 1
 
 -- ---- a seat between its steps
 
@@ -123,20 +119,12 @@ MovedWithin most s began me n after = (waited : ℕ) × (waited ≤ most) × Mov
 
 -- ---- views cut and put together
 
-abbrev pub first_part : List Part → List Part
-first_part [] = []
-first_part (p ∷ ps) = p ∷ []
-
-abbrev pub other_parts : List Part → List Part
-other_parts [] = []
-other_parts (p ∷ ps) = ps
-
 -- the first seat goes out, the others stay
-abbrev pub dealt : View → View
-dealt v = view v.origin (first_part v.parts) []
+abbrev pub seat_dealt : View → View
+seat_dealt v = view v.origin (take 1 v.parts) []
 
-abbrev pub undealt : View → View
-undealt v = view v.origin (other_parts v.parts) v.heard
+abbrev pub seats_left : View → View
+seats_left v = view v.origin (drop 1 v.parts) v.heard
 
 abbrev pub note_view : Origin → List Event → View
 note_view q past = view q [] past
@@ -146,22 +134,22 @@ abbrev pub noted : View → View
 noted v = view v.origin [] (past_of v.parts)
 
 -- the view of a seat with nothing
-abbrev pub spent : Origin → View
-spent q = view q [] []
+abbrev pub no_seats : Origin → View
+no_seats q = view q [] []
 
 abbrev pub nowhere : Origin
 nowhere = record { words = []; locations = 0; callers = 0; generation = 0 }
 
-abbrev pub nothing : View
-nothing = spent nowhere
+abbrev pub nothing_known : View
+nothing_known = no_seats nowhere
 
 -- a seat with what a note knows
 abbrev pub hearing : View → View → View
 hearing v w = view v.origin v.parts w.heard
 
 -- two views' seats together
-abbrev pub gathered : View → View → View
-gathered v w = view v.origin (v.parts ++ w.parts) v.heard
+abbrev pub seats_gathered : View → View → View
+seats_gathered v w = view v.origin (v.parts ++ w.parts) v.heard
 
 -- a seat takes in what it heard by a load, and knows the schedule as it stands
 abbrev pub Merged : Me Unit View → Me Unit View → Type 0

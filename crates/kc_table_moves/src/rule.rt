@@ -74,20 +74,20 @@ pub struct Empty;
 
 impl Play<(), View> for Empty {
     ghost use Rattle.std.specs.Prelude.{◌≡◌};
-    ghost use Rattle.kc_table_moves.specs.Rule.{spent};
+    ghost use Rattle.kc_table_moves.specs.Rule.{no_seats};
 
-    ghost then = { λ step me found after. after.0 ≡ spent me.0.origin };
+    ghost then = { λ step me found after. after.0 ≡ no_seats me.0.origin };
 }
 
 /// The first seat goes out.
 pub struct Deals;
 
 impl Split<View> for Deals {
-    ghost use Rattle.kc_table_moves.specs.Rule.{dealt, undealt};
+    ghost use Rattle.kc_table_moves.specs.Rule.{seat_dealt, seats_left};
 
-    ghost left = { undealt };
+    ghost left = { seats_left };
 
-    ghost right = { dealt };
+    ghost right = { seat_dealt };
 }
 
 /// What a seat knows goes out, and what a note knows comes in.
@@ -102,20 +102,20 @@ impl Split<View> for Notes {
 }
 
 impl Join<View> for Notes {
-    ghost use Rattle.kc_table_moves.specs.Rule.{hearing, nothing};
+    ghost use Rattle.kc_table_moves.specs.Rule.{hearing, nothing_known};
 
     ghost both = { hearing };
 
-    ghost spent = { nothing };
+    ghost spent = { nothing_known };
 }
 
 /// A seat comes back.
 pub struct Gathers;
 
 impl Join<View> for Gathers {
-    ghost use Rattle.kc_table_moves.specs.Rule.{gathered, nothing};
+    ghost use Rattle.kc_table_moves.specs.Rule.{seats_gathered, nothing_known};
 
-    ghost both = { gathered };
+    ghost both = { seats_gathered };
 
-    ghost spent = { nothing };
+    ghost spent = { nothing_known };
 }

@@ -6,7 +6,7 @@ ghost use prog.Atomic.{either};
 ghost use Rattle.std.specs.Mem.Slots.{IsFull, slots_items, slots_len};
 ghost use Rattle.atomic_table.specs.Table.{Final, Seen, opening};
 ghost use Rattle.kc_table_moves.specs.Atoms.{Peeked};
-ghost use Rattle.kc_table_moves.specs.Rule.{Ended, Heard, Kept, Merged, Moved, dealt, everyone, gathered, hearing, noted, spent, undealt};
+ghost use Rattle.kc_table_moves.specs.Rule.{Ended, Heard, Kept, Merged, Moved, seat_dealt, everyone, seats_gathered, hearing, noted, no_seats, seats_left};
 ghost use Rattle.kc_table_moves.specs.Words.{Permits};
 
 use crate::atoms::{Asks, Peeks};
@@ -143,7 +143,7 @@ impl Words {
     /// The first of the token's seats goes out.
     pub fn deal(&self, token: &mut Token) -> Token
         requires { (token.old.table_id ≡ self.now.table_id) × (0 < self.now.table_id.words) }
-        ensures { (token.new.table_id ≡ token.old.table_id) × (token.new.id ≡ token.old.id) × (token.new.me ≡ (undealt token.old.me.0, token.old.me.1)) × (result.table_id ≡ token.old.table_id) × (result.me ≡ (dealt token.old.me.0, [])) }
+        ensures { (token.new.table_id ≡ token.old.table_id) × (token.new.id ≡ token.old.id) × (token.new.me ≡ (seats_left token.old.me.0, token.old.me.1)) × (result.table_id ≡ token.old.table_id) × (result.me ≡ (seat_dealt token.old.me.0, [])) }
     {
         self.table.shared.split_seat::<Deals>(token)
     }
@@ -186,7 +186,7 @@ impl Words {
     pub fn keeper(&mut self) -> Token
         requires { 0 < self.old.table_id.words }
         ensures words { self.new ≡ self.old }
-        ensures keeper { (result.table_id ≡ self.old.table_id) × (result.me ≡ (spent self.old.key, [])) }
+        ensures keeper { (result.table_id ≡ self.old.table_id) × (result.me ≡ (no_seats self.old.key, [])) }
     {
         self.table.shared.load_new_seat::<Empty>(0).1
     }
@@ -195,7 +195,7 @@ impl Words {
     pub fn gather(&mut self, keeper: &mut Token, token: Token)
         requires { (keeper.old.table_id ≡ self.old.table_id) × (token.table_id ≡ self.old.table_id) × (token.me.1 ≡ []) × (0 < self.old.table_id.words) }
         ensures words { self.new ≡ self.old }
-        ensures keeper { (keeper.new.table_id ≡ keeper.old.table_id) × (keeper.new.id ≡ keeper.old.id) × (keeper.new.me ≡ (gathered keeper.old.me.0 token.me.0, keeper.old.me.1)) }
+        ensures keeper { (keeper.new.table_id ≡ keeper.old.table_id) × (keeper.new.id ≡ keeper.old.id) × (keeper.new.me ≡ (seats_gathered keeper.old.me.0 token.me.0, keeper.old.me.1)) }
     {
         self.table.shared.join_seat::<Gathers>(keeper, token);
     }
