@@ -4,8 +4,6 @@
 mod access;
 mod laws;
 mod packing;
-#[cfg(test)]
-mod tests;
 mod words;
 
 pub use access::{Access, Bits, Found, Grip, Touch};

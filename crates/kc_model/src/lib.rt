@@ -13,8 +13,6 @@ mod reading;
 mod reply;
 mod shelf;
 mod sure;
-#[cfg(test)]
-mod tests;
 mod well_made;
 mod word;
 mod writing;

@@ -3,4 +3,3 @@ pub mod TermLaw
 pub mod Closed
 pub mod Ones
 pub mod Rows
-pub mod Worked

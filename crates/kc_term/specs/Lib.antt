@@ -8,4 +8,3 @@ pub mod Row
 pub mod Meaning
 pub mod Fit
 pub mod Laws
-pub mod Worked

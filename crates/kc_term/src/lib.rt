@@ -9,8 +9,6 @@ mod laws;
 mod row;
 mod run;
 mod term;
-#[cfg(test)]
-mod tests;
 
 pub use either::Either;
 pub use errors::{TermError, TooMany};
