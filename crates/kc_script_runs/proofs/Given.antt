@@ -18,57 +18,48 @@ given_more gives k [] before (q ∷ rs) between after m r done next = absurd don
 given_more gives k (p ∷ ms) before [] between after m r done next = absurd done
 given_more gives k (p ∷ ms) before (q ∷ rs) between after m r (l, first, rest) next = (l, first, given_more gives k ms l rs between after m r rest next)
 
-module _ (limit : ℕ) where
-  module _ (gives : CommitGives) where
-    pub run_by_threads : (n k j : ℕ) → j ≡ k + 1 → (history : List Entry) (threads : List (List Command)) (records : List (List Record)) → AreRunBy gives limit n k history threads records → AreThreads j threads records
-    run_by_threads n k j e history [] [] h = tt
-    run_by_threads n k j e history [] (rs ∷ records) h = absurd h
-    run_by_threads n k j e history (cs ∷ threads) [] h = absurd h
-    run_by_threads n k j e history (cs ∷ threads) (rs ∷ records) h = (rw e h.0.labelled, run_by_threads n (suc k) (j + 1) (omega arith) history threads records h.1)
+-- ---- where each gives one entry
 
-    -- in another history, of which each caller's part is its records alone
-    pub run_by_just : (n k : ℕ) (history other : List Entry) (threads : List (List Command)) (records : List (List Record)) → AreRunBy gives limit n k history threads records
-        → ((u : ℕ) → of_caller (k + u) other ≡ entries_of (k + u) 1 (slice_index_or records u [])) → AreRun limit n k other threads records
-    run_by_just n k history other [] [] h just = tt
-    run_by_just n k history other [] (rs ∷ records) h just = absurd h
-    run_by_just n k history other (cs ∷ threads) [] h just = absurd h
-    run_by_just n k history other (cs ∷ threads) (rs ∷ records) h just =
-        let z : k + 0 ≡ k = omega arith in (
-          record { labelled = h.0.labelled; answered = h.0.answered; committed = subst (λ (i : ℕ). of_caller i other ≡ entries_of i 1 rs) z (just 0) },
-          run_by_just n (suc k) history other threads records h.1 (λ u. let s : k + suc u ≡ suc k + u = omega arith in subst (λ (i : ℕ). of_caller i other ≡ entries_of i 1 (slice_index_or records u [])) s (just (suc u))),
-        )
+pub ones_added : (k : ℕ) (ms : List Meaning) (before : List Entry) (rs : List Record) (after : List Entry) → AreGiven GivesOne k ms before rs after → after ≡ before ++ entries_of k (length before + 1) rs
+ones_added k [] before [] after done = done ∙ sym (append-nil before)
+ones_added k [] before (r ∷ rs) after done = absurd done
+ones_added k (m ∷ ms) before [] after done = absurd done
+ones_added k (m ∷ ms) before (r ∷ rs) after (l, first, rest) =
+    let e : Entry = entry_of k (length before + 1) r.footprint in
+    let long : length l + 1 ≡ length before + 1 + 1 = ap (λ (x : List Entry). length x + 1) first ∙ ap (λ (i : ℕ). i + 1) (length-append before (e ∷ [])) in
+    ones_added k ms l rs after rest ∙ ap (λ (i : ℕ). l ++ entries_of k i rs) long ∙ ap (λ (x : List Entry). x ++ entries_of k (length before + 1 + 1) rs) first ∙ append_assoc before (e ∷ []) (entries_of k (length before + 1 + 1) rs)
 
-  -- ---- where each gives one entry
+pub ones_given : (n k : ℕ) (ms : List Meaning) (before : List Entry) (rs : List Record) (after : List Entry) → AreAnswered n ms rs → after ≡ before ++ entries_of k (length before + 1) rs → AreGiven GivesOne k ms before rs after
+ones_given n k [] before [] after each is = is ∙ append-nil before
+ones_given n k [] before (r ∷ rs) after each is = absurd each
+ones_given n k (m ∷ ms) before [] after each is = absurd each
+ones_given n k (m ∷ ms) before (r ∷ rs) after each is =
+    let e : Entry = entry_of k (length before + 1) r.footprint in
+    let l : List Entry = before ++ e ∷ [] in
+    let long : length before + 1 + 1 ≡ length l + 1 = sym (ap (λ (i : ℕ). i + 1) (length-append before (e ∷ []))) in
+    (l, refl, ones_given n k ms l rs after each.1 (is ∙ sym (append_assoc before (e ∷ []) (entries_of k (length before + 1 + 1) rs)) ∙ ap (λ (i : ℕ). l ++ entries_of k i rs) long))
 
-  ones_added : (k : ℕ) (ms : List Meaning) (before : List Entry) (rs : List Record) (after : List Entry) → AreGiven GivesOne k ms before rs after → after ≡ before ++ entries_of k (length before + 1) rs
-  ones_added k [] before [] after done = done ∙ sym (append-nil before)
-  ones_added k [] before (r ∷ rs) after done = absurd done
-  ones_added k (m ∷ ms) before [] after done = absurd done
-  ones_added k (m ∷ ms) before (r ∷ rs) after (l, first, rest) =
-      let e : Entry = entry_of k (length before + 1) r.footprint in
-      let long : length l + 1 ≡ length before + 1 + 1 = ap (λ (x : List Entry). length x + 1) first ∙ ap (λ (i : ℕ). i + 1) (length-append before (e ∷ [])) in
-      ones_added k ms l rs after rest ∙ ap (λ (i : ℕ). l ++ entries_of k i rs) long ∙ ap (λ (x : List Entry). x ++ entries_of k (length before + 1 + 1) rs) first ∙ append_assoc before (e ∷ []) (entries_of k (length before + 1 + 1) rs)
+-- ---- the threads
 
-  ones_given : (n k : ℕ) (ms : List Meaning) (before : List Entry) (rs : List Record) (after : List Entry) → AreAnswered n ms rs → after ≡ before ++ entries_of k (length before + 1) rs → AreGiven GivesOne k ms before rs after
-  ones_given n k [] before [] after each is = is ∙ append-nil before
-  ones_given n k [] before (r ∷ rs) after each is = absurd each
-  ones_given n k (m ∷ ms) before [] after each is = absurd each
-  ones_given n k (m ∷ ms) before (r ∷ rs) after each is =
-      let e : Entry = entry_of k (length before + 1) r.footprint in
-      let l : List Entry = before ++ e ∷ [] in
-      let long : length before + 1 + 1 ≡ length l + 1 = sym (ap (λ (i : ℕ). i + 1) (length-append before (e ∷ []))) in
-      (l, refl, ones_given n k ms l rs after each.1 (is ∙ sym (append_assoc before (e ∷ []) (entries_of k (length before + 1 + 1) rs)) ∙ ap (λ (i : ℕ). l ++ entries_of k i rs) long))
+module _ (limit : ℕ) (gives : CommitGives) where
+  pub run_by_threads : (n k j : ℕ) → j ≡ k + 1 → (history : List Entry) (threads : List (List Command)) (records : List (List Record)) → AreRunBy gives limit n k history threads records → AreThreads j threads records
+  run_by_threads n k j e history [] [] h = tt
+  run_by_threads n k j e history [] (rs ∷ records) h = absurd h
+  run_by_threads n k j e history (cs ∷ threads) [] h = absurd h
+  run_by_threads n k j e history (cs ∷ threads) (rs ∷ records) h = (rw e h.0.labelled, run_by_threads n (suc k) (j + 1) (omega arith) history threads records h.1)
 
-  pub run_of_ones : (n k : ℕ) (history : List Entry) (threads : List (List Command)) (records : List (List Record)) → AreRunBy GivesOne limit n k history threads records → AreRun limit n k history threads records
-  run_of_ones n k history [] [] h = tt
-  run_of_ones n k history [] (rs ∷ records) h = absurd h
-  run_of_ones n k history (cs ∷ threads) [] h = absurd h
-  run_of_ones n k history (cs ∷ threads) (rs ∷ records) h =
-      (record { labelled = h.0.labelled; answered = h.0.answered; committed = ones_added k (meanings limit (k + 1) cs) [] rs (of_caller k history) h.0.committed }, run_of_ones n (suc k) history threads records h.1)
-
-  pub run_by_ones : (n k : ℕ) (history : List Entry) (threads : List (List Command)) (records : List (List Record)) → AreRun limit n k history threads records → AreRunBy GivesOne limit n k history threads records
-  run_by_ones n k history [] [] h = tt
-  run_by_ones n k history [] (rs ∷ records) h = absurd h
-  run_by_ones n k history (cs ∷ threads) [] h = absurd h
-  run_by_ones n k history (cs ∷ threads) (rs ∷ records) h =
-      (record { labelled = h.0.labelled; answered = h.0.answered; committed = ones_given n k (meanings limit (k + 1) cs) [] rs (of_caller k history) h.0.answered h.0.committed }, run_by_ones n (suc k) history threads records h.1)
+  -- in another history, of which each caller's part is its records alone
+  pub run_by_just : (n k : ℕ) (history other : List Entry) (threads : List (List Command)) (records : List (List Record)) → AreRunBy gives limit n k history threads records
+      → ((u : ℕ) → of_caller (k + u) other ≡ entries_of (k + u) 1 (slice_index_or records u [])) → AreRun limit n k other threads records
+  run_by_just n k history other [] [] h just = tt
+  run_by_just n k history other [] (rs ∷ records) h just = absurd h
+  run_by_just n k history other (cs ∷ threads) [] h just = absurd h
+  run_by_just n k history other (cs ∷ threads) (rs ∷ records) h just =
+      let z : k + 0 ≡ k = omega arith in (
+        record {
+          labelled = h.0.labelled;
+          answered = h.0.answered;
+          committed = ones_given n k (meanings limit (k + 1) cs) [] rs (of_caller k other) h.0.answered (subst (λ (i : ℕ). of_caller i other ≡ entries_of i 1 rs) z (just 0));
+        },
+        run_by_just n (suc k) history other threads records h.1 (λ u. let s : k + suc u ≡ suc k + u = omega arith in subst (λ (i : ℕ). of_caller i other ≡ entries_of i 1 (slice_index_or records u [])) s (just (suc u))),
+      )

@@ -20,9 +20,9 @@ use Rattle.kc_model.specs.declared.footprint.Footprint.{Footprint}
 use Rattle.kc_script_bundle.specs.Script.{Script}
 use Rattle.kc_script_bundle.specs.State.{opening_values}
 use Rattle.kc_script_bundle.specs.declared.operation.Command.{Command}
-use Rattle.kc_script_runs.specs.Labels.{AreThreads}
+use Rattle.kc_script_runs.proofs.Given.{ones_added, run_by_threads}
 use Rattle.kc_script_runs.specs.Run.{Replays, IsRun, opening_store}
-use Rattle.kc_script_runs.specs.Threads.{AreAnswered, AreRun, IsAnswered, meanings}
+use Rattle.kc_script_runs.specs.Threads.{AreAnswered, AreRun, GivesOne, IsAnswered, meanings}
 use Rattle.kc_xt.specs.Meaning.{Meaning}
 
 -- ---- each record is answered
@@ -83,7 +83,7 @@ module _ (limit : ℕ) where
   just_from n k history [] [] h below u = none_of (k + u) (k + 0) (omega arith) history below
   just_from n k history [] (rs ∷ records) h below u = absurd h
   just_from n k history (cs ∷ threads) [] h below u = absurd h
-  just_from n k history (cs ∷ threads) (rs ∷ records) h below zero = let z : k ≡ k + 0 = omega arith in subst (λ (j : ℕ). of_caller j history ≡ entries_of j 1 rs) z h.0.committed
+  just_from n k history (cs ∷ threads) (rs ∷ records) h below zero = let z : k ≡ k + 0 = omega arith in subst (λ (j : ℕ). of_caller j history ≡ entries_of j 1 rs) z (ones_added k (meanings limit (k + 1) cs) [] rs (of_caller k history) h.0.committed)
   just_from n k history (cs ∷ threads) (rs ∷ records) h below (suc u) =
       let z : suc k + u ≡ k + suc u = omega arith in
       let more : k + length (cs ∷ threads) ≡ suc k + length threads = omega arith in
@@ -131,17 +131,11 @@ opened_zero [] l = refl
 opened_zero (v ∷ values) zero = refl
 opened_zero (v ∷ values) (suc l) = opened_zero values l
 
-pub run_threads_are : (limit n k j : ℕ) → j ≡ k + 1 → (history : List Entry) (threads : List (List Command)) (records : List (List Record)) → AreRun limit n k history threads records → AreThreads j threads records
-run_threads_are limit n k j e history [] [] h = tt
-run_threads_are limit n k j e history [] (rs ∷ records) h = absurd h
-run_threads_are limit n k j e history (cs ∷ threads) [] h = absurd h
-run_threads_are limit n k j e history (cs ∷ threads) (rs ∷ records) h = (rw e h.0.labelled, run_threads_are limit n (suc k) (j + 1) (omega arith) history threads records h.1)
-
 module _ (script : Script) (n : ℕ) (history : List Entry) (records : List (List Record)) (run : AreRun script.limit n 0 history script.threads records) where
   -- in an order that is canonical and legal they are a run
   pub run_of_order : (order : List Place) (last : Store) → IsCanonical (footprint_at records) order → Legal (footprint_at records) (λ _. 0) (opening_store script) order last → IsRun script records order last
   run_of_order order last canonical legal = record {
-    threads = run_threads_are script.limit n 0 1 refl history script.threads records run;
+    threads = run_by_threads script.limit GivesOne n 0 1 refl history script.threads records run;
     canonical = canonical;
     replays = legal_replays script.limit n history script.threads records run (λ _. 0) (opening_store script) last order legal;
   }

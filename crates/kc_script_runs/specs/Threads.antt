@@ -1,6 +1,6 @@
 -- What threads commit, and whose commits they are.
 use Rattle.std.specs.Prelude.{◌≡◌, ℕ, suc, ◌+◌, List, [], ◌∷◌, ◌++◌, length, map}
-use Rattle.kc_history.specs.Callers.{of_caller, entry_of, entries_of}
+use Rattle.kc_history.specs.Callers.{of_caller, entry_of}
 use Rattle.kc_history.specs.declared.record.Record.{Record}
 use Rattle.kc_model.specs.Footprint.{IsBelow}
 use Rattle.kc_model.specs.declared.footprint.Entry.{Entry}
@@ -31,21 +31,6 @@ AreAnswered locations (m ∷ ms) (r ∷ rs) = IsAnswered locations m r × AreAns
 AreAnswered locations [] (r ∷ rs) = ⊥
 AreAnswered locations (m ∷ ms) [] = ⊥
 
--- The records of a caller's thread on a store of so many locations: one for each command and then its end, each answered what it means, and their footprints are the caller's part of the history, in order.
-pub record IsThread (limit locations caller : ℕ) (history : List Entry) (commands : List Command) (records : List Record) : Type 0 where
-  pub labelled : map label records ≡ labels (caller + 1) 1 commands
-  pub answered : AreAnswered locations (meanings limit (caller + 1) commands) records
-  pub committed : of_caller caller history ≡ entries_of caller 1 records
-
--- each thread's records, of the callers from this one on
-abbrev pub AreRun : ℕ → ℕ → ℕ → List Entry → List (List Command) → List (List Record) → Type 0
-AreRun limit locations caller history [] [] = Unit {0}
-AreRun limit locations caller history (cs ∷ threads) (rs ∷ records) = IsThread limit locations caller history cs rs × AreRun limit locations (suc caller) history threads records
-AreRun limit locations caller history [] (rs ∷ records) = ⊥
-AreRun limit locations caller history (cs ∷ threads) [] = ⊥
-
--- ---- on a store whose commits may add more than their entry
-
 -- what a commit may make of its caller's own list: the caller, the meaning, the list before, the footprint that was filled, the list after
 abbrev pub CommitGives : Type 1
 CommitGives = ℕ → Meaning → List Entry → Footprint → List Entry → Type 0
@@ -62,7 +47,7 @@ module _ (gives : CommitGives) where
   AreGiven k [] before (r ∷ rs) after = ⊥
   AreGiven k (m ∷ ms) before [] after = ⊥
 
-  -- The records of a caller's thread as above, and the caller's part of the history is what its commits make of an empty list.
+  -- The records of a caller's thread on a store of so many locations: one for each command and then its end, each answered what it means, and the caller's part of the history is what its commits make of an empty list.
   pub record IsThreadBy (limit locations caller : ℕ) (history : List Entry) (commands : List Command) (records : List Record) : Type 0 where
     pub labelled : map label records ≡ labels (caller + 1) 1 commands
     pub answered : AreAnswered locations (meanings limit (caller + 1) commands) records
@@ -74,3 +59,7 @@ module _ (gives : CommitGives) where
   AreRunBy limit locations caller history (cs ∷ threads) (rs ∷ records) = IsThreadBy limit locations caller history cs rs × AreRunBy limit locations (suc caller) history threads records
   AreRunBy limit locations caller history [] (rs ∷ records) = ⊥
   AreRunBy limit locations caller history (cs ∷ threads) [] = ⊥
+
+-- the same where each commit gives one entry: the footprints of the records are the callers' parts of the history, in order
+abbrev pub AreRun : ℕ → ℕ → ℕ → List Entry → List (List Command) → List (List Record) → Type 0
+AreRun limit locations caller history threads records = AreRunBy GivesOne limit locations caller history threads records

@@ -4,20 +4,20 @@ ghost use Rattle.std.specs.Prelude.{◌≡◌, ℕ, List, [], length, slice_inde
 ghost use Rattle.kc_model.specs.declared.footprint.Entry.{Entry};
 ghost use Rattle.kc_model.specs.Legal.{IsLegal};
 ghost use Rattle.kc_model.specs.Store.{Store};
-ghost use Rattle.kc_xt.specs.Meaning.{values};
+ghost use Rattle.kc_xt.specs.Meaning.{Meaning, values};
 ghost use Rattle.kc_script_bundle.specs.On.{CommandsAreOn};
 ghost use Rattle.kc_script_bundle.specs.Script.{Script, LieFrom};
 ghost use Rattle.kc_script_bundle.specs.State.{AreWellFormed};
 ghost use Rattle.kc_script_bundle.specs.declared.operation.Command.{Command};
 ghost use Rattle.kc_history.specs.declared.record.Record.{Record};
 ghost use Rattle.kc_history.specs.declared.record.Place.{Place};
-ghost use Rattle.kc_history.specs.Callers.{HasJust, IsBelowCallers};
+ghost use Rattle.kc_history.specs.Callers.{HasJust, IsBelowCallers, entries_of};
 ghost use Rattle.kc_history.specs.Ends.{AllCanStandIn, HasLegalList};
 ghost use Rattle.kc_history.specs.Records.{NamesRecords, footprint_at};
 ghost use Rattle.kc_history.specs.Order.{IsCanonical, Legal};
 ghost use Rattle.kc_script_runs.specs.Run.{IsRun, opening_store};
 ghost use Rattle.kc_script_runs.specs.Looks.{AreCommitsOf, GivesBehindLooks};
-ghost use Rattle.kc_script_runs.specs.Threads.{AreRun, AreRunBy, GivesOne};
+ghost use Rattle.kc_script_runs.specs.Threads.{AreAnswered, AreGiven, AreRun, AreRunBy, GivesOne};
 
 /// The order of a run is a legal history of the plain store: it takes in all records, each thread's in its order, and
 /// from the script's opening store to the last one each record finds what it read.
@@ -48,10 +48,11 @@ pub fn histories_are_runs()
     ensures run { (script : Script) (n : ℕ) (history : List Entry) (records : List (List Record)) (order : List Place) (last : Store) → AreRun script.limit n 0 history script.threads records → IsBelowCallers (length script.threads) history → IsLegal (opening_store script) history last → IsCanonical (footprint_at records) order → IsRun script records order last }
 {}
 
-/// Where each commit gives one entry with the next number, 'run by' says what 'run' says.
-pub fn commits_of_one_entry_are_a_run()
-    ensures run { (limit n caller : ℕ) (history : List Entry) (threads : List (List Command)) (records : List (List Record)) → AreRunBy GivesOne limit n caller history threads records → AreRun limit n caller history threads records }
-    ensures by { (limit n caller : ℕ) (history : List Entry) (threads : List (List Command)) (records : List (List Record)) → AreRun limit n caller history threads records → AreRunBy GivesOne limit n caller history threads records }
+/// Where each commit gives one entry with the next number, a caller's own list is the entries of its records, numbered
+/// from 1; and a list that is these, of records that are answered, is what such commits give.
+pub fn commits_of_one_entry_are_their_records()
+    ensures entries { (caller : ℕ) (meanings : List Meaning) (records : List Record) (own : List Entry) → AreGiven GivesOne caller meanings [] records own → own ≡ entries_of caller 1 records }
+    ensures given { (n caller : ℕ) (meanings : List Meaning) (records : List Record) (own : List Entry) → AreAnswered n meanings records → own ≡ entries_of caller 1 records → AreGiven GivesOne caller meanings [] records own }
 {}
 
 /// Where each commit gives one entry behind looks, and the history is legal and of these callers alone, the records are

@@ -7,6 +7,6 @@ pub mod worked;
 
 pub use ask::Ask;
 pub use laws::{
-    commits_of_one_entry_are_a_run, histories_are_runs, looks_can_be_left_out,
+    commits_of_one_entry_are_their_records, histories_are_runs, looks_can_be_left_out,
     orders_determine_runs, runs_are_legal, runs_stay_well_formed,
 };

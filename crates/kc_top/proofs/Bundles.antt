@@ -28,10 +28,11 @@ use Rattle.kc_script_bundle.specs.State.{opening_values}
 use Rattle.kc_script_bundle.specs.declared.bundle.Bundle.{Bundle}
 use Rattle.kc_script_bundle.specs.declared.operation.Command.{Command}
 use Rattle.kc_script.proofs.Again.{limit_fits}
-use Rattle.kc_script_runs.proofs.Replayed.{opened_zero, run_list, run_made, run_of_order, run_threads_are}
+use Rattle.kc_script_runs.proofs.Replayed.{opened_zero, run_list, run_made, run_of_order}
+use Rattle.kc_script_runs.proofs.Given.{run_by_threads}
 use Rattle.kc_script_runs.specs.Labels.{AreThreads}
 use Rattle.kc_script_runs.specs.Run.{IsRun, opening_store}
-use Rattle.kc_script_runs.specs.Threads.{AreRun}
+use Rattle.kc_script_runs.specs.Threads.{AreRun, GivesOne}
 use Rattle.kc_top.proofs.Asks.{ask_fit, ask_within}
 use Rattle.kc_top.specs.Runnable.{IsRunnable}
 use Rattle.kc_top.specs.Served.{HaveCommits}
@@ -131,7 +132,7 @@ settles b cells vs stored have =
     let same : length (opening_values script) ≡ length cells = sym (ap length stored ∙ opened_length (opening_values script)) in
     let run : AreRun script.limit (length cells) 0 have.commits script.threads (lists_of vs) = subst (λ (n : ℕ). AreRun script.limit n 0 have.commits script.threads (lists_of vs)) same have.run in
     let (last, found) = have.legal in
-    let labelled = run_threads_are script.limit (length cells) 0 1 refl have.commits script.threads (lists_of vs) run in
+    let labelled = run_by_threads script.limit GivesOne (length cells) 0 1 refl have.commits script.threads (lists_of vs) run in
     let opening : opening_store script ≡ store_of cells = ap store_of (sym stored) in
     record {
       made = run_made script.limit (length cells) have.commits script.threads (lists_of vs) run;
